@@ -1,0 +1,5 @@
+pub mod Powers
+pub mod Half
+pub mod Best
+pub mod Count
+pub mod Patterns

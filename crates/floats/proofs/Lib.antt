@@ -1,0 +1,6 @@
+mod Through
+mod Choice
+mod Turn
+mod Raise
+mod RootBits
+mod Cases

@@ -1,0 +1,36 @@
+-- `floats::bits::sqrt` meets its contract: zeros and infinity are their own roots, a number above zero has the one that
+-- `root::sqrt` works out, and the rest has none.
+use mathlib.Core.Path.{_≡_, sym, subst}
+use Prim.Native.Nat.{ℕ}
+use borrow.Author.Needs.{needs}
+use native.Mathlib.Omega.{arith}
+use Rattle.floats.specs.Bits
+use Rattle.floats.proofs.Cases.{root-zero, root-inf, root-neg-zero, root-none}
+use Rattle.floats.proofs.bits.sqrt.Statement.{statement}
+use Rattle.floats.proofs.bits.sqrt.Tie as tie
+
+own : (b k : ℕ) → b ≡ k → k ≡ Bits.sqrt k → b ≡ Bits.sqrt b
+own b k e h = subst (λ (z : ℕ). z ≡ Bits.sqrt z) (sym e) h
+
+returns : tie.Need-returns
+returns c = own _ 0 (c .if1 .taken) root-zero
+
+sqrt-requires : tie.Need-sqrt-requires
+sqrt-requires c κs = search needs
+
+returns-2 : tie.Need-returns-2
+returns-2 c = search needs
+
+returns-3 : tie.Need-returns-3
+returns-3 c = own _ 0x7ff0_0000_0000_0000 (c .if3 .taken) root-inf
+
+returns-4 : tie.Need-returns-4
+returns-4 c = own _ 0x8000_0000_0000_0000 (c .if4 .taken) root-neg-zero
+
+returns-5 : tie.Need-returns-5
+returns-5 c =
+    let start = c .before .before .before .before in
+    root-none (start .args .b) (omega arith) (start .fits .b .fits) (c .if4 .left)
+
+pub sqrt-spec : {M : Type 1} → statement M
+sqrt-spec = tie.close (tie.spec returns sqrt-requires returns-2 returns-3 returns-4 returns-5)

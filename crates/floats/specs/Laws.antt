@@ -1,0 +1,4 @@
+-- What proofs need to know of the definitions. Nothing here has to be believed.
+pub mod Isqrt
+pub mod RootAt
+pub mod Root

@@ -1,0 +1,6 @@
+pub mod F64
+pub mod Bits
+pub mod Root
+pub mod Nearest
+pub mod Agree
+pub mod Laws
