@@ -1,6 +1,5 @@
 mod Through
 mod Choice
-mod Turn
 mod Raise
 mod RootBits
 mod Cases

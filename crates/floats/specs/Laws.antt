@@ -1,4 +1,6 @@
 -- What proofs need to know of the definitions. Nothing here has to be believed.
 pub mod Isqrt
+pub mod Turns
 pub mod RootAt
 pub mod Root
+pub mod Picked

@@ -1,10 +1,25 @@
 -- What the steps of the digit-by-digit root answer: src/root.rt, function by function.
 use Prim.Native.Nat.{ℕ, _+_, _-_, _*_, _/_, _%_, _^_}
 use mathlib.Core.Bool.{cond}
-use lib.Dec.{eqb}
+use lib.Dec.{eqb, leb}
 use lib.Ieee.{size}
 use Rattle.floats.specs.F64.{isqrt}
 use Rattle.floats.specs.declared.root.Scaled.{Scaled}
+use Rattle.floats.specs.declared.root.Turning.{Turning}
+
+-- One digit more of a root under way. Where `step` units are left, the digit is taken and they are used up; either way the unit
+-- halves, and what is left is twice as many of the new ones.
+unfoldable pub turn : Turning → Turning
+turn s =
+    let half = s .unit / 2 in
+    let step = s .root + s .root + half in
+    let left = s .rest - step in
+    cond (leb step (s .rest))
+    (record { rest = left + left; root = s .root + half; unit = half })
+    (record { rest = s .rest + s .rest; root = s .root; unit = half })
+
+unfoldable pub sixTurns : Turning → Turning
+sixTurns s = turn (turn (turn (turn (turn (turn s)))))
 
 -- the whole part of the root of n * 2 ^ 53
 unfoldable pub digits : ℕ → ℕ

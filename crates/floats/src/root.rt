@@ -4,6 +4,7 @@ ghost use mathlib.Core.Path.{_≡_};
 ghost use Prim.Native.Nat.{_^_, _<_};
 ghost use Rattle.floats.specs.Bits;
 ghost use Rattle.floats.specs.Root;
+ghost use Rattle.floats.specs.Laws.Turns.{Room, Sound};
 
 // A number above zero taken apart: it is m * 2 ^ (e - 2098), and m has 53 digits.
 pub struct Scaled {
@@ -11,28 +12,69 @@ pub struct Scaled {
     pub e: u64,
 }
 
-// The whole part of the root of n * 2 ^ 53.
-//
-// From the top, each turn tries one digit more, `half`: (root + half)^2 is root^2 + (2 * root + half) * half. What is left of the
-// number after root^2 is kept in `rest` in units of `unit` / 2, so that it is doubled where the unit halves.
+// A root under way: its digits so far, the unit of the last of them, and what is left of the number, in units of half that unit.
+pub struct Turning {
+    pub rest: u64,
+    pub root: u64,
+    pub unit: u64,
+}
+
+// One digit more: it is taken where what it takes is left. (root + half)^2 is root^2 + (2 * root + half) * half.
+fn turn(s: Turning) -> Turning
+    requires { ⌜ Room s ⌝ }
+    ensures { λ r. ⌜ r ≡ Root.turn s ⌝ }
+{
+    let half: u64 = s.unit >> 1;
+    let step: u64 = s.root + s.root + half;
+    if step <= s.rest {
+        let left: u64 = s.rest - step;
+        return Turning {
+            rest: left + left,
+            root: s.root + half,
+            unit: half,
+        };
+    }
+    Turning {
+        rest: s.rest + s.rest,
+        root: s.root,
+        unit: half,
+    }
+}
+
+// Six digits more.
+fn six_turns(s: Turning) -> Turning
+    requires { ⌜ Sound s ⌝ }
+    ensures { λ r. ⌜ r ≡ Root.sixTurns s ⌝ }
+{
+    let s1: Turning = turn(s);
+    let s2: Turning = turn(s1);
+    let s3: Turning = turn(s2);
+    let s4: Turning = turn(s3);
+    let s5: Turning = turn(s4);
+    turn(s5)
+}
+
+// The whole part of the root of n * 2 ^ 53: 54 digits from the top, each tried once. The turns stand in a row and in no loop,
+// since a compiler makes each of them a few moves then, where in a loop it makes a branch that cannot be predicted.
 fn digits(n: u64) -> u64
     requires { ⌜ n < 2 ^ 55 ⌝ }
     ensures { λ r. ⌜ r ≡ Root.digits n ⌝ }
 {
-    let mut rest: u64 = n;
-    let mut root: u64 = 0;
-    let mut unit: u64 = 0x40_0000_0000_0000;
-    while unit > 1 {
-        let half: u64 = unit >> 1;
-        let step: u64 = root + root + half;
-        if step <= rest {
-            rest = rest - step;
-            root = root + half;
-        }
-        rest = rest + rest;
-        unit = half;
-    }
-    root
+    let s0: Turning = Turning {
+        rest: n,
+        root: 0,
+        unit: 0x40_0000_0000_0000,
+    };
+    let s1: Turning = six_turns(s0);
+    let s2: Turning = six_turns(s1);
+    let s3: Turning = six_turns(s2);
+    let s4: Turning = six_turns(s3);
+    let s5: Turning = six_turns(s4);
+    let s6: Turning = six_turns(s5);
+    let s7: Turning = six_turns(s6);
+    let s8: Turning = six_turns(s7);
+    let s9: Turning = six_turns(s8);
+    s9.root
 }
 
 // The digits of a subnormal number, moved up to 53 places.

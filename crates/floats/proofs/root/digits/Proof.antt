@@ -1,61 +1,80 @@
--- `floats::root::digits` meets its contract. The loop's invariant is `Turn`; at its end the root is the whole part, of which there
--- is one. The measure is the unit, which halves.
-use mathlib.Core.Logic.{⊎-elim}
-use native.Mathlib.Omega.{arith}
+-- `floats::root::digits` meets its contract: 54 turns take the unit from 2 ^ 54 to 1, where the root is the whole part, of which
+-- there is one.
 use Rattle.floats.specs.Root
 use Rattle.floats.specs.Laws.Isqrt.{isqrt-is, root-unique}
-use Rattle.floats.proofs.Turn.{Turn, start, done, taken, passed}
+use Rattle.floats.specs.Laws.Turns.{Turn, start, done, after-six}
 use Rattle.floats.proofs.root.digits.Statement.{statement}
 use Rattle.floats.proofs.root.digits.Tie as tie
 
-abbrev Inv-loop : tie.InvT-loop
-Inv-loop n rest₀ root₀ unit₀ rest root unit = Turn n rest root unit
+at1 : (c : tie.After-six-turns) → Turn (c .before .args .n) 48 (c .six-turns .result)
+at1 c = after-six _ 48 _ _ (c .six-turns .ensures) (start (c .before .args .n) (c .before .pre))
 
-abbrev μ-loop : tie.MeasureT-loop
-μ-loop n rest₀ root₀ unit₀ rest root unit = unit
+at2 : (c : tie.After-six-turns2) → Turn (c .before .before .args .n) 42 (c .six-turns2 .result)
+at2 c = after-six _ 42 _ _ (c .six-turns2 .ensures) (at1 (c .before))
 
-loop-holds : tie.Need-loop-holds Inv-loop μ-loop
-loop-holds c = start (c .args .n) (c .pre)
+at3 : (c : tie.After-six-turns3) → Turn (c .before .before .before .args .n) 36 (c .six-turns3 .result)
+at3 c = after-six _ 36 _ _ (c .six-turns3 .ensures) (at2 (c .before))
 
-add-step : tie.Need-add-step Inv-loop μ-loop
-add-step c = omega arith
+at4 : (c : tie.After-six-turns4) → Turn (c .before .before .before .before .args .n) 30 (c .six-turns4 .result)
+at4 c = after-six _ 30 _ _ (c .six-turns4 .ensures) (at3 (c .before))
 
-add-step-2 : tie.Need-add-step-2 Inv-loop μ-loop
-add-step-2 c = omega arith
+at5 : (c : tie.After-six-turns5) → Turn (c .before .before .before .before .before .args .n) 24 (c .six-turns5 .result)
+at5 c = after-six _ 24 _ _ (c .six-turns5 .ensures) (at4 (c .before))
 
-add-root : tie.Need-add-root Inv-loop μ-loop
-add-root c = omega arith
+at6 : (c : tie.After-six-turns6) → Turn (c .before .before .before .before .before .before .args .n) 18 (c .six-turns6 .result)
+at6 c = after-six _ 18 _ _ (c .six-turns6 .ensures) (at5 (c .before))
 
-add-rest : tie.Need-add-rest Inv-loop μ-loop
-add-rest c = ⊎-elim (λ w. omega arith) (λ w. omega arith) (c .before .if1 .came)
+at7 : (c : tie.After-six-turns7) → Turn (c .before .before .before .before .before .before .before .args .n) 12 (c .six-turns7 .result)
+at7 c = after-six _ 12 _ _ (c .six-turns7 .ensures) (at6 (c .before))
 
-loop-less : tie.Need-loop-less Inv-loop μ-loop
-loop-less c = omega arith
+at8 : (c : tie.After-six-turns8) → Turn (c .before .before .before .before .before .before .before .before .args .n) 6 (c .six-turns8 .result)
+at8 c = after-six _ 6 _ _ (c .six-turns8 .ensures) (at7 (c .before))
 
-loop-again : tie.Need-loop-again Inv-loop μ-loop
-loop-again c =
-    let inv = c .before .before .before .loop .inv in
-    let more = c .before .before .loop-test .taken in
-    ⊎-elim
-    (λ w. taken _ _ _ _ inv more _ _ (w .0 .taken) (w .1) (w .2))
-    (λ w. passed _ _ _ _ inv more _ _ (w .0 .left) (w .1) (w .2))
-    (c .before .if1 .came)
+at9 : (c : tie.After-six-turns9) → Turn (c .before .before .before .before .before .before .before .before .before .args .n) 0 (c .six-turns9 .result)
+at9 c = after-six _ 0 _ _ (c .six-turns9 .ensures) (at8 (c .before))
 
-returns : tie.Need-returns Inv-loop μ-loop
+six-turns-requires : tie.Need-six-turns-requires
+six-turns-requires c κs = (c .args .n, (48, start (c .args .n) (c .pre)))
+
+six-turns-requires-2 : tie.Need-six-turns-requires-2
+six-turns-requires-2 c κs = (_, (42, at1 c))
+
+six-turns-requires-3 : tie.Need-six-turns-requires-3
+six-turns-requires-3 c κs = (_, (36, at2 c))
+
+six-turns-requires-4 : tie.Need-six-turns-requires-4
+six-turns-requires-4 c κs = (_, (30, at3 c))
+
+six-turns-requires-5 : tie.Need-six-turns-requires-5
+six-turns-requires-5 c κs = (_, (24, at4 c))
+
+six-turns-requires-6 : tie.Need-six-turns-requires-6
+six-turns-requires-6 c κs = (_, (18, at5 c))
+
+six-turns-requires-7 : tie.Need-six-turns-requires-7
+six-turns-requires-7 c κs = (_, (12, at6 c))
+
+six-turns-requires-8 : tie.Need-six-turns-requires-8
+six-turns-requires-8 c κs = (_, (6, at7 c))
+
+six-turns-requires-9 : tie.Need-six-turns-requires-9
+six-turns-requires-9 c κs = (_, (0, at8 c))
+
+returns : tie.Need-returns
 unfolding Root.digits
-returns c = root-unique _ _ _ (done _ _ _ _ (c .before .loop .inv) (c .loop-test .left)) (isqrt-is _)
+returns c = root-unique _ _ _ (done _ _ (at9 c)) (isqrt-is _)
 
 pub digits-spec : {M : Type 1} → statement M
 digits-spec =
     tie.close
     (tie.spec
-    Inv-loop
-    μ-loop
-    loop-holds
-    add-step
-    add-step-2
-    add-root
-    add-rest
-    loop-less
-    loop-again
+    six-turns-requires
+    six-turns-requires-2
+    six-turns-requires-3
+    six-turns-requires-4
+    six-turns-requires-5
+    six-turns-requires-6
+    six-turns-requires-7
+    six-turns-requires-8
+    six-turns-requires-9
     returns)

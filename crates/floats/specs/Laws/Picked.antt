@@ -1,0 +1,49 @@
+-- What `pick` answers, by which of its operands are NaNs, and what a comparison that says yes tells of them.
+use mathlib.Core.Path.{_≡_, refl, sym, ap, _∙_, subst}
+use mathlib.Core.Bool.{Bool, true, false, not, cond, _&&_, false≢true, true≢false}
+use Prim.Native.Nat.{ℕ, _+_, _*_, _≤_, _<_}
+use native.Mathlib.Nat.{not-le-of-lt, le-of-lt, lt-irrefl, lt-trans}
+use lib.Dec.{T, ltb, ltb→lt, not-T}
+use lib.Arith.{le→nltb}
+use lib.Ieee.{Float, nan, inf, fin, binary64, up, down, nanBits, isNan, lt, below}
+use lib.Ieee.Bits.{is-false}
+use Rattle.floats.specs.Bits
+
+-- ---- by its operands
+pub pick-at : (first : Bool) (a b : ℕ) (p q : Bool) → nanBits binary64 a ≡ p → nanBits binary64 b ≡ q
+    → Bits.pick first a b ≡ cond p (cond q Bits.quietNan b) (cond q a (cond first a b))
+unfolding Bits.pick
+pick-at first a b p q e g = rw (e, g)
+
+-- ---- a comparison that says yes is one of numbers, and does not say yes the other way round
+pub lt-numbers : (x y : Float) → lt x y ≡ true → (isNan x ≡ false) × (isNan y ≡ false)
+unfolding lt isNan
+lt-numbers nan y h = absurd (false≢true h)
+lt-numbers (inf s) nan h = absurd (false≢true h)
+lt-numbers (fin s m e) nan h = absurd (false≢true h)
+lt-numbers (inf s) (inf t) h = (refl, refl)
+lt-numbers (inf s) (fin t n d) h = (refl, refl)
+lt-numbers (fin s m e) (inf t) h = (refl, refl)
+lt-numbers (fin s m e) (fin t n d) h = (refl, refl)
+
+less-once : (a b : ℕ) → ltb a b ≡ true → ltb b a ≡ false
+less-once a b h = is-false (ltb b a) (le→nltb b a (le-of-lt (ltb→lt a b (subst T (sym h) tt))))
+
+below-once : (s t : Bool) (a b : ℕ) → below s a t b ≡ true → below t b s a ≡ false
+below-once false false a b h = less-once a b h
+below-once true true a b h = less-once b a h
+below-once true false a b h = refl
+below-once false true a b h = absurd (false≢true h)
+
+pub lt-once : (x y : Float) → lt x y ≡ true → lt y x ≡ false
+unfolding lt
+lt-once nan y h = absurd (false≢true h)
+lt-once (inf s) nan h = refl
+lt-once (fin s m e) nan h = refl
+lt-once (inf true) (inf true) h = refl
+lt-once (inf true) (inf false) h = refl
+lt-once (inf false) (inf t) h = absurd (false≢true h)
+lt-once (inf s) (fin t n d) h = ap not h
+lt-once (fin s m e) (inf true) h = absurd (false≢true h)
+lt-once (fin s m e) (inf false) h = refl
+lt-once (fin s m e) (fin t n d) h = below-once s t (m * up e * down d) (n * up d * down e) h
