@@ -1,0 +1,31 @@
+//! Finds the Rust text: in the folder that CAVALIER_SRC names, or else beside the repository. A relative path starts at the
+//! repository's root.
+
+use std::env;
+use std::path::PathBuf;
+use std::process::exit;
+
+const FILES: [&str; 6] = [
+    "src/core/math/base_math.rs",
+    "src/core/math/line_line_intersect.rs",
+    "src/core/math/line_circle_intersect.rs",
+    "src/core/math/circle_circle_intersect.rs",
+    "src/polyline/pline_seg.rs",
+    "src/polyline/pline_seg_intersect.rs",
+];
+
+fn main() {
+    println!("cargo:rerun-if-env-changed=CAVALIER_SRC");
+    let here = PathBuf::from(env::var_os("CARGO_MANIFEST_DIR").expect("cargo sets it"));
+    let told = env::var_os("CAVALIER_SRC").unwrap_or_else(|| "../shared/docs/src".into());
+    let text = here.join("../..").join(told);
+    for file in FILES {
+        let path = text.join(file);
+        println!("cargo:rerun-if-changed={}", path.display());
+        if !path.is_file() {
+            eprintln!("no Rust text: {} is missing", path.display());
+            exit(1);
+        }
+    }
+    println!("cargo:rustc-env=RUST_TEXT={}", text.display());
+}

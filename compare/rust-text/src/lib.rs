@@ -1,0 +1,60 @@
+//! The Rust text of cavalier_contours 0.9.0 that is at hand, compiled unchanged, in the modules that it names itself by.
+//!
+//! What the text imports and does not hold stands in `stand_ins`.
+
+mod stand_ins;
+
+pub mod core {
+    pub mod math {
+        mod base_math {
+            include!(concat!(env!("RUST_TEXT"), "/src/core/math/base_math.rs"));
+        }
+        mod line_line_intersect {
+            use crate::stand_ins::num_traits;
+            include!(concat!(
+                env!("RUST_TEXT"),
+                "/src/core/math/line_line_intersect.rs"
+            ));
+        }
+        mod line_circle_intersect {
+            include!(concat!(
+                env!("RUST_TEXT"),
+                "/src/core/math/line_circle_intersect.rs"
+            ));
+        }
+        mod circle_circle_intersect {
+            include!(concat!(
+                env!("RUST_TEXT"),
+                "/src/core/math/circle_circle_intersect.rs"
+            ));
+        }
+
+        pub use crate::stand_ins::vector2::Vector2;
+        pub use base_math::*;
+        pub use circle_circle_intersect::{circle_circle_intr, CircleCircleIntr};
+        pub use line_circle_intersect::{line_circle_intr, LineCircleIntr};
+        pub use line_line_intersect::{line_line_intr, LineLineIntr};
+    }
+
+    pub mod traits {
+        pub use crate::stand_ins::fuzzy::{FuzzyEq, FuzzyOrd};
+        pub use crate::stand_ins::real::Real;
+    }
+}
+
+pub mod polyline {
+    mod pline_seg {
+        use crate::stand_ins::static_aabb2d_index;
+        include!(concat!(env!("RUST_TEXT"), "/src/polyline/pline_seg.rs"));
+    }
+    mod pline_seg_intersect {
+        include!(concat!(
+            env!("RUST_TEXT"),
+            "/src/polyline/pline_seg_intersect.rs"
+        ));
+    }
+
+    pub use crate::stand_ins::pline_vertex::PlineVertex;
+    pub use pline_seg::*;
+    pub use pline_seg_intersect::*;
+}

@@ -1,0 +1,26 @@
+//! The number that the text is written over.
+
+use super::fuzzy::{FuzzyEq, FuzzyOrd};
+use super::num_traits;
+
+pub trait Real: num_traits::real::Real + FuzzyEq + FuzzyOrd + std::fmt::Debug {
+    fn two() -> Self;
+    fn four() -> Self;
+    fn pi() -> Self;
+    fn tau() -> Self;
+}
+
+impl Real for f64 {
+    fn two() -> f64 {
+        2.0
+    }
+    fn four() -> f64 {
+        4.0
+    }
+    fn pi() -> f64 {
+        std::f64::consts::PI
+    }
+    fn tau() -> f64 {
+        std::f64::consts::TAU
+    }
+}

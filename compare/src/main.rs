@@ -1,0 +1,81 @@
+//! Holds the proved library to Rust and to this machine.
+
+#[cfg(feature = "rust-text")]
+mod answer;
+mod bench;
+mod capi;
+mod classes;
+mod expected;
+mod floats;
+mod record;
+mod rng;
+mod tally;
+#[cfg(feature = "rust-text")]
+mod text;
+
+use std::env;
+use std::path::Path;
+use std::process::ExitCode;
+
+const USAGE: &str = "\
+usage: compare check [COUNT [SEED]]  compare each function on COUNT random inputs (default 10485760, seed 1)
+       compare record FILE           write the recorded list for the program replay
+       compare bench                 nanoseconds a call, ours beside the machine's own";
+
+const COUNT: u64 = 10 << 20;
+const SEED: u64 = 1;
+
+fn main() -> ExitCode {
+    let words: Vec<String> = env::args().skip(1).collect();
+    let words: Vec<&str> = words.iter().map(String::as_str).collect();
+    let done = match words[..] {
+        ["check", ref numbers @ ..] => check(numbers),
+        ["record", file] => record(file),
+        ["bench"] => {
+            bench::run();
+            Ok(())
+        }
+        _ => Err(USAGE.to_string()),
+    };
+    match done {
+        Ok(()) => ExitCode::SUCCESS,
+        Err(why) => {
+            eprintln!("{why}");
+            ExitCode::FAILURE
+        }
+    }
+}
+
+fn check(numbers: &[&str]) -> Result<(), String> {
+    let number = |at: usize, default: u64| match numbers.get(at) {
+        Some(word) => word
+            .parse()
+            .map_err(|_| format!("no number: {word}\n{USAGE}")),
+        None => Ok(default),
+    };
+    if numbers.len() > 2 {
+        return Err(USAGE.to_string());
+    }
+    let differences = floats::check(number(0, COUNT)?, number(1, SEED)?) + check_text();
+    match differences {
+        0 => Ok(()),
+        _ => Err(format!("{differences} differences")),
+    }
+}
+
+#[cfg(feature = "rust-text")]
+fn check_text() -> u64 {
+    text::check()
+}
+
+#[cfg(not(feature = "rust-text"))]
+fn check_text() -> u64 {
+    println!("rust text not compiled in: nothing was compared with it");
+    0
+}
+
+fn record(file: &str) -> Result<(), String> {
+    let records = record::write(Path::new(file)).map_err(|why| format!("{file}: {why}"))?;
+    println!("{records} records");
+    Ok(())
+}

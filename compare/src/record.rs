@@ -1,0 +1,70 @@
+//! The recorded list that the program `replay` is run on: a line for each call, its operands and the answer expected.
+//!
+//! A line is the call's name of four letters, then numbers of 16 lower-case hex digits: two operands (a function of one
+//! has zeros for the second) and the answer.
+
+use std::fs;
+use std::io;
+use std::path::Path;
+
+use crate::classes::{magnitude, signed, CLASSES, EDGES};
+use crate::floats::{Binary, PairKind, Unary, ABS, MAX, MIN, SQRT};
+use crate::rng::Rng;
+
+const SEED: u64 = 0x5eed_0001;
+const ABS_A_CLASS: usize = 24;
+const SQRT_A_CLASS: usize = 128;
+const PAIRS_A_KIND: usize = 3;
+
+/// Writes the list to `path`, and answers how many records it has.
+pub fn write(path: &Path) -> io::Result<usize> {
+    let mut lines = Vec::new();
+    unary(&ABS, "abs_", ABS_A_CLASS, &mut lines);
+    unary(&SQRT, "sqrt", SQRT_A_CLASS, &mut lines);
+    binary(&MIN, "min_", &mut lines);
+    binary(&MAX, "max_", &mut lines);
+    fs::write(path, lines.concat())?;
+    Ok(lines.len())
+}
+
+fn line(name: &str, a: u64, b: u64, answer: u64) -> String {
+    format!("{name} {a:016x} {b:016x} {answer:016x}\n")
+}
+
+/// Every edge with either sign, then random operands of every class.
+fn unary(f: &Unary, name: &str, a_class: usize, lines: &mut Vec<String>) {
+    let mut rng = Rng::new(SEED);
+    let mut operands = edges();
+    for class in CLASSES {
+        for _ in 0..a_class {
+            operands.push(signed(
+                magnitude(class, &mut rng),
+                rng.one_in(f.negative_one_in),
+            ));
+        }
+    }
+    lines.extend(operands.iter().map(|b| line(name, *b, 0, (f.expected)(*b))));
+}
+
+/// Every edge beside every edge, then random pairs of every kind.
+fn binary(f: &Binary, name: &str, lines: &mut Vec<String>) {
+    let mut rng = Rng::new(SEED);
+    let mut pairs = Vec::new();
+    for a in edges() {
+        pairs.extend(edges().into_iter().map(|b| (a, b)));
+    }
+    for kind in PairKind::all() {
+        for _ in 0..PAIRS_A_KIND {
+            pairs.push(kind.draw(&mut rng));
+        }
+    }
+    lines.extend(
+        pairs
+            .iter()
+            .map(|(a, b)| line(name, *a, *b, (f.expected)(*a, *b))),
+    );
+}
+
+fn edges() -> Vec<u64> {
+    EDGES.iter().flat_map(|b| [*b, signed(*b, true)]).collect()
+}

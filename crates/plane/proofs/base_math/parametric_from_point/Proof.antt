@@ -1,0 +1,31 @@
+-- `plane::base_math::parametric_from_point` meets its contract: each return is one end of the definition, by the test on the two
+-- magnitudes, which are what `abs` answers.
+use borrow.Author.Needs.{needs}
+use Rattle.plane.specs.BaseMath
+use Rattle.plane.proofs.base_math.parametric_from_point.Statement.{statement}
+use Rattle.plane.proofs.base_math.parametric_from_point.Tie as tie
+
+abs-requires : tie.Need-abs-requires
+abs-requires c κs = search needs
+
+abs-requires-2 : tie.Need-abs-requires-2
+abs-requires-2 c κs = search needs
+
+returns : tie.Need-returns
+unfolding BaseMath.parametricFromPoint
+returns c =
+    let branch = c .before .before in
+    let second = branch .before in
+    let first = second .before in
+    simp (← first .abs .ensures, ← second .abs2 .ensures, branch .if1 .taken)
+
+returns-2 : tie.Need-returns-2
+unfolding BaseMath.parametricFromPoint
+returns-2 c =
+    let branch = c .before .before in
+    let second = branch .before in
+    let first = second .before in
+    simp (← first .abs .ensures, ← second .abs2 .ensures, branch .if1 .left)
+
+pub parametric-from-point-spec : {M : Type 1} → statement M
+parametric-from-point-spec = tie.close (tie.spec abs-requires abs-requires-2 returns returns-2)

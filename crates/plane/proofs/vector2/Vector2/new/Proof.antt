@@ -1,0 +1,12 @@
+-- `plane::vector2::Vector2::new` meets its contract: its return is the definition written out.
+use mathlib.Core.Path.{refl}
+use Rattle.plane.specs.Vector2 as vector2
+use Rattle.plane.proofs.vector2.Vector2.new.Statement.{statement}
+use Rattle.plane.proofs.vector2.Vector2.new.Tie as tie
+
+returns : tie.Need-returns
+unfolding vector2.new
+returns c = refl
+
+pub new-spec : {M : Type 1} → statement M
+new-spec = tie.close (tie.spec returns)

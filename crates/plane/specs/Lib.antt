@@ -1,0 +1,5 @@
+pub mod Vector2
+pub mod PlineVertex
+pub mod Fuzzy
+pub mod BaseMath
+pub mod PlineSeg

@@ -1,0 +1,70 @@
+-- `records::text::word` meets its contract. The loop's invariant: what is left of the field, after the value so far, spells
+-- what the whole field does. Assumes nothing.
+use Prim.Native.Nat.{_≤_, _-_}
+use mathlib.Core.Path.{_≡_, refl, sym, _∙_}
+use native.Mathlib.Omega.{arith}
+use borrow.Author.Needs.{needs}
+use lib.ListN.{length, drop}
+use Rattle.records.specs.Text.{spelt, wordOf}
+use Rattle.records.proofs.Spelling.{at-end, at-digit, at-other}
+use Rattle.records.proofs.text.word.Statement.{statement}
+use Rattle.records.proofs.text.word.Tie as tie
+
+abbrev Inv-loop : tie.InvT-loop
+Inv-loop text value₀ i₀ value i = (i ≤ length text) × (spelt value (drop i text) ≡ wordOf text)
+
+abbrev μ-loop : tie.MeasureT-loop
+μ-loop text value₀ i₀ value i = length text - i
+
+loop-holds : tie.Need-loop-holds Inv-loop μ-loop
+loop-holds c = (omega arith, refl)
+
+shared-slice-read-digit : tie.Need-shared-slice-read-digit Inv-loop μ-loop
+shared-slice-read-digit c = omega arith
+
+digit-requires : tie.Need-digit-requires Inv-loop μ-loop
+digit-requires c κs = search needs
+
+returns : tie.Need-returns Inv-loop μ-loop
+returns c =
+    let read = c .before .before in
+    let h = rw (c .before .digit .ensures) at (c .if1 .taken) in
+    sym (at-other _ _ _ (read .before .loop-test .taken) h) ∙ read .before .before .loop .inv .1
+
+mul-value : tie.Need-mul-value Inv-loop μ-loop
+mul-value c = omega arith
+
+add-value : tie.Need-add-value Inv-loop μ-loop
+add-value c = omega arith
+
+add-i : tie.Need-add-i Inv-loop μ-loop
+add-i c = omega arith
+
+loop-less : tie.Need-loop-less Inv-loop μ-loop
+loop-less c = omega arith
+
+loop-again : tie.Need-loop-again Inv-loop μ-loop
+loop-again c =
+    let read = c .before .before in
+    let h = rw (c .before .digit .ensures) at (c .if1 .left) in
+    (omega arith, rw (c .before .digit .ensures) (at-digit _ _ _ (read .before .loop-test .taken) h ∙ read .before .before .loop .inv .1))
+
+returns-2 : tie.Need-returns-2 Inv-loop μ-loop
+returns-2 c = sym (at-end _ _ _ (c .loop-test .left)) ∙ c .before .loop .inv .1
+
+pub word-spec : {M : Type 1} → statement M
+word-spec =
+    tie.close
+    (tie.spec
+    Inv-loop
+    μ-loop
+    loop-holds
+    shared-slice-read-digit
+    digit-requires
+    returns
+    mul-value
+    add-value
+    add-i
+    loop-less
+    loop-again
+    returns-2)

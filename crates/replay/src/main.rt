@@ -1,0 +1,62 @@
+// Replays a recorded list of answers from standard input, and says how many records it has and on how many of them ours
+// differ. A line that is no record counts as a difference, and so does a record that is cut short.
+
+// What reading one record showed.
+enum Seen {
+    End,
+    Right,
+    Wrong,
+}
+
+struct Tally {
+    records: u64,
+    differences: u64,
+}
+
+fn main() {
+    let t = replay();
+    io::write_all(1, b"replayed ");
+    io::print_decimal(1, t.records);
+    io::write_all(1, b" differences ");
+    io::print_decimal(1, t.differences);
+    io::write_all(1, b"\n");
+}
+
+// Replays the whole list. Nothing says that the input ends, so the loop ends too where the count would not fit.
+fn replay() -> Tally {
+    let mut records: u64 = 0;
+    let mut differences: u64 = 0;
+    while records < u64::MAX {
+        let seen = next();
+        match seen {
+            Seen::End => {
+                break;
+            }
+            Seen::Right => {
+                records += 1;
+            }
+            Seen::Wrong => {
+                records += 1;
+                differences += 1;
+            }
+        }
+    }
+    Tally {
+        records: records,
+        differences: differences,
+    }
+}
+
+// Reads and judges one record. What the input lacks of it stays 0, which is no part of a record.
+fn next() -> Seen {
+    let mut head = [0u8; 5];
+    if io::read_full(0, &mut head) == 0 {
+        return Seen::End;
+    }
+    let mut body = [0u8; 51];
+    io::read_full(0, &mut body);
+    if records::is_right(&head, &body) {
+        return Seen::Right;
+    }
+    Seen::Wrong
+}
