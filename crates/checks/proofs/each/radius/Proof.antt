@@ -1,0 +1,28 @@
+-- `radius` meets its contract: it makes the definition's two checks, in the definition's order.
+use borrow.Author.Needs.{needs}
+use Rattle.checks.specs.Each.{radius}
+use Rattle.checks.proofs.each.radius.Statement.{statement}
+use Rattle.checks.proofs.each.radius.Tie as tie
+
+finite-requires : tie.Need-finite-requires
+finite-requires c κs = search needs
+
+outside-requires : tie.Need-outside-requires
+outside-requires c κs = search needs
+
+refuse-requires : tie.Need-refuse-requires
+refuse-requires c κs = search needs
+
+later-requires : tie.Need-later-requires
+later-requires c κs = search needs
+
+returns : tie.Need-returns
+unfolding radius
+returns c =
+    let p1 = c .before in
+    let p2 = p1 .before in
+    let p3 = p2 .before in
+    simp (← p3 .finite .ensures, ← p2 .outside .ensures, ← p1 .refuse .ensures, ← c .later .ensures)
+
+pub radius-spec : {M : Type 1} → statement M
+radius-spec = tie.close (tie.spec finite-requires outside-requires refuse-requires later-requires returns)

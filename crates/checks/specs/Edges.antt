@@ -1,0 +1,103 @@
+-- The limits as powers of two, and what stands at each: a limit passes, the next float beyond is refused, and so are a NaN and
+-- both infinities. Every row is worked out by the definitions of Each.antt.
+use mathlib.Core.Path.{_≡_, refl}
+use mathlib.Core.Bool.{false}
+use mathlib.Core.List.{List, [], _∷_, _++_}
+use Prim.Native.Nat.{ℕ, zero, suc, _+_, _-_}
+use lib.IntN.{pos, negsuc}
+use lib.Ieee.{Float, fin, binary64, ofBits, isNan, lt}
+use Rattle.floats.specs.F64
+use Rattle.checks.specs.declared.fault.Place.{Place}
+use Rattle.checks.specs.declared.fault.Checked.{Checked}
+use Rattle.checks.specs.declared.fault.Checked.the-variants.{Fine}
+use Rattle.checks.specs.Fault.{bad, refuse, later}
+use Rattle.checks.specs.Number.{isInfinite, notFinite, beyond}
+use Rattle.checks.specs.Each
+use Rattle.checks.specs.Limit
+
+-- `fin false 1 (pos k)` is 2^k, and `fin false 1 (negsuc k)` is 2^-(k+1)
+pub record Powers : Type 0 where
+  pub coordinate : Limit.coordinate ≡ fin false 1 (pos 20)
+  pub bulge : Limit.bulge ≡ fin false 1 (pos 0)
+  pub epsilon-least : Limit.epsilonLeast ≡ fin false 1 (negsuc 39)
+  pub epsilon-most : Limit.epsilonMost ≡ fin false 1 (negsuc 0)
+  pub chord-least : Limit.chordLeast ≡ fin false 1 (negsuc 39)
+  pub radius-least : Limit.radiusLeast ≡ fin false 1 (negsuc 41)
+  pub radius-most : Limit.radiusMost ≡ fin false 1 (pos 47)
+  pub center : Limit.center ≡ fin false 1 (pos 48)
+
+pub powers : Powers
+unfolding ofBits
+powers =
+    record {
+      coordinate = refl;
+      bulge = refl;
+      epsilon-least = refl;
+      epsilon-most = refl;
+      chord-least = refl;
+      radius-least = refl;
+      radius-most = refl;
+      center = refl;
+    }
+
+-- a row: a check, the bits of the number that it looks at, and the refusal, 0 for none
+pub data Row : Type 0 where
+  row : (Float → Place → Checked) → ℕ → ℕ → Row
+
+abbrev pub answer : ℕ → Place → Checked
+answer zero p = Fine
+answer (suc n) p = bad (suc n) p
+
+-- what the checks of the rows answer at the place p, and what they are to answer
+abbrev pub found : Place → List Row → List Checked
+found p [] = []
+found p (row check bits n ∷ rows) = check (ofBits binary64 bits) p ∷ found p rows
+
+abbrev pub due : Place → List Row → List Checked
+due p [] = []
+due p (row check bits n ∷ rows) = answer n p ∷ due p rows
+
+-- a NaN, +infinity and -infinity are refused with number n
+abbrev pub notNumbers : (Float → Place → Checked) → ℕ → List Row
+notNumbers check n =
+    row check 0x7ff8_0000_0000_0000 n ∷
+    row check 0x7ff0_0000_0000_0000 n ∷
+    row check 0xfff0_0000_0000_0000 n ∷ []
+
+-- up to a limit in magnitude: the limit and the next float, whose pattern is one more, of either sign
+abbrev pub upTo : (Float → Place → Checked) → ℕ → ℕ → List Row
+upTo check limit n =
+    row check limit 0 ∷
+    row check (limit + 1) n ∷
+    row check (limit + 0x8000_0000_0000_0000) 0 ∷
+    row check (limit + 0x8000_0000_0000_0001) n ∷ []
+
+-- from a limit on: the limit, the float before it, +0 and -1
+abbrev pub from : (Float → Place → Checked) → ℕ → ℕ → List Row
+from check limit n =
+    row check limit 0 ∷
+    row check (limit - 1) n ∷
+    row check 0 n ∷
+    row check 0xbff0_0000_0000_0000 n ∷ []
+
+abbrev pub rows : List Row
+rows =
+    from Each.epsilon 0x3d70_0000_0000_0000 4
+    ++ (row Each.epsilon 0x3fe0_0000_0000_0000 0 ∷ row Each.epsilon 0x3fe0_0000_0000_0001 4 ∷ [])
+    ++ notNumbers Each.epsilon 4
+    ++ upTo Each.coordinate 0x4130_0000_0000_0000 2
+    ++ notNumbers Each.coordinate 1
+    ++ upTo Each.bulge 0x3ff0_0000_0000_0000 3
+    ++ notNumbers Each.bulge 1
+    ++ from Each.radius 0x3d50_0000_0000_0000 9
+    ++ (row Each.radius 0x42e0_0000_0000_0000 0 ∷ row Each.radius 0x42e0_0000_0000_0001 9 ∷ [])
+    ++ notNumbers Each.radius 1
+    ++ upTo Each.center 0x42f0_0000_0000_0000 9
+    ++ notNumbers Each.center 1
+    ++ from Each.chord 0x3d70_0000_0000_0000 5
+    ++ (row Each.chord 0x7ff8_0000_0000_0000 0 ∷ [])
+
+pub edges : (p : Place) → found p rows ≡ due p rows
+unfolding Each.epsilon Each.finite Each.coordinate Each.bulge Each.radius Each.center Each.chord
+    refuse later notFinite isNan isInfinite beyond F64.abs lt ofBits
+edges p = refl

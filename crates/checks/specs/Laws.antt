@@ -1,0 +1,4 @@
+pub mod Later
+pub mod Order
+pub mod Fine
+pub mod Chains

@@ -1,0 +1,123 @@
+-- What a number is that its check found fine, and only such a number is found fine: the facts that callers' proofs go on with.
+use mathlib.Core.Path.{_≡_, refl, sym, subst}
+use mathlib.Core.Logic.{_↔_, Iff·trans}
+use mathlib.Core.Bool.{Bool, true, false, not, _||_, true≢false}
+use lib.Dec.{T}
+use lib.Ieee.{Float, nan, inf, fin, ofBits, isNan, lt, le}
+use lib.Ieee.Scale.{finite}
+use Rattle.floats.specs.Ops.{_≺_, _≻_, _≼_}
+use Rattle.floats.specs.F64
+use Rattle.checks.specs.declared.fault.Place.{Place}
+use Rattle.checks.specs.declared.fault.Checked.the-variants.{Fine}
+use Rattle.checks.specs.Number.{isInfinite}
+use Rattle.checks.specs.Each
+use Rattle.checks.specs.Limit
+use Rattle.checks.specs.Table
+use Rattle.checks.specs.Laws.Order.{le-not-lt}
+
+-- x is a number of a magnitude of at most `most`
+pub record Within (most x : Float) : Type 0 where
+  pub number : T (finite x)
+  pub small : T (F64.abs x ≼ most)
+
+-- x is a number from `least` to `most`
+pub record Between (least most x : Float) : Type 0 where
+  pub number : T (finite x)
+  pub above : T (least ≼ x)
+  pub below : T (x ≼ most)
+
+-- ---- tests that fail, as facts
+to-number : (x : Float) → (isNan x || isInfinite x) ≡ false → T (finite x)
+unfolding isNan isInfinite
+to-number nan h = absurd (true≢false h)
+to-number (inf s) h = absurd (true≢false h)
+to-number (fin s m e) h = tt
+
+of-number : (x : Float) → T (finite x) → (isNan x || isInfinite x) ≡ false
+unfolding isNan isInfinite
+of-number nan t = absurd t
+of-number (inf s) t = absurd t
+of-number (fin s m e) t = refl
+
+real : (x : Float) → T (finite x) → isNan x ≡ false
+unfolding isNan
+real nan t = absurd t
+real (inf s) t = absurd t
+real (fin s m e) t = refl
+
+real-abs : (x : Float) → T (finite x) → isNan (F64.abs x) ≡ false
+unfolding isNan F64.abs
+real-abs nan t = absurd t
+real-abs (inf s) t = absurd t
+real-abs (fin s m e) t = refl
+
+-- of two that are no NaNs: not x < y, exactly if y <= x
+not-below : (x y : Float) → isNan x ≡ false → isNan y ≡ false → ((x ≺ y) ≡ false) ↔ T (y ≼ x)
+not-below x y a b = go (lt x y) (le y x) (le-not-lt y x b a)
+  where
+    go : (l g : Bool) → g ≡ not l → (l ≡ false) ↔ T g
+    go true g e = (λ h. absurd (true≢false h), λ t. absurd (subst T e t))
+    go false g e = (λ h. subst T (sym e) tt, λ t. refl)
+
+neither : (a b : Bool) → ((a || b) ≡ false) ↔ ((a ≡ false) × (b ≡ false))
+neither true b = (λ h. absurd (true≢false h), λ h. h .0)
+neither false b = (λ h. (refl, h), λ h. h .1)
+
+within : (most x : Float) → isNan most ≡ false
+    → (((isNan x || isInfinite x) ≡ false) × ((F64.abs x ≻ most) ≡ false)) ↔ Within most x
+within most x m = (
+  λ h.
+      let n = to-number x (h .0) in
+      record { number = n; small = not-below most (F64.abs x) m (real-abs x n) .0 (h .1) },
+  λ w. (of-number x (w .number), not-below most (F64.abs x) m (real-abs x (w .number)) .1 (w .small)),
+)
+
+between : (least most x : Float) → isNan least ≡ false → isNan most ≡ false
+    → (((isNan x || isInfinite x) ≡ false) × (((x ≺ least) || (x ≻ most)) ≡ false)) ↔ Between least most x
+between least most x l m = (
+  λ h.
+      let n = to-number x (h .0) in
+      let o = neither (x ≺ least) (x ≻ most) .0 (h .1) in
+      record { number = n; above = not-below x least (real x n) l .0 (o .0); below = not-below most x m (real x n) .0 (o .1) },
+  λ b.
+      let r = real x (b .number) in (
+        of-number x (b .number),
+        neither (x ≺ least) (x ≻ most) .1 (not-below x least r l .1 (b .above), not-below most x m r .1 (b .below)),
+      ),
+)
+
+-- what is no NaN, if anything, is at least `least`
+not-short : (least x : Float) → isNan least ≡ false → ((x ≺ least) ≡ false) ↔ (isNan x ≡ false → T (least ≼ x))
+unfolding isNan lt
+not-short least nan l = (λ h r. absurd (true≢false r), λ h. refl)
+not-short least (inf s) l = (λ h r. not-below (inf s) least r l .0 h, λ h. not-below (inf s) least refl l .1 (h refl))
+not-short least (fin s m e) l =
+    (λ h r. not-below (fin s m e) least r l .0 h, λ h. not-below (fin s m e) least refl l .1 (h refl))
+
+-- ---- the checks
+module _ (x : Float) (p : Place) where
+  pub epsilon-fine : (Each.epsilon x p ≡ Fine) ↔ Between Limit.epsilonLeast Limit.epsilonMost x
+  unfolding ofBits isNan
+  epsilon-fine =
+      Iff·trans (Table.epsilon x p .fine)
+      (Iff·trans (neither _ _) (between Limit.epsilonLeast Limit.epsilonMost x refl refl))
+
+  pub coordinate-fine : (Each.coordinate x p ≡ Fine) ↔ Within Limit.coordinate x
+  unfolding ofBits isNan
+  coordinate-fine = Iff·trans (Table.coordinate x p .fine) (within Limit.coordinate x refl)
+
+  pub bulge-fine : (Each.bulge x p ≡ Fine) ↔ Within Limit.bulge x
+  unfolding ofBits isNan
+  bulge-fine = Iff·trans (Table.bulge x p .fine) (within Limit.bulge x refl)
+
+  pub radius-fine : (Each.radius x p ≡ Fine) ↔ Between Limit.radiusLeast Limit.radiusMost x
+  unfolding ofBits isNan
+  radius-fine = Iff·trans (Table.radius x p .fine) (between Limit.radiusLeast Limit.radiusMost x refl refl)
+
+  pub center-fine : (Each.center x p ≡ Fine) ↔ Within Limit.center x
+  unfolding ofBits isNan
+  center-fine = Iff·trans (Table.center x p .fine) (within Limit.center x refl)
+
+  pub chord-fine : (Each.chord x p ≡ Fine) ↔ (isNan x ≡ false → T (Limit.chordLeast ≼ x))
+  unfolding ofBits isNan
+  chord-fine = Iff·trans (Table.chord x p .fine) (not-short Limit.chordLeast x refl)

@@ -1,0 +1,32 @@
+-- The first fault of two checks: `later` is associative, `Fine` its unit; it is fine exactly if both are, and bad exactly as the
+-- first that is not fine.
+use mathlib.Core.Path.{_≡_, refl}
+use mathlib.Core.Logic.{_↔_, _⊎_, inl, inr}
+use Rattle.checks.specs.declared.fault.Fault.{Fault}
+use Rattle.checks.specs.declared.fault.Checked.{Checked}
+use Rattle.checks.specs.declared.fault.Checked.the-variants.{Fine, Bad}
+use Rattle.checks.specs.Fault.{later}
+
+pub fine-left : (g : Checked) → later Fine g ≡ g
+unfolding later
+fine-left g = refl
+
+pub fine-right : (f : Checked) → later f Fine ≡ f
+unfolding later
+fine-right Fine = refl
+fine-right (Bad f) = refl
+
+pub later-assoc : (f g h : Checked) → later (later f g) h ≡ later f (later g h)
+unfolding later
+later-assoc Fine g h = refl
+later-assoc (Bad f) g h = refl
+
+pub later-fine : (f g : Checked) → (later f g ≡ Fine) ↔ ((f ≡ Fine) × (g ≡ Fine))
+unfolding later
+later-fine Fine g = (λ e. (refl, e), λ e. e .1)
+later-fine (Bad f) g = (λ e. (e, cc), λ e. e .0)
+
+pub later-bad : (f g : Checked) (x : Fault) → (later f g ≡ Bad x) ↔ ((f ≡ Bad x) ⊎ ((f ≡ Fine) × (g ≡ Bad x)))
+unfolding later
+later-bad Fine g x = (λ e. inr (refl, e), λ s. elim s [ inl e ↦ cc | inr e ↦ e .1 ])
+later-bad (Bad f) g x = (λ e. inl e, λ s. elim s [ inl e ↦ e | inr e ↦ cc ])

@@ -1,0 +1,13 @@
+pub mod Refusal
+pub mod Limit
+pub mod Fault
+pub mod Number
+pub mod Each
+pub mod Chain
+pub mod Exactly
+pub mod Table
+pub mod Edges
+pub mod First
+pub mod Lists
+pub mod Told
+pub mod Laws

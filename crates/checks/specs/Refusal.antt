@@ -1,0 +1,26 @@
+-- The scope's numbers of the refusals that a look at one number can give.
+use Prim.Native.Nat.{ℕ}
+
+-- a coordinate, bulge or radius is NaN or infinite
+abbrev pub notFinite : ℕ
+notFinite = 1
+
+-- a coordinate of a point or vertex is too large
+abbrev pub coordinate : ℕ
+coordinate = 2
+
+-- a bulge is too large
+abbrev pub bulge : ℕ
+bulge = 3
+
+-- epsilon is out of its range, or NaN
+abbrev pub epsilon : ℕ
+epsilon = 4
+
+-- an arc's chord is too short
+abbrev pub chord : ℕ
+chord = 5
+
+-- a circle's radius is out of its range, or a coordinate of its centre is too large
+abbrev pub circle : ℕ
+circle = 9

@@ -1,0 +1,83 @@
+// The checks of one number, each with the place that its fault is to tell.
+ghost use mathlib.Core.Path.{_≡_};
+ghost use Rattle.checks.specs.Each;
+use super::fault::Checked;
+use super::fault::Place;
+use super::fault::later;
+use super::fault::refuse;
+use super::limit;
+use super::number;
+use super::refusal;
+
+// Refusal 1 if x is a NaN or an infinity.
+pub fn finite(x: f64, place: Place) -> Checked
+    ensures { λ r. ⌜ r ≡ Each.finite x place ⌝ }
+{
+    refuse(number::not_finite(x), refusal::NOT_FINITE, place)
+}
+
+// Refusal 4 if epsilon is a NaN, infinite, below 2^-40 or above 1/2.
+pub fn epsilon(eps: f64, place: Place) -> Checked
+    ensures { λ r. ⌜ r ≡ Each.epsilon eps place ⌝ }
+{
+    refuse(
+        number::not_finite(eps) | number::outside(limit::EPSILON_LEAST, limit::EPSILON_MOST, eps),
+        refusal::EPSILON,
+        place,
+    )
+}
+
+// A coordinate of a point or vertex: refusal 1 if it is not finite, then 2 if it exceeds 1,048,576 in magnitude.
+pub fn coordinate(x: f64, place: Place) -> Checked
+    ensures { λ r. ⌜ r ≡ Each.coordinate x place ⌝ }
+{
+    later(
+        finite(x, place),
+        refuse(
+            number::beyond(limit::COORDINATE, x),
+            refusal::COORDINATE,
+            place,
+        ),
+    )
+}
+
+// A bulge: refusal 1 if it is not finite, then 3 if it exceeds 1 in magnitude.
+pub fn bulge(b: f64, place: Place) -> Checked
+    ensures { λ r. ⌜ r ≡ Each.bulge b place ⌝ }
+{
+    later(
+        finite(b, place),
+        refuse(number::beyond(limit::BULGE, b), refusal::BULGE, place),
+    )
+}
+
+// A circle's radius: refusal 1 if it is not finite, then 9 if it is below 2^-42, as zero and negative ones are, or above 2^47.
+pub fn radius(r: f64, place: Place) -> Checked
+    ensures { λ a. ⌜ a ≡ Each.radius r place ⌝ }
+{
+    later(
+        finite(r, place),
+        refuse(
+            number::outside(limit::RADIUS_LEAST, limit::RADIUS_MOST, r),
+            refusal::CIRCLE,
+            place,
+        ),
+    )
+}
+
+// A coordinate of a circle's centre: refusal 1 if it is not finite, then 9 if it exceeds 2^48 in magnitude.
+pub fn center(x: f64, place: Place) -> Checked
+    ensures { λ r. ⌜ r ≡ Each.center x place ⌝ }
+{
+    later(
+        finite(x, place),
+        refuse(number::beyond(limit::CENTER, x), refusal::CIRCLE, place),
+    )
+}
+
+// An arc's chord length, as its caller computed it: refusal 5 if it is below 2^-40. A NaN is not below and passes.
+pub fn chord(length: f64, place: Place) -> Checked
+    ensures { λ r. ⌜ r ≡ Each.chord length place ⌝ }
+{
+    refuse(length < limit::CHORD_LEAST, refusal::CHORD, place)
+}

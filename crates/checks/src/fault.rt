@@ -1,0 +1,61 @@
+// A fault and its place; what a check answers; and the step by which a chain of checks answers its first fault.
+ghost use mathlib.Core.Path.{_≡_};
+ghost use Rattle.checks.specs.Fault as fault;
+
+// Which of its owner's numbers.
+pub enum Item {
+    Epsilon,
+    X,
+    Y,
+    Bulge,
+    Radius,
+    CenterX,
+    CenterY,
+    Chord,
+}
+
+// Where a number stands in a call.
+pub struct Place {
+    // which of the call's things: a kernel's point or circle in the order of the arguments, a pair's segment (0 v, 1 u), a
+    // listing's path (0, 1)
+    pub owner: u64,
+    // which end, vertex or segment of it; 0 where there is only one
+    pub index: u64,
+    pub item: Item,
+}
+
+// A number that is refused: why, by the scope's number, and where it stands.
+pub struct Fault {
+    pub number: u64,
+    pub place: Place,
+}
+
+// What a check answers.
+pub enum Checked {
+    Fine,
+    Bad(Fault),
+}
+
+// The fault of this number and place if `bad`, and else fine.
+pub fn refuse(bad: bool, number: u64, place: Place) -> Checked
+    ensures { λ r. ⌜ r ≡ fault.refuse bad number place ⌝ }
+{
+    let fault = Fault {
+        number: number,
+        place: place,
+    };
+    if bad {
+        return Checked::Bad(fault);
+    }
+    Checked::Fine
+}
+
+// The first fault of two checks: that of `earlier`, or if that one is fine, what `next` says.
+pub fn later(earlier: Checked, next: Checked) -> Checked
+    ensures { λ r. ⌜ r ≡ fault.later earlier next ⌝ }
+{
+    match earlier {
+        Checked::Fine => next,
+        Checked::Bad(fault) => Checked::Bad(fault),
+    }
+}

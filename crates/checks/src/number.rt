@@ -1,0 +1,40 @@
+// The tests of one number.
+ghost use mathlib.Core.Path.{_≡_};
+ghost use lib.Ieee.{isNan};
+ghost use Rattle.checks.specs.Number;
+
+// Whether x is a NaN.
+pub fn is_nan(x: f64) -> bool
+    ensures { λ r. ⌜ r ≡ isNan x ⌝ }
+{
+    // Only a NaN differs from itself.
+    x != x
+}
+
+// Whether x is an infinity, of either sign.
+pub fn is_infinite(x: f64) -> bool
+    ensures { λ r. ⌜ r ≡ Number.isInfinite x ⌝ }
+{
+    (x == 1.0 / 0.0) | (x == -1.0 / 0.0)
+}
+
+// Whether x is a NaN or an infinity.
+pub fn not_finite(x: f64) -> bool
+    ensures { λ r. ⌜ r ≡ Number.notFinite x ⌝ }
+{
+    is_nan(x) | is_infinite(x)
+}
+
+// Whether x exceeds `most` in magnitude; a NaN does not.
+pub fn beyond(most: f64, x: f64) -> bool
+    ensures { λ r. ⌜ r ≡ Number.beyond most x ⌝ }
+{
+    floats::abs(x) > most
+}
+
+// Whether x is below `least` or above `most`; a NaN is neither.
+pub fn outside(least: f64, most: f64, x: f64) -> bool
+    ensures { λ r. ⌜ r ≡ Number.outside least most x ⌝ }
+{
+    (x < least) | (x > most)
+}

@@ -1,0 +1,19 @@
+// The scope's numbers of the refusals that a look at one number can give. specs/Refusal.antt has the same.
+
+// a coordinate, bulge or radius is NaN or infinite
+pub const NOT_FINITE: u64 = 1;
+
+// a coordinate of a point or vertex is too large
+pub const COORDINATE: u64 = 2;
+
+// a bulge is too large
+pub const BULGE: u64 = 3;
+
+// epsilon is out of its range, or NaN
+pub const EPSILON: u64 = 4;
+
+// an arc's chord is too short
+pub const CHORD: u64 = 5;
+
+// a circle's radius is out of its range, or a coordinate of its centre is too large
+pub const CIRCLE: u64 = 9;

@@ -1,0 +1,84 @@
+-- `crossing::line_circle::line_meets` meets its contract: each return is an end of the definition, by the calls and tests on its way.
+use borrow.Author.Needs.{needs}
+use Rattle.crossing.specs.LineCircle
+use Rattle.crossing.proofs.line_circle.line_meets.Statement.{statement}
+use Rattle.crossing.proofs.line_circle.line_meets.Tie as tie
+
+abs-requires : tie.Need-abs-requires
+abs-requires c κs = search needs
+
+sqrt-requires : tie.Need-sqrt-requires
+sqrt-requires c κs = search needs
+
+returns : tie.Need-returns
+unfolding LineCircle.lineMeets
+returns c =
+    let p1 = c .before in
+    let p2 = p1 .before in
+    simp (
+      ← p2 .abs .ensures,
+      ← p1 .sqrt .ensures,
+      c .if1 .taken,
+    )
+
+new-requires : tie.Need-new-requires
+new-requires c κs = search needs
+
+parametric-from-point-requires : tie.Need-parametric-from-point-requires
+parametric-from-point-requires c κs = search needs
+
+returns-2 : tie.Need-returns-2
+unfolding LineCircle.lineMeets
+returns-2 c =
+    let p1 = c .before in
+    let p2 = p1 .before in
+    let p3 = p2 .before in
+    let p4 = p3 .before in
+    let p5 = p4 .before in
+    let p6 = p5 .before in
+    let p7 = p6 .before in
+    let p8 = p7 .before in
+    let p9 = p8 .before in
+    simp (
+      ← p9 .abs .ensures,
+      ← p8 .sqrt .ensures,
+      p7 .if1 .left,
+      p2 .if2 .taken,
+      ← p1 .new .ensures,
+      ← c .parametric-from-point .ensures,
+    )
+
+abs-requires-2 : tie.Need-abs-requires-2
+abs-requires-2 c κs = search needs
+
+sqrt-requires-2 : tie.Need-sqrt-requires-2
+sqrt-requires-2 c κs = search needs
+
+two-points-requires : tie.Need-two-points-requires
+two-points-requires c κs = search needs
+
+returns-3 : tie.Need-returns-3
+unfolding LineCircle.lineMeets
+returns-3 c =
+    let p1 = c .before in
+    let p2 = p1 .before in
+    let p3 = p2 .before in
+    let p4 = p3 .before in
+    let p5 = p4 .before in
+    let p6 = p5 .before in
+    let p7 = p6 .before in
+    let p8 = p7 .before in
+    let p9 = p8 .before in
+    let p10 = p9 .before in
+    simp (
+      ← p10 .abs .ensures,
+      ← p9 .sqrt .ensures,
+      p8 .if1 .left,
+      p3 .if2 .left,
+      ← p2 .abs2 .ensures,
+      ← p1 .sqrt2 .ensures,
+      ← c .two-points .ensures,
+    )
+
+pub line-meets-spec : {M : Type 1} → statement M
+line-meets-spec = tie.close (tie.spec abs-requires sqrt-requires returns new-requires parametric-from-point-requires returns-2 abs-requires-2 sqrt-requires-2 two-points-requires returns-3)

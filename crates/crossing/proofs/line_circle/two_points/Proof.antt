@@ -1,0 +1,72 @@
+-- `crossing::line_circle::two_points` meets its contract: each return is an end of the definition, by the calls and tests on its way.
+use borrow.Author.Needs.{needs}
+use Rattle.crossing.specs.LineCircle
+use Rattle.crossing.proofs.line_circle.two_points.Statement.{statement}
+use Rattle.crossing.proofs.line_circle.two_points.Tie as tie
+
+new-requires : tie.Need-new-requires
+new-requires c κs = search needs
+
+new-requires-2 : tie.Need-new-requires-2
+new-requires-2 c κs = search needs
+
+fuzzy-eq-eps-requires : tie.Need-fuzzy-eq-eps-requires
+fuzzy-eq-eps-requires c κs = search needs
+
+new-requires-3 : tie.Need-new-requires-3
+new-requires-3 c κs = search needs
+
+parametric-from-point-requires : tie.Need-parametric-from-point-requires
+parametric-from-point-requires c κs = search needs
+
+returns : tie.Need-returns
+unfolding LineCircle.twoPoints
+returns c =
+    let p1 = c .before in
+    let p2 = p1 .before in
+    let p3 = p2 .before in
+    let p4 = p3 .before in
+    let p5 = p4 .before in
+    let p6 = p5 .before in
+    let p7 = p6 .before in
+    simp (
+      ← p7 .new .ensures,
+      ← p4 .new2 .ensures,
+      ← p3 .fuzzy-eq-eps .ensures,
+      p2 .if1 .taken,
+      ← p1 .new3 .ensures,
+      ← c .parametric-from-point .ensures,
+    )
+
+parametric-from-point-requires-2 : tie.Need-parametric-from-point-requires-2
+parametric-from-point-requires-2 c κs = search needs
+
+parametric-from-point-requires-3 : tie.Need-parametric-from-point-requires-3
+parametric-from-point-requires-3 c κs = search needs
+
+min-max-requires : tie.Need-min-max-requires
+min-max-requires c κs = search needs
+
+returns-2 : tie.Need-returns-2
+unfolding LineCircle.twoPoints
+returns-2 c =
+    let p1 = c .before in
+    let p2 = p1 .before in
+    let p3 = p2 .before in
+    let p4 = p3 .before in
+    let p5 = p4 .before in
+    let p6 = p5 .before in
+    let p7 = p6 .before in
+    let p8 = p7 .before in
+    simp (
+      ← p8 .new .ensures,
+      ← p5 .new2 .ensures,
+      ← p4 .fuzzy-eq-eps .ensures,
+      p3 .if1 .left,
+      ← p2 .parametric-from-point2 .ensures,
+      ← p1 .parametric-from-point3 .ensures,
+      ← c .min-max .ensures,
+    )
+
+pub two-points-spec : {M : Type 1} → statement M
+two-points-spec = tie.close (tie.spec new-requires new-requires-2 fuzzy-eq-eps-requires new-requires-3 parametric-from-point-requires returns parametric-from-point-requires-2 parametric-from-point-requires-3 min-max-requires returns-2)

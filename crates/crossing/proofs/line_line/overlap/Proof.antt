@@ -1,0 +1,92 @@
+-- `crossing::line_line::overlap` meets its contract: each return is an end of the definition, by the calls and tests on its way.
+use borrow.Author.Needs.{needs}
+use Rattle.crossing.specs.LineLine
+use Rattle.crossing.proofs.line_line.overlap.Statement.{statement}
+use Rattle.crossing.proofs.line_line.overlap.Tie as tie
+
+length-requires : tie.Need-length-requires
+length-requires c κs = search needs
+
+fuzzy-lt-eps-requires : tie.Need-fuzzy-lt-eps-requires
+fuzzy-lt-eps-requires c κs = search needs
+
+fuzzy-gt-eps-requires : tie.Need-fuzzy-gt-eps-requires
+fuzzy-gt-eps-requires c κs = search needs
+
+returns : tie.Need-returns
+unfolding LineLine.overlap
+returns c =
+    let p1 = c .before in
+    let p2 = p1 .before in
+    let p3 = p2 .before in
+    let p4 = p3 .before in
+    let p5 = p4 .before in
+    simp (
+      ← p5 .length .ensures,
+      ← p3 .fuzzy-lt-eps .ensures,
+      ← p1 .fuzzy-gt-eps .ensures,
+      c .if1 .taken,
+    )
+
+max-requires : tie.Need-max-requires
+max-requires c κs = search needs
+
+min-requires : tie.Need-min-requires
+min-requires c κs = search needs
+
+fuzzy-eq-zero-eps-requires : tie.Need-fuzzy-eq-zero-eps-requires
+fuzzy-eq-zero-eps-requires c κs = search needs
+
+touching-end-requires : tie.Need-touching-end-requires
+touching-end-requires c κs = search needs
+
+returns-2 : tie.Need-returns-2
+unfolding LineLine.overlap
+returns-2 c =
+    let p1 = c .before in
+    let p2 = p1 .before in
+    let p3 = p2 .before in
+    let p4 = p3 .before in
+    let p5 = p4 .before in
+    let p6 = p5 .before in
+    let p7 = p6 .before in
+    let p8 = p7 .before in
+    let p9 = p8 .before in
+    let p10 = p9 .before in
+    simp (
+      ← p10 .length .ensures,
+      ← p8 .fuzzy-lt-eps .ensures,
+      ← p6 .fuzzy-gt-eps .ensures,
+      p5 .if1 .left,
+      ← p4 .max .ensures,
+      ← p3 .min .ensures,
+      ← p2 .fuzzy-eq-zero-eps .ensures,
+      p1 .if2 .taken,
+      ← c .touching-end .ensures,
+    )
+
+returns-3 : tie.Need-returns-3
+unfolding LineLine.overlap
+returns-3 c =
+    let p1 = c .before in
+    let p2 = p1 .before in
+    let p3 = p2 .before in
+    let p4 = p3 .before in
+    let p5 = p4 .before in
+    let p6 = p5 .before in
+    let p7 = p6 .before in
+    let p8 = p7 .before in
+    let p9 = p8 .before in
+    simp (
+      ← p9 .length .ensures,
+      ← p7 .fuzzy-lt-eps .ensures,
+      ← p5 .fuzzy-gt-eps .ensures,
+      p4 .if1 .left,
+      ← p3 .max .ensures,
+      ← p2 .min .ensures,
+      ← p1 .fuzzy-eq-zero-eps .ensures,
+      c .if2 .left,
+    )
+
+pub overlap-spec : {M : Type 1} → statement M
+overlap-spec = tie.close (tie.spec length-requires fuzzy-lt-eps-requires fuzzy-gt-eps-requires returns max-requires min-requires fuzzy-eq-zero-eps-requires touching-end-requires returns-2 returns-3)

@@ -1,0 +1,9 @@
+pub mod LineLine
+pub mod LineCircle
+pub mod CircleCircle
+pub mod Settle
+pub mod Told
+pub mod LineLineIntersect
+pub mod LineCircleIntersect
+pub mod CircleCircleIntersect
+pub mod Refusals

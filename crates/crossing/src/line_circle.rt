@@ -1,0 +1,149 @@
+// A line segment and a circle, for any numbers: line_circle_intersect.rs. The names of its locals are the Rust's.
+ghost use mathlib.Core.Path.{_≡_};
+ghost use Rattle.crossing.specs.LineCircle;
+use super::line_circle_intersect::LineCircleIntr;
+use plane::base_math::MinMax;
+use plane::base_math::min_max;
+use plane::base_math::parametric_from_point;
+use plane::fuzzy::fuzzy_eq_eps;
+use plane::fuzzy::fuzzy_eq_zero;
+use plane::vector2::Vector2;
+
+// The line a * x + b * y + c = 0.
+pub struct Line {
+    pub a: f64,
+    pub b: f64,
+    pub c: f64,
+}
+
+// A segment that is a point: it touches where its distance from the centre is near the radius.
+fn point_circle(
+    p0: Vector2,
+    p1: Vector2,
+    radius: f64,
+    circle_center: Vector2,
+    eps: f64,
+) -> LineCircleIntr
+    ensures { λ r. ⌜ r ≡ LineCircle.pointCircle p0 p1 radius «circle_center» eps ⌝ }
+{
+    // The average of the ends stands for the point.
+    let xh = (p0.x + p1.x) / 2.0 - circle_center.x;
+    let yk = (p0.y + p1.y) / 2.0 - circle_center.y;
+    if fuzzy_eq_eps(floats::sqrt(xh * xh + yk * yk), radius, eps) {
+        return LineCircleIntr::TangentIntersect { t0: 0.0 };
+    }
+    LineCircleIntr::NoIntersect
+}
+
+// The line through two points, given as they lie about the circle's centre; dx and dy lead from the first to the second.
+// It is vertical by the default epsilon: the test only keeps the slope's divisor from being too small, and decides no answer.
+fn line_through(dx: f64, dy: f64, p0_shifted: Vector2, p1_shifted: Vector2) -> Line
+    ensures { λ r. ⌜ r ≡ LineCircle.lineThrough dx dy «p0_shifted» «p1_shifted» ⌝ }
+{
+    if fuzzy_eq_zero(dx) {
+        let x_pos = (p1_shifted.x + p0_shifted.x) / 2.0;
+        return Line {
+            a: 1.0,
+            b: 0.0,
+            c: -x_pos,
+        };
+    }
+    let m = dy / dx;
+    Line {
+        a: m,
+        b: -1.0,
+        c: p1_shifted.y - m * p1_shifted.x,
+    }
+}
+
+// The two points of the circle on the line, mult away from the point (x0, y0) that is nearest to the centre, as parameters.
+fn two_points(
+    p0: Vector2,
+    p1: Vector2,
+    line: Line,
+    x0: f64,
+    y0: f64,
+    mult: f64,
+    eps: f64,
+) -> LineCircleIntr
+    ensures { λ r. ⌜ r ≡ LineCircle.twoPoints p0 p1 line x0 y0 mult eps ⌝ }
+{
+    let point1 = Vector2::new(x0 + line.b * mult, y0 - line.a * mult);
+    let point2 = Vector2::new(x0 - line.b * mult, y0 + line.a * mult);
+    // Nearness is judged by the points' positions: by the distance of the line from the centre, a large circle would join points
+    // that are much farther apart than epsilon.
+    if point1.fuzzy_eq_eps(point2, eps) {
+        let t = parametric_from_point(p0, p1, Vector2::new(x0, y0), eps);
+        return LineCircleIntr::TangentIntersect { t0: t };
+    }
+    let sol1 = parametric_from_point(p0, p1, point1, eps);
+    let sol2 = parametric_from_point(p0, p1, point2, eps);
+    let ts: MinMax = min_max(sol1, sol2);
+    LineCircleIntr::TwoIntersects {
+        t0: ts.min,
+        t1: ts.max,
+    }
+}
+
+// How a line and a circle about (h, k) meet.
+fn line_meets(
+    p0: Vector2,
+    p1: Vector2,
+    line: Line,
+    radius: f64,
+    h: f64,
+    k: f64,
+    eps: f64,
+) -> LineCircleIntr
+    ensures { λ r. ⌜ r ≡ LineCircle.lineMeets p0 p1 line radius h k eps ⌝ }
+{
+    let a2 = line.a * line.a;
+    let b2 = line.b * line.b;
+    let c2 = line.c * line.c;
+    let r2 = radius * radius;
+    let a2_b2 = a2 + b2;
+    let shortest_dist = floats::abs(line.c) / floats::sqrt(a2_b2);
+    if shortest_dist > radius + eps {
+        return LineCircleIntr::NoIntersect;
+    }
+    let inv_a2_b2 = 1.0 / a2_b2;
+    let x0 = -line.a * line.c * inv_a2_b2 + h;
+    let y0 = -line.b * line.c * inv_a2_b2 + k;
+    if shortest_dist >= radius {
+        let t = parametric_from_point(p0, p1, Vector2::new(x0, y0), eps);
+        return LineCircleIntr::TangentIntersect { t0: t };
+    }
+    let d = r2 - c2 * inv_a2_b2;
+    // The magnitude, since rounding can make d slightly negative.
+    let mult = floats::sqrt(floats::abs(d * inv_a2_b2));
+    two_points(p0, p1, line, x0, y0, mult, eps)
+}
+
+// How the segment p0 to p1 and a circle meet, for any numbers.
+pub fn line_circle(
+    p0: Vector2,
+    p1: Vector2,
+    radius: f64,
+    circle_center: Vector2,
+    epsilon: f64,
+) -> LineCircleIntr
+    ensures { λ r. ⌜ r ≡ LineCircle.lineCircle p0 p1 radius «circle_center» epsilon ⌝ }
+{
+    let dx = p1.x - p0.x;
+    let dy = p1.y - p0.y;
+    if p0.fuzzy_eq_eps(p1, epsilon) {
+        return point_circle(p0, p1, radius, circle_center, epsilon);
+    }
+    let p0_shifted = p0.sub(circle_center);
+    let p1_shifted = p1.sub(circle_center);
+    let line = line_through(dx, dy, p0_shifted, p1_shifted);
+    line_meets(
+        p0,
+        p1,
+        line,
+        radius,
+        circle_center.x,
+        circle_center.y,
+        epsilon,
+    )
+}
