@@ -3,7 +3,24 @@ use mathlib.Core.Path.{_≡_, refl}
 use mathlib.Core.List.{List, [], _∷_}
 use lib.Count.{trailingZeros}
 use lib.Ieee.{
-  add, sub, mul, div, neg, sum, round, units, odd, size, span, climb, lt, le, eq, isNan, ofBits, ofFields
+  add,
+  sub,
+  mul,
+  div,
+  neg,
+  sum,
+  round,
+  units,
+  odd,
+  size,
+  span,
+  climb,
+  lt,
+  le,
+  eq,
+  isNan,
+  ofBits,
+  ofFields,
 }
 use Rattle.floats.specs.F64.{abs, min, max, sqrt, rootOf, rootAt, isqrt, rootIn}
 use Rattle.plane.specs.Vector2 as vector2

@@ -45,21 +45,21 @@ pub record Row : Type 0 where
 abbrev pub rowA : Row
 rowA = record {
   found = lines.told (lines.lineLineIntr (pt n0 n0) (pt n1 n0) (pt half minus1) (pt half n1) eps);
-  due = met 1 (half ∷ half ∷ [])
+  due = met 1 (half ∷ half ∷ []);
 }
 
 -- (0,0)-(1,0), circle radius 1 at (0,1): tangent, t 0
 abbrev pub rowB : Row
 rowB = record {
   found = lineCircle.told (lineCircle.lineCircleIntr (pt n0 n0) (pt n1 n0) n1 (pt n0 n1) eps);
-  due = met 1 (n0 ∷ [])
+  due = met 1 (n0 ∷ []);
 }
 
 -- unit circles at (0,0) and (0,2): tangent (0,1)
 abbrev pub rowC : Row
 rowC = record {
   found = circles.told (circles.circleCircleIntr n1 (pt n0 n0) n1 (pt n0 n2) eps);
-  due = met 1 (n0 ∷ n1 ∷ [])
+  due = met 1 (n0 ∷ n1 ∷ []);
 }
 
 abbrev pub table : List Row
