@@ -258,4 +258,5 @@ held-of f nan s A t h = absurd h
 held-of f (inf u) s A t h = absurd h
 held-of f (fin u m e) s A t h =
     let k = counted f (fin u m e) tt t in
-    subst (λ (z : ℕ). Held (prec f) z × (z < overflow f)) (same-count (fin u m e) (k .s) s (k .count) A (2 ^ low f) (k .value) h) (k .held, k .under)
+    let same = same-count (fin u m e) (k .s) s (k .count) A (2 ^ low f) (k .value) h in
+    subst (λ (z : ℕ). Held (prec f) z × (z < overflow f)) same (k .held, k .under)

@@ -62,7 +62,9 @@ negative nan e some = refl
 negative (inf true) e some = absurd (true≢false (cc))
 negative (inf false) e some = refl
 negative (fin true m k) e some = absurd (true≢false (cc))
-negative (fin false zero k) e some = absurd (some (refl, ap (λ (x : ℕ). x * 2 ^ low binary64) (zero-mul (up k)) ∙ zero-mul (2 ^ low binary64) ∙ sym (zero-mul (down k))))
+negative (fin false zero k) e some =
+    let L = 2 ^ low binary64 in
+    absurd (some (refl, ap (λ (x : ℕ). x * L) (zero-mul (up k)) ∙ zero-mul L ∙ sym (zero-mul (down k))))
 negative (fin false (suc m) k) e some = refl
 
 valued : (v : Float) (s : Bool) (A c : ℕ) → HasValue v s A c → T (not (isNan v))
@@ -121,7 +123,8 @@ up-number (fin false (suc m) e) h = (refl, rootAt-real binary64 (suc m * up e * 
 up-number (fin true (suc m) e) h =
     let a = 0 * 1 * down e in
     let b = suc m * up e * 1 in
-    absurd (clash (down e) (suc m * up e) (mul-pos (zero-lt-suc m) (up-pos e)) (eqb→eq a b (and-l (eqb a b) (Bool·beq false true || eqb a 0) (subst T (sym h) tt))))
+    let same = eqb→eq a b (and-l (eqb a b) (Bool·beq false true || eqb a 0) (subst T (sym h) tt)) in
+    absurd (clash (down e) (suc m * up e) (mul-pos (zero-lt-suc m) (up-pos e)) same)
   where
     clash : (d u : ℕ) → 0 < u → 0 * 1 * d ≡ u * 1 → ⊥
     clash d u p e = omega arith
@@ -154,5 +157,6 @@ zero-over-zero : div binary64 (ofBits binary64 0) (ofBits binary64 0) ≡ nan
 unfolding div ofBits
 zero-over-zero = refl
 
-pub no-root : (x : Float) → T (fits binary64 x) → le (ofBits binary64 0) x ≡ false → div binary64 (ofBits binary64 0) (ofBits binary64 0) ≡ F64.sqrt x
+pub no-root : (x : Float) → T (fits binary64 x) → le (ofBits binary64 0) x ≡ false
+    → div binary64 (ofBits binary64 0) (ofBits binary64 0) ≡ F64.sqrt x
 no-root x t h = zero-over-zero ∙ down-none x t (ap (λ (v : Float). le v x) (sym zero-is) ∙ h)

@@ -72,7 +72,9 @@ stop t m e r h =
     split a l = sym (pow-add 2 (a - r .k) (r .k)) ∙ ap (λ (z : ℕ). 2 ^ z) (back a (r .k) l)
 
     least : 2 ^ (52 - r .k) ≤ t
-    least = le-of-mul-le-mul-right {k = 2 ^ r .k} (le-trans (le-of-eq (split 52 (r .few))) (le-trans h (le-of-eq (r .moved)))) (pow-pos (r .k))
+    least =
+        let wide = le-trans (le-of-eq (split 52 (r .few))) (le-trans h (le-of-eq (r .moved))) in
+        le-of-mul-le-mul-right {k = 2 ^ r .k} wide (pow-pos (r .k))
 
     double : (a b : ℕ) → a * b ≡ 2 ^ 52 → 2 * a * b ≡ 2 ^ 53
     double a b e = omega arith

@@ -63,7 +63,8 @@ raised-parts t P h = go (size t) (size-le t 52 h) (some (size t) (size-lt t)) (s
     double : (a b : ℕ) → a * b ≡ 2 ^ 52 → 2 * a * b ≡ 2 ^ 53
     double a b e = omega arith
 
-    go : (d : ℕ) → d ≤ 52 → 0 < d → ((j : ℕ) → j < d → 2 ^ j ≤ t) → t < 2 ^ d → Parts t (record { m = t * 2 ^ (53 - d); e = 1024 - (53 - d) })
+    go : (d : ℕ) → d ≤ 52 → 0 < d → ((j : ℕ) → j < d → 2 ^ j ≤ t) → t < 2 ^ d
+        → Parts t (record { m = t * 2 ^ (53 - d); e = 1024 - (53 - d) })
     go (suc d) D Q reach below =
         let up = 2 ^ (53 - suc d) in
         let U : 0 < up = pow-pos (53 - suc d) in
@@ -116,7 +117,8 @@ parts-is b P h = go (b / 2 ^ 52) (omega arith) (parts-low b) (parts-high b) (ome
         → 0 < x * 2 ^ 52 + t → Parts (count binary64 x t) (Root.parts b)
     go zero X low high some = subst (Parts t) (low refl) (raised-parts t (omega arith) (omega arith))
     go (suc x) X low high some =
-        subst (Parts (count binary64 (suc x) t)) (high (λ (e : suc x ≡ 0). absurd (omega arith))) (normal-parts x t (omega arith) (omega arith))
+        let is = high (λ (e : suc x ≡ 0). absurd (omega arith)) in
+        subst (Parts (count binary64 (suc x) t)) is (normal-parts x t (omega arith) (omega arith))
 
 -- the digits are what is left below the field
 pub low-digits : (b : ℕ) → b < 2 ^ 64 → b - b / 2 ^ 52 * 2 ^ 52 % 2 ^ 64 ≡ b % 2 ^ 52
@@ -205,7 +207,8 @@ module _ (b : ℕ) (P : 0 < b) (h : b < 0x7ff0_0000_0000_0000) where
       let of-root = rootOf-count binary64 (ofBits binary64 b) X X-pos value ∙ ap (rootAt binary64) scaled in
       let rounded = rootAt-val binary64 (n * 2 ^ 53) q g r (j .0) (j .1) (no-tie n q) (fine w g (omega arith) (omega (arith, p .e-high))) in
       let found = subst (λ (k : Float). HasValue k false (w * 2 ^ g) (2 ^ low binary64)) (sym of-root) rounded in
-      sym (toBits-count binary64 (rootOf binary64 (ofBits binary64 b)) false (w * 2 ^ g) found ∙ bits-at binary64 w g (omega arith) (omega arith))
+      sym (toBits-count binary64 (rootOf binary64 (ofBits binary64 b)) false (w * 2 ^ g) found
+      ∙ bits-at binary64 w g (omega arith) (omega arith))
     where
       halves : (s : ℕ) → 972 ≤ s → s ≡ 2 * (s / 2 - 1 + 1) + s % 2
       halves s l = omega arith

@@ -71,7 +71,8 @@ unfolding Bits.pick
 pick-agrees first a b = go first (nanBits binary64 a) (nanBits binary64 b) (sym (nanBits-is binary64 a)) (sym (nanBits-is binary64 b))
   where
     go : (first m n : Bool) → isNan (ofBits binary64 a) ≡ m → isNan (ofBits binary64 b) ≡ n
-        → ofBits binary64 (cond m (cond n Bits.quietNan b) (cond n a (cond first a b))) ≡ F64.choose first (ofBits binary64 a) (ofBits binary64 b)
+        → ofBits binary64 (cond m (cond n Bits.quietNan b) (cond n a (cond first a b)))
+        ≡ F64.choose first (ofBits binary64 a) (ofBits binary64 b)
     go first true true e g = rw e (quiet-is ∙ sym (is-nan (ofBits binary64 b) g))
     go first true false e g = rw e
     go first false true e g = rw (e, g)
@@ -89,4 +90,6 @@ max-agrees a b = pick-agrees (lt (ofBits binary64 b) (ofBits binary64 a)) a b
 -- ---- the root: its pattern is that of a value of the format
 pub sqrt-agrees : (b : ℕ) → ofBits binary64 (Bits.sqrt b) ≡ F64.sqrt (ofBits binary64 b)
 unfolding Bits.sqrt F64.sqrt
-sqrt-agrees b = ofBits-toBits binary64 (F64.rootOf binary64 (ofBits binary64 b)) (rootOf-fits binary64 (ofBits binary64 b) (ofBits-fits binary64 b))
+sqrt-agrees b =
+    let x = ofBits binary64 b in
+    ofBits-toBits binary64 (F64.rootOf binary64 x) (rootOf-fits binary64 x (ofBits-fits binary64 b))

@@ -64,10 +64,11 @@ quiet-is = refl
 module _ (less : Float → Float → Bool)
     (numbers : (x y : Float) → less x y ≡ true → (isNan x ≡ false) × (isNan y ≡ false))
     (once : (x y : Float) → less x y ≡ true → less y x ≡ false) where
-  agrees : (a b : ℕ) → signalling a ≡ false → signalling b ≡ false → Num less a b (Bits.pick (less (ofBits binary64 a) (ofBits binary64 b)) a b)
+  agrees : (a b : ℕ) → signalling a ≡ false → signalling b ≡ false
+      → Num less a b (Bits.pick (less (ofBits binary64 a) (ofBits binary64 b)) a b)
   agrees a b sa sb = record {
-    first = λ h. let n = numbers x y h in pick-at (less x y) a b false false (nan-is a (n .0)) (nan-is b (n .1)) ∙ ap (λ (z : Bool). cond z a b) h;
-    second = λ h. let n = numbers y x h in pick-at (less x y) a b false false (nan-is a (n .1)) (nan-is b (n .0)) ∙ ap (λ (z : Bool). cond z a b) (once y x h);
+    first = λ h. let n = numbers x y h in of-numbers (n .0) (n .1) ∙ ap (λ (z : Bool). cond z a b) h;
+    second = λ h. let n = numbers y x h in of-numbers (n .1) (n .0) ∙ ap (λ (z : Bool). cond z a b) (once y x h);
     either = λ m n. one (less x y) (pick-at (less x y) a b false false m n);
     number-first = λ m n. pick-at (less x y) a b false true m (and-left _ _ n);
     number-second = λ m n. pick-at (less x y) a b true false (and-left _ _ m) n;
@@ -83,6 +84,9 @@ module _ (less : Float → Float → Bool)
 
       nan-is : (c : ℕ) → isNan (ofBits binary64 c) ≡ false → nanBits binary64 c ≡ false
       nan-is c h = nanBits-is binary64 c ∙ h
+
+      of-numbers : isNan x ≡ false → isNan y ≡ false → Bits.pick (less x y) a b ≡ cond (less x y) a b
+      of-numbers p q = pick-at (less x y) a b false false (nan-is a p) (nan-is b q)
 
       one : (f : Bool) {r : ℕ} → r ≡ cond f a b → (r ≡ a) ⊎ (r ≡ b)
       one true e = inl e

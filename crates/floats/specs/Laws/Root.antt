@@ -142,7 +142,13 @@ held-root p (suc zero) x S X h =
 held-root p (suc (suc k)) x S X h =
     let half = even-root S (2 * (x * 2 ^ k)) (h ∙ quarter (2 ^ k) (2 ^ suc k) (2 ^ suc (suc k)) (pow-succ' 2 k) (pow-succ' 2 (suc k))) in
     let less = held-root p k x (S / 2) X (omega (arith, half .1)) in
-    record { y = less .y; j = suc (less .j); few = less .few; is = up (less .y) (2 ^ less .j) (2 ^ suc (less .j)) (pow-succ' 2 (less .j)) (less .is) (half .0) }
+    let next = pow-succ' 2 (less .j) in
+    record {
+      y = less .y;
+      j = suc (less .j);
+      few = less .few;
+      is = up (less .y) (2 ^ less .j) (2 ^ suc (less .j)) next (less .is) (half .0);
+    }
   where
     quarter : (a b c : ℕ) → b ≡ 2 * a → c ≡ 2 * b → x * c ≡ 2 * (2 * (x * a))
     quarter a b c p q = let r : x * c ≡ x * (2 * (2 * a)) = ap (λ (z : ℕ). x * z) (q ∙ ap (λ (z : ℕ). 2 * z) p) in omega arith
@@ -241,7 +247,8 @@ pub record Found (f : Format) (X : ℕ) (r : Float) : Type 0 where
   pub below : (Y : ℕ) → Held (prec f) Y → Y < R → (Y + R) * (Y + R) < 4 * (X * 2 ^ low f)
   pub above : (Y : ℕ) → Held (prec f) Y → R < Y → 4 * (X * 2 ^ low f) < (Y + R) * (Y + R)
 
-pub found : (f : Format) (x : Float) (X : ℕ) → 0 < X → X < overflow f → Held (prec f) X → HasValue x false X (2 ^ low f) → Found f X (rootOf f x)
+pub found : (f : Format) (x : Float) (X : ℕ) → 0 < X → X < overflow f → Held (prec f) X → HasValue x false X (2 ^ low f)
+    → Found f X (rootOf f x)
 found f x X P h held v =
     let N = X * 2 ^ (low f + 2) in
     let four : N ≡ 4 * (X * 2 ^ low f) = ap (λ (z : ℕ). X * z) (pow-add 2 (low f) 2) ∙ quad X (2 ^ low f) in
