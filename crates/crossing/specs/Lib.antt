@@ -1,9 +1,17 @@
 pub mod LineLine
 pub mod LineCircle
 pub mod CircleCircle
+pub mod ArcSweep
+pub mod ArcGeometry
+pub mod PlineSegIntr
+pub mod LineArc
+pub mod ArcArc
+pub mod PlineSeg
 pub mod Settle
 pub mod Told
 pub mod LineLineIntersect
 pub mod LineCircleIntersect
 pub mod CircleCircleIntersect
+pub mod PlineSegIntersect
 pub mod Refusals
+pub mod Laws

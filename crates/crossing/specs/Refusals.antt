@@ -1,4 +1,4 @@
--- The kernels' refusals, exactly when: a call refuses with number n if and only if the first fault among its numbers, in the order
+-- The refusals of the kernels and of the pair call, exactly when: a call refuses with number n if and only if the first fault among its numbers, in the order
 -- of its list of checks, has that number; and it answers how they meet if and only if every number passes.
 -- Table.antt of the crate `checks` says of each check when it finds which fault.
 use mathlib.Core.Path.{_≡_}
@@ -6,16 +6,20 @@ use Prim.Native.Nat.{ℕ}
 use native.Mathlib.Omega.{arith}
 use lib.Ieee.{Float}
 use Rattle.plane.specs.declared.vector2.Vector2.{Vector2}
+use Rattle.plane.specs.declared.pline_vertex.PlineVertex.{PlineVertex}
 use Rattle.crossing.specs.Settle.{Settled, Apart, settled}
 use Rattle.crossing.specs.LineLine.{lineLine}
 use Rattle.crossing.specs.LineCircle.{lineCircle}
 use Rattle.crossing.specs.CircleCircle.{circleCircle}
+use Rattle.crossing.specs.PlineSeg.{plineSeg}
 use Rattle.crossing.specs.LineLineIntersect as lines
 use Rattle.crossing.specs.LineCircleIntersect as lineAndCircle
 use Rattle.crossing.specs.CircleCircleIntersect as circles
+use Rattle.crossing.specs.PlineSegIntersect as pairs
 use Rattle.crossing.specs.declared.line_line_intersect.LineLineAnswer.the-variants as ofLines
 use Rattle.crossing.specs.declared.line_circle_intersect.LineCircleAnswer.the-variants as ofLineAndCircle
 use Rattle.crossing.specs.declared.circle_circle_intersect.CircleCircleAnswer.the-variants as ofCircles
+use Rattle.crossing.specs.declared.pline_seg_intersect.PlineSegAnswer.the-variants as ofPairs
 
 never : _≡_ {A = ℕ} 0 1 → ⊥
 never e = omega arith
@@ -53,3 +57,13 @@ circle-circle radius1 center1 radius2 center2 epsilon =
     settled ofCircles.Refused ofCircles.Met apart
     (circles.checks radius1 center1 radius2 center2 epsilon)
     (circleCircle radius1 center1 radius2 center2 epsilon)
+
+pub pline-seg : (v1 v2 u1 u2 : PlineVertex) (posEqualEps : Float)
+    → Settled ofPairs.Refused ofPairs.Met
+    (pairs.plineSegIntr v1 v2 u1 u2 posEqualEps)
+    (pairs.checks v1 v2 u1 u2 posEqualEps)
+    (plineSeg v1 v2 u1 u2 posEqualEps)
+unfolding pairs.plineSegIntr pairs.look
+pline-seg v1 v2 u1 u2 posEqualEps =
+    let apart : Apart ofPairs.Refused ofPairs.Met = record { numbers = λ n m e. cc; kinds = λ n i e. never (cc) } in
+    settled ofPairs.Refused ofPairs.Met apart (pairs.checks v1 v2 u1 u2 posEqualEps) (plineSeg v1 v2 u1 u2 posEqualEps)

@@ -1,0 +1,167 @@
+-- `crossing::arc_arc::arc_arc` meets its contract: each return is an end of the definition, by the calls and tests on its
+-- way.
+use borrow.Author.Needs.{needs}
+use Rattle.crossing.specs.ArcArc
+use Rattle.crossing.proofs.arc_arc.arc_arc.Statement.{statement}
+use Rattle.crossing.proofs.arc_arc.arc_arc.Tie as tie
+
+seg-arc-radius-and-center-requires : tie.Need-seg-arc-radius-and-center-requires
+seg-arc-radius-and-center-requires c κs = search needs
+
+seg-arc-radius-and-center-requires-2 : tie.Need-seg-arc-radius-and-center-requires-2
+seg-arc-radius-and-center-requires-2 c κs = search needs
+
+circle-circle-requires : tie.Need-circle-circle-requires
+circle-circle-requires c κs = search needs
+
+enum-told : tie.Need-enum-told
+enum-told c = search needs
+
+enum-known-intr-result : tie.Need-enum-known-intr-result
+enum-known-intr-result c = search needs
+
+of-segment-requires : tie.Need-of-segment-requires
+of-segment-requires c κs = search needs
+
+of-segment-requires-2 : tie.Need-of-segment-requires-2
+of-segment-requires-2 c κs = search needs
+
+pos-requires : tie.Need-pos-requires
+pos-requires c κs = search needs
+
+pos-requires-2 : tie.Need-pos-requires-2
+pos-requires-2 c κs = search needs
+
+pos-requires-3 : tie.Need-pos-requires-3
+pos-requires-3 c κs = search needs
+
+pos-requires-4 : tie.Need-pos-requires-4
+pos-requires-4 c κs = search needs
+
+tangent-arc-arc-requires : tie.Need-tangent-arc-arc-requires
+tangent-arc-arc-requires c κs = search needs
+
+enum-known-intr-result-2 : tie.Need-enum-known-intr-result-2
+enum-known-intr-result-2 c = search needs
+
+of-segment-requires-3 : tie.Need-of-segment-requires-3
+of-segment-requires-3 c κs = search needs
+
+of-segment-requires-4 : tie.Need-of-segment-requires-4
+of-segment-requires-4 c κs = search needs
+
+pos-requires-5 : tie.Need-pos-requires-5
+pos-requires-5 c κs = search needs
+
+pos-requires-6 : tie.Need-pos-requires-6
+pos-requires-6 c κs = search needs
+
+pos-requires-7 : tie.Need-pos-requires-7
+pos-requires-7 c κs = search needs
+
+pos-requires-8 : tie.Need-pos-requires-8
+pos-requires-8 c κs = search needs
+
+collect-end-points-requires : tie.Need-collect-end-points-requires
+collect-end-points-requires c κs = search needs
+
+two-arc-arc-requires : tie.Need-two-arc-arc-requires
+two-arc-arc-requires c κs = search needs
+
+enum-told-2 : tie.Need-enum-told-2
+enum-told-2 c = search needs
+
+overlapping-arc-arc-requires : tie.Need-overlapping-arc-arc-requires
+overlapping-arc-arc-requires c κs = search needs
+
+returns : tie.Need-returns
+unfolding ArcArc.arcArc
+returns c =
+    let p1 = c .before .before in
+    let p2 = p1 .before in
+    let p3 = p2 .before in
+    simp (
+      ← p3 .seg-arc-radius-and-center .ensures,
+      ← p2 .seg-arc-radius-and-center2 .ensures,
+      ← p1 .circle-circle .ensures,
+      c .enum-told .given .1,
+    )
+
+returns-2 : tie.Need-returns-2
+unfolding ArcArc.arcArc
+returns-2 c =
+    let p1 = c .before in
+    let p2 = p1 .before in
+    let p3 = p2 .before in
+    let p4 = p3 .before in
+    let p5 = p4 .before in
+    let p6 = p5 .before in
+    let p7 = p6 .before .before in
+    let p8 = p7 .before .before in
+    let p9 = p8 .before in
+    let p10 = p9 .before in
+    simp (
+      ← p10 .seg-arc-radius-and-center .ensures,
+      ← p9 .seg-arc-radius-and-center2 .ensures,
+      ← p8 .circle-circle .ensures,
+      p7 .intr-result .given .1,
+      ← p6 .of-segment .ensures,
+      ← p5 .of-segment2 .ensures,
+      ← p4 .pos .ensures,
+      ← p3 .pos2 .ensures,
+      ← p2 .pos3 .ensures,
+      ← p1 .pos4 .ensures,
+      ← c .tangent-arc-arc .ensures,
+    )
+
+returns-3 : tie.Need-returns-3
+unfolding ArcArc.arcArc
+returns-3 c =
+    let p1 = c .before in
+    let p2 = p1 .before in
+    let p3 = p2 .before in
+    let p4 = p3 .before in
+    let p5 = p4 .before in
+    let p6 = p5 .before in
+    let p7 = p6 .before in
+    let p8 = p7 .before .before in
+    let p9 = p8 .before .before in
+    let p10 = p9 .before in
+    let p11 = p10 .before in
+    simp (
+      ← p11 .seg-arc-radius-and-center .ensures,
+      ← p10 .seg-arc-radius-and-center2 .ensures,
+      ← p9 .circle-circle .ensures,
+      p8 .intr-result2 .given .1,
+      ← p7 .of-segment3 .ensures,
+      ← p6 .of-segment4 .ensures,
+      ← p5 .pos5 .ensures,
+      ← p4 .pos6 .ensures,
+      ← p3 .pos7 .ensures,
+      ← p2 .pos8 .ensures,
+      ← p1 .collect-end-points .ensures,
+      ← c .two-arc-arc .ensures,
+    )
+
+returns-4 : tie.Need-returns-4
+unfolding ArcArc.arcArc
+returns-4 c =
+    let p1 = c .before in
+    let p2 = p1 .before .before in
+    let p3 = p2 .before in
+    let p4 = p3 .before in
+    simp (
+      ← p4 .seg-arc-radius-and-center .ensures,
+      ← p3 .seg-arc-radius-and-center2 .ensures,
+      ← p2 .circle-circle .ensures,
+      p1 .enum-told2 .given .1,
+      ← c .overlapping-arc-arc .ensures,
+    )
+
+pub arc-arc-spec : {M : Type 1} → statement M
+arc-arc-spec =
+    tie.close (tie.spec seg-arc-radius-and-center-requires seg-arc-radius-and-center-requires-2 circle-circle-requires
+    enum-told enum-known-intr-result of-segment-requires of-segment-requires-2 pos-requires pos-requires-2
+    pos-requires-3 pos-requires-4 tangent-arc-arc-requires enum-known-intr-result-2 of-segment-requires-3
+    of-segment-requires-4 pos-requires-5 pos-requires-6 pos-requires-7 pos-requires-8 collect-end-points-requires
+    two-arc-arc-requires enum-told-2 overlapping-arc-arc-requires returns returns-2 returns-3 returns-4)

@@ -1,0 +1,114 @@
+-- `crossing::arc_arc::arcs_of_one_circle` meets its contract: each return is an end of the definition, by the calls and
+-- tests on its way.
+use borrow.Author.Needs.{needs}
+use Rattle.crossing.specs.ArcArc
+use Rattle.crossing.proofs.arc_arc.arcs_of_one_circle.Statement.{statement}
+use Rattle.crossing.proofs.arc_arc.arcs_of_one_circle.Tie as tie
+
+arc2-ends-requires : tie.Need-arc2-ends-requires
+arc2-ends-requires c κs = search needs
+
+dist-squared-requires : tie.Need-dist-squared-requires
+dist-squared-requires c κs = search needs
+
+dist-squared-requires-2 : tie.Need-dist-squared-requires-2
+dist-squared-requires-2 c κs = search needs
+
+returns : tie.Need-returns
+unfolding ArcArc.arcsOfOneCircle
+returns c =
+    let p1 = c .before in
+    let p2 = p1 .before in
+    let p3 = p2 .before in
+    let p4 = p3 .before .before .before in
+    simp (
+      ← p4 .arc2-ends .ensures,
+      ← p3 .dist-squared .ensures,
+      ← p2 .dist-squared2 .ensures,
+      p1 .if1 .taken,
+      c .if2 .taken,
+    )
+
+returns-2 : tie.Need-returns-2
+unfolding ArcArc.arcsOfOneCircle
+returns-2 c =
+    let p1 = c .before in
+    let p2 = p1 .before in
+    let p3 = p2 .before in
+    let p4 = p3 .before .before .before in
+    simp (
+      ← p4 .arc2-ends .ensures,
+      ← p3 .dist-squared .ensures,
+      ← p2 .dist-squared2 .ensures,
+      p1 .if1 .taken,
+      c .if2 .left,
+    )
+
+returns-3 : tie.Need-returns-3
+unfolding ArcArc.arcsOfOneCircle
+returns-3 c =
+    let p1 = c .before in
+    let p2 = p1 .before in
+    let p3 = p2 .before in
+    let p4 = p3 .before in
+    let p5 = p4 .before .before .before in
+    simp (
+      ← p5 .arc2-ends .ensures,
+      ← p4 .dist-squared .ensures,
+      ← p3 .dist-squared2 .ensures,
+      p2 .if1 .left,
+      p1 .if3 .taken,
+    )
+    (simp (c .if4 .taken))
+
+returns-4 : tie.Need-returns-4
+unfolding ArcArc.arcsOfOneCircle
+returns-4 c =
+    let p1 = c .before in
+    let p2 = p1 .before in
+    let p3 = p2 .before in
+    let p4 = p3 .before in
+    let p5 = p4 .before .before .before in
+    simp (
+      ← p5 .arc2-ends .ensures,
+      ← p4 .dist-squared .ensures,
+      ← p3 .dist-squared2 .ensures,
+      p2 .if1 .left,
+      p1 .if3 .taken,
+    )
+    (simp (c .if4 .left))
+
+new-requires : tie.Need-new-requires
+new-requires c κs = search needs
+
+new-requires-2 : tie.Need-new-requires-2
+new-requires-2 c κs = search needs
+
+shared-sweep-requires : tie.Need-shared-sweep-requires
+shared-sweep-requires c κs = search needs
+
+returns-5 : tie.Need-returns-5
+unfolding ArcArc.arcsOfOneCircle
+returns-5 c =
+    let p1 = c .before in
+    let p2 = p1 .before in
+    let p3 = p2 .before in
+    let p4 = p3 .before in
+    let p5 = p4 .before in
+    let p6 = p5 .before in
+    let p7 = p6 .before .before .before in
+    simp (
+      ← p7 .arc2-ends .ensures,
+      ← p6 .dist-squared .ensures,
+      ← p5 .dist-squared2 .ensures,
+      p4 .if1 .left,
+      p3 .if3 .left,
+      ← p2 .new .ensures,
+      ← p1 .new2 .ensures,
+      ← c .shared-sweep .ensures,
+    )
+
+pub arcs-of-one-circle-spec : {M : Type 1} → statement M
+arcs-of-one-circle-spec =
+    tie.close (tie.spec arc2-ends-requires dist-squared-requires dist-squared-requires-2 returns returns-2 returns-3
+    returns-4 new-requires new-requires-2 shared-sweep-requires returns-5)

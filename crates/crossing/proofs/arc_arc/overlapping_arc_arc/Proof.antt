@@ -1,0 +1,77 @@
+-- `crossing::arc_arc::overlapping_arc_arc` meets its contract: each return is an end of the definition, by the calls and
+-- tests on its way.
+use borrow.Author.Needs.{needs}
+use Rattle.crossing.specs.ArcArc
+use Rattle.crossing.proofs.arc_arc.overlapping_arc_arc.Statement.{statement}
+use Rattle.crossing.proofs.arc_arc.overlapping_arc_arc.Tie as tie
+
+same-arc-requires : tie.Need-same-arc-requires
+same-arc-requires c κs = search needs
+
+pos-requires : tie.Need-pos-requires
+pos-requires c κs = search needs
+
+pos-requires-2 : tie.Need-pos-requires-2
+pos-requires-2 c κs = search needs
+
+returns : tie.Need-returns
+unfolding ArcArc.overlappingArcArc
+returns c =
+    let p1 = c .before in
+    let p2 = p1 .before in
+    let p3 = p2 .before in
+    simp (
+      ← p3 .same-arc .ensures,
+      p2 .if1 .taken,
+      ← p1 .pos .ensures,
+      ← c .pos2 .ensures,
+    )
+
+pos-requires-3 : tie.Need-pos-requires-3
+pos-requires-3 c κs = search needs
+
+pos-requires-4 : tie.Need-pos-requires-4
+pos-requires-4 c κs = search needs
+
+pos-requires-5 : tie.Need-pos-requires-5
+pos-requires-5 c κs = search needs
+
+pos-requires-6 : tie.Need-pos-requires-6
+pos-requires-6 c κs = search needs
+
+bulge-is-neg-requires : tie.Need-bulge-is-neg-requires
+bulge-is-neg-requires c κs = search needs
+
+bulge-is-neg-requires-2 : tie.Need-bulge-is-neg-requires-2
+bulge-is-neg-requires-2 c κs = search needs
+
+arcs-of-one-circle-requires : tie.Need-arcs-of-one-circle-requires
+arcs-of-one-circle-requires c κs = search needs
+
+returns-2 : tie.Need-returns-2
+unfolding ArcArc.overlappingArcArc
+returns-2 c =
+    let p1 = c .before in
+    let p2 = p1 .before in
+    let p3 = p2 .before in
+    let p4 = p3 .before in
+    let p5 = p4 .before in
+    let p6 = p5 .before in
+    let p7 = p6 .before in
+    let p8 = p7 .before in
+    simp (
+      ← p8 .same-arc .ensures,
+      p7 .if1 .left,
+      ← p6 .pos3 .ensures,
+      ← p5 .pos4 .ensures,
+      ← p4 .pos5 .ensures,
+      ← p3 .pos6 .ensures,
+      ← p2 .bulge-is-neg .ensures,
+      ← p1 .bulge-is-neg2 .ensures,
+      ← c .arcs-of-one-circle .ensures,
+    )
+
+pub overlapping-arc-arc-spec : {M : Type 1} → statement M
+overlapping-arc-arc-spec =
+    tie.close (tie.spec same-arc-requires pos-requires pos-requires-2 returns pos-requires-3 pos-requires-4
+    pos-requires-5 pos-requires-6 bulge-is-neg-requires bulge-is-neg-requires-2 arcs-of-one-circle-requires returns-2)

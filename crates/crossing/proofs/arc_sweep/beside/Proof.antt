@@ -1,0 +1,15 @@
+-- `crossing::arc_sweep::beside` meets its contract: its calls are the definition's.
+use borrow.Author.Needs.{needs}
+use Rattle.crossing.specs.ArcSweep as sweep
+use Rattle.crossing.proofs.arc_sweep.beside.Statement.{statement}
+use Rattle.crossing.proofs.arc_sweep.beside.Tie as tie
+
+dot-requires : tie.Need-dot-requires
+dot-requires c κs = search needs
+
+returns : tie.Need-returns
+returns c =
+    simp (← c .dot .ensures)
+
+pub beside-spec : {M : Type 1} → statement M
+beside-spec = tie.close (tie.spec dot-requires returns)

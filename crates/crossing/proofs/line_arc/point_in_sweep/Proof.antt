@@ -1,0 +1,59 @@
+-- `crossing::line_arc::point_in_sweep` meets its contract: each return is an end of the definition, by the calls and tests
+-- on its way.
+use borrow.Author.Needs.{needs}
+use Rattle.crossing.specs.LineArc
+use Rattle.crossing.proofs.line_arc.point_in_sweep.Statement.{statement}
+use Rattle.crossing.proofs.line_arc.point_in_sweep.Tie as tie
+
+fuzzy-in-range-eps-requires : tie.Need-fuzzy-in-range-eps-requires
+fuzzy-in-range-eps-requires c κs = search needs
+
+returns : tie.Need-returns
+unfolding LineArc.pointInSweep
+returns c =
+    let p1 = c .before in
+    simp (
+      ← p1 .fuzzy-in-range-eps .ensures,
+      c .if1 .taken,
+    )
+
+point-from-parametric-requires : tie.Need-point-from-parametric-requires
+point-from-parametric-requires c κs = search needs
+
+sweeps-requires : tie.Need-sweeps-requires
+sweeps-requires c κs = search needs
+
+returns-2 : tie.Need-returns-2
+unfolding LineArc.pointInSweep
+returns-2 c =
+    let p1 = c .before in
+    let p2 = p1 .before in
+    let p3 = p2 .before in
+    let p4 = p3 .before in
+    simp (
+      ← p4 .fuzzy-in-range-eps .ensures,
+      p3 .if1 .left,
+      ← p2 .point-from-parametric .ensures,
+      ← p1 .sweeps .ensures,
+      c .if2 .taken,
+    )
+
+returns-3 : tie.Need-returns-3
+unfolding LineArc.pointInSweep
+returns-3 c =
+    let p1 = c .before in
+    let p2 = p1 .before in
+    let p3 = p2 .before in
+    let p4 = p3 .before in
+    simp (
+      ← p4 .fuzzy-in-range-eps .ensures,
+      p3 .if1 .left,
+      ← p2 .point-from-parametric .ensures,
+      ← p1 .sweeps .ensures,
+      c .if2 .left,
+    )
+
+pub point-in-sweep-spec : {M : Type 1} → statement M
+point-in-sweep-spec =
+    tie.close (tie.spec fuzzy-in-range-eps-requires returns point-from-parametric-requires sweeps-requires returns-2
+    returns-3)

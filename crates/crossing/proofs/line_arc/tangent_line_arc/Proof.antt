@@ -1,0 +1,83 @@
+-- `crossing::line_arc::tangent_line_arc` meets its contract: each return is an end of the definition, by the calls and tests
+-- on its way.
+use borrow.Author.Needs.{needs}
+use Rattle.crossing.specs.LineArc
+use Rattle.crossing.proofs.line_arc.tangent_line_arc.Statement.{statement}
+use Rattle.crossing.proofs.line_arc.tangent_line_arc.Tie as tie
+
+point-lies-on-arc-requires : tie.Need-point-lies-on-arc-requires
+point-lies-on-arc-requires c κs = search needs
+
+returns : tie.Need-returns
+unfolding LineArc.tangentLineArc
+returns c =
+    let p1 = c .before in
+    simp (
+      ← p1 .point-lies-on-arc .ensures,
+      c .if1 .taken,
+    )
+
+point-lies-on-arc-requires-2 : tie.Need-point-lies-on-arc-requires-2
+point-lies-on-arc-requires-2 c κs = search needs
+
+returns-2 : tie.Need-returns-2
+unfolding LineArc.tangentLineArc
+returns-2 c =
+    let p1 = c .before in
+    let p2 = p1 .before in
+    let p3 = p2 .before in
+    simp (
+      ← p3 .point-lies-on-arc .ensures,
+      p2 .if1 .left,
+      ← p1 .point-lies-on-arc2 .ensures,
+      c .if2 .taken,
+    )
+
+point-in-sweep-requires : tie.Need-point-in-sweep-requires
+point-in-sweep-requires c κs = search needs
+
+enum-known-t0-point : tie.Need-enum-known-t0-point
+enum-known-t0-point c = search needs
+
+enum-told : tie.Need-enum-told
+enum-told c = search needs
+
+returns-3 : tie.Need-returns-3
+unfolding LineArc.tangentLineArc
+returns-3 c =
+    let p1 = c .before in
+    let p2 = p1 .before .before in
+    let p3 = p2 .before in
+    let p4 = p3 .before in
+    let p5 = p4 .before in
+    let p6 = p5 .before in
+    simp (
+      ← p6 .point-lies-on-arc .ensures,
+      p5 .if1 .left,
+      ← p4 .point-lies-on-arc2 .ensures,
+      p3 .if2 .left,
+      ← p2 .point-in-sweep .ensures,
+      p1 .t0-point .given .1,
+    )
+
+returns-4 : tie.Need-returns-4
+unfolding LineArc.tangentLineArc
+returns-4 c =
+    let p1 = c .before .before in
+    let p2 = p1 .before in
+    let p3 = p2 .before in
+    let p4 = p3 .before in
+    let p5 = p4 .before in
+    simp (
+      ← p5 .point-lies-on-arc .ensures,
+      p4 .if1 .left,
+      ← p3 .point-lies-on-arc2 .ensures,
+      p2 .if2 .left,
+      ← p1 .point-in-sweep .ensures,
+      c .enum-told .given .1,
+    )
+
+pub tangent-line-arc-spec : {M : Type 1} → statement M
+tangent-line-arc-spec =
+    tie.close (tie.spec point-lies-on-arc-requires returns point-lies-on-arc-requires-2 returns-2
+    point-in-sweep-requires enum-known-t0-point enum-told returns-3 returns-4)

@@ -1,0 +1,43 @@
+-- `crossing::pline_seg_intersect::pline_seg_intr` meets its contract: each return is an end of the definition, by the calls and tests on its way.
+use borrow.Author.Needs.{needs}
+use Rattle.crossing.specs.PlineSegIntersect
+use Rattle.crossing.proofs.pline_seg_intersect.pline_seg_intr.Statement.{statement}
+use Rattle.crossing.proofs.pline_seg_intersect.pline_seg_intr.Tie as tie
+
+look-requires : tie.Need-look-requires
+look-requires c κs = search needs
+
+enum-told : tie.Need-enum-told
+enum-told c = search needs
+
+pline-seg-requires : tie.Need-pline-seg-requires
+pline-seg-requires c κs = search needs
+
+enum-known-looked : tie.Need-enum-known-looked
+enum-known-looked c = search needs
+
+returns : tie.Need-returns
+unfolding PlineSegIntersect.plineSegIntr
+returns c =
+    let p1 = c .before in
+    let p2 = p1 .before in
+    let p3 = p2 .before in
+    simp (
+      ← p3 .look .ensures,
+      p1 .enum-told .given .1,
+      ← c .pline-seg .ensures,
+    )
+
+returns-2 : tie.Need-returns-2
+unfolding PlineSegIntersect.plineSegIntr
+returns-2 c =
+    let p1 = c .before in
+    let p2 = p1 .before in
+    let p3 = p2 .before in
+    simp (
+      ← p3 .look .ensures,
+      p1 .looked .given .1,
+    )
+
+pub pline-seg-intr-spec : {M : Type 1} → statement M
+pline-seg-intr-spec = tie.close (tie.spec look-requires enum-told pline-seg-requires enum-known-looked returns returns-2)

@@ -1,0 +1,4 @@
+pub mod Sweep
+pub mod Answers
+pub mod Bulges
+pub mod Order

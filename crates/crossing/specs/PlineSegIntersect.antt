@@ -1,0 +1,77 @@
+-- The call of src/pline_seg_intersect.rt: its numbers are looked at first, and the first fault is its answer.
+use mathlib.Core.Path.{_≡_, refl, sym, ap}
+use mathlib.Core.Bool.{true, false, cond}
+use mathlib.Core.List.{List, [], _∷_, _++_}
+use Prim.Native.Nat.{ℕ}
+use lib.Ieee.{Float}
+use Rattle.plane.specs.Vector2 as vector2
+use Rattle.plane.specs.PlineVertex.{pos, bulgeIsZero}
+use Rattle.plane.specs.declared.vector2.Vector2.{Vector2}
+use Rattle.plane.specs.declared.pline_vertex.PlineVertex.{PlineVertex}
+use Rattle.checks.specs.declared.fault.Item.the-variants.{Epsilon, Chord}
+use Rattle.checks.specs.declared.fault.Checked.{Checked}
+use Rattle.checks.specs.declared.fault.Checked.the-variants.{Fine}
+use Rattle.checks.specs.Fault.{at, later}
+use Rattle.checks.specs.Each
+use Rattle.checks.specs.First.{first}
+use Rattle.checks.specs.Lists.{pointChecks, vertexChecks}
+use Rattle.crossing.specs.Settle.{settle}
+use Rattle.crossing.specs.Told.{Told, apart-by, four}
+use Rattle.crossing.specs.PlineSeg.{plineSeg}
+use Rattle.crossing.specs.PlineSegIntr.{classOf, point1Of, point2Of}
+use Rattle.crossing.specs.Laws.Answers.{answer, again}
+use Rattle.crossing.specs.declared.pline_seg_intersect.PlineSegAnswer.{PlineSegAnswer}
+use Rattle.crossing.specs.declared.pline_seg_intersect.PlineSegAnswer.the-variants.{Refused, Met}
+
+-- the chord of a segment: an arc's, by the bulge of its first vertex
+abbrev pub arcChord : PlineVertex → PlineVertex → ℕ → Checked
+arcChord a b owner =
+    let chord = vector2.sub (pos b) (pos a) in
+    cond (bulgeIsZero a) Fine (Each.chord (vector2.length chord) (at owner 0 Chord))
+
+unfoldable pub arcChordAfter : Checked → PlineVertex → PlineVertex → ℕ → Checked
+arcChordAfter f a b owner = later f (arcChord a b owner)
+
+-- the call's numbers, in the order in which they are looked at: segment v is owner 0, u is 1; an end is its index
+abbrev pub checks : PlineVertex → PlineVertex → PlineVertex → PlineVertex → Float → List Checked
+checks v1 v2 u1 u2 posEqualEps =
+    (Each.epsilon posEqualEps (at 0 0 Epsilon) ∷ [])
+    ++ vertexChecks (v1 .x) (v1 .y) (v1 .bulge) 0 0
+    ++ pointChecks (v2 .x) (v2 .y) 0 1
+    ++ vertexChecks (u1 .x) (u1 .y) (u1 .bulge) 1 0
+    ++ pointChecks (u2 .x) (u2 .y) 1 1
+    ++ (arcChord v1 v2 0 ∷ arcChord u1 u2 1 ∷ [])
+
+unfoldable pub look : PlineVertex → PlineVertex → PlineVertex → PlineVertex → Float → Checked
+look v1 v2 u1 u2 posEqualEps = first (checks v1 v2 u1 u2 posEqualEps)
+
+-- the first fault's number, or where there is none how they meet
+unfoldable pub plineSegIntr : PlineVertex → PlineVertex → PlineVertex → PlineVertex → Float → PlineSegAnswer
+plineSegIntr v1 v2 u1 u2 posEqualEps =
+    settle Refused Met (look v1 v2 u1 u2 posEqualEps) (plineSeg v1 v2 u1 u2 posEqualEps)
+
+-- ---- what an answer tells, in numbers: its class and its points, absent ones +0; two that tell the same are the same
+abbrev pub told : PlineSegAnswer → Told
+told (Refused n) = record { refused = true; number = n; values = [] }
+told (Met r) =
+    record {
+      refused = false;
+      number = classOf r;
+      values = point1Of r .x ∷ point1Of r .y ∷ point2Of r .x ∷ point2Of r .y ∷ [];
+    }
+
+abbrev point : Float → Float → Vector2
+point x y = record { x = x; y = y }
+
+back : Told → PlineSegAnswer
+back t =
+    cond (t .refused) (Refused (t .number))
+    (four (λ a b c d. Met (answer (t .number) (point a b) (point c d))) (Refused 0) (t .values))
+
+told-back : (a : PlineSegAnswer) → back (told a) ≡ a
+unfolding back
+told-back (Refused n) = refl
+told-back (Met r) = ap Met (sym (again r))
+
+pub told-apart : (a b : PlineSegAnswer) → told a ≡ told b → a ≡ b
+told-apart = apart-by told back told-back

@@ -1,0 +1,209 @@
+// A line segment and an arc segment, for any numbers: pline_seg_intersect.rs, lines 208-339.
+// Ends are sticky: where an end of the line lies on the arc, that end is the answer's point. A line that nearly follows the arc
+// meets its circle a little before and a little after such an end, while what meets the line at that end says the end itself; so
+// answers about one place agree.
+ghost use mathlib.Core.Path.{_≡_};
+ghost use Rattle.crossing.specs.LineArc;
+use super::arc_geometry::ArcGeometry;
+use super::line_circle::line_circle;
+use super::line_circle_intersect::LineCircleIntr;
+use super::pline_seg_intersect::PlineSegIntr;
+use plane::base_math::dist_squared;
+use plane::base_math::point_from_parametric;
+use plane::fuzzy::fuzzy_in_range_eps;
+use plane::pline_seg::seg_arc_radius_and_center;
+use plane::pline_vertex::PlineVertex;
+use plane::vector2::Vector2;
+
+// A point of the line that lies on the segment and in the arc's sweep, or none.
+pub enum PointInSweep {
+    Nothing,
+    At(Vector2),
+}
+
+// Two points, the first first.
+pub struct TwoPoints {
+    pub point1: Vector2,
+    pub point2: Vector2,
+}
+
+// The point at t of the line p0 to p1, if it lies on that segment and in the arc's sweep. Its place is judged along the segment,
+// so that epsilon is a distance.
+fn point_in_sweep(
+    t: f64,
+    line_length: f64,
+    p0: Vector2,
+    p1: Vector2,
+    arc_geometry: ArcGeometry,
+    pos_equal_eps: f64,
+) -> PointInSweep
+    ensures { λ r. ⌜ r ≡ LineArc.pointInSweep t «line_length» p0 p1 «arc_geometry» «pos_equal_eps» ⌝ }
+{
+    if !fuzzy_in_range_eps(t * line_length, 0.0, line_length, pos_equal_eps) {
+        return PointInSweep::Nothing;
+    }
+    let p = point_from_parametric(p0, p1, t);
+    if arc_geometry.sweeps(p) {
+        return PointInSweep::At(p);
+    }
+    PointInSweep::Nothing
+}
+
+// A line that touches the circle at t0: at an end of the line that lies on the arc, or at t0, or not at all.
+fn tangent_line_arc(
+    t0: f64,
+    line_length: f64,
+    p0: Vector2,
+    p1: Vector2,
+    arc_geometry: ArcGeometry,
+    pos_equal_eps: f64,
+) -> PlineSegIntr
+    ensures { λ r. ⌜ r ≡ LineArc.tangentLineArc t0 «line_length» p0 p1 «arc_geometry» «pos_equal_eps» ⌝ }
+{
+    if arc_geometry.point_lies_on_arc(p0) {
+        return PlineSegIntr::TangentIntersect { point: p0 };
+    }
+    if arc_geometry.point_lies_on_arc(p1) {
+        return PlineSegIntr::TangentIntersect { point: p1 };
+    }
+    let t0_point = point_in_sweep(t0, line_length, p0, p1, arc_geometry, pos_equal_eps);
+    if let PointInSweep::At(point) = t0_point {
+        PlineSegIntr::TangentIntersect { point }
+    } else {
+        PlineSegIntr::NoIntersect
+    }
+}
+
+// One crossing, at an end of the line that lies on the arc, or else at the point found.
+fn one_line_arc(point: Vector2, p0: Vector2, p1: Vector2, arc_geometry: ArcGeometry) -> PlineSegIntr
+    ensures { λ r. ⌜ r ≡ LineArc.oneLineArc point p0 p1 «arc_geometry» ⌝ }
+{
+    if arc_geometry.point_lies_on_arc(p0) {
+        return PlineSegIntr::OneIntersect { point: p0 };
+    }
+    if arc_geometry.point_lies_on_arc(p1) {
+        return PlineSegIntr::OneIntersect { point: p1 };
+    }
+    PlineSegIntr::OneIntersect { point }
+}
+
+// The two points found, with each end of the line that lies on the arc in the place of the one that it is nearer to.
+fn with_sticky_ends(
+    point1: Vector2,
+    point2: Vector2,
+    p0: Vector2,
+    p1: Vector2,
+    arc_geometry: ArcGeometry,
+) -> TwoPoints
+    ensures { λ r. ⌜ r ≡ LineArc.withStickyEnds point1 point2 p0 p1 «arc_geometry» ⌝ }
+{
+    let p0_on_arc = arc_geometry.point_lies_on_arc(p0);
+    let p1_on_arc = arc_geometry.point_lies_on_arc(p1);
+    if p0_on_arc {
+        let p0_nearer_point1 = dist_squared(p0, point1) < dist_squared(p0, point2);
+        if p1_on_arc {
+            if p0_nearer_point1 {
+                return TwoPoints {
+                    point1: p0,
+                    point2: p1,
+                };
+            }
+            return TwoPoints {
+                point1: p1,
+                point2: p0,
+            };
+        }
+        if p0_nearer_point1 {
+            return TwoPoints { point1: p0, point2 };
+        }
+        return TwoPoints { point1, point2: p0 };
+    }
+    if p1_on_arc {
+        if dist_squared(p1, point1) < dist_squared(p1, point2) {
+            return TwoPoints { point1: p1, point2 };
+        }
+        return TwoPoints { point1, point2: p1 };
+    }
+    TwoPoints { point1, point2 }
+}
+
+// Two crossings in the second segment's order: as found if u is the line, else by the distance to the arc's start.
+fn in_order(points: TwoPoints, arc_start: Vector2, u_is_line: bool) -> PlineSegIntr
+    ensures { λ r. ⌜ r ≡ LineArc.inOrder points «arc_start» «u_is_line» ⌝ }
+{
+    let point1 = points.point1;
+    let point2 = points.point2;
+    if u_is_line | (dist_squared(point1, arc_start) < dist_squared(point2, arc_start)) {
+        return PlineSegIntr::TwoIntersects { point1, point2 };
+    }
+    PlineSegIntr::TwoIntersects {
+        point1: point2,
+        point2: point1,
+    }
+}
+
+// What a line that crosses the circle twice has in common with the arc, by which of the two points are in its sweep.
+fn crossings_line_arc(
+    t0_point: PointInSweep,
+    t1_point: PointInSweep,
+    p0: Vector2,
+    p1: Vector2,
+    arc_start: Vector2,
+    arc_geometry: ArcGeometry,
+    u_is_line: bool,
+) -> PlineSegIntr
+    ensures { λ r. ⌜ r ≡ LineArc.crossingsLineArc «t0_point» «t1_point» p0 p1 «arc_start» «arc_geometry» «u_is_line» ⌝ }
+{
+    let PointInSweep::At(point1) = t0_point else {
+        let PointInSweep::At(point) = t1_point else {
+            return PlineSegIntr::NoIntersect;
+        };
+        return one_line_arc(point, p0, p1, arc_geometry);
+    };
+    let PointInSweep::At(point2) = t1_point else {
+        return one_line_arc(point1, p0, p1, arc_geometry);
+    };
+    in_order(
+        with_sticky_ends(point1, point2, p0, p1, arc_geometry),
+        arc_start,
+        u_is_line,
+    )
+}
+
+// How the line p0 to p1 and the arc a1 to a2 meet; `u_is_line` says that the line is the second segment.
+pub fn process_line_arc_intr(
+    p0: Vector2,
+    p1: Vector2,
+    a1: PlineVertex,
+    a2: PlineVertex,
+    u_is_line: bool,
+    pos_equal_eps: f64,
+) -> PlineSegIntr
+    ensures { λ r. ⌜ r ≡ LineArc.processLineArcIntr p0 p1 a1 a2 «u_is_line» «pos_equal_eps» ⌝ }
+{
+    let arc = seg_arc_radius_and_center(a1, a2);
+    let intr_result = line_circle(p0, p1, arc.radius, arc.center, pos_equal_eps);
+    match intr_result {
+        LineCircleIntr::NoIntersect => PlineSegIntr::NoIntersect,
+        LineCircleIntr::TangentIntersect { t0 } => {
+            let arc_geometry = ArcGeometry::of_segment(a1, a2, arc, pos_equal_eps);
+            let line_length = p1.sub(p0).length();
+            tangent_line_arc(t0, line_length, p0, p1, arc_geometry, pos_equal_eps)
+        }
+        LineCircleIntr::TwoIntersects { t0, t1 } => {
+            let arc_geometry = ArcGeometry::of_segment(a1, a2, arc, pos_equal_eps);
+            let line_length = p1.sub(p0).length();
+            let t0_point = point_in_sweep(t0, line_length, p0, p1, arc_geometry, pos_equal_eps);
+            let t1_point = point_in_sweep(t1, line_length, p0, p1, arc_geometry, pos_equal_eps);
+            crossings_line_arc(
+                t0_point,
+                t1_point,
+                p0,
+                p1,
+                a1.pos(),
+                arc_geometry,
+                u_is_line,
+            )
+        }
+    }
+}

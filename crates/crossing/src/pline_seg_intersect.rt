@@ -1,0 +1,96 @@
+// Two segments of polylines: the answer, and the call that looks at its numbers first.
+ghost use mathlib.Core.Path.{_≡_};
+ghost use Rattle.crossing.specs.PlineSegIntersect;
+use super::pline_seg::pline_seg;
+use checks::chain;
+use checks::each;
+use checks::fault::Checked;
+use checks::fault::Item;
+use checks::fault::Place;
+use plane::pline_vertex::PlineVertex;
+use plane::vector2::Vector2;
+
+// How two segments meet. Two points come in the order in which the second segment runs by them, but for two arcs on two circles.
+pub enum PlineSegIntr {
+    // Apart.
+    NoIntersect,
+    // They touch at one point and don't cross there.
+    TangentIntersect { point: Vector2 },
+    // One point that both have.
+    OneIntersect { point: Vector2 },
+    // Two points that both have.
+    TwoIntersects { point1: Vector2, point2: Vector2 },
+    // Both are lines, and from the first point to the second they are one.
+    OverlappingLines { point1: Vector2, point2: Vector2 },
+    // Both are arcs, and from the first point to the second they are one.
+    OverlappingArcs { point1: Vector2, point2: Vector2 },
+}
+
+// What the call answers: how they meet, or the number of the refusal.
+pub enum PlineSegAnswer {
+    Refused(u64),
+    Met(PlineSegIntr),
+}
+
+// The chord of the segment a to b, after f: refusal 5 if it is an arc and its chord is too short. A line's is not looked at.
+fn arc_chord_after(f: Checked, a: PlineVertex, b: PlineVertex, owner: u64) -> Checked
+    ensures { λ r. ⌜ r ≡ PlineSegIntersect.arcChordAfter f a b owner ⌝ }
+{
+    if a.bulge_is_zero() {
+        return f;
+    }
+    let chord = b.pos().sub(a.pos());
+    chain::chord_after(
+        f,
+        chord.length(),
+        Place {
+            owner: owner,
+            index: 0,
+            item: Item::Chord,
+        },
+    )
+}
+
+// The first of the call's numbers that is at fault: epsilon; v1, v2, u1 and u2, each x before y, and of v1 and u1 the bulge; then
+// the chords of v and of u. The bulges of v2 and u2 belong to other segments.
+fn look(
+    v1: PlineVertex,
+    v2: PlineVertex,
+    u1: PlineVertex,
+    u2: PlineVertex,
+    pos_equal_eps: f64,
+) -> Checked
+    ensures { λ r. ⌜ r ≡ PlineSegIntersect.look v1 v2 u1 u2 «pos_equal_eps» ⌝ }
+{
+    let a0 = each::epsilon(
+        pos_equal_eps,
+        Place {
+            owner: 0,
+            index: 0,
+            item: Item::Epsilon,
+        },
+    );
+    let a1 = chain::vertex_after(a0, v1.x, v1.y, v1.bulge, 0, 0);
+    let a2 = chain::point_after(a1, v2.x, v2.y, 0, 1);
+    let a3 = chain::vertex_after(a2, u1.x, u1.y, u1.bulge, 1, 0);
+    let a4 = chain::point_after(a3, u2.x, u2.y, 1, 1);
+    let a5 = arc_chord_after(a4, v1, v2, 0);
+    arc_chord_after(a5, u1, u2, 1)
+}
+
+// How the segments v1 to v2 and u1 to u2 meet, or the refusal of the first number at fault.
+pub fn pline_seg_intr(
+    v1: PlineVertex,
+    v2: PlineVertex,
+    u1: PlineVertex,
+    u2: PlineVertex,
+    pos_equal_eps: f64,
+) -> PlineSegAnswer
+    ensures { λ r. ⌜ r ≡ PlineSegIntersect.plineSegIntr v1 v2 u1 u2 «pos_equal_eps» ⌝ }
+{
+    let looked = look(v1, v2, u1, u2, pos_equal_eps);
+    match looked {
+        Checked::Fine => PlineSegAnswer::Met(pline_seg(v1, v2, u1, u2, pos_equal_eps)),
+        Checked::Bad(fault) => PlineSegAnswer::Refused(fault.number),
+    }
+}
