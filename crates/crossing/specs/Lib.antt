@@ -14,4 +14,5 @@ pub mod LineCircleIntersect
 pub mod CircleCircleIntersect
 pub mod PlineSegIntersect
 pub mod Refusals
+pub mod Bulges
 pub mod Laws

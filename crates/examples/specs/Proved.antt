@@ -24,8 +24,10 @@ use lib.Ieee.{
 }
 use Rattle.floats.specs.F64.{abs, min, max, sqrt, rootOf, rootAt, isqrt, rootIn}
 use Rattle.plane.specs.Vector2 as vector2
-use Rattle.plane.specs.Fuzzy.{fuzzyEqZeroEps, fuzzyEqEps, fuzzyInRangeEps}
-use Rattle.plane.specs.BaseMath.{minMax, parametricFromPoint}
+use Rattle.plane.specs.PlineVertex as vertex
+use Rattle.plane.specs.Fuzzy as fuzzy
+use Rattle.plane.specs.BaseMath as baseMath
+use Rattle.plane.specs.PlineSeg as seg
 use Rattle.checks.specs.Fault.{refuse, later}
 use Rattle.checks.specs.Number.{isInfinite, notFinite, beyond}
 use Rattle.checks.specs.Each
@@ -33,9 +35,15 @@ use Rattle.crossing.specs.Told.{Told}
 use Rattle.crossing.specs.LineLine
 use Rattle.crossing.specs.LineCircle
 use Rattle.crossing.specs.CircleCircle
+use Rattle.crossing.specs.ArcSweep
+use Rattle.crossing.specs.ArcGeometry
+use Rattle.crossing.specs.LineArc
+use Rattle.crossing.specs.ArcArc
+use Rattle.crossing.specs.PlineSeg
 use Rattle.crossing.specs.LineLineIntersect as lines
 use Rattle.crossing.specs.LineCircleIntersect as lineCircle
 use Rattle.crossing.specs.CircleCircleIntersect as circles
+use Rattle.crossing.specs.PlineSegIntersect as pairs
 use Rattle.examples.specs.Table.{Row, table}
 
 abbrev found : List Row → List Told
@@ -48,13 +56,27 @@ due (r ∷ rs) = r .due ∷ due rs
 
 pub examples : found table ≡ due table
 unfolding
-    lines.lineLineIntr lines.look LineLine.lineLine LineLine.crossing LineLine.within
-    lineCircle.lineCircleIntr lineCircle.look LineCircle.lineCircle LineCircle.lineThrough LineCircle.lineMeets
-    circles.circleCircleIntr circles.look CircleCircle.circleCircle CircleCircle.meeting
+    lines.lineLineIntr lines.look lineCircle.lineCircleIntr lineCircle.look circles.circleCircleIntr circles.look
+    pairs.plineSegIntr pairs.look
+    LineLine.within LineLine.crossing LineLine.bothPoints LineLine.firstPoint LineLine.secondPoint LineLine.rising
+    LineLine.spanOf LineLine.touchingEnd LineLine.overlap LineLine.parallel LineLine.lineLine
+    LineCircle.pointCircle LineCircle.lineThrough LineCircle.twoPoints LineCircle.lineMeets LineCircle.lineCircle
+    CircleCircle.sameCenter CircleCircle.twoSides CircleCircle.meeting CircleCircle.circleCircle
+    ArcSweep.new ArcSweep.exactlyWithinSweep ArcSweep.contains ArcSweep.finding
+    ArcGeometry.new ArcGeometry.ofSegment ArcGeometry.sweeps ArcGeometry.pointLiesOnArc
+    LineArc.pointInSweep LineArc.tangentLineArc LineArc.oneLineArc LineArc.withStickyEnds LineArc.inOrder
+    LineArc.processLineArcIntr
+    ArcArc.bothSweep ArcArc.tangentArcArc ArcArc.tryAddEndPointIntr ArcArc.addIfOnArc ArcArc.collectEndPoints
+    ArcArc.endForNearer ArcArc.endsForBoth ArcArc.twoArcArc ArcArc.sameArc ArcArc.arc2Ends ArcArc.overlapByDirection
+    ArcArc.sharedSweep ArcArc.arcsOfOneCircle ArcArc.overlappingArcArc ArcArc.arcArc
+    PlineSeg.processLineLineIntr PlineSeg.plineSeg
+    vector2.new vector2.add vector2.sub vector2.scale vector2.perp vector2.length vector2.fuzzyEqEps
+    vertex.new vertex.pos
+    fuzzy.fuzzyEqZeroEps fuzzy.fuzzyEqEps fuzzy.fuzzyInRangeEps
+    baseMath.minMax baseMath.distSquared baseMath.pointFromParametric baseMath.parametricFromPoint
+    seg.segArcRadiusAndCenter
     refuse later isInfinite notFinite beyond
-    Each.epsilon Each.finite Each.coordinate Each.radius Each.center
-    vector2.new vector2.add vector2.sub vector2.scale vector2.length vector2.fuzzyEqEps
-    fuzzyEqZeroEps fuzzyEqEps fuzzyInRangeEps minMax parametricFromPoint
+    Each.epsilon Each.finite Each.coordinate Each.bulge Each.radius Each.center Each.chord
     abs min max sqrt rootOf rootAt isqrt rootIn
     add sub mul div neg sum round units odd size span climb lt le eq isNan ofBits ofFields trailingZeros
 examples = refl

@@ -1,0 +1,17 @@
+-- The bulges of v2 and u2 belong to the segments that begin there: whatever stands in their place, a NaN too, the pair call answers
+-- the same, refusals included.
+use mathlib.Core.Path.{_≡_, ap}
+use lib.Ieee.{Float}
+use Rattle.plane.specs.PlineVertex.{pos}
+use Rattle.plane.specs.declared.pline_vertex.PlineVertex.{PlineVertex}
+use Rattle.crossing.specs.Settle.{settle}
+use Rattle.crossing.specs.PlineSegIntersect.{look, plineSegIntr}
+use Rattle.crossing.specs.declared.pline_seg_intersect.PlineSegIntr.{PlineSegIntr}
+use Rattle.crossing.specs.declared.pline_seg_intersect.PlineSegAnswer.the-variants.{Refused, Met}
+use Rattle.crossing.specs.Laws.Bulges.{withBulge, second-bulges}
+
+pub second-bulges-unused : (v1 v2 u1 u2 : PlineVertex) (posEqualEps vBulge uBulge : Float)
+    → plineSegIntr v1 v2 u1 u2 posEqualEps ≡ plineSegIntr v1 (withBulge v2 vBulge) u1 (withBulge u2 uBulge) posEqualEps
+unfolding plineSegIntr look pos
+second-bulges-unused v1 v2 u1 u2 posEqualEps vBulge uBulge =
+    ap (λ (r : PlineSegIntr). settle Refused Met (look v1 v2 u1 u2 posEqualEps) r) (second-bulges v1 v2 u1 u2 posEqualEps vBulge uBulge)
