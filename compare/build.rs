@@ -1,7 +1,9 @@
-//! Links the proved static library, which `rt staticlib capi` writes.
+//! Links the proved static libraries, which `rt staticlib capi` and `rt staticlib probe` write: the product, and what only the
+//! comparison calls.
 
 use std::env;
 use std::path::PathBuf;
+use std::process::exit;
 
 fn main() {
     println!("cargo:rerun-if-env-changed=VONJEKONA_LIB");
@@ -10,12 +12,17 @@ fn main() {
         Some(folder) => PathBuf::from(folder),
         None => here.join("../target/staticlib"),
     };
-    let archive = folder.join("libcapi.a");
-    println!("cargo:rerun-if-changed={}", archive.display());
-    if !archive.is_file() {
-        eprintln!("{} is missing: run `rt staticlib capi`", archive.display());
-        std::process::exit(1);
-    }
     println!("cargo:rustc-link-search=native={}", folder.display());
-    println!("cargo:rustc-link-lib=static=capi");
+    for name in ["capi", "probe"] {
+        let archive = folder.join(format!("lib{name}.a"));
+        println!("cargo:rerun-if-changed={}", archive.display());
+        if !archive.is_file() {
+            eprintln!(
+                "{} is missing: run `rt staticlib {name}`",
+                archive.display()
+            );
+            exit(1);
+        }
+        println!("cargo:rustc-link-lib=static={name}");
+    }
 }

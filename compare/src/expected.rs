@@ -3,7 +3,7 @@
 
 use crate::classes::{is_nan, SIGN};
 
-const NAN: u64 = 0x7ff8_0000_0000_0000;
+pub const NAN: u64 = 0x7ff8_0000_0000_0000;
 
 pub fn abs(b: u64) -> u64 {
     f64::from_bits(b).abs().to_bits()

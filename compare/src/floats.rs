@@ -77,9 +77,9 @@ fn check_unary(f: &Unary, count: u64, seed: u64) -> u64 {
         let b = signed(magnitude(*class, &mut rng), rng.one_in(f.negative_one_in));
         let expected = (f.expected)(b);
         let ours = (f.on_bits)(b);
-        bits.add(&[b], ours, expected, ours == expected);
+        bits.add(ours == expected, || shown(&[b], ours, expected));
         let ours = (f.on_f64)(f64::from_bits(b)).to_bits();
-        numbers.add(&[b], ours, expected, same_number(ours, expected));
+        numbers.add(same_number(ours, expected), || shown(&[b], ours, expected));
     }
     bits.report() + numbers.report()
 }
@@ -92,11 +92,21 @@ fn check_binary(f: &Binary, count: u64, seed: u64) -> u64 {
         let (a, b) = kind.draw(&mut rng);
         let expected = (f.expected)(a, b);
         let ours = (f.on_bits)(a, b);
-        bits.add(&[a, b], ours, expected, ours == expected);
+        bits.add(ours == expected, || shown(&[a, b], ours, expected));
         let ours = (f.on_f64)(f64::from_bits(a), f64::from_bits(b)).to_bits();
-        numbers.add(&[a, b], ours, expected, same_number(ours, expected));
+        numbers.add(same_number(ours, expected), || {
+            shown(&[a, b], ours, expected)
+        });
     }
     bits.report() + numbers.report()
+}
+
+fn shown(operands: &[u64], ours: u64, expected: u64) -> String {
+    let operands: Vec<String> = operands.iter().map(|b| format!("{b:016x}")).collect();
+    format!(
+        "{}: {ours:016x}, expected {expected:016x}",
+        operands.join(" ")
+    )
 }
 
 /// Whether two patterns are one number's: any two NaNs are, and the zeros are told apart.

@@ -7,6 +7,18 @@ mod capi;
 mod classes;
 mod expected;
 mod floats;
+#[cfg(feature = "rust-text")]
+mod inputs;
+#[cfg(feature = "rust-text")]
+mod lent;
+#[cfg(feature = "rust-text")]
+mod numbers;
+#[cfg(feature = "rust-text")]
+mod partings;
+#[cfg(feature = "rust-text")]
+mod plane;
+#[cfg(feature = "rust-text")]
+mod probe;
 mod record;
 mod rng;
 mod tally;
@@ -18,7 +30,9 @@ use std::path::Path;
 use std::process::ExitCode;
 
 const USAGE: &str = "\
-usage: compare check [COUNT [SEED]]  compare each function on COUNT random inputs (default 10485760, seed 1)
+usage: compare check [COUNT [SEED]]  compare each float function on COUNT random inputs (default 10485760, seed 1), each
+                                     function of the plane on a quarter as many accepted ones, an eighth of all bit
+                                     patterns, and some beside the limits
        compare record FILE           write the recorded list for the program replay
        compare bench                 nanoseconds a call, ours beside the machine's own";
 
@@ -56,7 +70,8 @@ fn check(numbers: &[&str]) -> Result<(), String> {
     if numbers.len() > 2 {
         return Err(USAGE.to_string());
     }
-    let differences = floats::check(number(0, COUNT)?, number(1, SEED)?) + check_text();
+    let (count, seed) = (number(0, COUNT)?, number(1, SEED)?);
+    let differences = floats::check(count, seed) + check_text(count, seed);
     match differences {
         0 => Ok(()),
         _ => Err(format!("{differences} differences")),
@@ -64,12 +79,12 @@ fn check(numbers: &[&str]) -> Result<(), String> {
 }
 
 #[cfg(feature = "rust-text")]
-fn check_text() -> u64 {
-    text::check()
+fn check_text(count: u64, seed: u64) -> u64 {
+    text::check() + partings::check() + plane::check(count, seed)
 }
 
 #[cfg(not(feature = "rust-text"))]
-fn check_text() -> u64 {
+fn check_text(_count: u64, _seed: u64) -> u64 {
     println!("rust text not compiled in: nothing was compared with it");
     0
 }

@@ -1,13 +1,16 @@
 //! The recorded list that the program `replay` is run on: a line for each call, its operands and the answer expected.
 //!
-//! A line is the call's name of four letters, then numbers of 16 lower-case hex digits: two operands (a function of one
-//! has zeros for the second) and the answer.
+//! A line is the call's name of four letters, then numbers of 16 lower-case hex digits: operands and answers. First come the
+//! four float functions, with two operands (a function of one has zeros for the second) and the answer. Then come the Rust
+//! text's own answers, which can be made only where the text is.
 
 use std::fs;
 use std::io;
 use std::path::Path;
 
 use crate::classes::{magnitude, signed, CLASSES, EDGES};
+#[cfg(feature = "rust-text")]
+use crate::expected::NAN;
 use crate::floats::{Binary, PairKind, Unary, ABS, MAX, MIN, SQRT};
 use crate::rng::Rng;
 
@@ -16,13 +19,14 @@ const ABS_A_CLASS: usize = 24;
 const SQRT_A_CLASS: usize = 128;
 const PAIRS_A_KIND: usize = 3;
 
-/// Writes the list to `path`, and answers how many records it has.
+/// Writes the list to `path`, as much of it as can be made here, and answers how many records that is.
 pub fn write(path: &Path) -> io::Result<usize> {
     let mut lines = Vec::new();
     unary(&ABS, "abs_", ABS_A_CLASS, &mut lines);
     unary(&SQRT, "sqrt", SQRT_A_CLASS, &mut lines);
     binary(&MIN, "min_", &mut lines);
     binary(&MAX, "max_", &mut lines);
+    text(&mut lines);
     fs::write(path, lines.concat())?;
     Ok(lines.len())
 }
@@ -63,6 +67,37 @@ fn binary(f: &Binary, name: &str, lines: &mut Vec<String>) {
             .iter()
             .map(|(a, b)| line(name, *a, *b, (f.expected)(*a, *b))),
     );
+}
+
+/// The text's functions on inputs of every kind.
+#[cfg(feature = "rust-text")]
+fn text(lines: &mut Vec<String>) {
+    use crate::inputs::{Kind, Pair};
+    use crate::numbers::hex;
+
+    const NAMES: [&str; 5] = ["mnmx", "dist", "ptat", "para", "arc_"];
+    const PARTS: [(Kind, usize); 3] = [
+        (Kind::Accepted, 240),
+        (Kind::Beside, 60),
+        (Kind::Patterns, 120),
+    ];
+    // Which NaN a sum or product gives is left open, so that a NaN has one spelling here.
+    let settled = |x: &f64| if x.is_nan() { f64::from_bits(NAN) } else { *x };
+    for (call, name) in crate::plane::TEXT.iter().zip(NAMES) {
+        let mut rng = Rng::new(SEED);
+        for (kind, inputs) in PARTS {
+            for _ in 0..inputs {
+                let operands = (call.operands)(&Pair::draw(kind, &mut rng));
+                let answer: Vec<f64> = (call.text)(&operands).iter().map(settled).collect();
+                lines.push(format!("{name} {} {}\n", hex(&operands), hex(&answer)));
+            }
+        }
+    }
+}
+
+#[cfg(not(feature = "rust-text"))]
+fn text(_lines: &mut Vec<String>) {
+    println!("rust text not compiled in: none of its answers were recorded");
 }
 
 fn edges() -> Vec<u64> {

@@ -17,20 +17,15 @@ impl Tally {
         }
     }
 
-    /// Counts one comparison; `same` says whether `ours` may stand for `expected`.
-    pub fn add(&mut self, operands: &[u64], ours: u64, expected: u64, same: bool) {
+    /// Counts one comparison; where it came out as a difference, `what` says of which operands, and how.
+    pub fn add(&mut self, same: bool, what: impl FnOnce() -> String) {
         self.compared += 1;
         if same {
             return;
         }
         self.differences += 1;
         if self.differences <= SHOWN {
-            let operands: Vec<String> = operands.iter().map(|b| format!("{b:016x}")).collect();
-            println!(
-                "{} of {}: {ours:016x}, expected {expected:016x}",
-                self.name,
-                operands.join(" ")
-            );
+            println!("{} of {}", self.name, what());
         }
     }
 

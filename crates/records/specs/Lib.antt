@@ -1,2 +1,5 @@
-pub mod Judge
+pub mod Calls
+pub mod Names
+pub mod OnFloats
+pub mod OnPlane
 pub mod Text

@@ -1,13 +1,12 @@
 -- What the text of a recorded list says, byte by byte.
-use Prim.Native.Nat.{ℕ, _+_, _*_, _-_, _%_, _^_}
-use mathlib.Core.Bool.{Bool, cond}
+use Prim.Native.Nat.{ℕ, zero, suc, _+_, _*_, _-_, _%_, _^_}
+use mathlib.Core.Bool.{Bool, true, false, cond}
 use mathlib.Core.List.{List, [], _∷_}
 use lib.Dec.{ltb, eqb}
 use lib.ListN.{length, getD, take, drop}
+use lib.Ieee.{Float, binary64, ofBits}
 use Rattle.records.specs.declared.text.Field.{Field}
 use Rattle.records.specs.declared.text.Field.the-variants as Field·
-use Rattle.records.specs.declared.text.Three.{Three}
-use Rattle.records.specs.declared.text.Three.the-variants as Three·
 
 -- ---- a field
 
@@ -33,24 +32,38 @@ nameOf head =
     (((getD head 0 0 * 256 + getD head 1 0) * 256 + getD head 2 0) * 256 + getD head 3 0) * 256
     + getD head 4 0
 
--- sixteen bytes of a line, from one on
-abbrev pub fieldAt : ℕ → List ℕ → Field
-fieldAt i body = wordOf (take 16 (drop i body))
+-- what stands after field i of n: a space, after the last a newline
+unfoldable pub afterOf : ℕ → ℕ → ℕ
+afterOf n i = cond (eqb (i + 1) n) 10 32
 
--- three numbers where each field spells one
-unfoldable pub joinedOf : Field → Field → Field → Three
-joinedOf (Field·.Number x) (Field·.Number y) (Field·.Number z) = Three·.Numbers x y z
-joinedOf (Field·.Number x) (Field·.Number y) Field·.Broken = Three·.Broken
-joinedOf (Field·.Number x) Field·.Broken c = Three·.Broken
-joinedOf Field·.Broken b c = Three·.Broken
+-- field i of a text: sixteen bytes of every seventeen
+unfoldable pub fieldAt : List ℕ → ℕ → Field
+fieldAt body i =
+    cond (ltb (length body) (i * 17 + 16)) Field·.Broken (wordOf (take 16 (drop (i * 17) body)))
 
--- three fields, with a space, a space and a newline after them
-unfoldable pub threeOf : List ℕ → Three
-threeOf body =
-    cond (eqb (length body) 51)
-    (cond (eqb (getD body 16 0) 32)
-    (cond (eqb (getD body 33 0) 32)
-    (cond (eqb (getD body 50 0) 10) (joinedOf (fieldAt 0 body) (fieldAt 17 body) (fieldAt 34 body)) Three·.Broken)
-    Three·.Broken)
-    Three·.Broken)
-    Three·.Broken
+unfoldable pub isNumber : Field → Bool
+isNumber (Field·.Number x) = true
+isNumber Field·.Broken = false
+
+-- the last k of n fields, from field i on, are numbers with what belongs after each
+unfoldable pub fieldsFrom : ℕ → List ℕ → ℕ → ℕ → Bool
+fieldsFrom n body zero i = true
+fieldsFrom n body (suc k) i =
+    cond (eqb (getD body (i * 17 + 16) 0) (afterOf n i))
+    (cond (isNumber (fieldAt body i)) (fieldsFrom n body k (i + 1)) false)
+    false
+
+unfoldable pub isLine : ℕ → List ℕ → Bool
+isLine n body = cond (eqb (length body) (n * 17)) (fieldsFrom n body n 0) false
+
+-- ---- the numbers of a line, as patterns and as numbers
+
+unfoldable pub valueOf : Field → ℕ
+valueOf (Field·.Number x) = x
+valueOf Field·.Broken = 0
+
+abbrev pub valueAt : List ℕ → ℕ → ℕ
+valueAt body i = valueOf (fieldAt body i)
+
+unfoldable pub numberAt : List ℕ → ℕ → Float
+numberAt body i = ofBits binary64 (valueAt body i)

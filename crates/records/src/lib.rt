@@ -1,20 +1,36 @@
 // Recorded answers: a line of a recorded list, read and judged. The program `replay` runs a list through it.
 ghost use mathlib.Core.Path.{_≡_};
-ghost use Rattle.records.specs.Judge.{isRight};
+ghost use Prim.Native.Nat.{_≤_};
+ghost use Rattle.records.specs.Text.{nameOf};
+ghost use Rattle.records.specs.Calls.{numbersOf, isRight};
 
-mod judge;
+mod calls;
+mod on_floats;
+mod on_plane;
 mod text;
 
-use text::Three;
+// The bytes that a number takes in a line, with what stands after it.
+pub const FIELD: usize = 17;
 
-// Whether a line is a record and its answer is what `floats` gives. The line comes in two parts, since a call's name, the
-// head, tells how long the rest is: three numbers for each call so far.
+// The most numbers that a line has.
+pub const MOST: usize = 18;
+
+// How many numbers follow a name, the head of a line; 0 where it is no call's name.
+pub fn numbers(head: &[u8; 5]) -> usize
+    ensures { λ r. ⌜ r ≡ numbersOf (nameOf (now (head .entry))) ⌝ }
+    ensures { λ r. ⌜ r ≤ 18 ⌝ }
+{
+    calls::numbers(text::name(head))
+}
+
+// Whether a line is a record and its answer is ours. The line comes in two parts, since the name, its head, tells how long
+// the rest is.
 pub fn is_right(head: &[u8; 5], body: &[u8]) -> bool
     ensures { λ r. ⌜ r ≡ isRight (now (head .entry)) (now (body .entry)) ⌝ }
 {
-    let numbers = text::fields(body);
-    match numbers {
-        Three::Numbers(a, b, answer) => judge::agrees(text::name(head), a, b, answer),
-        Three::Broken => false,
+    let call = text::name(head);
+    if text::is_line(body, calls::numbers(call)) {
+        return calls::is_ours(call, body);
     }
+    false
 }

@@ -1,18 +1,13 @@
 // The text of a recorded list. A line is a call's name, then numbers as fields of sixteen hex digits, one space before
-// each, and a newline. So a call's name tells how long its lines are, and a line is read in two parts of fixed length.
+// each, and a newline. A call's name tells how many numbers follow it, and so how long its lines are.
 ghost use mathlib.Core.Path.{_≡_};
-ghost use Prim.Native.Nat.{_<_};
-ghost use Rattle.records.specs.Text.{digitOf, wordOf, nameOf, joinedOf, threeOf};
+ghost use Prim.Native.Nat.{_≤_, _<_};
+ghost use lib.Ieee.{nanBits, binary64};
+ghost use Rattle.records.specs.Text.{digitOf, wordOf, nameOf, afterOf, fieldAt, isNumber, isLine, valueAt, numberAt};
 
 // What a field of hex digits spells, or that a byte in it is no digit.
 pub enum Field {
     Number(u64),
-    Broken,
-}
-
-// The fields of a line of three numbers, or that the line is broken.
-pub enum Three {
-    Numbers(u64, u64, u64),
     Broken,
 }
 
@@ -25,42 +20,94 @@ pub fn name(head: &[u8; 5]) -> u64
     four * 256 + wide(head[4])
 }
 
-// The three numbers that follow a name.
-pub fn fields(body: &[u8]) -> Three
-    ensures { λ r. ⌜ r ≡ threeOf (now (body .entry)) ⌝ }
+// Whether the text is n fields, each with what belongs after it.
+pub fn is_line(body: &[u8], n: usize) -> bool
+    requires { ⌜ n ≤ 18 ⌝ }
+    ensures { λ r. ⌜ r ≡ isLine n (now (body .entry)) ⌝ }
 {
-    if body.len() != 51 {
-        return Three::Broken;
+    if body.len() != n * 17 {
+        return false;
     }
-    if body[16] != b' ' {
-        return Three::Broken;
+    let mut i = 0;
+    while i < n {
+        if body[i * 17 + 16] != after(n, i) {
+            return false;
+        }
+        if is_number(field_at(body, i)) {
+            i += 1;
+        } else {
+            return false;
+        }
     }
-    if body[33] != b' ' {
-        return Three::Broken;
-    }
-    if body[50] != b'\n' {
-        return Three::Broken;
-    }
-    joined(word(&body[0..16]), word(&body[17..33]), word(&body[34..50]))
+    true
 }
 
-fn joined(a: Field, b: Field, c: Field) -> Three
-    ensures { λ r. ⌜ r ≡ joinedOf a b c ⌝ }
+// What stands after field i of n: a space, after the last a newline.
+fn after(n: usize, i: usize) -> u8
+    requires { ⌜ i < n ⌝ }
+    ensures { λ r. ⌜ r ≡ afterOf n i ⌝ }
 {
-    match a {
-        Field::Number(x) => match b {
-            Field::Number(y) => match c {
-                Field::Number(z) => Three::Numbers(x, y, z),
-                Field::Broken => Three::Broken,
-            },
-            Field::Broken => Three::Broken,
-        },
-        Field::Broken => Three::Broken,
+    if i + 1 == n {
+        return b'\n';
     }
+    b' '
+}
+
+// Field i of a text.
+fn field_at(body: &[u8], i: usize) -> Field
+    requires { ⌜ i < 18 ⌝ }
+    ensures { λ r. ⌜ r ≡ fieldAt (now (body .entry)) i ⌝ }
+{
+    let at = i * 17;
+    let end = at + 16;
+    if body.len() < end {
+        return Field::Broken;
+    }
+    word(&body[at..end])
+}
+
+fn is_number(f: Field) -> bool
+    ensures { λ r. ⌜ r ≡ isNumber f ⌝ }
+{
+    match f {
+        Field::Number(_) => true,
+        Field::Broken => false,
+    }
+}
+
+// The number of field i as a pattern; 0 where the field is broken.
+pub fn value(body: &[u8], i: usize) -> u64
+    requires { ⌜ i < 18 ⌝ }
+    ensures { λ r. ⌜ r ≡ valueAt (now (body .entry)) i ⌝ }
+{
+    let f = field_at(body, i);
+    match f {
+        Field::Number(x) => x,
+        Field::Broken => 0,
+    }
+}
+
+// The number of field i. Each NaN's pattern gives a NaN.
+pub fn number(body: &[u8], i: usize) -> f64
+    requires { ⌜ i < 18 ⌝ }
+    ensures { λ r. ⌜ r ≡ numberAt (now (body .entry)) i ⌝ }
+{
+    let pattern = value(body, i);
+    if is_nan(pattern) {
+        return 0.0 / 0.0;
+    }
+    f64::from_bits(pattern)
+}
+
+// Whether the pattern is a NaN's.
+pub fn is_nan(pattern: u64) -> bool
+    ensures { λ r. ⌜ r ≡ nanBits binary64 pattern ⌝ }
+{
+    pattern % 0x8000_0000_0000_0000 > 0x7ff0_0000_0000_0000
 }
 
 // The number that a field of hex digits spells. Of more than sixteen digits the last sixteen count.
-pub fn word(text: &[u8]) -> Field
+fn word(text: &[u8]) -> Field
     ensures { λ r. ⌜ r ≡ wordOf (now (text .entry)) ⌝ }
 {
     let mut value: u64 = 0;

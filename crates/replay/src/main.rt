@@ -47,15 +47,21 @@ fn replay() -> Tally {
     }
 }
 
-// Reads and judges one record. What the input lacks of it stays 0, which is no part of a record.
+// Reads and judges one record: its name, then as many numbers as follow such a name.
 fn next() -> Seen {
     let mut head = [0u8; 5];
     if io::read_full(0, &mut head) == 0 {
         return Seen::End;
     }
-    let mut body = [0u8; 51];
-    io::read_full(0, &mut body);
-    if records::is_right(&head, &body) {
+    let end = records::numbers(&head) * records::FIELD;
+    let mut body = [0u8; records::MOST * records::FIELD];
+    rest(&head, &mut body[..end])
+}
+
+// Reads and judges what follows a name. What the input lacks of it stays 0, which is no part of a record.
+fn rest(head: &[u8; 5], body: &mut [u8]) -> Seen {
+    io::read_full(0, body);
+    if records::is_right(head, body) {
         return Seen::Right;
     }
     Seen::Wrong

@@ -1,57 +1,48 @@
--- `records::is_right` meets its contract: what the line spells picks the answer. Assumes nothing.
+-- `records::is_right` meets its contract: each return is an end of the definition, by the calls and tests on its way.
 use borrow.Author.Needs.{needs}
-use Rattle.records.specs.Judge.{isRight, rightFor}
+use Rattle.records.specs.Calls.{isRight}
 use Rattle.records.proofs.is_right.Statement.{statement}
 use Rattle.records.proofs.is_right.Tie as tie
-
-fields-requires : tie.Need-fields-requires
-fields-requires c κs = search needs
-
-enum-known-numbers : tie.Need-enum-known-numbers
-enum-known-numbers c = search needs
 
 name-requires : tie.Need-name-requires
 name-requires c κs = search needs
 
-agrees-requires : tie.Need-agrees-requires
-agrees-requires c κs = search needs
+numbers-requires : tie.Need-numbers-requires
+numbers-requires c κs = search needs
 
-enum-told : tie.Need-enum-told
-enum-told c = search needs
+is-line-requires : tie.Need-is-line-requires
+is-line-requires c κs = search needs
+
+is-ours-requires : tie.Need-is-ours-requires
+is-ours-requires c κs = search needs
 
 returns : tie.Need-returns
-unfolding isRight rightFor
+unfolding isRight
 returns c =
     let p1 = c .before in
     let p2 = p1 .before in
     let p3 = p2 .before in
     let p4 = p3 .before in
-    let p5 = p4 .before in
     simp (
-      ← p5 .fields .ensures,
-      p3 .numbers .given .1,
-      ← p1 .name .ensures,
-      ← c .agrees .ensures,
+      ← p4 .name .ensures,
+      ← p3 .numbers .ensures .0,
+      ← p2 .is-line .ensures,
+      p1 .if1 .taken,
+      ← c .is-ours .ensures,
     )
 
 returns-2 : tie.Need-returns-2
-unfolding isRight rightFor
+unfolding isRight
 returns-2 c =
     let p1 = c .before in
     let p2 = p1 .before in
+    let p3 = p2 .before in
     simp (
-      ← p2 .fields .ensures,
-      c .enum-told .given .1,
+      ← p3 .name .ensures,
+      ← p2 .numbers .ensures .0,
+      ← p1 .is-line .ensures,
+      c .if1 .left,
     )
 
 pub is-right-spec : {M : Type 1} → statement M
-is-right-spec =
-    tie.close
-    (tie.spec
-    fields-requires
-    enum-known-numbers
-    name-requires
-    agrees-requires
-    enum-told
-    returns
-    returns-2)
+is-right-spec = tie.close (tie.spec name-requires numbers-requires is-line-requires is-ours-requires returns returns-2)

@@ -1,0 +1,102 @@
+//! The functions of `plane`, as crate `probe` exports them. They are for comparison only: no header of the product declares
+//! them.
+
+// Each is safe: it takes and gives numbers, asks nothing of them, and always returns.
+unsafe extern "C" {
+    pub safe fn vjp_fuzzy_eq_zero_eps(a: f64, eps: f64) -> bool;
+    pub safe fn vjp_fuzzy_eq_zero(a: f64) -> bool;
+    pub safe fn vjp_fuzzy_eq_eps(a: f64, b: f64, eps: f64) -> bool;
+    pub safe fn vjp_fuzzy_gt_eps(a: f64, b: f64, eps: f64) -> bool;
+    pub safe fn vjp_fuzzy_lt_eps(a: f64, b: f64, eps: f64) -> bool;
+    pub safe fn vjp_fuzzy_in_range_eps(a: f64, min: f64, max: f64, eps: f64) -> bool;
+
+    pub safe fn vjp_dot(x1: f64, y1: f64, x2: f64, y2: f64) -> f64;
+    pub safe fn vjp_perp_dot(x1: f64, y1: f64, x2: f64, y2: f64) -> f64;
+    pub safe fn vjp_length_squared(x: f64, y: f64) -> f64;
+    pub safe fn vjp_length(x: f64, y: f64) -> f64;
+    pub safe fn vjp_vector_fuzzy_eq_eps(x1: f64, y1: f64, x2: f64, y2: f64, eps: f64) -> bool;
+    pub safe fn vjp_vector_eq(x1: f64, y1: f64, x2: f64, y2: f64) -> bool;
+
+    pub safe fn vjp_bulge_is_zero(x: f64, y: f64, bulge: f64) -> bool;
+    pub safe fn vjp_bulge_is_neg(x: f64, y: f64, bulge: f64) -> bool;
+
+    pub safe fn vjp_dist_squared(x0: f64, y0: f64, x1: f64, y1: f64) -> f64;
+    #[rustfmt::skip]
+    pub safe fn vjp_parametric_from_point(
+        x0: f64,
+        y0: f64,
+        x1: f64,
+        y1: f64,
+        x: f64,
+        y: f64,
+        epsilon: f64,
+    ) -> f64;
+}
+
+// A lent slice goes in as its start and its length. The call writes nothing beyond these and keeps nothing.
+mod raw {
+    unsafe extern "C" {
+        pub fn vjp_add(x1: f64, y1: f64, x2: f64, y2: f64, out: *mut f64, room: usize) -> usize;
+        pub fn vjp_sub(x1: f64, y1: f64, x2: f64, y2: f64, out: *mut f64, room: usize) -> usize;
+        pub fn vjp_scale(x: f64, y: f64, factor: f64, out: *mut f64, room: usize) -> usize;
+        pub fn vjp_perp(x: f64, y: f64, out: *mut f64, room: usize) -> usize;
+        pub fn vjp_min_max(v1: f64, v2: f64, out: *mut f64, room: usize) -> usize;
+        #[rustfmt::skip]
+        pub fn vjp_point_from_parametric(
+            x0: f64,
+            y0: f64,
+            x1: f64,
+            y1: f64,
+            t: f64,
+            out: *mut f64,
+            room: usize,
+        ) -> usize;
+        #[rustfmt::skip]
+        pub fn vjp_seg_arc_radius_and_center(
+            x1: f64,
+            y1: f64,
+            bulge1: f64,
+            x2: f64,
+            y2: f64,
+            bulge2: f64,
+            out: *mut f64,
+            room: usize,
+        ) -> usize;
+    }
+}
+
+// SAFETY, of each call below: start and length are those of a slice that is lent for as long as the call runs.
+
+pub fn vjp_add(x1: f64, y1: f64, x2: f64, y2: f64, out: &mut [f64]) -> usize {
+    unsafe { raw::vjp_add(x1, y1, x2, y2, out.as_mut_ptr(), out.len()) }
+}
+
+pub fn vjp_sub(x1: f64, y1: f64, x2: f64, y2: f64, out: &mut [f64]) -> usize {
+    unsafe { raw::vjp_sub(x1, y1, x2, y2, out.as_mut_ptr(), out.len()) }
+}
+
+pub fn vjp_scale(x: f64, y: f64, factor: f64, out: &mut [f64]) -> usize {
+    unsafe { raw::vjp_scale(x, y, factor, out.as_mut_ptr(), out.len()) }
+}
+
+pub fn vjp_perp(x: f64, y: f64, out: &mut [f64]) -> usize {
+    unsafe { raw::vjp_perp(x, y, out.as_mut_ptr(), out.len()) }
+}
+
+pub fn vjp_min_max(v1: f64, v2: f64, out: &mut [f64]) -> usize {
+    unsafe { raw::vjp_min_max(v1, v2, out.as_mut_ptr(), out.len()) }
+}
+
+/// A segment's start and end, x before y, and a place along it.
+pub fn vjp_point_from_parametric([x0, y0, x1, y1, t]: [f64; 5], out: &mut [f64]) -> usize {
+    unsafe { raw::vjp_point_from_parametric(x0, y0, x1, y1, t, out.as_mut_ptr(), out.len()) }
+}
+
+/// Two vertices, each x, y and bulge.
+pub fn vjp_seg_arc_radius_and_center(
+    [x1, y1, bulge1, x2, y2, bulge2]: [f64; 6],
+    out: &mut [f64],
+) -> usize {
+    let (start, room) = (out.as_mut_ptr(), out.len());
+    unsafe { raw::vjp_seg_arc_radius_and_center(x1, y1, bulge1, x2, y2, bulge2, start, room) }
+}

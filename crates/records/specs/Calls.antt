@@ -1,0 +1,35 @@
+-- What a record of each call is: how many numbers its lines have, and when its answers are ours.
+use Prim.Native.Nat.{ℕ}
+use mathlib.Core.Bool.{Bool, false, cond}
+use mathlib.Core.List.{List}
+use lib.Dec.{eqb}
+use Rattle.records.specs.Names.{ABS, MIN, MAX, SQRT}
+use Rattle.records.specs.Names.{MIN-MAX, DIST-SQUARED, POINT-FROM-PARAMETRIC, PARAMETRIC-FROM-POINT, SEG-ARC}
+use Rattle.records.specs.Text.{nameOf, isLine, valueAt}
+use Rattle.records.specs.OnFloats.{agreesOf}
+use Rattle.records.specs.OnPlane
+
+-- operands and answers
+unfoldable pub numbersOf : ℕ → ℕ
+numbersOf call =
+    cond (eqb call ABS) 3
+    (cond (eqb call MIN) 3
+    (cond (eqb call MAX) 3
+    (cond (eqb call SQRT) 3
+    (cond (eqb call MIN-MAX) 4
+    (cond (eqb call DIST-SQUARED) 5
+    (cond (eqb call POINT-FROM-PARAMETRIC) 7
+    (cond (eqb call PARAMETRIC-FROM-POINT) 8 (cond (eqb call SEG-ARC) 9 0))))))))
+
+unfoldable pub isOurs : ℕ → List ℕ → Bool
+isOurs call body =
+    cond (eqb call MIN-MAX) (OnPlane.minMax body)
+    (cond (eqb call DIST-SQUARED) (OnPlane.distSquared body)
+    (cond (eqb call POINT-FROM-PARAMETRIC) (OnPlane.pointFromParametric body)
+    (cond (eqb call PARAMETRIC-FROM-POINT) (OnPlane.parametricFromPoint body)
+    (cond (eqb call SEG-ARC) (OnPlane.segArcRadiusAndCenter body)
+    (agreesOf call (valueAt body 0) (valueAt body 1) (valueAt body 2))))))
+
+-- a line: its name's five bytes, and what follows them
+unfoldable pub isRight : List ℕ → List ℕ → Bool
+isRight head body = cond (isLine (numbersOf (nameOf head)) body) (isOurs (nameOf head) body) false
