@@ -14,4 +14,5 @@ pub second-bulges-unused : (v1 v2 u1 u2 : PlineVertex) (posEqualEps vBulge uBulg
     → plineSegIntr v1 v2 u1 u2 posEqualEps ≡ plineSegIntr v1 (withBulge v2 vBulge) u1 (withBulge u2 uBulge) posEqualEps
 unfolding plineSegIntr look pos
 second-bulges-unused v1 v2 u1 u2 posEqualEps vBulge uBulge =
-    ap (λ (r : PlineSegIntr). settle Refused Met (look v1 v2 u1 u2 posEqualEps) r) (second-bulges v1 v2 u1 u2 posEqualEps vBulge uBulge)
+    ap (λ (r : PlineSegIntr). settle Refused Met (look v1 v2 u1 u2 posEqualEps) r)
+    (second-bulges v1 v2 u1 u2 posEqualEps vBulge uBulge)

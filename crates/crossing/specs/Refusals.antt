@@ -1,6 +1,6 @@
--- The refusals of the kernels and of the pair call, exactly when: a call refuses with number n if and only if the first fault among its numbers, in the order
--- of its list of checks, has that number; and it answers how they meet if and only if every number passes.
--- Table.antt of the crate `checks` says of each check when it finds which fault.
+-- The refusals of the kernels and of the pair call, exactly when: a call refuses with number n if and only if the first fault among
+-- its numbers, in the order of its list of checks, has that number; and it answers how they meet if and only if every number
+-- passes. Table.antt of the crate `checks` says of each check when it finds which fault.
 use mathlib.Core.Path.{_≡_}
 use Prim.Native.Nat.{ℕ}
 use native.Mathlib.Omega.{arith}

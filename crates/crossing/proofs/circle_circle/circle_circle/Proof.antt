@@ -1,4 +1,5 @@
--- `crossing::circle_circle::circle_circle` meets its contract: each return is an end of the definition, by the calls and tests on its way.
+-- `crossing::circle_circle::circle_circle` meets its contract: each return is an end of the definition, by the calls and
+-- tests on its way.
 use borrow.Author.Needs.{needs}
 use Rattle.crossing.specs.CircleCircle
 use Rattle.crossing.proofs.circle_circle.circle_circle.Statement.{statement}
@@ -97,4 +98,6 @@ returns-3 c =
     )
 
 pub circle-circle-spec : {M : Type 1} → statement M
-circle-circle-spec = tie.close (tie.spec sub-requires dot-requires sqrt-requires fuzzy-eq-zero-eps-requires same-center-requires returns fuzzy-lt-eps-requires abs-requires fuzzy-gt-eps-requires returns-2 meeting-requires returns-3)
+circle-circle-spec =
+    tie.close (tie.spec sub-requires dot-requires sqrt-requires fuzzy-eq-zero-eps-requires same-center-requires returns
+    fuzzy-lt-eps-requires abs-requires fuzzy-gt-eps-requires returns-2 meeting-requires returns-3)

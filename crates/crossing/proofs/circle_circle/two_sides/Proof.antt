@@ -1,4 +1,5 @@
--- `crossing::circle_circle::two_sides` meets its contract: each return is an end of the definition, by the calls and tests on its way.
+-- `crossing::circle_circle::two_sides` meets its contract: each return is an end of the definition, by the calls and tests
+-- on its way.
 use borrow.Author.Needs.{needs}
 use Rattle.crossing.specs.CircleCircle
 use Rattle.crossing.proofs.circle_circle.two_sides.Statement.{statement}
@@ -18,11 +19,9 @@ unfolding CircleCircle.twoSides
 returns c =
     let p1 = c .before in
     let p2 = p1 .before in
-    let p3 = p2 .before in
-    let p4 = p3 .before in
-    let p5 = p4 .before in
+    let p3 = p2 .before .before .before in
     simp (
-      ← p5 .new .ensures,
+      ← p3 .new .ensures,
       ← p2 .new2 .ensures,
       ← p1 .fuzzy-eq-eps .ensures,
       c .if1 .taken,
@@ -33,11 +32,9 @@ unfolding CircleCircle.twoSides
 returns-2 c =
     let p1 = c .before in
     let p2 = p1 .before in
-    let p3 = p2 .before in
-    let p4 = p3 .before in
-    let p5 = p4 .before in
+    let p3 = p2 .before .before .before in
     simp (
-      ← p5 .new .ensures,
+      ← p3 .new .ensures,
       ← p2 .new2 .ensures,
       ← p1 .fuzzy-eq-eps .ensures,
       c .if1 .left,

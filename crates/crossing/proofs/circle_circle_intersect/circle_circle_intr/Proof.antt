@@ -1,4 +1,5 @@
--- `crossing::circle_circle_intersect::circle_circle_intr` meets its contract: each return is an end of the definition, by the calls and tests on its way.
+-- `crossing::circle_circle_intersect::circle_circle_intr` meets its contract: each return is an end of the definition, by
+-- the calls and tests on its way.
 use borrow.Author.Needs.{needs}
 use Rattle.crossing.specs.CircleCircleIntersect
 use Rattle.crossing.proofs.circle_circle_intersect.circle_circle_intr.Statement.{statement}
@@ -20,10 +21,9 @@ returns : tie.Need-returns
 unfolding CircleCircleIntersect.circleCircleIntr
 returns c =
     let p1 = c .before in
-    let p2 = p1 .before in
-    let p3 = p2 .before in
+    let p2 = p1 .before .before in
     simp (
-      ← p3 .look .ensures,
+      ← p2 .look .ensures,
       p1 .enum-told .given .1,
       ← c .circle-circle .ensures,
     )
@@ -32,12 +32,12 @@ returns-2 : tie.Need-returns-2
 unfolding CircleCircleIntersect.circleCircleIntr
 returns-2 c =
     let p1 = c .before in
-    let p2 = p1 .before in
-    let p3 = p2 .before in
+    let p2 = p1 .before .before in
     simp (
-      ← p3 .look .ensures,
+      ← p2 .look .ensures,
       p1 .looked .given .1,
     )
 
 pub circle-circle-intr-spec : {M : Type 1} → statement M
-circle-circle-intr-spec = tie.close (tie.spec look-requires enum-told circle-circle-requires enum-known-looked returns returns-2)
+circle-circle-intr-spec =
+    tie.close (tie.spec look-requires enum-told circle-circle-requires enum-known-looked returns returns-2)

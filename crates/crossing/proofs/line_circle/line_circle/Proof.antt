@@ -1,4 +1,5 @@
--- `crossing::line_circle::line_circle` meets its contract: each return is an end of the definition, by the calls and tests on its way.
+-- `crossing::line_circle::line_circle` meets its contract: each return is an end of the definition, by the calls and tests
+-- on its way.
 use borrow.Author.Needs.{needs}
 use Rattle.crossing.specs.LineCircle
 use Rattle.crossing.proofs.line_circle.line_circle.Statement.{statement}
@@ -51,4 +52,6 @@ returns-2 c =
     )
 
 pub line-circle-spec : {M : Type 1} → statement M
-line-circle-spec = tie.close (tie.spec fuzzy-eq-eps-requires point-circle-requires returns sub-requires sub-requires-2 line-through-requires line-meets-requires returns-2)
+line-circle-spec =
+    tie.close (tie.spec fuzzy-eq-eps-requires point-circle-requires returns sub-requires sub-requires-2
+    line-through-requires line-meets-requires returns-2)

@@ -1,4 +1,5 @@
--- `crossing::line_circle::line_meets` meets its contract: each return is an end of the definition, by the calls and tests on its way.
+-- `crossing::line_circle::line_meets` meets its contract: each return is an end of the definition, by the calls and tests on
+-- its way.
 use borrow.Author.Needs.{needs}
 use Rattle.crossing.specs.LineCircle
 use Rattle.crossing.proofs.line_circle.line_meets.Statement.{statement}
@@ -32,17 +33,13 @@ unfolding LineCircle.lineMeets
 returns-2 c =
     let p1 = c .before in
     let p2 = p1 .before in
-    let p3 = p2 .before in
+    let p3 = p2 .before .before .before .before .before in
     let p4 = p3 .before in
     let p5 = p4 .before in
-    let p6 = p5 .before in
-    let p7 = p6 .before in
-    let p8 = p7 .before in
-    let p9 = p8 .before in
     simp (
-      ← p9 .abs .ensures,
-      ← p8 .sqrt .ensures,
-      p7 .if1 .left,
+      ← p5 .abs .ensures,
+      ← p4 .sqrt .ensures,
+      p3 .if1 .left,
       p2 .if2 .taken,
       ← p1 .new .ensures,
       ← c .parametric-from-point .ensures,
@@ -63,17 +60,13 @@ returns-3 c =
     let p1 = c .before in
     let p2 = p1 .before in
     let p3 = p2 .before in
-    let p4 = p3 .before in
+    let p4 = p3 .before .before .before .before .before in
     let p5 = p4 .before in
     let p6 = p5 .before in
-    let p7 = p6 .before in
-    let p8 = p7 .before in
-    let p9 = p8 .before in
-    let p10 = p9 .before in
     simp (
-      ← p10 .abs .ensures,
-      ← p9 .sqrt .ensures,
-      p8 .if1 .left,
+      ← p6 .abs .ensures,
+      ← p5 .sqrt .ensures,
+      p4 .if1 .left,
       p3 .if2 .left,
       ← p2 .abs2 .ensures,
       ← p1 .sqrt2 .ensures,
@@ -81,4 +74,6 @@ returns-3 c =
     )
 
 pub line-meets-spec : {M : Type 1} → statement M
-line-meets-spec = tie.close (tie.spec abs-requires sqrt-requires returns new-requires parametric-from-point-requires returns-2 abs-requires-2 sqrt-requires-2 two-points-requires returns-3)
+line-meets-spec =
+    tie.close (tie.spec abs-requires sqrt-requires returns new-requires parametric-from-point-requires returns-2
+    abs-requires-2 sqrt-requires-2 two-points-requires returns-3)

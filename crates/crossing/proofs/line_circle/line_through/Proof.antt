@@ -1,4 +1,5 @@
--- `crossing::line_circle::line_through` meets its contract: each return is an end of the definition, by the calls and tests on its way.
+-- `crossing::line_circle::line_through` meets its contract: each return is an end of the definition, by the calls and tests
+-- on its way.
 use borrow.Author.Needs.{needs}
 use Rattle.crossing.specs.LineCircle
 use Rattle.crossing.proofs.line_circle.line_through.Statement.{statement}
@@ -10,23 +11,21 @@ fuzzy-eq-zero-requires c κs = search needs
 returns : tie.Need-returns
 unfolding LineCircle.lineThrough
 returns c =
-    let p1 = c .before in
+    let p1 = c .before .before in
     let p2 = p1 .before in
-    let p3 = p2 .before in
     simp (
-      ← p3 .fuzzy-eq-zero .ensures,
-      p2 .if1 .taken,
+      ← p2 .fuzzy-eq-zero .ensures,
+      p1 .if1 .taken,
     )
 
 returns-2 : tie.Need-returns-2
 unfolding LineCircle.lineThrough
 returns-2 c =
-    let p1 = c .before in
+    let p1 = c .before .before in
     let p2 = p1 .before in
-    let p3 = p2 .before in
     simp (
-      ← p3 .fuzzy-eq-zero .ensures,
-      p2 .if1 .left,
+      ← p2 .fuzzy-eq-zero .ensures,
+      p1 .if1 .left,
     )
 
 pub line-through-spec : {M : Type 1} → statement M

@@ -1,4 +1,5 @@
--- `crossing::line_circle::two_points` meets its contract: each return is an end of the definition, by the calls and tests on its way.
+-- `crossing::line_circle::two_points` meets its contract: each return is an end of the definition, by the calls and tests on
+-- its way.
 use borrow.Author.Needs.{needs}
 use Rattle.crossing.specs.LineCircle
 use Rattle.crossing.proofs.line_circle.two_points.Statement.{statement}
@@ -26,11 +27,9 @@ returns c =
     let p2 = p1 .before in
     let p3 = p2 .before in
     let p4 = p3 .before in
-    let p5 = p4 .before in
-    let p6 = p5 .before in
-    let p7 = p6 .before in
+    let p5 = p4 .before .before .before in
     simp (
-      ← p7 .new .ensures,
+      ← p5 .new .ensures,
       ← p4 .new2 .ensures,
       ← p3 .fuzzy-eq-eps .ensures,
       p2 .if1 .taken,
@@ -55,11 +54,9 @@ returns-2 c =
     let p3 = p2 .before in
     let p4 = p3 .before in
     let p5 = p4 .before in
-    let p6 = p5 .before in
-    let p7 = p6 .before in
-    let p8 = p7 .before in
+    let p6 = p5 .before .before .before in
     simp (
-      ← p8 .new .ensures,
+      ← p6 .new .ensures,
       ← p5 .new2 .ensures,
       ← p4 .fuzzy-eq-eps .ensures,
       p3 .if1 .left,
@@ -69,4 +66,6 @@ returns-2 c =
     )
 
 pub two-points-spec : {M : Type 1} → statement M
-two-points-spec = tie.close (tie.spec new-requires new-requires-2 fuzzy-eq-eps-requires new-requires-3 parametric-from-point-requires returns parametric-from-point-requires-2 parametric-from-point-requires-3 min-max-requires returns-2)
+two-points-spec =
+    tie.close (tie.spec new-requires new-requires-2 fuzzy-eq-eps-requires new-requires-3 parametric-from-point-requires
+    returns parametric-from-point-requires-2 parametric-from-point-requires-3 min-max-requires returns-2)

@@ -36,4 +36,5 @@ returns c =
     )
 
 pub look-spec : {M : Type 1} → statement M
-look-spec = tie.close (tie.spec epsilon-requires point-after-requires point-after-requires-2 circle-after-requires returns)
+look-spec =
+    tie.close (tie.spec epsilon-requires point-after-requires point-after-requires-2 circle-after-requires returns)

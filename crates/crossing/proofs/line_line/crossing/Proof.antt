@@ -1,4 +1,5 @@
--- `crossing::line_line::crossing` meets its contract: each return is an end of the definition, by the calls and tests on its way.
+-- `crossing::line_line::crossing` meets its contract: each return is an end of the definition, by the calls and tests on its
+-- way.
 use borrow.Author.Needs.{needs}
 use Rattle.crossing.specs.LineLine
 use Rattle.crossing.proofs.line_line.crossing.Statement.{statement}
@@ -64,4 +65,6 @@ returns-3 c =
     )
 
 pub crossing-spec : {M : Type 1} → statement M
-crossing-spec = tie.close (tie.spec perp-dot-requires perp-dot-requires-2 within-requires returns within-requires-2 returns-2 returns-3)
+crossing-spec =
+    tie.close (tie.spec perp-dot-requires perp-dot-requires-2 within-requires returns within-requires-2 returns-2
+    returns-3)

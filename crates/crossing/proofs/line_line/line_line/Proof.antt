@@ -1,4 +1,5 @@
--- `crossing::line_line::line_line` meets its contract: each return is an end of the definition, by the calls and tests on its way.
+-- `crossing::line_line::line_line` meets its contract: each return is an end of the definition, by the calls and tests on
+-- its way.
 use borrow.Author.Needs.{needs}
 use Rattle.crossing.specs.LineLine
 use Rattle.crossing.proofs.line_line.line_line.Statement.{statement}
@@ -64,4 +65,6 @@ returns-2 c =
     )
 
 pub line-line-spec : {M : Type 1} → statement M
-line-line-spec = tie.close (tie.spec sub-requires sub-requires-2 perp-dot-requires sub-requires-3 fuzzy-eq-zero-eps-requires crossing-requires returns parallel-requires returns-2)
+line-line-spec =
+    tie.close (tie.spec sub-requires sub-requires-2 perp-dot-requires sub-requires-3 fuzzy-eq-zero-eps-requires
+    crossing-requires returns parallel-requires returns-2)

@@ -1,4 +1,5 @@
--- `crossing::line_line::overlap` meets its contract: each return is an end of the definition, by the calls and tests on its way.
+-- `crossing::line_line::overlap` meets its contract: each return is an end of the definition, by the calls and tests on its
+-- way.
 use borrow.Author.Needs.{needs}
 use Rattle.crossing.specs.LineLine
 use Rattle.crossing.proofs.line_line.overlap.Statement.{statement}
@@ -17,13 +18,11 @@ returns : tie.Need-returns
 unfolding LineLine.overlap
 returns c =
     let p1 = c .before in
-    let p2 = p1 .before in
-    let p3 = p2 .before in
-    let p4 = p3 .before in
-    let p5 = p4 .before in
+    let p2 = p1 .before .before in
+    let p3 = p2 .before .before in
     simp (
-      ← p5 .length .ensures,
-      ← p3 .fuzzy-lt-eps .ensures,
+      ← p3 .length .ensures,
+      ← p2 .fuzzy-lt-eps .ensures,
       ← p1 .fuzzy-gt-eps .ensures,
       c .if1 .taken,
     )
@@ -49,13 +48,11 @@ returns-2 c =
     let p4 = p3 .before in
     let p5 = p4 .before in
     let p6 = p5 .before in
-    let p7 = p6 .before in
-    let p8 = p7 .before in
-    let p9 = p8 .before in
-    let p10 = p9 .before in
+    let p7 = p6 .before .before in
+    let p8 = p7 .before .before in
     simp (
-      ← p10 .length .ensures,
-      ← p8 .fuzzy-lt-eps .ensures,
+      ← p8 .length .ensures,
+      ← p7 .fuzzy-lt-eps .ensures,
       ← p6 .fuzzy-gt-eps .ensures,
       p5 .if1 .left,
       ← p4 .max .ensures,
@@ -73,13 +70,11 @@ returns-3 c =
     let p3 = p2 .before in
     let p4 = p3 .before in
     let p5 = p4 .before in
-    let p6 = p5 .before in
-    let p7 = p6 .before in
-    let p8 = p7 .before in
-    let p9 = p8 .before in
+    let p6 = p5 .before .before in
+    let p7 = p6 .before .before in
     simp (
-      ← p9 .length .ensures,
-      ← p7 .fuzzy-lt-eps .ensures,
+      ← p7 .length .ensures,
+      ← p6 .fuzzy-lt-eps .ensures,
       ← p5 .fuzzy-gt-eps .ensures,
       p4 .if1 .left,
       ← p3 .max .ensures,
@@ -89,4 +84,6 @@ returns-3 c =
     )
 
 pub overlap-spec : {M : Type 1} → statement M
-overlap-spec = tie.close (tie.spec length-requires fuzzy-lt-eps-requires fuzzy-gt-eps-requires returns max-requires min-requires fuzzy-eq-zero-eps-requires touching-end-requires returns-2 returns-3)
+overlap-spec =
+    tie.close (tie.spec length-requires fuzzy-lt-eps-requires fuzzy-gt-eps-requires returns max-requires min-requires
+    fuzzy-eq-zero-eps-requires touching-end-requires returns-2 returns-3)

@@ -1,4 +1,5 @@
--- `crossing::line_line::parallel` meets its contract: each return is an end of the definition, by the calls and tests on its way.
+-- `crossing::line_line::parallel` meets its contract: each return is an end of the definition, by the calls and tests on its
+-- way.
 use borrow.Author.Needs.{needs}
 use Rattle.crossing.specs.LineLine
 use Rattle.crossing.proofs.line_line.parallel.Statement.{statement}
@@ -160,4 +161,7 @@ returns-5 c =
     )
 
 pub parallel-spec : {M : Type 1} → statement M
-parallel-spec = tie.close (tie.spec perp-dot-requires fuzzy-eq-zero-eps-requires perp-dot-requires-2 fuzzy-eq-zero-eps-requires-2 returns fuzzy-eq-eps-requires fuzzy-eq-eps-requires-2 both-points-requires returns-2 first-point-requires returns-3 second-point-requires returns-4 sub-requires span-of-requires overlap-requires returns-5)
+parallel-spec =
+    tie.close (tie.spec perp-dot-requires fuzzy-eq-zero-eps-requires perp-dot-requires-2 fuzzy-eq-zero-eps-requires-2
+    returns fuzzy-eq-eps-requires fuzzy-eq-eps-requires-2 both-points-requires returns-2 first-point-requires returns-3
+    second-point-requires returns-4 sub-requires span-of-requires overlap-requires returns-5)

@@ -1,4 +1,5 @@
--- `crossing::line_line::rising` meets its contract: each return is an end of the definition, by the calls and tests on its way.
+-- `crossing::line_line::rising` meets its contract: each return is an end of the definition, by the calls and tests on its
+-- way.
 use Rattle.crossing.specs.LineLine
 use Rattle.crossing.proofs.line_line.rising.Statement.{statement}
 use Rattle.crossing.proofs.line_line.rising.Tie as tie

@@ -1,4 +1,5 @@
--- `crossing::line_line::span_of` meets its contract: each return is an end of the definition, by the calls and tests on its way.
+-- `crossing::line_line::span_of` meets its contract: each return is an end of the definition, by the calls and tests on its
+-- way.
 use borrow.Author.Needs.{needs}
 use Rattle.crossing.specs.LineLine
 use Rattle.crossing.proofs.line_line.span_of.Statement.{statement}
@@ -13,15 +14,11 @@ rising-requires c κs = search needs
 returns : tie.Need-returns
 unfolding LineLine.spanOf
 returns c =
-    let p1 = c .before in
+    let p1 = c .before .before .before .before .before in
     let p2 = p1 .before in
-    let p3 = p2 .before in
-    let p4 = p3 .before in
-    let p5 = p4 .before in
-    let p6 = p5 .before in
     simp (
-      ← p6 .fuzzy-eq-zero-eps .ensures,
-      p5 .if1 .taken,
+      ← p2 .fuzzy-eq-zero-eps .ensures,
+      p1 .if1 .taken,
       ← c .rising .ensures,
     )
 
@@ -31,15 +28,11 @@ rising-requires-2 c κs = search needs
 returns-2 : tie.Need-returns-2
 unfolding LineLine.spanOf
 returns-2 c =
-    let p1 = c .before in
+    let p1 = c .before .before .before .before .before in
     let p2 = p1 .before in
-    let p3 = p2 .before in
-    let p4 = p3 .before in
-    let p5 = p4 .before in
-    let p6 = p5 .before in
     simp (
-      ← p6 .fuzzy-eq-zero-eps .ensures,
-      p5 .if1 .left,
+      ← p2 .fuzzy-eq-zero-eps .ensures,
+      p1 .if1 .left,
       ← c .rising2 .ensures,
     )
 

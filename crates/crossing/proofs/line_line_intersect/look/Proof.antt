@@ -40,4 +40,6 @@ returns c =
     )
 
 pub look-spec : {M : Type 1} → statement M
-look-spec = tie.close (tie.spec epsilon-requires point-after-requires point-after-requires-2 point-after-requires-3 point-after-requires-4 returns)
+look-spec =
+    tie.close (tie.spec epsilon-requires point-after-requires point-after-requires-2 point-after-requires-3
+    point-after-requires-4 returns)

@@ -1,4 +1,5 @@
--- `crossing::pline_seg_intersect::arc_chord_after` meets its contract: a line adds no fault, and an arc the one of its chord.
+-- `crossing::pline_seg_intersect::arc_chord_after` meets its contract: a line adds no fault, and an arc the one of its
+-- chord.
 use borrow.Author.Needs.{needs}
 use Rattle.checks.specs.Chain
 use Rattle.checks.specs.Laws.Later.{fine-right}
