@@ -1,6 +1,8 @@
 // Two segments of polylines: the answer, and the call that looks at its numbers first.
 ghost use mathlib.Core.Path.{_≡_};
+ghost use Rattle.crossing.specs.PlineSeg;
 ghost use Rattle.crossing.specs.PlineSegIntersect;
+ghost use Rattle.checks.specs.declared.fault.Checked.the-variants.{Fine};
 use super::pline_seg::pline_seg;
 use checks::chain;
 use checks::each;
@@ -93,4 +95,19 @@ pub fn pline_seg_intr(
         Checked::Fine => PlineSegAnswer::Met(pline_seg(v1, v2, u1, u2, pos_equal_eps)),
         Checked::Bad(fault) => PlineSegAnswer::Refused(fault.number),
     }
+}
+
+// How the segments v1 to v2 and u1 to u2 meet, for a caller that has looked at their numbers already: it owes that the look finds
+// no fault.
+pub fn pline_seg_looked_at(
+    v1: PlineVertex,
+    v2: PlineVertex,
+    u1: PlineVertex,
+    u2: PlineVertex,
+    pos_equal_eps: f64,
+) -> PlineSegIntr
+    requires { ⌜ PlineSegIntersect.look v1 v2 u1 u2 «pos_equal_eps» ≡ Fine ⌝ }
+    ensures { λ r. ⌜ r ≡ PlineSeg.plineSeg v1 v2 u1 u2 «pos_equal_eps» ⌝ }
+{
+    pline_seg(v1, v2, u1, u2, pos_equal_eps)
 }
