@@ -4,6 +4,7 @@ pub mod Fault
 pub mod Number
 pub mod Each
 pub mod Chain
+pub mod Arc
 pub mod Exactly
 pub mod Table
 pub mod Edges

@@ -1,4 +1,4 @@
--- The scope's numbers of the refusals that a look at one number can give.
+-- The scope's numbers of the refusals that a look at one number, or at a path's length, can give.
 use Prim.Native.Nat.{ℕ}
 
 -- a coordinate, bulge or radius is NaN or infinite
@@ -20,6 +20,14 @@ epsilon = 4
 -- an arc's chord is too short
 abbrev pub chord : ℕ
 chord = 5
+
+-- a path's length is no whole number of vertices
+abbrev pub length : ℕ
+length = 6
+
+-- a path has too many vertices
+abbrev pub vertices : ℕ
+vertices = 7
 
 -- a circle's radius is out of its range, or a coordinate of its centre is too large
 abbrev pub circle : ℕ

@@ -6,7 +6,7 @@ use mathlib.Core.List.{List, [], _∷_}
 use Prim.Native.Nat.{ℕ}
 use lib.Dec.{eqb}
 use Rattle.checks.specs.declared.fault.Item.{Item}
-use Rattle.checks.specs.declared.fault.Item.the-variants.{Epsilon, X, Y, Bulge, Radius, CenterX, CenterY, Chord}
+use Rattle.checks.specs.declared.fault.Item.the-variants.{Epsilon, X, Y, Bulge, Radius, CenterX, CenterY, Chord, Length}
 use Rattle.checks.specs.declared.fault.Checked.{Checked}
 use Rattle.checks.specs.declared.fault.Checked.the-variants.{Fine, Bad}
 use Rattle.checks.specs.Fault.{at, bad}
@@ -20,6 +20,7 @@ item Radius = 4
 item CenterX = 5
 item CenterY = 6
 item Chord = 7
+item Length = 8
 
 abbrev pub told : Checked → List ℕ
 told Fine = 0 ∷ []
@@ -35,7 +36,8 @@ item-back n =
     (cond (eqb n 4) Radius
     (cond (eqb n 5) CenterX
     (cond (eqb n 6) CenterY
-    Chord))))))
+    (cond (eqb n 7) Chord
+    Length)))))))
 
 item-same : (i : Item) → item-back (item i) ≡ i
 unfolding item-back
@@ -47,6 +49,7 @@ item-same Radius = refl
 item-same CenterX = refl
 item-same CenterY = refl
 item-same Chord = refl
+item-same Length = refl
 
 back : List ℕ → Checked
 back [] = Fine

@@ -2,7 +2,7 @@
 ghost use mathlib.Core.Path.{_≡_};
 ghost use Rattle.checks.specs.Fault as fault;
 
-// Which of its owner's numbers.
+// Which of its owner's numbers; `Length` is how many numbers a path has.
 pub enum Item {
     Epsilon,
     X,
@@ -12,6 +12,7 @@ pub enum Item {
     CenterX,
     CenterY,
     Chord,
+    Length,
 }
 
 // Where a number stands in a call.

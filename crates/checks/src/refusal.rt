@@ -1,4 +1,5 @@
-// The scope's numbers of the refusals that a look at one number can give. specs/Refusal.antt has the same.
+// The scope's numbers of the refusals that a look at one number, or at a path's length, can give. specs/Refusal.antt has the
+// same.
 
 // a coordinate, bulge or radius is NaN or infinite
 pub const NOT_FINITE: u64 = 1;
@@ -14,6 +15,12 @@ pub const EPSILON: u64 = 4;
 
 // an arc's chord is too short
 pub const CHORD: u64 = 5;
+
+// a path's length is no whole number of vertices
+pub const LENGTH: u64 = 6;
+
+// a path has too many vertices
+pub const VERTICES: u64 = 7;
 
 // a circle's radius is out of its range, or a coordinate of its centre is too large
 pub const CIRCLE: u64 = 9;

@@ -2,17 +2,14 @@
 use mathlib.Core.Path.{_≡_, refl, sym, ap}
 use mathlib.Core.Bool.{true, false, cond}
 use mathlib.Core.List.{List, [], _∷_, _++_}
-use Prim.Native.Nat.{ℕ}
 use lib.Ieee.{Float}
-use Rattle.plane.specs.Vector2 as vector2
-use Rattle.plane.specs.PlineVertex.{pos, bulgeIsZero}
 use Rattle.plane.specs.declared.vector2.Vector2.{Vector2}
 use Rattle.plane.specs.declared.pline_vertex.PlineVertex.{PlineVertex}
-use Rattle.checks.specs.declared.fault.Item.the-variants.{Epsilon, Chord}
+use Rattle.checks.specs.declared.fault.Item.the-variants.{Epsilon}
 use Rattle.checks.specs.declared.fault.Checked.{Checked}
-use Rattle.checks.specs.declared.fault.Checked.the-variants.{Fine}
-use Rattle.checks.specs.Fault.{at, later}
+use Rattle.checks.specs.Fault.{at}
 use Rattle.checks.specs.Each
+use Rattle.checks.specs.Arc.{arcChord}
 use Rattle.checks.specs.First.{first}
 use Rattle.checks.specs.Lists.{pointChecks, vertexChecks}
 use Rattle.crossing.specs.Settle.{settle}
@@ -23,15 +20,6 @@ use Rattle.crossing.specs.Laws.Answers.{answer, again}
 use Rattle.crossing.specs.declared.pline_seg_intersect.PlineSegAnswer.{PlineSegAnswer}
 use Rattle.crossing.specs.declared.pline_seg_intersect.PlineSegAnswer.the-variants.{Refused, Met}
 
--- the chord of a segment: an arc's, by the bulge of its first vertex
-abbrev pub arcChord : PlineVertex → PlineVertex → ℕ → Checked
-arcChord a b owner =
-    let chord = vector2.sub (pos b) (pos a) in
-    cond (bulgeIsZero a) Fine (Each.chord (vector2.length chord) (at owner 0 Chord))
-
-unfoldable pub arcChordAfter : Checked → PlineVertex → PlineVertex → ℕ → Checked
-arcChordAfter f a b owner = later f (arcChord a b owner)
-
 -- the call's numbers, in the order in which they are looked at: segment v is owner 0, u is 1; an end is its index
 abbrev pub checks : PlineVertex → PlineVertex → PlineVertex → PlineVertex → Float → List Checked
 checks v1 v2 u1 u2 posEqualEps =
@@ -40,7 +28,7 @@ checks v1 v2 u1 u2 posEqualEps =
     ++ pointChecks (v2 .x) (v2 .y) 0 1
     ++ vertexChecks (u1 .x) (u1 .y) (u1 .bulge) 1 0
     ++ pointChecks (u2 .x) (u2 .y) 1 1
-    ++ (arcChord v1 v2 0 ∷ arcChord u1 u2 1 ∷ [])
+    ++ (arcChord v1 v2 0 0 ∷ arcChord u1 u2 1 0 ∷ [])
 
 unfoldable pub look : PlineVertex → PlineVertex → PlineVertex → PlineVertex → Float → Checked
 look v1 v2 u1 u2 posEqualEps = first (checks v1 v2 u1 u2 posEqualEps)

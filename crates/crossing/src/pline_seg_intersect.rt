@@ -4,11 +4,13 @@ ghost use Rattle.crossing.specs.PlineSeg;
 ghost use Rattle.crossing.specs.PlineSegIntersect;
 ghost use Rattle.checks.specs.declared.fault.Checked.the-variants.{Fine};
 use super::pline_seg::pline_seg;
+use checks::arc;
 use checks::chain;
 use checks::each;
 use checks::fault::Checked;
 use checks::fault::Item;
 use checks::fault::Place;
+use checks::fault::later;
 use plane::pline_vertex::PlineVertex;
 use plane::vector2::Vector2;
 
@@ -34,25 +36,6 @@ pub enum PlineSegAnswer {
     Met(PlineSegIntr),
 }
 
-// The chord of the segment a to b, after f: refusal 5 if it is an arc and its chord is too short. A line's is not looked at.
-fn arc_chord_after(f: Checked, a: PlineVertex, b: PlineVertex, owner: u64) -> Checked
-    ensures { λ r. ⌜ r ≡ PlineSegIntersect.arcChordAfter f a b owner ⌝ }
-{
-    if a.bulge_is_zero() {
-        return f;
-    }
-    let chord = b.pos().sub(a.pos());
-    chain::chord_after(
-        f,
-        chord.length(),
-        Place {
-            owner: owner,
-            index: 0,
-            item: Item::Chord,
-        },
-    )
-}
-
 // The first of the call's numbers that is at fault: epsilon; v1, v2, u1 and u2, each x before y, and of v1 and u1 the bulge; then
 // the chords of v and of u. The bulges of v2 and u2 belong to other segments.
 fn look(
@@ -76,8 +59,8 @@ fn look(
     let a2 = chain::point_after(a1, v2.x, v2.y, 0, 1);
     let a3 = chain::vertex_after(a2, u1.x, u1.y, u1.bulge, 1, 0);
     let a4 = chain::point_after(a3, u2.x, u2.y, 1, 1);
-    let a5 = arc_chord_after(a4, v1, v2, 0);
-    arc_chord_after(a5, u1, u2, 1)
+    let a5 = later(a4, arc::arc_chord(v1, v2, 0, 0));
+    later(a5, arc::arc_chord(u1, u2, 1, 0))
 }
 
 // How the segments v1 to v2 and u1 to u2 meet, or the refusal of the first number at fault.

@@ -31,6 +31,7 @@ use Rattle.plane.specs.PlineSeg as seg
 use Rattle.checks.specs.Fault.{refuse, later}
 use Rattle.checks.specs.Number.{isInfinite, notFinite, beyond}
 use Rattle.checks.specs.Each
+use Rattle.checks.specs.Arc.{arcChord}
 use Rattle.crossing.specs.Told.{Told}
 use Rattle.crossing.specs.LineLine
 use Rattle.crossing.specs.LineCircle
@@ -75,7 +76,7 @@ unfolding
     fuzzy.fuzzyEqZeroEps fuzzy.fuzzyEqEps fuzzy.fuzzyInRangeEps
     baseMath.minMax baseMath.distSquared baseMath.pointFromParametric baseMath.parametricFromPoint
     seg.segArcRadiusAndCenter
-    refuse later isInfinite notFinite beyond
+    arcChord refuse later isInfinite notFinite beyond
     Each.epsilon Each.finite Each.coordinate Each.bulge Each.radius Each.center Each.chord
     abs min max sqrt rootOf rootAt isqrt rootIn
     add sub mul div neg sum round units odd size span climb lt le eq isNan ofBits ofFields trailingZeros

@@ -59,7 +59,7 @@ not-below x y a b = go (lt x y) (le y x) (le-not-lt y x b a)
     go true g e = (λ h. absurd (true≢false h), λ t. absurd (subst T e t))
     go false g e = (λ h. subst T (sym e) tt, λ t. refl)
 
-neither : (a b : Bool) → ((a || b) ≡ false) ↔ ((a ≡ false) × (b ≡ false))
+pub neither : (a b : Bool) → ((a || b) ≡ false) ↔ ((a ≡ false) × (b ≡ false))
 neither true b = (λ h. absurd (true≢false h), λ h. h .0)
 neither false b = (λ h. (refl, h), λ h. h .1)
 

@@ -1,18 +1,20 @@
--- `crossing::pline_seg_intersect::arc_chord_after` meets its contract: a line adds no fault, and an arc the one of its
--- chord.
+-- `checks::arc::arc_chord` meets its contract: each return is an end of the definition, by the calls and tests on its way.
 use borrow.Author.Needs.{needs}
-use Rattle.checks.specs.Chain
-use Rattle.checks.specs.Laws.Later.{fine-right}
-use Rattle.crossing.specs.PlineSegIntersect
-use Rattle.crossing.proofs.pline_seg_intersect.arc_chord_after.Statement.{statement}
-use Rattle.crossing.proofs.pline_seg_intersect.arc_chord_after.Tie as tie
+use Rattle.checks.specs.Arc
+use Rattle.checks.proofs.arc.arc_chord.Statement.{statement}
+use Rattle.checks.proofs.arc.arc_chord.Tie as tie
 
 bulge-is-zero-requires : tie.Need-bulge-is-zero-requires
 bulge-is-zero-requires c κs = search needs
 
 returns : tie.Need-returns
-unfolding PlineSegIntersect.arcChordAfter
-returns c = simp (← c .before .bulge-is-zero .ensures, c .if1 .taken, fine-right)
+unfolding Arc.arcChord
+returns c =
+    let p1 = c .before in
+    simp (
+      ← p1 .bulge-is-zero .ensures,
+      c .if1 .taken,
+    )
 
 pos-requires : tie.Need-pos-requires
 pos-requires c κs = search needs
@@ -26,11 +28,11 @@ sub-requires c κs = search needs
 length-requires : tie.Need-length-requires
 length-requires c κs = search needs
 
-chord-after-requires : tie.Need-chord-after-requires
-chord-after-requires c κs = search needs
+chord-requires : tie.Need-chord-requires
+chord-requires c κs = search needs
 
 returns-2 : tie.Need-returns-2
-unfolding PlineSegIntersect.arcChordAfter Chain.chordAfter
+unfolding Arc.arcChord
 returns-2 c =
     let p1 = c .before in
     let p2 = p1 .before in
@@ -45,11 +47,11 @@ returns-2 c =
       ← p3 .pos2 .ensures,
       ← p2 .sub .ensures,
       ← p1 .length .ensures,
-      ← c .chord-after .ensures,
+      ← c .chord .ensures,
     )
 
-pub arc-chord-after-spec : {M : Type 1} → statement M
-arc-chord-after-spec =
+pub arc-chord-spec : {M : Type 1} → statement M
+arc-chord-spec =
     tie.close
     (tie.spec
     bulge-is-zero-requires
@@ -58,5 +60,5 @@ arc-chord-after-spec =
     pos-requires-2
     sub-requires
     length-requires
-    chord-after-requires
+    chord-requires
     returns-2)

@@ -1,0 +1,36 @@
+-- `paths::segments::after` meets its contract: its test is the definition's.
+use borrow.Author.Needs.{needs}
+use borrow.Author.Tests.{lt-ltb, le-ltb}
+use Rattle.paths.specs.Segments
+use Rattle.paths.proofs.segments.after.Statement.{statement}
+use Rattle.paths.proofs.segments.after.Tie as tie
+
+add-if1 : tie.Need-add-if1
+add-if1 c = search needs
+
+vertex-count-requires : tie.Need-vertex-count-requires
+vertex-count-requires c κs = search needs
+
+add-result : tie.Need-add-result
+add-result c = search needs
+
+returns : tie.Need-returns
+unfolding Segments.after
+returns c =
+    let p1 = c .before in
+    simp (
+      ← p1 .vertex-count .ensures,
+      lt-ltb _ _ (c .if1 .taken),
+    )
+
+returns-2 : tie.Need-returns-2
+unfolding Segments.after
+returns-2 c =
+    let p1 = c .before in
+    simp (
+      ← p1 .vertex-count .ensures,
+      le-ltb _ _ (c .if1 .left),
+    )
+
+pub after-spec : {M : Type 1} → statement M
+after-spec = tie.close (tie.spec add-if1 vertex-count-requires add-result returns returns-2)

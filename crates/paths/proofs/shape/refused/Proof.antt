@@ -1,0 +1,23 @@
+-- `paths::shape::refused` meets its contract: its calls are the definition's.
+use borrow.Author.Needs.{needs}
+use Rattle.paths.specs.Shape
+use Rattle.paths.proofs.shape.refused.Statement.{statement}
+use Rattle.paths.proofs.shape.refused.Tie as tie
+
+broken-requires : tie.Need-broken-requires
+broken-requires c κs = search needs
+
+too-long-requires : tie.Need-too-long-requires
+too-long-requires c κs = search needs
+
+returns : tie.Need-returns
+unfolding Shape.refused
+returns c =
+    let p1 = c .before in
+    simp (
+      ← p1 .broken .ensures,
+      ← c .too-long .ensures,
+    )
+
+pub refused-spec : {M : Type 1} → statement M
+refused-spec = tie.close (tie.spec broken-requires too-long-requires returns)

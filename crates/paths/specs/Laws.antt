@@ -1,0 +1,4 @@
+pub mod Segments
+pub mod Along
+pub mod Steps
+pub mod Fine

@@ -1,0 +1,62 @@
+-- Lists of checks one after the other, `along`: what a loop over them has left at i of n, and that they are fine exactly if
+-- each is.
+use mathlib.Core.Path.{_≡_, refl, sym, ap, _∙_}
+use mathlib.Core.Logic.{inl, inr}
+use mathlib.Core.List.{List}
+use Prim.Native.Nat.{ℕ, zero, suc, _+_, _-_, _≤_, _<_, zero-le}
+use native.Mathlib.Nat.{eq-or-lt-of-le, sub-zero}
+use native.Mathlib.Omega.{arith}
+use Rattle.checks.specs.declared.fault.Fault.{Fault}
+use Rattle.checks.specs.declared.fault.Checked.{Checked}
+use Rattle.checks.specs.declared.fault.Checked.the-variants.{Fine, Bad}
+use Rattle.checks.specs.Fault.{later}
+use Rattle.checks.specs.First.{first}
+use Rattle.checks.specs.Laws.Chains.{first-append}
+use Rattle.checks.specs.Laws.Later.{fine-right, later-assoc, later-fine}
+use Rattle.paths.specs.Check.{along}
+
+-- a fault that was found stays the first, whatever is left
+pub fault-stays : (g rest : Checked) (x : Fault) → g ≡ Bad x → later g rest ≡ Bad x
+unfolding later
+fault-stays g rest x e = ap (λ (f : Checked). later f rest) e
+
+module _ (checks : ℕ → List Checked) where
+  -- ---- a loop over n of them
+  pub along-step : (n i : ℕ) (g : Checked) → i < n
+      → later g (first (along checks i (n - i))) ≡ later (later g (first (checks i))) (first (along checks (i + 1) (n - (i + 1))))
+  along-step n i g h =
+      let e : n - i ≡ suc (n - (i + 1)) = omega arith in
+      ap (λ (k : ℕ). later g (first (along checks i k))) e
+      ∙ ap (later g) (first-append (checks i) (along checks (i + 1) (n - (i + 1))))
+      ∙ sym (later-assoc g (first (checks i)) (first (along checks (i + 1) (n - (i + 1)))))
+
+  pub along-start : (n : ℕ) (g : Checked) → later g (first (along checks 0 (n - 0))) ≡ later g (first (along checks 0 n))
+  along-start n g = simp sub-zero
+
+  pub along-end : (n i : ℕ) (g : Checked) → n ≤ i → later g (first (along checks i (n - i))) ≡ g
+  along-end n i g h =
+      let e : n - i ≡ 0 = omega arith in
+      ap (λ (k : ℕ). later g (first (along checks i k))) e ∙ fine-right g
+
+  -- ---- fine
+  each-fine : (k i : ℕ) → first (along checks i k) ≡ Fine → (j : ℕ) → i ≤ j → j < i + k → first (checks j) ≡ Fine
+  each-fine zero i e j l h = absurd (omega (arith, l, h))
+  each-fine (suc k) i e j l h =
+      let both = later-fine (first (checks i)) (first (along checks (i + 1) k)) .0 (sym (first-append (checks i) _) ∙ e) in
+      elim (eq-or-lt-of-le l) [
+        | inl same ↦ ap (λ (m : ℕ). first (checks m)) (sym same) ∙ both .0
+        | inr less ↦ each-fine k (i + 1) (both .1) j (omega (arith, less)) (omega (arith, h))
+      ]
+
+  all-fine : (k i : ℕ) → ((j : ℕ) → i ≤ j → j < i + k → first (checks j) ≡ Fine) → first (along checks i k) ≡ Fine
+  all-fine zero i each = refl
+  all-fine (suc k) i each =
+      let rest = all-fine k (i + 1) (λ j l h. each j (omega (arith, l)) (omega (arith, h))) in
+      first-append (checks i) (along checks (i + 1) k)
+      ∙ later-fine (first (checks i)) (first (along checks (i + 1) k)) .1 (each i (omega arith) (omega arith), rest)
+
+  pub fine-each : (n : ℕ) → first (along checks 0 n) ≡ Fine → (j : ℕ) → j < n → first (checks j) ≡ Fine
+  fine-each n e j h = each-fine n 0 e j zero-le (omega (arith, h))
+
+  pub fine-all : (n : ℕ) → ((j : ℕ) → j < n → first (checks j) ≡ Fine) → first (along checks 0 n) ≡ Fine
+  fine-all n each = all-fine n 0 (λ j l h. each j (omega (arith, h)))

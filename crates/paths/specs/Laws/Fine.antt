@@ -1,0 +1,119 @@
+-- What a path is that was found fine, and only such a path is found fine: the facts that callers' proofs go on with.
+use mathlib.Core.Path.{_≡_, refl, sym, _∙_}
+use mathlib.Core.Logic.{_↔_}
+use mathlib.Core.Bool.{Bool, true, false, cond, true≢false}
+use mathlib.Core.List.{List}
+use Prim.Native.Nat.{ℕ, _<_}
+use native.Mathlib.Omega.{arith}
+use lib.Dec.{T}
+use lib.Ieee.{Float, isNan}
+use Rattle.floats.specs.Ops.{_≼_}
+use Rattle.plane.specs.declared.pline_vertex.PlineVertex.{PlineVertex}
+use Rattle.plane.specs.PlineVertex.{pos, bulgeIsZero}
+use Rattle.plane.specs.Vector2.{sub, length}
+use Rattle.checks.specs.declared.fault.Item.the-variants.{Chord}
+use Rattle.checks.specs.declared.fault.Checked.{Checked}
+use Rattle.checks.specs.declared.fault.Checked.the-variants.{Fine}
+use Rattle.checks.specs.Fault.{at}
+use Rattle.checks.specs.Limit
+use Rattle.checks.specs.First.{first}
+use Rattle.checks.specs.Laws.Later.{fine-left, fine-right, later-fine}
+use Rattle.checks.specs.Laws.Fine.{neither, chord-fine}
+use Rattle.checks.specs.Laws.Chains as chains
+use Rattle.paths.specs.declared.path.Segment.{Segment}
+use Rattle.paths.specs.Path.{vertexCount, vertex}
+use Rattle.paths.specs.Shape.{broken, tooLong, refused, shape}
+use Rattle.paths.specs.Segments.{segmentCount, segmentFrom}
+use Rattle.checks.specs.Arc.{arcChord}
+use Rattle.paths.specs.Check.{ofVertex, ofSegment, vertexChecks, arcChecks, pathChecks, checkPath}
+use Rattle.paths.specs.Table as table
+use Rattle.paths.specs.Laws.Along.{fine-each, fine-all}
+use Rattle.paths.specs.Laws.Segments.{count-within, after-within}
+
+-- ---- a vertex, an arc, a segment, a path
+abbrev pub VertexFine : PlineVertex → Type 0
+VertexFine v = chains.VertexFine (v .x) (v .y) (v .bulge)
+
+-- if the segment from a to b is an arc, its computed chord length, where it is a number, is at least 2^-40
+pub record ArcFine (a b : PlineVertex) : Type 0 where
+  pub long : bulgeIsZero a ≡ false → isNan (length (sub (pos b) (pos a))) ≡ false
+      → T (Limit.chordLeast ≼ length (sub (pos b) (pos a)))
+
+pub record SegmentFine (s : Segment) : Type 0 where
+  pub start : VertexFine (s .v1)
+  pub end : VertexFine (s .v2)
+  pub arc : ArcFine (s .v1) (s .v2)
+
+pub record PathFine (path : List Float) (closed : Bool) : Type 0 where
+  pub vertices : (i : ℕ) → i < vertexCount path → VertexFine (vertex path i)
+  pub arcs : (i : ℕ) → i < segmentCount path closed → ArcFine (segmentFrom path i .v1) (segmentFrom path i .v2)
+
+-- ---- exactly these pass
+pub shape-fine : (path : List Float) (owner : ℕ) → (shape path owner ≡ Fine) ↔ (refused path ≡ false)
+unfolding refused
+shape-fine path owner =
+    let exact = table.shape path owner .fine in
+    let both = neither (broken path) (tooLong path) in
+    (λ e. both .1 (exact .0 e), λ e. exact .1 (both .0 e))
+
+pub arc-fine : (a b : PlineVertex) (owner index : ℕ) → (arcChord a b owner index ≡ Fine) ↔ ArcFine a b
+unfolding arcChord
+arc-fine a b owner index =
+    let p = at owner index Chord in
+    let exact = unless (bulgeIsZero a) (chord-fine (length (sub (pos b) (pos a))) p) in
+    (λ e. record { long = exact .0 e }, λ f. exact .1 (f .long))
+  where
+    unless : (line : Bool) {c : Checked} {F : Type 0} → ((c ≡ Fine) ↔ F) → ((cond line Fine c ≡ Fine) ↔ (line ≡ false → F))
+    unless true exact = (λ e no-line. absurd (true≢false no-line), λ f. refl)
+    unless false exact = (λ e no-line. exact .0 e, λ f. exact .1 (f refl))
+
+module _ (path : List Float) (owner i : ℕ) where
+  vertex-fine : (first (ofVertex path owner i) ≡ Fine) ↔ VertexFine (vertex path i)
+  unfolding ofVertex
+  vertex-fine =
+      let v = vertex path i in
+      let exact = chains.vertex-fine Fine (v .x) (v .y) owner (v .bulge) i in
+      let listed = chains.vertex-first Fine (v .x) (v .y) owner (v .bulge) i ∙ fine-left _ in
+      (λ e. exact .0 (listed ∙ e) .1, λ f. sym listed ∙ exact .1 (refl, f))
+
+  segment-arc-fine : (first (ofSegment path owner i) ≡ Fine) ↔ ArcFine (segmentFrom path i .v1) (segmentFrom path i .v2)
+  unfolding ofSegment
+  segment-arc-fine =
+      let s = segmentFrom path i in
+      let exact = arc-fine (s .v1) (s .v2) owner i in
+      let alone = fine-right (arcChord (s .v1) (s .v2) owner i) in
+      (λ e. exact .0 (sym alone ∙ e), λ f. alone ∙ exact .1 f)
+
+pub path-fine : (f : Checked) (path : List Float) (closed : Bool) (owner : ℕ)
+    → (checkPath f path closed owner ≡ Fine) ↔ ((f ≡ Fine) × PathFine path closed)
+unfolding checkPath
+path-fine f path closed owner =
+    let v = vertexChecks path owner in
+    let a = arcChecks path closed owner in
+    let n = vertexCount path in
+    let m = segmentCount path closed in
+    let outer = later-fine f (first (pathChecks path closed owner)) in
+    let inner = later-fine (first v) (first a) in
+    let apart = chains.first-append v a in (
+      λ e.
+          let o = outer .0 e in
+          let b = inner .0 (sym apart ∙ o .1) in (
+            o .0,
+            record {
+              vertices = λ i l. vertex-fine path owner i .0 (fine-each (ofVertex path owner) n (b .0) i l);
+              arcs = λ i l. segment-arc-fine path owner i .0 (fine-each (ofSegment path owner) m (b .1) i l);
+            },
+          ),
+      λ h.
+          let all-v = fine-all (ofVertex path owner) n (λ i l. vertex-fine path owner i .1 (h .1 .vertices i l)) in
+          let all-a = fine-all (ofSegment path owner) m (λ i l. segment-arc-fine path owner i .1 (h .1 .arcs i l)) in
+          outer .1 (h .0, apart ∙ inner .1 (all-v, all-a)),
+    )
+
+-- so both ends of every segment are fine, and its arc
+pub segment-fine : (path : List Float) (closed : Bool) → PathFine path closed
+    → (i : ℕ) → i < segmentCount path closed → SegmentFine (segmentFrom path i)
+unfolding segmentFrom
+segment-fine path closed fine i l =
+    let h : i < vertexCount path = omega (arith, l, count-within path closed) in
+    record { start = fine .vertices i h; end = fine .vertices _ (after-within path i h); arc = fine .arcs i l }

@@ -1,0 +1,62 @@
+-- A path has at most as many segments as vertices, and at most 4,096; a segment ends at a vertex of the path; and what
+-- `segment` answers at an index that is a segment's, and at one that is none's.
+use mathlib.Core.Path.{_≡_, refl}
+use mathlib.Core.Bool.{Bool, true, false, cond}
+use mathlib.Core.List.{List}
+use Prim.Native.Nat.{ℕ, _+_, _-_, _≤_, _<_}
+use native.Mathlib.Omega.{arith}
+use lib.Dec.{ltb}
+use lib.Ieee.{Float}
+use borrow.Author.Tests.{ltb-true, ltb-false, lt-ltb, le-ltb}
+use Rattle.checks.specs.Laws.Fine.{neither}
+use Rattle.paths.specs.declared.path.SegmentAt.the-variants.{Nothing, At}
+use Rattle.paths.specs.Path.{most, vertexCount}
+use Rattle.paths.specs.Shape.{broken, tooLong, refused}
+use Rattle.paths.specs.Segments.{segmentCount, after, segmentFrom, segment}
+
+pub count-within : (path : List Float) (closed : Bool) → segmentCount path closed ≤ vertexCount path
+unfolding segmentCount
+count-within path closed = go (refused path) (ltb (vertexCount path) 2) closed (vertexCount path)
+  where
+    go : (a b c : Bool) (n : ℕ) → cond a 0 (cond b 0 (cond c n (n - 1))) ≤ n
+    go true b c n = omega arith
+    go false true c n = omega arith
+    go false false true n = omega arith
+    go false false false n = omega arith
+
+pub after-within : (path : List Float) (i : ℕ) → i < vertexCount path → after path i < vertexCount path
+unfolding after
+after-within path i h = go (ltb (i + 1) (vertexCount path)) (ltb-true (i + 1) (vertexCount path))
+  where
+    go : (b : Bool) → (b ≡ true → i + 1 < vertexCount path) → cond b (i + 1) 0 < vertexCount path
+    go true below = below refl
+    go false below = omega (arith, h)
+
+pub few-vertices : (path : List Float) → refused path ≡ false → vertexCount path ≤ most
+unfolding refused
+few-vertices path e = ltb-false most (vertexCount path) (neither (broken path) (tooLong path) .0 e .1)
+
+pub few-segments : (path : List Float) (closed : Bool) → segmentCount path closed ≤ most
+unfolding segmentCount
+few-segments path closed = go (refused path) (few-vertices path) (ltb (vertexCount path) 2) closed (vertexCount path) refl
+  where
+    go : (a : Bool) → (a ≡ false → vertexCount path ≤ most) → (b c : Bool) (n : ℕ) → n ≡ vertexCount path
+        → cond a 0 (cond b 0 (cond c n (n - 1))) ≤ most
+    go true few b c n e = omega arith
+    go false few true c n e = omega arith
+    go false few false true n e = omega (arith, few refl, e)
+    go false few false false n e = omega (arith, few refl, e)
+
+pub segment-at : (path : List Float) (closed : Bool) (i : ℕ) → i < segmentCount path closed
+    → segment path closed i ≡ At (segmentFrom path i)
+unfolding segment
+segment-at path closed i h = simp (lt-ltb _ _ h)
+
+pub segment-none : (path : List Float) (closed : Bool) (i : ℕ) → segmentCount path closed ≤ i → segment path closed i ≡ Nothing
+unfolding segment
+segment-none path closed i h = simp (le-ltb _ _ h)
+
+-- the last segment of a closed path runs back to vertex 0
+pub after-last : (path : List Float) (i : ℕ) → i + 1 ≡ vertexCount path → after path i ≡ 0
+unfolding after
+after-last path i e = simp (le-ltb (i + 1) (vertexCount path) (omega (arith, e)))

@@ -1,0 +1,29 @@
+-- What the numbers of a lent path stand for: x, y and bulge of one vertex after the other.
+use mathlib.Core.List.{List}
+use Prim.Native.Nat.{ℕ, _+_, _*_, _/_}
+use lib.ListN.{length, getD}
+use lib.Ieee.{Float, nan}
+use Rattle.plane.specs.declared.pline_vertex.PlineVertex.{PlineVertex}
+use Rattle.plane.specs.PlineVertex as vertices
+
+-- how many numbers a vertex has
+abbrev pub numbers : ℕ
+numbers = 3
+
+-- the most vertices that a path may have
+abbrev pub most : ℕ
+most = 4096
+
+-- the whole vertices in the list
+abbrev pub vertexCount : List Float → ℕ
+vertexCount path = length path / numbers
+
+-- number k of the list; the NaN stands where there is none
+abbrev pub number : List Float → ℕ → Float
+number path k = getD path k nan
+
+-- vertex i
+unfoldable pub vertex : List Float → ℕ → PlineVertex
+vertex path i =
+    let start = i * numbers in
+    vertices.new (number path start) (number path (start + 1)) (number path (start + 2))

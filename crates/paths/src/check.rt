@@ -1,0 +1,61 @@
+// The check of a path's numbers: its vertices in order, then its arcs in order. A fault tells the path, the vertex or segment,
+// and which of its numbers.
+ghost use mathlib.Core.Path.{_≡_};
+ghost use Rattle.paths.specs.Check;
+use super::path;
+use super::segments;
+use checks::arc;
+use checks::chain;
+use checks::fault::Checked;
+use checks::fault::later;
+
+// The first fault of f and of every vertex of the path in order, each x, y, then its bulge.
+pub fn check_vertices(f: Checked, path: &[f64], owner: u64) -> Checked
+    ensures { λ r. ⌜ r ≡ Check.checkVertices f (now (path .entry)) owner ⌝ }
+{
+    let n = path::vertex_count(path);
+    let mut g = f;
+    let mut i = 0;
+    while i < n {
+        match g {
+            Checked::Fine => {}
+            Checked::Bad(fault) => {
+                return Checked::Bad(fault);
+            }
+        }
+        let v = path::vertex(path, i);
+        g = chain::vertex_after(g, v.x, v.y, v.bulge, owner, i as u64);
+        i += 1;
+    }
+    g
+}
+
+// The first fault of f and of the chord of every arc of the path in order.
+pub fn check_arcs(f: Checked, path: &[f64], closed: bool, owner: u64) -> Checked
+    ensures { λ r. ⌜ r ≡ Check.checkArcs f (now (path .entry)) closed owner ⌝ }
+{
+    let n = segments::segment_count(path, closed);
+    let mut g = f;
+    let mut i = 0;
+    while i < n {
+        match g {
+            Checked::Fine => {}
+            Checked::Bad(fault) => {
+                return Checked::Bad(fault);
+            }
+        }
+        let s = segments::segment_from(path, i);
+        g = later(g, arc::arc_chord(s.v1, s.v2, owner, i as u64));
+        i += 1;
+    }
+    g
+}
+
+// The first fault of f, of the path's vertices, and of its arcs. It answers for every slice: one that `shape` refuses has its
+// whole vertices looked at, and no arcs.
+pub fn check_path(f: Checked, path: &[f64], closed: bool, owner: u64) -> Checked
+    ensures { λ r. ⌜ r ≡ Check.checkPath f (now (path .entry)) closed owner ⌝ }
+{
+    let a = check_vertices(f, path, owner);
+    check_arcs(a, path, closed, owner)
+}

@@ -1,0 +1,40 @@
+// What the numbers of a lent path stand for: x, y and bulge of one vertex after the other. The bulge is that of the segment that
+// starts at the vertex. specs/Path.antt has the same.
+ghost use mathlib.Core.Path.{_≡_};
+ghost use Prim.Native.Nat.{_<_};
+ghost use Rattle.paths.specs.Path;
+use plane::pline_vertex::PlineVertex;
+
+// how many numbers a vertex has
+pub const NUMBERS: usize = 3;
+
+// the most vertices that a path may have
+pub const VERTICES: usize = 4096;
+
+// A segment of a path: it runs from v1 to v2, with the bulge of v1.
+pub struct Segment {
+    pub v1: PlineVertex,
+    pub v2: PlineVertex,
+}
+
+// A segment, or that there is none.
+pub enum SegmentAt {
+    Nothing,
+    At(Segment),
+}
+
+// How many whole vertices stand in the slice.
+pub fn vertex_count(path: &[f64]) -> usize
+    ensures { λ r. ⌜ r ≡ Path.vertexCount (now (path .entry)) ⌝ }
+{
+    path.len() / NUMBERS
+}
+
+// Vertex i of a path that has one.
+pub fn vertex(path: &[f64], i: usize) -> PlineVertex
+    requires { ⌜ i < Path.vertexCount (now path) ⌝ }
+    ensures { λ r. ⌜ r ≡ Path.vertex (now (path .entry)) i ⌝ }
+{
+    let start = i * NUMBERS;
+    PlineVertex::new(path[start], path[start + 1], path[start + 2])
+}
