@@ -13,3 +13,97 @@ unsafe extern "C" {
     pub safe fn vj_max_bits(a: u64, b: u64) -> u64;
     pub safe fn vj_sqrt_bits(b: u64) -> u64;
 }
+
+// A lent slice goes in as its start and its length. The call writes nothing beyond these and keeps nothing.
+#[cfg(feature = "rust-text")]
+mod raw {
+    unsafe extern "C" {
+        pub fn vj_line_line_intr(
+            v1x: f64,
+            v1y: f64,
+            v2x: f64,
+            v2y: f64,
+            u1x: f64,
+            u1y: f64,
+            u2x: f64,
+            u2y: f64,
+            epsilon: f64,
+            out: *mut f64,
+            room: usize,
+        ) -> u64;
+        pub fn vj_line_circle_intr(
+            p0x: f64,
+            p0y: f64,
+            p1x: f64,
+            p1y: f64,
+            radius: f64,
+            cx: f64,
+            cy: f64,
+            epsilon: f64,
+            out: *mut f64,
+            room: usize,
+        ) -> u64;
+        pub fn vj_circle_circle_intr(
+            radius1: f64,
+            c1x: f64,
+            c1y: f64,
+            radius2: f64,
+            c2x: f64,
+            c2y: f64,
+            epsilon: f64,
+            out: *mut f64,
+            room: usize,
+        ) -> u64;
+        pub fn vj_pline_seg_intr(
+            v1x: f64,
+            v1y: f64,
+            v1_bulge: f64,
+            v2x: f64,
+            v2y: f64,
+            v2_bulge: f64,
+            u1x: f64,
+            u1y: f64,
+            u1_bulge: f64,
+            u2x: f64,
+            u2y: f64,
+            u2_bulge: f64,
+            epsilon: f64,
+            out: *mut f64,
+            room: usize,
+        ) -> u64;
+    }
+}
+
+// SAFETY, of each call below: start and length are those of a slice that is lent for as long as the call runs.
+
+/// Two lines' ends, x before y, and an epsilon.
+#[cfg(feature = "rust-text")]
+pub fn vj_line_line_intr(n: [f64; 9], out: &mut [f64]) -> u64 {
+    let [a, b, c, d, e, f, g, h, epsilon] = n;
+    let (start, room) = (out.as_mut_ptr(), out.len());
+    unsafe { raw::vj_line_line_intr(a, b, c, d, e, f, g, h, epsilon, start, room) }
+}
+
+/// A line's ends, a circle's radius and centre, and an epsilon.
+#[cfg(feature = "rust-text")]
+pub fn vj_line_circle_intr(n: [f64; 8], out: &mut [f64]) -> u64 {
+    let [a, b, c, d, radius, x, y, epsilon] = n;
+    let (start, room) = (out.as_mut_ptr(), out.len());
+    unsafe { raw::vj_line_circle_intr(a, b, c, d, radius, x, y, epsilon, start, room) }
+}
+
+/// Two circles, each radius and centre, and an epsilon.
+#[cfg(feature = "rust-text")]
+pub fn vj_circle_circle_intr(n: [f64; 7], out: &mut [f64]) -> u64 {
+    let [radius1, a, b, radius2, c, d, epsilon] = n;
+    let (start, room) = (out.as_mut_ptr(), out.len());
+    unsafe { raw::vj_circle_circle_intr(radius1, a, b, radius2, c, d, epsilon, start, room) }
+}
+
+/// Four vertices, each x, y and bulge, and an epsilon.
+#[cfg(feature = "rust-text")]
+pub fn vj_pline_seg_intr(n: [f64; 13], out: &mut [f64]) -> u64 {
+    let [a, b, c, d, e, f, g, h, i, j, k, l, epsilon] = n;
+    let (start, room) = (out.as_mut_ptr(), out.len());
+    unsafe { raw::vj_pline_seg_intr(a, b, c, d, e, f, g, h, i, j, k, l, epsilon, start, room) }
+}

@@ -5,6 +5,8 @@ mod answer;
 mod bench;
 mod capi;
 mod classes;
+#[cfg(feature = "rust-text")]
+mod crossing;
 mod expected;
 mod floats;
 #[cfg(feature = "rust-text")]
@@ -32,7 +34,8 @@ use std::process::ExitCode;
 const USAGE: &str = "\
 usage: compare check [COUNT [SEED]]  compare each float function on COUNT random inputs (default 10485760, seed 1), each
                                      function of the plane on a quarter as many accepted ones, an eighth of all bit
-                                     patterns, and some beside the limits
+                                     patterns, and some beside the limits; each kernel and the pair call until twice
+                                     as many were answered, and on some that are refused
        compare record FILE           write the recorded list for the program replay
        compare bench                 nanoseconds a call, ours beside the machine's own";
 
@@ -80,7 +83,7 @@ fn check(numbers: &[&str]) -> Result<(), String> {
 
 #[cfg(feature = "rust-text")]
 fn check_text(count: u64, seed: u64) -> u64 {
-    text::check() + partings::check() + plane::check(count, seed)
+    text::check() + partings::check() + plane::check(count, seed) + crossing::check(count, seed)
 }
 
 #[cfg(not(feature = "rust-text"))]

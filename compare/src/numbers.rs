@@ -11,6 +11,14 @@ pub struct Numbers {
     values: [f64; MOST],
 }
 
+impl Numbers {
+    /// The same but for the number at `place`.
+    pub fn with(mut self, place: usize, number: f64) -> Numbers {
+        self.values[place] = number;
+        self
+    }
+}
+
 impl<const N: usize> From<[f64; N]> for Numbers {
     fn from(given: [f64; N]) -> Numbers {
         let mut values = [0.0; MOST];

@@ -27,6 +27,7 @@ pub fn write(path: &Path) -> io::Result<usize> {
     binary(&MIN, "min_", &mut lines);
     binary(&MAX, "max_", &mut lines);
     text(&mut lines);
+    crossing(&mut lines);
     fs::write(path, lines.concat())?;
     Ok(lines.len())
 }
@@ -99,6 +100,30 @@ fn text(lines: &mut Vec<String>) {
 fn text(_lines: &mut Vec<String>) {
     println!("rust text not compiled in: none of its answers were recorded");
 }
+
+/// The kernels and the pair call: operands, then what is returned, and an answer's four values.
+#[cfg(feature = "rust-text")]
+fn crossing(lines: &mut Vec<String>) {
+    use crate::crossing::{sample, CALLS};
+    use crate::numbers::hex;
+
+    const NAMES: [&str; 4] = ["lnln", "lncr", "crcr", "pair"];
+    for (call, name) in CALLS.iter().zip(NAMES) {
+        for operands in sample(call, SEED) {
+            let (told, values) = call.expected(&operands);
+            let mut four = [0.0; 4];
+            four[..values.len()].copy_from_slice(&values);
+            lines.push(format!(
+                "{name} {} {told:016x} {}\n",
+                hex(&operands),
+                hex(&four)
+            ));
+        }
+    }
+}
+
+#[cfg(not(feature = "rust-text"))]
+fn crossing(_lines: &mut Vec<String>) {}
 
 fn edges() -> Vec<u64> {
     EDGES.iter().flat_map(|b| [*b, signed(*b, true)]).collect()

@@ -4,6 +4,9 @@ ghost use mathlib.Core.Path.{_≡_};
 ghost use Rattle.floats.specs.F64;
 ghost use Rattle.floats.specs.Bits;
 
+pub mod answer;
+pub mod calls;
+
 // The absolute value.
 #[no_mangle]
 pub extern "C" fn vj_abs(x: f64) -> f64

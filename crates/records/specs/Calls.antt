@@ -5,9 +5,11 @@ use mathlib.Core.List.{List}
 use lib.Dec.{eqb}
 use Rattle.records.specs.Names.{ABS, MIN, MAX, SQRT}
 use Rattle.records.specs.Names.{MIN-MAX, DIST-SQUARED, POINT-FROM-PARAMETRIC, PARAMETRIC-FROM-POINT, SEG-ARC}
+use Rattle.records.specs.Names.{LINE-LINE, LINE-CIRCLE, CIRCLE-CIRCLE, PLINE-SEG}
 use Rattle.records.specs.Text.{nameOf, isLine, valueAt}
 use Rattle.records.specs.OnFloats.{agreesOf}
 use Rattle.records.specs.OnPlane
+use Rattle.records.specs.OnCrossing
 
 -- operands and answers
 unfoldable pub numbersOf : ℕ → ℕ
@@ -19,7 +21,11 @@ numbersOf call =
     (cond (eqb call MIN-MAX) 4
     (cond (eqb call DIST-SQUARED) 5
     (cond (eqb call POINT-FROM-PARAMETRIC) 7
-    (cond (eqb call PARAMETRIC-FROM-POINT) 8 (cond (eqb call SEG-ARC) 9 0))))))))
+    (cond (eqb call PARAMETRIC-FROM-POINT) 8
+    (cond (eqb call SEG-ARC) 9
+    (cond (eqb call LINE-LINE) 14
+    (cond (eqb call LINE-CIRCLE) 13
+    (cond (eqb call CIRCLE-CIRCLE) 12 (cond (eqb call PLINE-SEG) 18 0))))))))))))
 
 unfoldable pub isOurs : ℕ → List ℕ → Bool
 isOurs call body =
@@ -28,7 +34,11 @@ isOurs call body =
     (cond (eqb call POINT-FROM-PARAMETRIC) (OnPlane.pointFromParametric body)
     (cond (eqb call PARAMETRIC-FROM-POINT) (OnPlane.parametricFromPoint body)
     (cond (eqb call SEG-ARC) (OnPlane.segArcRadiusAndCenter body)
-    (agreesOf call (valueAt body 0) (valueAt body 1) (valueAt body 2))))))
+    (cond (eqb call LINE-LINE) (OnCrossing.lineLine body)
+    (cond (eqb call LINE-CIRCLE) (OnCrossing.lineCircle body)
+    (cond (eqb call CIRCLE-CIRCLE) (OnCrossing.circleCircle body)
+    (cond (eqb call PLINE-SEG) (OnCrossing.plineSeg body)
+    (agreesOf call (valueAt body 0) (valueAt body 1) (valueAt body 2))))))))))
 
 -- a line: its name's five bytes, and what follows them
 unfoldable pub isRight : List ℕ → List ℕ → Bool

@@ -27,3 +27,15 @@ PARAMETRIC-FROM-POINT = 0x70_6172_6120
 
 abbrev pub SEG-ARC : ℕ
 SEG-ARC = 0x61_7263_5f20
+
+abbrev pub LINE-LINE : ℕ
+LINE-LINE = 0x6c_6e6c_6e20
+
+abbrev pub LINE-CIRCLE : ℕ
+LINE-CIRCLE = 0x6c_6e63_7220
+
+abbrev pub CIRCLE-CIRCLE : ℕ
+CIRCLE-CIRCLE = 0x63_7263_7220
+
+abbrev pub PLINE-SEG : ℕ
+PLINE-SEG = 0x70_6169_7220

@@ -2,6 +2,7 @@
 ghost use mathlib.Core.Path.{_≡_};
 ghost use Prim.Native.Nat.{_≤_};
 ghost use Rattle.records.specs.Calls.{numbersOf, isOurs};
+use super::on_crossing;
 use super::on_floats;
 use super::on_plane;
 use super::text;
@@ -26,6 +27,15 @@ const POINT_FROM_PARAMETRIC: u64 = 0x70_7461_7420;
 const PARAMETRIC_FROM_POINT: u64 = 0x70_6172_6120;
 
 const SEG_ARC: u64 = 0x61_7263_5f20;
+
+// "lnln ", "lncr ", "crcr ", "pair ": line_line_intr, line_circle_intr, circle_circle_intr, pline_seg_intr.
+const LINE_LINE: u64 = 0x6c_6e6c_6e20;
+
+const LINE_CIRCLE: u64 = 0x6c_6e63_7220;
+
+const CIRCLE_CIRCLE: u64 = 0x63_7263_7220;
+
+const PLINE_SEG: u64 = 0x70_6169_7220;
 
 // How many numbers a call's lines have, operands and answers; 0 where it is no call.
 pub fn numbers(call: u64) -> usize
@@ -59,6 +69,18 @@ pub fn numbers(call: u64) -> usize
     if call == SEG_ARC {
         return 9;
     }
+    if call == LINE_LINE {
+        return 14;
+    }
+    if call == LINE_CIRCLE {
+        return 13;
+    }
+    if call == CIRCLE_CIRCLE {
+        return 12;
+    }
+    if call == PLINE_SEG {
+        return 18;
+    }
     0
 }
 
@@ -80,6 +102,18 @@ pub fn is_ours(call: u64, body: &[u8]) -> bool
     }
     if call == SEG_ARC {
         return on_plane::seg_arc_radius_and_center(body);
+    }
+    if call == LINE_LINE {
+        return on_crossing::line_line(body);
+    }
+    if call == LINE_CIRCLE {
+        return on_crossing::line_circle(body);
+    }
+    if call == CIRCLE_CIRCLE {
+        return on_crossing::circle_circle(body);
+    }
+    if call == PLINE_SEG {
+        return on_crossing::pline_seg(body);
     }
     on_floats::agrees(
         call,

@@ -62,7 +62,7 @@ pub fn same(x: f64, y: f64) -> bool
 }
 
 // The point that numbers i and i + 1 of a line are.
-fn point(body: &[u8], i: usize) -> Vector2
+pub fn point(body: &[u8], i: usize) -> Vector2
     requires { ⌜ i < 16 ⌝ }
     ensures { λ r. ⌜ r ≡ OnPlane.pointAt (now (body .entry)) i ⌝ }
 {
@@ -70,7 +70,7 @@ fn point(body: &[u8], i: usize) -> Vector2
 }
 
 // The vertex that three numbers of a line are, from number i on.
-fn vertex(body: &[u8], i: usize) -> PlineVertex
+pub fn vertex(body: &[u8], i: usize) -> PlineVertex
     requires { ⌜ i < 16 ⌝ }
     ensures { λ r. ⌜ r ≡ OnPlane.vertexAt (now (body .entry)) i ⌝ }
 {

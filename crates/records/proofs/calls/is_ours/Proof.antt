@@ -65,6 +65,54 @@ returns-5 c =
       ← c .seg-arc-radius-and-center .ensures,
     )
 
+line-line-requires : tie.Need-line-line-requires
+line-line-requires c κs = search needs
+
+returns-6 : tie.Need-returns-6
+unfolding isOurs
+returns-6 c =
+    let p1 = c .before in
+    simp (
+      p1 .if6 .taken,
+      ← c .line-line .ensures,
+    )
+
+line-circle-requires : tie.Need-line-circle-requires
+line-circle-requires c κs = search needs
+
+returns-7 : tie.Need-returns-7
+unfolding isOurs
+returns-7 c =
+    let p1 = c .before in
+    simp (
+      p1 .if7 .taken,
+      ← c .line-circle .ensures,
+    )
+
+circle-circle-requires : tie.Need-circle-circle-requires
+circle-circle-requires c κs = search needs
+
+returns-8 : tie.Need-returns-8
+unfolding isOurs
+returns-8 c =
+    let p1 = c .before in
+    simp (
+      p1 .if8 .taken,
+      ← c .circle-circle .ensures,
+    )
+
+pline-seg-requires : tie.Need-pline-seg-requires
+pline-seg-requires c κs = search needs
+
+returns-9 : tie.Need-returns-9
+unfolding isOurs
+returns-9 c =
+    let p1 = c .before in
+    simp (
+      p1 .if9 .taken,
+      ← c .pline-seg .ensures,
+    )
+
 value-requires : tie.Need-value-requires
 value-requires c κs = search needs
 
@@ -77,9 +125,9 @@ value-requires-3 c κs = search needs
 agrees-requires : tie.Need-agrees-requires
 agrees-requires c κs = search needs
 
-returns-6 : tie.Need-returns-6
+returns-10 : tie.Need-returns-10
 unfolding isOurs
-returns-6 c =
+returns-10 c =
     let p1 = c .before in
     let p2 = p1 .before in
     let p3 = p2 .before in
@@ -88,12 +136,20 @@ returns-6 c =
     let p6 = p5 .before in
     let p7 = p6 .before in
     let p8 = p7 .before in
+    let p9 = p8 .before in
+    let p10 = p9 .before in
+    let p11 = p10 .before in
+    let p12 = p11 .before in
     simp (
-      ne-eqb _ _ (p8 .if1 .left),
-      ne-eqb _ _ (p7 .if2 .left),
-      ne-eqb _ _ (p6 .if3 .left),
-      ne-eqb _ _ (p5 .if4 .left),
-      ne-eqb _ _ (p4 .if5 .left),
+      ne-eqb _ _ (p12 .if1 .left),
+      ne-eqb _ _ (p11 .if2 .left),
+      ne-eqb _ _ (p10 .if3 .left),
+      ne-eqb _ _ (p9 .if4 .left),
+      ne-eqb _ _ (p8 .if5 .left),
+      ne-eqb _ _ (p7 .if6 .left),
+      ne-eqb _ _ (p6 .if7 .left),
+      ne-eqb _ _ (p5 .if8 .left),
+      ne-eqb _ _ (p4 .if9 .left),
       ← p3 .value .ensures,
       ← p2 .value2 .ensures,
       ← p1 .value3 .ensures,
@@ -114,8 +170,16 @@ is-ours-spec =
     returns-4
     seg-arc-radius-and-center-requires
     returns-5
+    line-line-requires
+    returns-6
+    line-circle-requires
+    returns-7
+    circle-circle-requires
+    returns-8
+    pline-seg-requires
+    returns-9
     value-requires
     value-requires-2
     value-requires-3
     agrees-requires
-    returns-6)
+    returns-10)

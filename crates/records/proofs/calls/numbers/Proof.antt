@@ -44,7 +44,23 @@ returns-9 c = (simp (c .if9 .taken), search needs)
 
 returns-10 : tie.Need-returns-10
 unfolding numbersOf
-returns-10 c =
+returns-10 c = (simp (c .if10 .taken), search needs)
+
+returns-11 : tie.Need-returns-11
+unfolding numbersOf
+returns-11 c = (simp (c .if11 .taken), search needs)
+
+returns-12 : tie.Need-returns-12
+unfolding numbersOf
+returns-12 c = (simp (c .if12 .taken), search needs)
+
+returns-13 : tie.Need-returns-13
+unfolding numbersOf
+returns-13 c = (simp (c .if13 .taken), search needs)
+
+returns-14 : tie.Need-returns-14
+unfolding numbersOf
+returns-14 c =
     let p1 = c .before in
     let p2 = p1 .before in
     let p3 = p2 .before in
@@ -52,17 +68,25 @@ returns-10 c =
     let p5 = p4 .before in
     let p6 = p5 .before in
     let p7 = p6 .before in
-    let p8 = p7 .before in (
+    let p8 = p7 .before in
+    let p9 = p8 .before in
+    let p10 = p9 .before in
+    let p11 = p10 .before in
+    let p12 = p11 .before in (
       simp (
-        ne-eqb _ _ (p8 .if1 .left),
-        ne-eqb _ _ (p7 .if2 .left),
-        ne-eqb _ _ (p6 .if3 .left),
-        ne-eqb _ _ (p5 .if4 .left),
-        ne-eqb _ _ (p4 .if5 .left),
-        ne-eqb _ _ (p3 .if6 .left),
-        ne-eqb _ _ (p2 .if7 .left),
-        ne-eqb _ _ (p1 .if8 .left),
-        ne-eqb _ _ (c .if9 .left),
+        ne-eqb _ _ (p12 .if1 .left),
+        ne-eqb _ _ (p11 .if2 .left),
+        ne-eqb _ _ (p10 .if3 .left),
+        ne-eqb _ _ (p9 .if4 .left),
+        ne-eqb _ _ (p8 .if5 .left),
+        ne-eqb _ _ (p7 .if6 .left),
+        ne-eqb _ _ (p6 .if7 .left),
+        ne-eqb _ _ (p5 .if8 .left),
+        ne-eqb _ _ (p4 .if9 .left),
+        ne-eqb _ _ (p3 .if10 .left),
+        ne-eqb _ _ (p2 .if11 .left),
+        ne-eqb _ _ (p1 .if12 .left),
+        ne-eqb _ _ (c .if13 .left),
       ),
       search needs,
     )
@@ -80,4 +104,8 @@ numbers-spec =
     returns-7
     returns-8
     returns-9
-    returns-10)
+    returns-10
+    returns-11
+    returns-12
+    returns-13
+    returns-14)

@@ -1,0 +1,141 @@
+//! The kernels and the pair call beside the Rust's: answers, refusals, and what is written into the lent slice.
+
+mod calls;
+mod faults;
+mod limits;
+mod score;
+
+pub use calls::{Call, CALLS};
+use score::Score;
+
+use crate::inputs::values::epsilon;
+use crate::inputs::{Kind, Pair};
+use crate::numbers::Numbers;
+use crate::rng::Rng;
+
+const PAIRS: usize = 3;
+const KINDS: [&str; 4] = [
+    ", two lines",
+    ", line and arc",
+    ", arc and line",
+    ", two arcs",
+];
+
+/// Compares every call until each has answered on `2 * count` inputs, the pair call on a quarter of that for each kind of pair;
+/// then on `count / 4` inputs of all bit patterns, as many beside a limit, and at every limit. Answers how many differences there
+/// were.
+pub fn check(count: u64, seed: u64) -> u64 {
+    let mut rng = Rng::new(seed);
+    let mut scores = Scores::new();
+    while scores.short_of(2 * count) {
+        let pair = Pair::draw(Kind::Accepted, &mut rng);
+        scores.compare(&pair, &mut rng, 2 * count);
+    }
+    for kind in [Kind::Beside, Kind::Patterns] {
+        for _ in 0..count / 4 {
+            let mut pair = Pair::draw(kind, &mut rng);
+            // else the epsilon, which is looked at first, would hide nearly every other fault
+            if rng.one_in(2) {
+                pair.epsilon = epsilon(&mut rng);
+            }
+            scores.compare(&pair, &mut rng, u64::MAX);
+        }
+    }
+    for _ in 0..count / 4096 {
+        scores.at_limits(&mut rng);
+    }
+    scores.report()
+}
+
+/// Some 500 inputs of a call to record: accepted ones mostly, the others beside a limit, of all bit patterns, or at a limit.
+pub fn sample(call: &Call, seed: u64) -> Vec<Numbers> {
+    const PARTS: [(Kind, usize); 3] = [
+        (Kind::Accepted, 320),
+        (Kind::Beside, 60),
+        (Kind::Patterns, 40),
+    ];
+    let mut rng = Rng::new(seed);
+    let mut inputs = Vec::new();
+    for (kind, count) in PARTS {
+        for _ in 0..count {
+            let mut pair = Pair::draw(kind, &mut rng);
+            if rng.one_in(2) {
+                pair.epsilon = epsilon(&mut rng);
+            }
+            inputs.push((call.operands)(&pair, &mut rng));
+        }
+    }
+    let numbers = limits::accepted(call, &mut rng);
+    let mut at_limits = Vec::new();
+    limits::one_at_a_time(&numbers, &limits::specials(), |n| at_limits.push(*n));
+    inputs.extend((0..80).map(|_| rng.pick(&at_limits)));
+    inputs
+}
+
+struct Scores {
+    kernels: Vec<Score>,
+    /// By the kind of the pair.
+    pairs: Vec<Score>,
+}
+
+impl Scores {
+    fn new() -> Scores {
+        Scores {
+            kernels: CALLS[..PAIRS]
+                .iter()
+                .map(|call| Score::new(call, ""))
+                .collect(),
+            pairs: KINDS
+                .iter()
+                .map(|kind| Score::new(&CALLS[PAIRS], kind))
+                .collect(),
+        }
+    }
+
+    fn short_of(&self, most: u64) -> bool {
+        self.kernels.iter().any(|score| score.answered < most)
+            || self.pairs.iter().any(|score| score.answered < most / 4)
+    }
+
+    /// Makes every call that has not answered often enough.
+    fn compare(&mut self, pair: &Pair, rng: &mut Rng, most: u64) {
+        for score in &mut self.kernels {
+            if score.answered < most {
+                let numbers = (score.call.operands)(pair, rng);
+                score.compare(&numbers);
+            }
+        }
+        let score = &mut self.pairs[kind(pair.v.from.bulge, pair.u.from.bulge)];
+        if score.answered < most / 4 {
+            score.compare(&(score.call.operands)(pair, rng));
+        }
+    }
+
+    fn at_limits(&mut self, rng: &mut Rng) {
+        let specials = limits::specials();
+        for score in &mut self.kernels {
+            let numbers = limits::accepted(score.call, rng);
+            limits::one_at_a_time(&numbers, &specials, |n| score.compare(n));
+            limits::two_at_once(&numbers, &specials, rng, |n| score.compare(n));
+        }
+        let call: &Call = &CALLS[PAIRS];
+        let mut compare = |n: &Numbers| self.pairs[kind(n[2], n[8])].compare(n);
+        let numbers = limits::accepted(call, rng);
+        limits::one_at_a_time(&numbers, &specials, &mut compare);
+        limits::two_at_once(&numbers, &specials, rng, &mut compare);
+        for _ in 0..64 {
+            compare(&(call.operands)(&limits::short_chords(rng), rng));
+        }
+    }
+
+    fn report(&self) -> u64 {
+        let scores = self.kernels.iter().chain(&self.pairs);
+        scores.map(Score::report).sum()
+    }
+}
+
+/// Which kind of pair two bulges make.
+fn kind(v: f64, u: f64) -> usize {
+    let arc = |bulge: f64| usize::from(!(bulge.abs() < 1e-8));
+    2 * arc(v) + arc(u)
+}

@@ -1,0 +1,242 @@
+//! The calls to compare: which numbers of a pair each is made on, when it is refused, ours, and the Rust's.
+
+use cavalier_contours::core::math::{
+    circle_circle_intr, line_circle_intr, line_line_intr, CircleCircleIntr, LineCircleIntr,
+    LineLineIntr, Vector2,
+};
+use cavalier_contours::polyline::{
+    pline_seg_intr, seg_arc_radius_and_center, PlineSegIntr, PlineVertex,
+};
+
+use super::faults::{chord, first, two_to, Look, Order};
+use crate::capi;
+use crate::inputs::values::power;
+use crate::inputs::{Pair, Segment, Vertex};
+use crate::numbers::Numbers;
+use crate::rng::Rng;
+
+pub struct Call {
+    pub name: &'static str,
+    /// The answers' names, by their numbers.
+    pub classes: &'static [&'static str],
+    /// The numbers of a pair that the call is made on.
+    pub operands: fn(&Pair, &mut Rng) -> Numbers,
+    /// The refusal that is expected.
+    pub fault: fn(&[f64]) -> Option<u64>,
+    /// What the Rust answers: the number of the case, and the values that it carries.
+    pub text: fn(&[f64]) -> (u64, Numbers),
+    /// Our answer, with its values in a lent slice.
+    pub ours: fn(&[f64], &mut [f64]) -> u64,
+}
+
+/// What is returned where a number is refused: this and the refusal's number.
+pub const REFUSED: u64 = 256;
+
+impl Call {
+    /// What the call is to return, and the values of an answer.
+    pub fn expected(&self, numbers: &[f64]) -> (u64, Numbers) {
+        match (self.fault)(numbers) {
+            Some(refusal) => (REFUSED + refusal, [].into()),
+            None => (self.text)(numbers),
+        }
+    }
+}
+
+const LINES: Order = &[
+    (8, Look::Epsilon),
+    (0, Look::Coordinate),
+    (1, Look::Coordinate),
+    (2, Look::Coordinate),
+    (3, Look::Coordinate),
+    (4, Look::Coordinate),
+    (5, Look::Coordinate),
+    (6, Look::Coordinate),
+    (7, Look::Coordinate),
+];
+
+const LINE_AND_CIRCLE: Order = &[
+    (7, Look::Epsilon),
+    (0, Look::Coordinate),
+    (1, Look::Coordinate),
+    (2, Look::Coordinate),
+    (3, Look::Coordinate),
+    (4, Look::Radius),
+    (5, Look::Center),
+    (6, Look::Center),
+];
+
+const CIRCLES: Order = &[
+    (6, Look::Epsilon),
+    (0, Look::Radius),
+    (1, Look::Center),
+    (2, Look::Center),
+    (3, Look::Radius),
+    (4, Look::Center),
+    (5, Look::Center),
+];
+
+/// Not the bulges of v2 and u2.
+const SEGMENTS: Order = &[
+    (12, Look::Epsilon),
+    (0, Look::Coordinate),
+    (1, Look::Coordinate),
+    (2, Look::Bulge),
+    (3, Look::Coordinate),
+    (4, Look::Coordinate),
+    (6, Look::Coordinate),
+    (7, Look::Coordinate),
+    (8, Look::Bulge),
+    (9, Look::Coordinate),
+    (10, Look::Coordinate),
+];
+
+pub static CALLS: [Call; 4] = [
+    Call {
+        name: "line_line_intr",
+        classes: &["none", "true", "overlapping", "false"],
+        operands: |p, _| {
+            let [v1, v2, u1, u2] = [p.v.from, p.v.to, p.u.from, p.u.to].map(|v| v.at);
+            [v1.x, v1.y, v2.x, v2.y, u1.x, u1.y, u2.x, u2.y, p.epsilon].into()
+        },
+        fault: |n| first(LINES, n),
+        text: |n| of_lines(line_line_intr(at(n, 0), at(n, 2), at(n, 4), at(n, 6), n[8])),
+        ours: |n, out| capi::vj_line_line_intr(all(n), out),
+    },
+    Call {
+        name: "line_circle_intr",
+        classes: &["none", "tangent", "two"],
+        operands: |p, rng| {
+            // the line beside the arc, where there is one of each
+            let (line, arc) = if is_line(p.u) { (p.u, p.v) } else { (p.v, p.u) };
+            let [radius, x, y] = circle(arc, rng);
+            let (from, to) = (line.from.at, line.to.at);
+            [from.x, from.y, to.x, to.y, radius, x, y, p.epsilon].into()
+        },
+        fault: |n| first(LINE_AND_CIRCLE, n),
+        text: |n| of_line_and_circle(line_circle_intr(at(n, 0), at(n, 2), n[4], at(n, 5), n[7])),
+        ours: |n, out| capi::vj_line_circle_intr(all(n), out),
+    },
+    Call {
+        name: "circle_circle_intr",
+        classes: &["none", "tangent", "two", "overlapping"],
+        operands: |p, rng| {
+            let [radius1, x1, y1] = circle(p.v, rng);
+            let [radius2, x2, y2] = circle(p.u, rng);
+            [radius1, x1, y1, radius2, x2, y2, p.epsilon].into()
+        },
+        fault: |n| first(CIRCLES, n),
+        text: |n| of_circles(circle_circle_intr(n[0], at(n, 1), n[3], at(n, 4), n[6])),
+        ours: |n, out| capi::vj_circle_circle_intr(all(n), out),
+    },
+    Call {
+        name: "pline_seg_intr",
+        classes: &["none", "tangent", "one", "two", "lines", "arcs"],
+        operands: |p, _| {
+            let [a, b, c, d, e, f] = both(p.v);
+            let [g, h, i, j, k, l] = both(p.u);
+            [a, b, c, d, e, f, g, h, i, j, k, l, p.epsilon].into()
+        },
+        fault: |n| {
+            first(SEGMENTS, n)
+                .or_else(|| chord(&n[..6]))
+                .or_else(|| chord(&n[6..12]))
+        },
+        text: |n| {
+            let vertex = |i: usize| PlineVertex::new(n[i], n[i + 1], n[i + 2]);
+            of_segments(pline_seg_intr(
+                vertex(0),
+                vertex(3),
+                vertex(6),
+                vertex(9),
+                n[12],
+            ))
+        },
+        ours: |n, out| capi::vj_pline_seg_intr(all(n), out),
+    },
+];
+
+fn at(n: &[f64], i: usize) -> Vector2 {
+    Vector2::new(n[i], n[i + 1])
+}
+
+fn all<const N: usize>(n: &[f64]) -> [f64; N] {
+    n.try_into().expect("as many as the call takes")
+}
+
+fn is_line(s: Segment) -> bool {
+    s.from.bulge.abs() < 1e-8
+}
+
+fn both(s: Segment) -> [f64; 6] {
+    let (a, b) = (s.from, s.to);
+    [a.at.x, a.at.y, a.bulge, b.at.x, b.at.y, b.bulge]
+}
+
+/// Radius and centre of an arc's circle; of a line, a circle about its start through its end. Now and then one number is another
+/// that a circle may have.
+fn circle(s: Segment, rng: &mut Rng) -> [f64; 3] {
+    let vertex = |v: Vertex| PlineVertex::new(v.at.x, v.at.y, v.bulge);
+    let mut circle = if is_line(s) {
+        [s.chord().length(), s.from.at.x, s.from.at.y]
+    } else {
+        let (radius, center) = seg_arc_radius_and_center(vertex(s.from), vertex(s.to));
+        [radius, center.x, center.y]
+    };
+    if rng.one_in(16) {
+        circle[0] = match rng.below(4) {
+            0 => two_to(-42),
+            1 => two_to(47),
+            _ => power(rng, -42, 47),
+        };
+    }
+    if rng.one_in(16) {
+        circle[1 + rng.below(2) as usize] =
+            rng.sign() * rng.pick(&[0.0, 1.0, two_to(47), two_to(48)]);
+    }
+    circle
+}
+
+fn of_points(points: &[Vector2]) -> Numbers {
+    match points {
+        [p] => [p.x, p.y].into(),
+        [p, q] => [p.x, p.y, q.x, q.y].into(),
+        _ => [].into(),
+    }
+}
+
+fn of_lines(answer: LineLineIntr<f64>) -> (u64, Numbers) {
+    match answer {
+        LineLineIntr::NoIntersect => (0, [].into()),
+        LineLineIntr::TrueIntersect { seg1_t, seg2_t } => (1, [seg1_t, seg2_t].into()),
+        LineLineIntr::Overlapping { seg2_t0, seg2_t1 } => (2, [seg2_t0, seg2_t1].into()),
+        LineLineIntr::FalseIntersect { seg1_t, seg2_t } => (3, [seg1_t, seg2_t].into()),
+    }
+}
+
+fn of_line_and_circle(answer: LineCircleIntr<f64>) -> (u64, Numbers) {
+    match answer {
+        LineCircleIntr::NoIntersect => (0, [].into()),
+        LineCircleIntr::TangentIntersect { t0 } => (1, [t0].into()),
+        LineCircleIntr::TwoIntersects { t0, t1 } => (2, [t0, t1].into()),
+    }
+}
+
+fn of_circles(answer: CircleCircleIntr<f64>) -> (u64, Numbers) {
+    match answer {
+        CircleCircleIntr::NoIntersect => (0, [].into()),
+        CircleCircleIntr::TangentIntersect { point } => (1, of_points(&[point])),
+        CircleCircleIntr::TwoIntersects { point1, point2 } => (2, of_points(&[point1, point2])),
+        CircleCircleIntr::Overlapping => (3, [].into()),
+    }
+}
+
+fn of_segments(answer: PlineSegIntr<f64>) -> (u64, Numbers) {
+    match answer {
+        PlineSegIntr::NoIntersect => (0, [].into()),
+        PlineSegIntr::TangentIntersect { point } => (1, of_points(&[point])),
+        PlineSegIntr::OneIntersect { point } => (2, of_points(&[point])),
+        PlineSegIntr::TwoIntersects { point1, point2 } => (3, of_points(&[point1, point2])),
+        PlineSegIntr::OverlappingLines { point1, point2 } => (4, of_points(&[point1, point2])),
+        PlineSegIntr::OverlappingArcs { point1, point2 } => (5, of_points(&[point1, point2])),
+    }
+}

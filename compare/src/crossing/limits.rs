@@ -1,0 +1,93 @@
+//! Inputs at the limits and beyond them: each number of a call in its turn, two at once, and chords.
+
+use super::calls::Call;
+use super::faults::two_to;
+use crate::inputs::{Kind, Pair, Point};
+use crate::numbers::Numbers;
+use crate::rng::Rng;
+
+/// Each limit with either sign and the floats next to it, and what is no finite number.
+pub fn specials() -> Vec<f64> {
+    let limits = [
+        1_048_576.0,
+        1.0,
+        1e-8,
+        0.5,
+        two_to(-40),
+        two_to(-42),
+        two_to(47),
+        two_to(48),
+        f64::MAX,
+        f64::MIN_POSITIVE,
+    ];
+    let beside = |x: f64| [x.to_bits() - 1, x.to_bits(), x.to_bits() + 1].map(f64::from_bits);
+    let mut all: Vec<f64> = limits.into_iter().flat_map(beside).collect();
+    // no number: quiet and signalling, smallest and largest
+    let patterns = [
+        0,
+        1,
+        0x7ff0_0000_0000_0001,
+        0x7ff8_0000_0000_0000,
+        u64::MAX >> 1,
+    ];
+    all.extend(patterns.map(f64::from_bits));
+    all.extend(all.clone().into_iter().map(|x| -x));
+    all
+}
+
+/// The numbers of an accepted call, with each special one in each place.
+pub fn one_at_a_time(numbers: &Numbers, specials: &[f64], mut then: impl FnMut(&Numbers)) {
+    for place in 0..numbers.len() {
+        for special in specials {
+            then(&numbers.with(place, *special));
+        }
+    }
+}
+
+/// Every two places with a special number each: the first fault is the answer.
+pub fn two_at_once(
+    numbers: &Numbers,
+    specials: &[f64],
+    rng: &mut Rng,
+    mut then: impl FnMut(&Numbers),
+) {
+    for first in 0..numbers.len() {
+        for second in 0..first {
+            let [a, b] = [0; 2].map(|_| rng.pick(specials));
+            then(&numbers.with(first, a).with(second, b));
+        }
+    }
+}
+
+/// A pair with a chord, or two, as short as an arc's may be, or the next float to that, and a bulge that hardly makes an arc.
+pub fn short_chords(rng: &mut Rng) -> Pair {
+    let mut pair = Pair::draw(Kind::Accepted, rng);
+    for segment in [&mut pair.v, &mut pair.u] {
+        if rng.one_in(4) {
+            continue;
+        }
+        let [short, bulge] = [two_to(-40), 1e-8].map(|x: f64| x.to_bits() - 1);
+        let short = rng.sign() * f64::from_bits(short + rng.below(3));
+        let (x, y) = if rng.one_in(2) {
+            (short, 0.0)
+        } else {
+            (0.0, short)
+        };
+        segment.from.at = Point::default();
+        segment.to.at = Point { x, y };
+        if rng.one_in(2) {
+            segment.from.bulge = rng.sign() * f64::from_bits(bulge + rng.below(3));
+        }
+    }
+    pair
+}
+
+/// Numbers on which the call is accepted.
+pub fn accepted(call: &Call, rng: &mut Rng) -> Numbers {
+    loop {
+        let numbers = (call.operands)(&Pair::draw(Kind::Accepted, rng), rng);
+        if (call.fault)(&numbers).is_none() {
+            return numbers;
+        }
+    }
+}

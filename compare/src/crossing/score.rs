@@ -1,0 +1,121 @@
+//! Compares one call after the other, and counts what was met: answers by class, refusals by number, and differences.
+
+use super::calls::{Call, REFUSED};
+use crate::lent::Lent;
+use crate::numbers::{hex, same, Numbers};
+
+const SHOWN: u64 = 5;
+const NO_ROOM: u64 = 512;
+const PLACES: usize = 4;
+
+pub struct Score {
+    name: String,
+    pub call: &'static Call,
+    pub answered: u64,
+    classes: [u64; 6],
+    refusals: [u64; 11],
+    no_room: u64,
+    differences: u64,
+    turn: usize,
+}
+
+impl Score {
+    pub fn new(call: &'static Call, of: &str) -> Score {
+        Score {
+            name: format!("{}{of}", call.name),
+            call,
+            answered: 0,
+            classes: [0; 6],
+            refusals: [0; 11],
+            no_room: 0,
+            differences: 0,
+            turn: 0,
+        }
+    }
+
+    /// Makes the call on these numbers, ours and the Rust's, with a lent slice of the next length.
+    pub fn compare(&mut self, numbers: &Numbers) {
+        let room = self.room();
+        let mut lent = Lent::new(room);
+        let told = (self.call.ours)(numbers, lent.slice());
+        let right = if room < PLACES {
+            self.no_room += 1;
+            told == NO_ROOM && lent.written(0).is_some()
+        } else {
+            let (expected, values) = self.call.expected(numbers);
+            let answers = self.count(expected);
+            let written = lent.written(if answers { PLACES } else { 0 });
+            told == expected && written.is_some_and(|ours| !answers || filled(ours, &values))
+        };
+        if !right {
+            self.differ(numbers, told, lent.slice());
+        }
+    }
+
+    /// Counts what is expected, and says whether it is an answer.
+    fn count(&mut self, expected: u64) -> bool {
+        if expected >= REFUSED {
+            self.refusals[(expected - REFUSED) as usize] += 1;
+            return false;
+        }
+        self.answered += 1;
+        self.classes[expected as usize] += 1;
+        true
+    }
+
+    /// Four places or five; in one turn of sixteen fewer.
+    fn room(&mut self) -> usize {
+        self.turn += 1;
+        if self.turn % 16 == 0 {
+            self.turn / 16 % PLACES
+        } else {
+            PLACES + self.turn % 2
+        }
+    }
+
+    fn differ(&mut self, numbers: &Numbers, told: u64, slice: &[f64]) {
+        self.differences += 1;
+        if self.differences > SHOWN {
+            return;
+        }
+        let (expected, values) = self.call.expected(numbers);
+        let (on, ours, values, room) = (hex(numbers), hex(slice), hex(&values), slice.len());
+        println!(
+            "{} of {on}: {told}, {ours} in a room of {room}, expected {expected}, {values}",
+            self.name
+        );
+    }
+
+    /// Prints the counts, and answers how many differences there were.
+    pub fn report(&self) -> u64 {
+        let named = |(name, count): (&&str, &u64)| format!("{name} {count}");
+        let classes: Vec<String> = self
+            .call
+            .classes
+            .iter()
+            .zip(&self.classes)
+            .map(named)
+            .collect();
+        let refusals: Vec<String> = (1..)
+            .zip(&self.refusals[1..])
+            .filter(|(_, count)| **count > 0)
+            .map(|(number, count)| format!("{count} by {number}"))
+            .collect();
+        println!(
+            "{}: {} answered ({}), refused {}, {} without room, {} differences",
+            self.name,
+            self.answered,
+            classes.join(", "),
+            refusals.join(", "),
+            self.no_room,
+            self.differences
+        );
+        self.differences
+    }
+}
+
+/// Whether these are the values, and +0 in the places that are left.
+fn filled(ours: &[f64], values: &[f64]) -> bool {
+    let (front, rest) = ours.split_at(values.len());
+    same(front, values) && rest.iter().all(|x| x.to_bits() == 0)
+}

@@ -1,0 +1,179 @@
+-- Every number that an answer tells is below 256: the refusals' by the checks that give them, the cases' one by one.
+use Prim.Native.Nat.{ℕ, _<_}
+use native.Mathlib.Omega.{arith}
+use mathlib.Core.Path.{_≡_, refl, sym, subst}
+use mathlib.Core.Bool.{Bool, true, false, cond}
+use lib.Ieee.{Float}
+use Rattle.plane.specs.declared.vector2.Vector2.{Vector2}
+use Rattle.plane.specs.declared.pline_vertex.PlineVertex.{PlineVertex}
+use Rattle.plane.specs.PlineVertex.{bulgeIsZero}
+use Rattle.checks.specs.declared.fault.Place.{Place}
+use Rattle.checks.specs.declared.fault.Checked.{Checked}
+use Rattle.checks.specs.declared.fault.Checked.the-variants.{Fine, Bad}
+use Rattle.checks.specs.Fault.{refusal, refuse, later}
+use Rattle.checks.specs.Arc.{arcChord}
+use Rattle.checks.specs.Each
+use Rattle.crossing.specs.Settle.{settle}
+use Rattle.crossing.specs.LineLine.{lineLine}
+use Rattle.crossing.specs.LineCircle.{lineCircle}
+use Rattle.crossing.specs.CircleCircle.{circleCircle}
+use Rattle.crossing.specs.PlineSeg.{plineSeg}
+use Rattle.crossing.specs.LineLineIntersect as lines
+use Rattle.crossing.specs.LineCircleIntersect as lineAndCircle
+use Rattle.crossing.specs.CircleCircleIntersect as circles
+use Rattle.crossing.specs.PlineSegIntersect as pairs
+use Rattle.crossing.specs.declared.line_line_intersect.LineLineIntr.{LineLineIntr}
+use Rattle.crossing.specs.declared.line_line_intersect.LineLineIntr.the-variants as lineLineIs
+use Rattle.crossing.specs.declared.line_line_intersect.LineLineAnswer.{LineLineAnswer}
+use Rattle.crossing.specs.declared.line_line_intersect.LineLineAnswer.the-variants as ofLines
+use Rattle.crossing.specs.declared.line_circle_intersect.LineCircleIntr.{LineCircleIntr}
+use Rattle.crossing.specs.declared.line_circle_intersect.LineCircleIntr.the-variants as lineCircleIs
+use Rattle.crossing.specs.declared.line_circle_intersect.LineCircleAnswer.{LineCircleAnswer}
+use Rattle.crossing.specs.declared.line_circle_intersect.LineCircleAnswer.the-variants as ofLineAndCircle
+use Rattle.crossing.specs.declared.circle_circle_intersect.CircleCircleIntr.{CircleCircleIntr}
+use Rattle.crossing.specs.declared.circle_circle_intersect.CircleCircleIntr.the-variants as circleCircleIs
+use Rattle.crossing.specs.declared.circle_circle_intersect.CircleCircleAnswer.{CircleCircleAnswer}
+use Rattle.crossing.specs.declared.circle_circle_intersect.CircleCircleAnswer.the-variants as ofCircles
+use Rattle.crossing.specs.declared.pline_seg_intersect.PlineSegIntr.{PlineSegIntr}
+use Rattle.crossing.specs.declared.pline_seg_intersect.PlineSegIntr.the-variants as plineSegIs
+use Rattle.crossing.specs.declared.pline_seg_intersect.PlineSegAnswer.{PlineSegAnswer}
+use Rattle.crossing.specs.declared.pline_seg_intersect.PlineSegAnswer.the-variants as ofPairs
+use Rattle.capi.specs.Handed.{ofLineLine, ofLineCircle, ofCircleCircle, ofPlineSeg}
+
+-- ---- a check's
+record Small (c : Checked) : Type 0 where
+  pub below : refusal c < 256
+
+fine : Small Fine
+fine = record { below = omega arith }
+
+refused : (test : Bool) (n : ℕ) (p : Place) → n < 256 → Small (refuse test n p)
+unfolding refuse
+refused true n p h = record { below = h }
+refused false n p h = fine
+
+both : (a b : Checked) → Small a → Small b → Small (later a b)
+unfolding later
+both Fine b ha hb = hb
+both (Bad f) b ha hb = ha
+
+and : {a b : Checked} → Small a → Small b → Small (later a b)
+and {a} {b} = both a b
+
+module _ (x : Float) (p : Place) where
+  finite : Small (Each.finite x p)
+  unfolding Each.finite
+  finite = refused _ 1 p (omega arith)
+
+  epsilon : Small (Each.epsilon x p)
+  unfolding Each.epsilon
+  epsilon = refused _ 4 p (omega arith)
+
+  coordinate : Small (Each.coordinate x p)
+  unfolding Each.coordinate
+  coordinate = and finite (refused _ 2 p (omega arith))
+
+  bulge : Small (Each.bulge x p)
+  unfolding Each.bulge
+  bulge = and finite (refused _ 3 p (omega arith))
+
+  radius : Small (Each.radius x p)
+  unfolding Each.radius
+  radius = and finite (refused _ 9 p (omega arith))
+
+  center : Small (Each.center x p)
+  unfolding Each.center
+  center = and finite (refused _ 9 p (omega arith))
+
+  chord : (is-line : Bool) → Small (cond is-line Fine (Each.chord x p))
+  unfolding Each.chord
+  chord true = fine
+  chord false = refused _ 5 p (omega arith)
+
+arc-chord : (a b : PlineVertex) (owner index : ℕ) → Small (arcChord a b owner index)
+unfolding arcChord
+arc-chord a b owner index = chord _ _ (bulgeIsZero a)
+
+-- ---- a call's
+module _ {I A : Type 0} (refused : ℕ → A) (met : I → A) (number : A → ℕ) where
+  settled : (c : Checked) (i : I) → Small c → ((n : ℕ) → number (refused n) ≡ n) → number (met i) < 256
+      → number (settle refused met c i) < 256
+  settled Fine i small own cases = cases
+  settled (Bad f) i small own cases = subst (λ (n : ℕ). n < 256) (sym (own (f .number))) (small .below)
+
+line-line-case : (i : LineLineIntr) → ofLineLine (ofLines.Met i) .number < 256
+unfolding ofLineLine
+line-line-case lineLineIs.NoIntersect = omega arith
+line-line-case (lineLineIs.TrueIntersect a b) = omega arith
+line-line-case (lineLineIs.Overlapping a b) = omega arith
+line-line-case (lineLineIs.FalseIntersect a b) = omega arith
+
+pub line-line : (v1 v2 u1 u2 : Vector2) (eps : Float) → ofLineLine (lines.lineLineIntr v1 v2 u1 u2 eps) .number < 256
+unfolding ofLineLine lines.lineLineIntr lines.look
+line-line v1 v2 u1 u2 eps =
+    settled ofLines.Refused ofLines.Met (λ (a : LineLineAnswer). ofLineLine a .number)
+    (lines.look v1 v2 u1 u2 eps) (lineLine v1 v2 u1 u2 eps)
+    (and (epsilon eps _)
+    (and (coordinate (v1 .x) _) (and (coordinate (v1 .y) _)
+    (and (coordinate (v2 .x) _) (and (coordinate (v2 .y) _)
+    (and (coordinate (u1 .x) _) (and (coordinate (u1 .y) _)
+    (and (coordinate (u2 .x) _) (and (coordinate (u2 .y) _) fine)))))))))
+    (λ n. refl) (line-line-case (lineLine v1 v2 u1 u2 eps))
+
+line-circle-case : (i : LineCircleIntr) → ofLineCircle (ofLineAndCircle.Met i) .number < 256
+unfolding ofLineCircle
+line-circle-case lineCircleIs.NoIntersect = omega arith
+line-circle-case (lineCircleIs.TangentIntersect a) = omega arith
+line-circle-case (lineCircleIs.TwoIntersects a b) = omega arith
+
+pub line-circle : (p0 p1 : Vector2) (r : Float) (c : Vector2) (eps : Float)
+    → ofLineCircle (lineAndCircle.lineCircleIntr p0 p1 r c eps) .number < 256
+unfolding ofLineCircle lineAndCircle.lineCircleIntr lineAndCircle.look
+line-circle p0 p1 r c eps =
+    settled ofLineAndCircle.Refused ofLineAndCircle.Met (λ (a : LineCircleAnswer). ofLineCircle a .number)
+    (lineAndCircle.look p0 p1 r c eps) (lineCircle p0 p1 r c eps)
+    (and (epsilon eps _)
+    (and (coordinate (p0 .x) _) (and (coordinate (p0 .y) _)
+    (and (coordinate (p1 .x) _) (and (coordinate (p1 .y) _)
+    (and (radius r _) (and (center (c .x) _) (and (center (c .y) _) fine))))))))
+    (λ n. refl) (line-circle-case (lineCircle p0 p1 r c eps))
+
+circle-circle-case : (i : CircleCircleIntr) → ofCircleCircle (ofCircles.Met i) .number < 256
+unfolding ofCircleCircle
+circle-circle-case circleCircleIs.NoIntersect = omega arith
+circle-circle-case (circleCircleIs.TangentIntersect p) = omega arith
+circle-circle-case (circleCircleIs.TwoIntersects p q) = omega arith
+circle-circle-case circleCircleIs.Overlapping = omega arith
+
+pub circle-circle : (r1 : Float) (c1 : Vector2) (r2 : Float) (c2 : Vector2) (eps : Float)
+    → ofCircleCircle (circles.circleCircleIntr r1 c1 r2 c2 eps) .number < 256
+unfolding ofCircleCircle circles.circleCircleIntr circles.look
+circle-circle r1 c1 r2 c2 eps =
+    settled ofCircles.Refused ofCircles.Met (λ (a : CircleCircleAnswer). ofCircleCircle a .number)
+    (circles.look r1 c1 r2 c2 eps) (circleCircle r1 c1 r2 c2 eps)
+    (and (epsilon eps _)
+    (and (radius r1 _) (and (center (c1 .x) _) (and (center (c1 .y) _)
+    (and (radius r2 _) (and (center (c2 .x) _) (and (center (c2 .y) _) fine)))))))
+    (λ n. refl) (circle-circle-case (circleCircle r1 c1 r2 c2 eps))
+
+pline-seg-case : (i : PlineSegIntr) → ofPlineSeg (ofPairs.Met i) .number < 256
+unfolding ofPlineSeg
+pline-seg-case plineSegIs.NoIntersect = omega arith
+pline-seg-case (plineSegIs.TangentIntersect p) = omega arith
+pline-seg-case (plineSegIs.OneIntersect p) = omega arith
+pline-seg-case (plineSegIs.TwoIntersects p q) = omega arith
+pline-seg-case (plineSegIs.OverlappingLines p q) = omega arith
+pline-seg-case (plineSegIs.OverlappingArcs p q) = omega arith
+
+pub pline-seg : (v1 v2 u1 u2 : PlineVertex) (eps : Float) → ofPlineSeg (pairs.plineSegIntr v1 v2 u1 u2 eps) .number < 256
+unfolding ofPlineSeg pairs.plineSegIntr pairs.look
+pline-seg v1 v2 u1 u2 eps =
+    settled ofPairs.Refused ofPairs.Met (λ (a : PlineSegAnswer). ofPlineSeg a .number)
+    (pairs.look v1 v2 u1 u2 eps) (plineSeg v1 v2 u1 u2 eps)
+    (and (epsilon eps _)
+    (and (coordinate (v1 .x) _) (and (coordinate (v1 .y) _) (and (bulge (v1 .bulge) _)
+    (and (coordinate (v2 .x) _) (and (coordinate (v2 .y) _)
+    (and (coordinate (u1 .x) _) (and (coordinate (u1 .y) _) (and (bulge (u1 .bulge) _)
+    (and (coordinate (u2 .x) _) (and (coordinate (u2 .y) _)
+    (and (arc-chord v1 v2 _ _) (and (arc-chord u1 u2 _ _) fine)))))))))))))
+    (λ n. refl) (pline-seg-case (plineSeg v1 v2 u1 u2 eps))

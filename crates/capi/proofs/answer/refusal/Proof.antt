@@ -1,0 +1,12 @@
+-- `capi::answer::refusal` meets its contract: the code is the definition.
+use mathlib.Core.Path.{refl}
+use Rattle.capi.specs.Handed
+use Rattle.capi.proofs.answer.refusal.Statement.{statement}
+use Rattle.capi.proofs.answer.refusal.Tie as tie
+
+returns : tie.Need-returns
+unfolding Handed.refusal
+returns c = refl
+
+pub refusal-spec : {M : Type 1} → statement M
+refusal-spec = tie.close (tie.spec returns)

@@ -1,0 +1,138 @@
+// An answer as plain numbers, and how it is handed to a caller in C.
+ghost use Prim.Native.Nat.{_<_};
+ghost use mathlib.Core.Path.{_≡_};
+ghost use Rattle.capi.specs.Handed;
+use crossing::circle_circle_intersect::CircleCircleAnswer;
+use crossing::circle_circle_intersect::CircleCircleIntr;
+use crossing::line_circle_intersect::LineCircleAnswer;
+use crossing::line_circle_intersect::LineCircleIntr;
+use crossing::line_line_intersect::LineLineAnswer;
+use crossing::line_line_intersect::LineLineIntr;
+use crossing::pline_seg_intersect::PlineSegAnswer;
+use crossing::pline_seg_intersect::PlineSegIntr;
+
+// A refusal and its number, or the number of the case and four values, those that it lacks +0.
+pub struct Flat {
+    pub refused: bool,
+    pub number: u64,
+    pub a: f64,
+    pub b: f64,
+    pub c: f64,
+    pub d: f64,
+}
+
+// The refusal of a number.
+fn refusal(number: u64) -> Flat
+    ensures { λ r. ⌜ r ≡ Handed.refusal number ⌝ }
+{
+    Flat {
+        refused: true,
+        number: number,
+        a: 0.0,
+        b: 0.0,
+        c: 0.0,
+        d: 0.0,
+    }
+}
+
+// A case and its values.
+fn case(number: u64, a: f64, b: f64, c: f64, d: f64) -> Flat
+    ensures { λ r. ⌜ r ≡ Handed.case number a b c d ⌝ }
+{
+    Flat {
+        refused: false,
+        number: number,
+        a: a,
+        b: b,
+        c: c,
+        d: d,
+    }
+}
+
+// What the call on two lines answers.
+pub fn of_line_line(answer: LineLineAnswer) -> Flat
+    ensures { λ r. ⌜ r ≡ Handed.ofLineLine answer ⌝ }
+{
+    match answer {
+        LineLineAnswer::Refused(n) => refusal(n),
+        LineLineAnswer::Met(intr) => match intr {
+            LineLineIntr::NoIntersect => case(0, 0.0, 0.0, 0.0, 0.0),
+            LineLineIntr::TrueIntersect { seg1_t, seg2_t } => case(1, seg1_t, seg2_t, 0.0, 0.0),
+            LineLineIntr::Overlapping { seg2_t0, seg2_t1 } => case(2, seg2_t0, seg2_t1, 0.0, 0.0),
+            LineLineIntr::FalseIntersect { seg1_t, seg2_t } => case(3, seg1_t, seg2_t, 0.0, 0.0),
+        },
+    }
+}
+
+// What the call on a line and a circle answers.
+pub fn of_line_circle(answer: LineCircleAnswer) -> Flat
+    ensures { λ r. ⌜ r ≡ Handed.ofLineCircle answer ⌝ }
+{
+    match answer {
+        LineCircleAnswer::Refused(n) => refusal(n),
+        LineCircleAnswer::Met(intr) => match intr {
+            LineCircleIntr::NoIntersect => case(0, 0.0, 0.0, 0.0, 0.0),
+            LineCircleIntr::TangentIntersect { t0 } => case(1, t0, 0.0, 0.0, 0.0),
+            LineCircleIntr::TwoIntersects { t0, t1 } => case(2, t0, t1, 0.0, 0.0),
+        },
+    }
+}
+
+// What the call on two circles answers.
+pub fn of_circle_circle(answer: CircleCircleAnswer) -> Flat
+    ensures { λ r. ⌜ r ≡ Handed.ofCircleCircle answer ⌝ }
+{
+    match answer {
+        CircleCircleAnswer::Refused(n) => refusal(n),
+        CircleCircleAnswer::Met(intr) => match intr {
+            CircleCircleIntr::NoIntersect => case(0, 0.0, 0.0, 0.0, 0.0),
+            CircleCircleIntr::TangentIntersect { point } => case(1, point.x, point.y, 0.0, 0.0),
+            CircleCircleIntr::TwoIntersects { point1, point2 } => {
+                case(2, point1.x, point1.y, point2.x, point2.y)
+            }
+            CircleCircleIntr::Overlapping => case(3, 0.0, 0.0, 0.0, 0.0),
+        },
+    }
+}
+
+// What the call on two segments answers.
+pub fn of_pline_seg(answer: PlineSegAnswer) -> Flat
+    ensures { λ r. ⌜ r ≡ Handed.ofPlineSeg answer ⌝ }
+{
+    match answer {
+        PlineSegAnswer::Refused(n) => refusal(n),
+        PlineSegAnswer::Met(intr) => match intr {
+            PlineSegIntr::NoIntersect => case(0, 0.0, 0.0, 0.0, 0.0),
+            PlineSegIntr::TangentIntersect { point } => case(1, point.x, point.y, 0.0, 0.0),
+            PlineSegIntr::OneIntersect { point } => case(2, point.x, point.y, 0.0, 0.0),
+            PlineSegIntr::TwoIntersects { point1, point2 } => {
+                case(3, point1.x, point1.y, point2.x, point2.y)
+            }
+            PlineSegIntr::OverlappingLines { point1, point2 } => {
+                case(4, point1.x, point1.y, point2.x, point2.y)
+            }
+            PlineSegIntr::OverlappingArcs { point1, point2 } => {
+                case(5, point1.x, point1.y, point2.x, point2.y)
+            }
+        },
+    }
+}
+
+// Writes an answer's four values to the front of `out` and returns its number. Nothing is written where `out` has no room for
+// four, or where the answer is a refusal.
+pub fn hand_over(flat: Flat, out: &mut [f64]) -> u64
+    requires { ⌜ flat .number < 256 ⌝ }
+    ensures { λ r. ⌜ Handed.Handed flat r (now (out .entry)) (now (out .exit)) ⌝ }
+{
+    if out.len() < 4 {
+        return 512;
+    }
+    if flat.refused {
+        return 256 + flat.number;
+    }
+    out[0] = flat.a;
+    out[1] = flat.b;
+    out[2] = flat.c;
+    out[3] = flat.d;
+    flat.number
+}

@@ -1,0 +1,88 @@
+// Whether the crossing calls give the answers of a line. After the operands, in the order of the C calls' parameters, comes the
+// number that is returned, and the four values of an answer.
+ghost use mathlib.Core.Path.{_≡_};
+ghost use Prim.Native.Nat.{_<_};
+ghost use Rattle.records.specs.OnCrossing;
+use super::on_plane::point;
+use super::on_plane::same;
+use super::on_plane::vertex;
+use super::text::number;
+use super::text::value;
+use capi::answer;
+use capi::answer::Flat;
+use crossing::circle_circle_intersect;
+use crossing::line_circle_intersect;
+use crossing::line_line_intersect;
+use crossing::pline_seg_intersect;
+
+// Whether the line's two lines meet as it says.
+pub fn line_line(body: &[u8]) -> bool
+    ensures { λ r. ⌜ r ≡ OnCrossing.lineLine (now (body .entry)) ⌝ }
+{
+    let met = line_line_intersect::line_line_intr(
+        point(body, 0),
+        point(body, 2),
+        point(body, 4),
+        point(body, 6),
+        number(body, 8),
+    );
+    is_answer(answer::of_line_line(met), body, 9)
+}
+
+// Whether the line's line and circle meet as it says.
+pub fn line_circle(body: &[u8]) -> bool
+    ensures { λ r. ⌜ r ≡ OnCrossing.lineCircle (now (body .entry)) ⌝ }
+{
+    let met = line_circle_intersect::line_circle_intr(
+        point(body, 0),
+        point(body, 2),
+        number(body, 4),
+        point(body, 5),
+        number(body, 7),
+    );
+    is_answer(answer::of_line_circle(met), body, 8)
+}
+
+// Whether the line's circles meet as it says.
+pub fn circle_circle(body: &[u8]) -> bool
+    ensures { λ r. ⌜ r ≡ OnCrossing.circleCircle (now (body .entry)) ⌝ }
+{
+    let met = circle_circle_intersect::circle_circle_intr(
+        number(body, 0),
+        point(body, 1),
+        number(body, 3),
+        point(body, 4),
+        number(body, 6),
+    );
+    is_answer(answer::of_circle_circle(met), body, 7)
+}
+
+// Whether the line's segments meet as it says.
+pub fn pline_seg(body: &[u8]) -> bool
+    ensures { λ r. ⌜ r ≡ OnCrossing.plineSeg (now (body .entry)) ⌝ }
+{
+    let met = pline_seg_intersect::pline_seg_intr(
+        vertex(body, 0),
+        vertex(body, 3),
+        vertex(body, 6),
+        vertex(body, 9),
+        number(body, 12),
+    );
+    is_answer(answer::of_pline_seg(met), body, 13)
+}
+
+// Whether the answer is the one that stands from number i on: a refusal is 256 and its number.
+fn is_answer(flat: Flat, body: &[u8], i: usize) -> bool
+    requires { ⌜ i < 14 ⌝ }
+    ensures { λ r. ⌜ r ≡ OnCrossing.isAnswer flat (now (body .entry)) i ⌝ }
+{
+    let told = value(body, i);
+    if flat.refused {
+        return (told / 256 == 1) & (told % 256 == flat.number);
+    }
+    (told == flat.number)
+        & same(flat.a, number(body, i + 1))
+        & same(flat.b, number(body, i + 2))
+        & same(flat.c, number(body, i + 3))
+        & same(flat.d, number(body, i + 4))
+}
