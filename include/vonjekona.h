@@ -149,7 +149,7 @@ uint64_t vj_circle_circle_intr(double radius1, double c1x, double c1y,
  *   4  two lines with a common stretch, from the first point to the second;
  *   5  two arcs with a common stretch, from the first point to the second.
  */
-uint64_t vj_pline_seg_intr(double v1x, double v1y, double v1_bulge,
+uint64_t vj_pair(double v1x, double v1y, double v1_bulge,
                            double v2x, double v2y, double v2_bulge,
                            double u1x, double u1y, double u1_bulge,
                            double u2x, double u2y, double u2_bulge,

@@ -20,7 +20,7 @@ pub fn run() {
         "ns a call on random normals, best of {ROUNDS} rounds of {} calls",
         PAIRS * PASSES
     );
-    println!("{:16} {:>9} {:>9} {:>9}", "", "ours", "machine", "ratio");
+    println!("{:28} {:>9} {:>9} {:>9}", "", "ours", "machine", "ratio");
     row(
         "sqrt throughput",
         throughput(&pairs, |x, _| vj_sqrt(x)),
@@ -48,35 +48,38 @@ pub fn run() {
     );
 }
 
-fn row(name: &str, ours: f64, machine: f64) {
-    println!("{name:16} {ours:9.2} {machine:9.2} {:9.1}", ours / machine);
+pub fn row(name: &str, ours: f64, other: f64) {
+    println!("{name:28} {ours:9.2} {other:9.2} {:9.1}", ours / other);
 }
 
 /// Calls that do not wait for each other.
 fn throughput(pairs: &[(f64, f64)], call: impl Fn(f64, f64) -> f64) -> f64 {
-    best(|| {
-        pairs
-            .iter()
-            .fold(0, |all, &(x, y)| all ^ call(x, y).to_bits())
+    best(PAIRS, || {
+        black_box(
+            pairs
+                .iter()
+                .fold(0, |all, &(x, y)| all ^ call(x, y).to_bits()),
+        );
     })
 }
 
 /// Each call waits for the one before: its answer's last bit goes into the operand's.
 fn latency(pairs: &[(f64, f64)], call: impl Fn(f64, f64) -> f64) -> f64 {
-    best(|| {
-        pairs.iter().fold(0, |last, &(x, y)| {
+    best(PAIRS, || {
+        black_box(pairs.iter().fold(0, |last, &(x, y)| {
             call(f64::from_bits(x.to_bits() ^ (last & 1)), y).to_bits()
-        })
+        }));
     })
 }
 
-fn best(pass: impl Fn() -> u64) -> f64 {
+/// Nanoseconds a call of a pass of so many, in the best of some rounds.
+pub fn best(calls: usize, mut pass: impl FnMut()) -> f64 {
     let round = |_| {
         let start = Instant::now();
         for _ in 0..PASSES {
-            black_box(pass());
+            pass();
         }
-        start.elapsed().as_nanos() as f64 / (PASSES * PAIRS) as f64
+        start.elapsed().as_nanos() as f64 / (PASSES * calls) as f64
     };
     (0..ROUNDS).map(round).fold(f64::INFINITY, f64::min)
 }

@@ -54,7 +54,7 @@ mod raw {
             out: *mut f64,
             room: usize,
         ) -> u64;
-        pub fn vj_pline_seg_intr(
+        pub fn vj_pair(
             v1x: f64,
             v1y: f64,
             v1_bulge: f64,
@@ -102,8 +102,8 @@ pub fn vj_circle_circle_intr(n: [f64; 7], out: &mut [f64]) -> u64 {
 
 /// Four vertices, each x, y and bulge, and an epsilon.
 #[cfg(feature = "rust-text")]
-pub fn vj_pline_seg_intr(n: [f64; 13], out: &mut [f64]) -> u64 {
+pub fn vj_pair(n: [f64; 13], out: &mut [f64]) -> u64 {
     let [a, b, c, d, e, f, g, h, i, j, k, l, epsilon] = n;
     let (start, room) = (out.as_mut_ptr(), out.len());
-    unsafe { raw::vj_pline_seg_intr(a, b, c, d, e, f, g, h, i, j, k, l, epsilon, start, room) }
+    unsafe { raw::vj_pair(a, b, c, d, e, f, g, h, i, j, k, l, epsilon, start, room) }
 }

@@ -1,10 +1,12 @@
 //! The kernels and the pair call beside the Rust's: answers, refusals, and what is written into the lent slice.
 
+mod bench;
 mod calls;
 mod faults;
 mod limits;
 mod score;
 
+pub use bench::run as bench;
 pub use calls::{Call, CALLS};
 use score::Score;
 

@@ -37,7 +37,7 @@ usage: compare check [COUNT [SEED]]  compare each float function on COUNT random
                                      patterns, and some beside the limits; each kernel and the pair call until twice
                                      as many were answered, and on some that are refused
        compare record FILE           write the recorded list for the program replay
-       compare bench                 nanoseconds a call, ours beside the machine's own";
+       compare bench                 nanoseconds a call, ours beside the machine's own and the Rust's";
 
 const COUNT: u64 = 10 << 20;
 const SEED: u64 = 1;
@@ -50,6 +50,8 @@ fn main() -> ExitCode {
         ["record", file] => record(file),
         ["bench"] => {
             bench::run();
+            #[cfg(feature = "rust-text")]
+            crossing::bench();
             Ok(())
         }
         _ => Err(USAGE.to_string()),

@@ -1,5 +1,7 @@
 //! The calls to compare: which numbers of a pair each is made on, when it is refused, ours, and the Rust's.
 
+use std::hint::black_box;
+
 use cavalier_contours::core::math::{
     circle_circle_intr, line_circle_intr, line_line_intr, CircleCircleIntr, LineCircleIntr,
     LineLineIntr, Vector2,
@@ -27,6 +29,8 @@ pub struct Call {
     pub text: fn(&[f64]) -> (u64, Numbers),
     /// Our answer, with its values in a lent slice.
     pub ours: fn(&[f64], &mut [f64]) -> u64,
+    /// The Rust's call and nothing else, to be timed.
+    pub bare: fn(&[f64]),
 }
 
 /// What is returned where a number is refused: this and the refusal's number.
@@ -101,6 +105,9 @@ pub static CALLS: [Call; 4] = [
         fault: |n| first(LINES, n),
         text: |n| of_lines(line_line_intr(at(n, 0), at(n, 2), at(n, 4), at(n, 6), n[8])),
         ours: |n, out| capi::vj_line_line_intr(all(n), out),
+        bare: |n| {
+            black_box(line_line_intr(at(n, 0), at(n, 2), at(n, 4), at(n, 6), n[8]));
+        },
     },
     Call {
         name: "line_circle_intr",
@@ -115,6 +122,9 @@ pub static CALLS: [Call; 4] = [
         fault: |n| first(LINE_AND_CIRCLE, n),
         text: |n| of_line_and_circle(line_circle_intr(at(n, 0), at(n, 2), n[4], at(n, 5), n[7])),
         ours: |n, out| capi::vj_line_circle_intr(all(n), out),
+        bare: |n| {
+            black_box(line_circle_intr(at(n, 0), at(n, 2), n[4], at(n, 5), n[7]));
+        },
     },
     Call {
         name: "circle_circle_intr",
@@ -127,6 +137,9 @@ pub static CALLS: [Call; 4] = [
         fault: |n| first(CIRCLES, n),
         text: |n| of_circles(circle_circle_intr(n[0], at(n, 1), n[3], at(n, 4), n[6])),
         ours: |n, out| capi::vj_circle_circle_intr(all(n), out),
+        bare: |n| {
+            black_box(circle_circle_intr(n[0], at(n, 1), n[3], at(n, 4), n[6]));
+        },
     },
     Call {
         name: "pline_seg_intr",
@@ -141,19 +154,18 @@ pub static CALLS: [Call; 4] = [
                 .or_else(|| chord(&n[..6]))
                 .or_else(|| chord(&n[6..12]))
         },
-        text: |n| {
-            let vertex = |i: usize| PlineVertex::new(n[i], n[i + 1], n[i + 2]);
-            of_segments(pline_seg_intr(
-                vertex(0),
-                vertex(3),
-                vertex(6),
-                vertex(9),
-                n[12],
-            ))
+        text: |n| of_segments(pair(n)),
+        ours: |n, out| capi::vj_pair(all(n), out),
+        bare: |n| {
+            black_box(pair(n));
         },
-        ours: |n, out| capi::vj_pline_seg_intr(all(n), out),
     },
 ];
+
+fn pair(n: &[f64]) -> PlineSegIntr<f64> {
+    let vertex = |i: usize| PlineVertex::new(n[i], n[i + 1], n[i + 2]);
+    pline_seg_intr(vertex(0), vertex(3), vertex(6), vertex(9), n[12])
+}
 
 fn at(n: &[f64], i: usize) -> Vector2 {
     Vector2::new(n[i], n[i + 1])

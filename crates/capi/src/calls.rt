@@ -99,7 +99,7 @@ pub extern "C" fn vj_circle_circle_intr(
 
 // How the segments v1 to v2 and u1 to u2 meet, each a line or an arc by the bulge of its first vertex.
 #[no_mangle]
-pub extern "C" fn vj_pline_seg_intr(
+pub extern "C" fn vj_pair(
     v1x: f64,
     v1y: f64,
     v1_bulge: f64,

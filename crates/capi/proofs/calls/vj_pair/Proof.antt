@@ -1,11 +1,11 @@
--- `capi::calls::vj_pline_seg_intr` meets its contract: it hands over what `pline_seg_intr` answers, numbers below 256.
+-- `capi::calls::vj_pair` meets its contract: it hands over what `pline_seg_intr` answers, numbers below 256.
 use mathlib.Core.Path.{ap, _∙_}
 use borrow.Author.Needs.{needs}
 use Rattle.capi.specs.Handed.{ofPlineSeg}
 use Rattle.capi.proofs.Ends.{alike, number-below}
 use Rattle.capi.proofs.Numbers.{pline-seg}
-use Rattle.capi.proofs.calls.vj_pline_seg_intr.Statement.{statement}
-use Rattle.capi.proofs.calls.vj_pline_seg_intr.Tie as tie
+use Rattle.capi.proofs.calls.vj_pair.Statement.{statement}
+use Rattle.capi.proofs.calls.vj_pair.Tie as tie
 
 pline-seg-intr-requires : tie.Need-pline-seg-intr-requires
 pline-seg-intr-requires c κs = search needs
@@ -31,8 +31,8 @@ returns c =
     (answered .of-pline-seg .ensures ∙ ap ofPlineSeg (answered .before .pline-seg-intr .ensures))
     (handed .hand-over .ensures)
 
-pub vj-pline-seg-intr-spec : {M : Type 1} → statement M
-vj-pline-seg-intr-spec =
+pub vj-pair-spec : {M : Type 1} → statement M
+vj-pair-spec =
     tie.close
     (tie.spec
     pline-seg-intr-requires
