@@ -115,7 +115,7 @@ uint64_t vj_line_line_intr(double v1x, double v1y, double v2x, double v2y,
  *
  *   0  apart;
  *   1  they touch: one parameter;
- *   2  two points: two parameters, the smaller first.
+ *   2  two points: two parameters, the smaller first if both are numbers.
  */
 uint64_t vj_line_circle_intr(double p0x, double p0y, double p1x, double p1y,
                              double radius, double cx, double cy,

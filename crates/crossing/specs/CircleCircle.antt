@@ -14,11 +14,11 @@ use Rattle.crossing.specs.declared.circle_circle_intersect.CircleCircleI
   Overlapping,
 }
 
--- lines 75-80
+-- lines 77-83
 unfoldable pub sameCenter : Float → Float → Float → CircleCircleIntr
 sameCenter radius1 radius2 eps = cond (fuzzyEqEps radius1 radius2 eps) Overlapping NoIntersect
 
--- lines 97-115
+-- lines 102-115
 unfoldable pub twoSides : Vector2 → Vector2 → Float → Float → CircleCircleIntr
 twoSides midpoint cv hOverD eps =
     let xTerm = hOverD ⊗ cv .y in
@@ -29,7 +29,7 @@ twoSides midpoint cv hOverD eps =
     (TangentIntersect pt1)
     (TwoIntersects pt1 pt2)
 
--- lines 88-115
+-- lines 91-115
 unfoldable pub meeting : Float → Vector2 → Float → Vector2 → Float → Float → Float → CircleCircleIntr
 meeting radius1 center1 radius2 cv d2 d eps =
     let rad1Sq = radius1 ⊗ radius1 in

@@ -24,7 +24,7 @@ pointCircle p0 p1 radius circleCenter eps =
     (TangentIntersect f0)
     NoIntersect
 
--- lines 105-129: vertical by the default epsilon
+-- lines 105-128: vertical by the default epsilon
 unfoldable pub lineThrough : Float → Float → Vector2 → Vector2 → Line
 lineThrough dx dy p0Shifted p1Shifted =
     let xPos = (p1Shifted .x ⊕ p0Shifted .x) ⊘ f2 in
@@ -33,7 +33,7 @@ lineThrough dx dy p0Shifted p1Shifted =
     (record { a = f1; b = f0; c = neg xPos })
     (record { a = m; b = neg f1; c = p1Shifted .y ⊖ m ⊗ p1Shifted .x })
 
--- lines 157-171
+-- lines 158-171
 unfoldable pub twoPoints : Vector2 → Vector2 → Line → Float → Float → Float → Float → LineCircleIntr
 twoPoints p0 p1 line x0 y0 mult eps =
     let point1 = vector2.new (x0 ⊕ line .b ⊗ mult) (y0 ⊖ line .a ⊗ mult) in
@@ -46,7 +46,7 @@ twoPoints p0 p1 line x0 y0 mult eps =
     (TangentIntersect t)
     (TwoIntersects (ts .min) (ts .max))
 
--- lines 131-171: a line a * x + b * y + c = 0 about the centre (h, k)
+-- lines 130-171: a line a * x + b * y + c = 0 about the centre (h, k)
 unfoldable pub lineMeets : Vector2 → Vector2 → Line → Float → Float → Float → Float → LineCircleIntr
 lineMeets p0 p1 line radius h k eps =
     let a = line .a in

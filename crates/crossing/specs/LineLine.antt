@@ -16,13 +16,13 @@ use Rattle.crossing.specs.declared.line_line_intersect.LineLineIntr.the-
 }
 use Rattle.crossing.specs.declared.line_line.Span.{Span}
 
--- lines 119-121, 156-157, 169-170: t by its place along a segment of this length
+-- lines 121-124, 161-162, 175-176: t by its place along a segment of this length
 unfoldable pub within : Float → Vector2 → Float → Bool
 within t segment eps =
     let length = vector2.length segment in
     fuzzyInRangeEps (t ⊗ length) f0 length eps
 
--- lines 113-126: not parallel
+-- lines 116-129: not parallel
 unfoldable pub crossing : Vector2 → Vector2 → Vector2 → Float → Float → LineLineIntr
 crossing v u w vPdotU eps =
     let seg1T = vector2.perpDot u w ⊘ vPdotU in
@@ -31,7 +31,7 @@ crossing v u w vPdotU eps =
     (FalseIntersect seg1T seg2T)
     (TrueIntersect seg1T seg2T)
 
--- lines 145-155: both are points
+-- lines 145-156: both are points
 unfoldable pub bothPoints : Vector2 → Vector2 → Float → LineLineIntr
 bothPoints v1 u1 eps = cond (vector2.fuzzyEqEps v1 u1 eps) (TrueIntersect f0 f0) NoIntersect
 
@@ -62,7 +62,7 @@ spanOf w w2 u eps =
 unfoldable pub touchingEnd : Vector2 → Vector2 → Vector2 → Float → Float
 touchingEnd v1 u1 u2 eps = cond (vector2.fuzzyEqEps v1 u1 eps || vector2.fuzzyEqEps v1 u2 eps) f0 f1
 
--- lines 198-226
+-- lines 198-225
 unfoldable pub overlap : Vector2 → Vector2 → Vector2 → Vector2 → Span → Float → LineLineIntr
 overlap v1 u1 u2 u s eps =
     let seg2Length = vector2.length u in
@@ -74,7 +74,7 @@ overlap v1 u1 u2 u s eps =
     (TrueIntersect (touchingEnd v1 u1 u2 eps) seg2T0)
     (Overlapping seg2T0 seg2T1))
 
--- lines 129-226: parallel, and perhaps on one line
+-- lines 131-225: parallel, and perhaps on one line
 unfoldable pub parallel : Vector2 → Vector2 → Vector2 → Vector2 → Vector2 → Vector2 → Vector2 → Float → LineLineIntr
 parallel v1 v2 u1 u2 v u w eps =
     let vPdotW = vector2.perpDot v w in
@@ -92,7 +92,7 @@ parallel v1 v2 u1 u2 v u w eps =
     (secondPoint v1 v2 u1 v eps)
     (overlap v1 u1 u2 u (spanOf w w2 u eps) eps))))
 
--- lines 90-226
+-- lines 91-226
 unfoldable pub lineLine : Vector2 → Vector2 → Vector2 → Vector2 → Float → LineLineIntr
 lineLine v1 v2 u1 u2 epsilon =
     let v = vector2.sub v2 v1 in

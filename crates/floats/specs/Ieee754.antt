@@ -39,7 +39,8 @@ pub record Num (less : Float → Float → Bool) (a b r : ℕ) : Type 0 where
   pub first : less (ofBits binary64 a) (ofBits binary64 b) ≡ true → r ≡ a
   pub second : less (ofBits binary64 b) (ofBits binary64 a) ≡ true → r ≡ b
   pub either : nanBits binary64 a ≡ false → nanBits binary64 b ≡ false → (r ≡ a) ⊎ (r ≡ b)
-  -- a number goes before a quiet NaN, and two quiet NaNs give a quiet NaN
+  -- a number goes before a quiet NaN, and two quiet NaNs give a quiet NaN; which digits it carries is not asked here, though the
+  -- standard would keep those of one of the two
   pub number-first : nanBits binary64 a ≡ false → quiet b ≡ true → r ≡ a
   pub number-second : quiet a ≡ true → nanBits binary64 b ≡ false → r ≡ b
   pub nans : quiet a ≡ true → quiet b ≡ true → quiet r ≡ true
@@ -99,7 +100,7 @@ module _ (less : Float → Float → Bool)
 departs : (f g : Bool) (a b : ℕ) → signalling a ≡ true → nanBits binary64 b ≡ false → (Bits.pick f a b ≡ b) × (Bits.pick g b a ≡ b)
 departs f g a b h n = let m = and-left _ _ h in (pick-at f a b true false m n, pick-at g b a false true n m)
 
--- without a signalling NaN they agree
+-- without a signalling NaN they agree, the digits of a NaN aside
 pub min-is-minNum : (a b : ℕ) → signalling a ≡ false → signalling b ≡ false → MinNum a b (Bits.min a b)
 unfolding Bits.min Bits.below
 min-is-minNum = agrees (λ x y. lt x y) (λ x y. lt-numbers x y) (λ x y. lt-once x y)
