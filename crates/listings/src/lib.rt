@@ -1,0 +1,8 @@
+// Listings: which segments of two paths, or of one path, meet, and where. Rows go into slices that the caller lends.
+pub mod answer;
+mod fill;
+pub mod filled;
+mod look;
+mod order;
+pub mod row;
+mod rows;
