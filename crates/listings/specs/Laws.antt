@@ -5,3 +5,4 @@ pub mod Filling
 pub mod Loop
 pub mod Ready
 pub mod Stores
+pub mod Outcome

@@ -1,5 +1,6 @@
 // Listings: which segments of two paths, or of one path, meet, and where. Rows go into slices that the caller lends.
 pub mod answer;
+mod buffer;
 mod fill;
 pub mod filled;
 mod look;

@@ -49,3 +49,20 @@ pub fn copy_points(from: &[f64], n: usize, to: &mut [f64])
         k += 1;
     }
 }
+
+// Copies the first n rows of one pair of slices to the front of another.
+pub fn copy_rows(
+    from_indices: &[u64],
+    from_points: &[f64],
+    n: usize,
+    indices: &mut [u64],
+    points: &mut [f64],
+)
+    requires { ⌜ (n * 3 ≤ length (now «from_indices»)) × (n * 4 ≤ length (now «from_points»)) ⌝ }
+    requires { ⌜ (n * 3 ≤ length (now indices)) × (n * 4 ≤ length (now points)) ⌝ }
+    ensures { λ _. ⌜ now (indices .exit) ≡ paste (now (indices .entry)) 0 (now («from_indices» .entry)) (n * 3) ⌝ }
+    ensures { λ _. ⌜ now (points .exit) ≡ paste (now (points .entry)) 0 (now («from_points» .entry)) (n * 4) ⌝ }
+{
+    copy_indices(from_indices, n * row::INDICES, indices);
+    copy_points(from_points, n * row::POINTS, points);
+}

@@ -1,12 +1,12 @@
 -- Values on the front of a list: stored one after the other, copied, and stored after others that stand there.
 use mathlib.Core.Path.{_≡_, refl, sym, ap, _∙_}
-use mathlib.Core.List.{List, [], _∷_, _++_, append-assoc}
+use mathlib.Core.List.{List, [], _∷_, _++_, append-assoc, append-nil}
 use Prim.Native.Nat.{ℕ, suc, _+_, _*_, _<_, _≤_}
 use native.Mathlib.Nat.{zero-add, add-zero, add-mul}
 use native.Mathlib.Numerals.{add-one}
 use native.Mathlib.Omega.{arith}
 use lib.ListN.{length, length-append, set, getD, take, drop}
-use lib.Seq.{paste, paste-suc, sets, sets-eq, take-at, drop-append-add, drop-drop}
+use lib.Seq.{paste, paste-suc, sets, sets-eq, take-at, take-length, drop-length}
 use Rattle.listings.specs.declared.row.Row.{Row}
 use Rattle.listings.specs.Row.{flat}
 use Rattle.listings.specs.Listing.{over}
@@ -37,6 +37,17 @@ module _ {A : Type 0} where
   paste-over l b vs n e =
       ap (λ (front : List A). front ++ drop (0 + n) l) (take-at vs (drop (length vs) b) n (sym e))
       ∙ ap (λ (k : ℕ). vs ++ drop k l) (zero-add n ∙ e)
+
+  pub paste-all : (l vs : List A) (n : ℕ) → n ≡ length vs → paste l 0 vs n ≡ over l vs
+  paste-all l vs n e =
+      ap (λ (k : ℕ). take k vs ++ drop (0 + n) l) e
+      ∙ ap (λ (front : List A). front ++ drop (0 + n) l) (take-length vs)
+      ∙ ap (λ (k : ℕ). vs ++ drop k l) (zero-add n ∙ e)
+
+  -- nothing of what was there is left
+  pub over-all : (l vs : List A) → length l ≡ length vs → over l vs ≡ vs
+  over-all l vs e =
+      ap (λ (k : ℕ). vs ++ drop k l) (sym e) ∙ ap (λ (rest : List A). vs ++ rest) (drop-length l) ∙ append-nil vs
 
   -- stored behind others
   pub sets-beyond : (l vs ws : List A) (k : ℕ) → length vs ≡ k → k + length ws ≤ length l
