@@ -1,4 +1,5 @@
 pub mod Job
+pub mod Sequence
 pub mod Order
 pub mod Pages
 pub mod Filling
@@ -6,3 +7,4 @@ pub mod Loop
 pub mod Ready
 pub mod Stores
 pub mod Outcome
+pub mod Entry

@@ -13,7 +13,7 @@ use Rattle.checks.specs.declared.fault.Checked.the-variants.{Fine, Bad}
 use Rattle.checks.specs.Fault.{at, refuse}
 use Rattle.checks.specs.Refusal
 use Rattle.checks.specs.Each
-use Rattle.checks.specs.First.{first}
+use Rattle.checks.specs.First.{first as firstFault}
 use Rattle.paths.specs.Shape.{shape}
 use Rattle.paths.specs.Segments.{segmentCount}
 use Rattle.paths.specs.Check.{pathChecks}
@@ -65,7 +65,7 @@ outcomeOf Fine rows looked indices points =
 unfoldable pub outcome : List Checked → (ℕ → ℕ → Look) → List Pair → List ℕ → List Float → Outcome
 outcome checks look ps indices points =
     let rows = rowsOf look ps in
-    outcomeOf (first (checks ++ (roomCheck rows indices points ∷ []))) rows (lookedAt look ps) indices points
+    outcomeOf (firstFault (checks ++ (roomCheck rows indices points ∷ []))) rows (lookedAt look ps) indices points
 
 -- ---- two paths
 -- epsilon; both paths' lengths; the first path's vertices and arcs, then the second's
@@ -74,6 +74,11 @@ mutualChecks first firstClosed second secondClosed epsilon =
     (Each.epsilon epsilon (at 0 0 Epsilon) ∷ shape first 0 ∷ shape second 1 ∷ [])
     ++ pathChecks first firstClosed 0
     ++ pathChecks second secondClosed 1
+
+-- their first fault
+unfoldable pub checkMutual : List Float → Bool → List Float → Bool → Float → Checked
+checkMutual first firstClosed second secondClosed epsilon =
+    firstFault (mutualChecks first firstClosed second secondClosed epsilon)
 
 unfoldable pub mutualListing : List Float → Bool → List Float → Bool → Float → List ℕ → List Float → Outcome
 mutualListing first firstClosed second secondClosed epsilon indices points =
@@ -86,6 +91,9 @@ mutualListing first firstClosed second secondClosed epsilon indices points =
 abbrev pub selfChecks : List Float → Bool → Float → List Checked
 selfChecks path closed epsilon =
     (Each.epsilon epsilon (at 0 0 Epsilon) ∷ shape path 0 ∷ []) ++ pathChecks path closed 0
+
+unfoldable pub checkSelf : List Float → Bool → Float → Checked
+checkSelf path closed epsilon = firstFault (selfChecks path closed epsilon)
 
 unfoldable pub selfListing : List Float → Bool → Float → List ℕ → List Float → Outcome
 selfListing path closed epsilon indices points =

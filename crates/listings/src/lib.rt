@@ -4,6 +4,8 @@ mod buffer;
 mod fill;
 pub mod filled;
 mod look;
+pub mod mutual_listing;
 mod order;
 pub mod row;
 mod rows;
+pub mod self_listing;
