@@ -4,4 +4,6 @@ pub mod Rows
 pub mod Look
 pub mod Listing
 pub mod Filled
+pub mod Told
+pub mod Refusals
 pub mod Laws
