@@ -2,13 +2,15 @@
 
 mod bench;
 mod calls;
-mod faults;
+pub mod faults;
 mod limits;
 mod score;
 
 pub use bench::run as bench;
-pub use calls::{Call, CALLS};
+pub use calls::{of_segments, Call, CALLS, REFUSED};
+pub use limits::specials;
 use score::Score;
+pub use score::NO_ROOM;
 
 use crate::inputs::values::epsilon;
 use crate::inputs::{Kind, Pair};
