@@ -32,8 +32,8 @@ const FLAGS: [[bool; 2]; 4] = [[false, false], [false, true], [true, false], [tr
 const FULL: u64 = 1 << 20;
 
 /// Compares the listings on small paths of every size with every room, on layouts with chosen numbers of rows, on layouts with one
-/// fault and with two; on `count / 16` pairs of segments, and on random layouts until `count / 2` pairs were looked at. Answers
-/// how many differences there were, and kinds of input that never occurred.
+/// fault and with two; on `count / 16` pairs of segments, and on random layouts until `count` pairs were looked at. Answers how
+/// many differences there were, and kinds of input that never occurred.
 pub fn check(count: u64, seed: u64) -> u64 {
     let full = count >= FULL;
     let mut run = Run {
@@ -50,9 +50,9 @@ pub fn check(count: u64, seed: u64) -> u64 {
     for _ in 0..count / 16 {
         run.pairs();
     }
-    while run.looked_at() < count / 2 {
-        let layout = draw::draw(&mut run.rng);
-        run.every_call(&layout);
+    let before = run.looked_at();
+    while run.looked_at() < before + count {
+        run.layout();
     }
     if full {
         run.largest();
@@ -207,6 +207,16 @@ impl Run {
             self.once(&draw::of_pair(&pair, closed), Call::Mutual);
         } else {
             self.once(&draw::joined(&pair, closed[0]), Call::Own);
+        }
+    }
+
+    /// A random layout.
+    fn layout(&mut self) {
+        let layout = draw::draw(&mut self.rng);
+        self.once(&layout, Call::Mutual);
+        self.once(&layout, Call::Own);
+        if self.rng.one_in(4) {
+            self.once(&layout, Call::Twice);
         }
     }
 

@@ -38,7 +38,7 @@ usage: compare check [COUNT [SEED]]  compare each float function on COUNT random
                                      function of the plane on a quarter as many accepted ones, an eighth of all bit
                                      patterns, and some beside the limits; each kernel and the pair call until twice
                                      as many were answered, and on some that are refused; listings of whole paths
-                                     until half as many pairs were looked at, and on chosen ones
+                                     until as many pairs were looked at, and on chosen ones
        compare record FILE           write the recorded list for the program replay
        compare bench                 nanoseconds a call, ours beside the machine's own and the Rust's";
 

@@ -29,14 +29,16 @@ pub fn run() {
     );
     for (name, bulged) in [("lines", false), ("arcs", true)] {
         for size in SIZES {
-            let mut one = || Drawn::new(&walk(size + 1, 20.0, 500.0, bulged, &mut rng), false);
+            let step = 1280.0 / (size as f64).sqrt();
+            let mut one = || Drawn::new(&walk(size, step, 500.0, bulged, &mut rng), true);
             let layout = beside(one(), one());
             timed(&format!("{size} {name} by {size}"), &layout, Call::Mutual);
         }
     }
-    let steps = short_steps(4097);
+    let steps = short_steps(4096);
     let moved = |path: &[Vertex], x: f64, y: f64| placed(path, (1.0, 0.0), 1.0, Point { x, y });
-    let layout = beside(open(&steps), open(&moved(&steps, 20.0, 5.0)));
+    let second = Drawn::new(&moved(&steps, 20.0, 5.0), true);
+    let layout = beside(Drawn::new(&steps, true), second);
     timed("4096 short steps of coils", &layout, Call::Mutual);
 
     let winding = coil(2000, 0.5, 0.25);
@@ -44,7 +46,7 @@ pub fn run() {
     let outline = Drawn::new(&pocket(corner, 120.0, 90.0, 5.0), true);
     let layout = beside(open(&winding), outline);
     timed("coil of 2000, a pocket's outline", &layout, Call::Mutual);
-    let layout = beside(open(&winding), open(&moved(&winding, 300.0, 40.25)));
+    let layout = beside(open(&winding), open(&moved(&winding, 220.0, 200.25)));
     timed("coil of 2000, another", &layout, Call::Mutual);
     timed("coil of 2000, by itself", &layout, Call::Own);
 }

@@ -8,27 +8,34 @@ use crate::inputs::values::{epsilon, nudge, whole};
 use crate::inputs::{Pair, Point, Segment, Vertex};
 use crate::rng::Rng;
 
-/// Up to some 80 segments a path.
+/// Up to some 80 segments a path, and now and then 200.
 pub fn draw(rng: &mut Rng) -> Layout {
     let epsilon = epsilon(rng);
-    let (first, second) = match rng.below(8) {
-        0 => two_coils(epsilon, rng),
-        1 => coil_and_pad(epsilon, rng),
-        2 => coil_and_meander(rng),
-        3 => two_meanders(epsilon, rng),
-        4 | 5 => two_on_grid(rng),
-        6 => two_of_arcs(rng),
-        _ => two_anywhere(rng),
+    let mut closed = [rng.one_in(3), rng.one_in(3)];
+    let (first, second) = match rng.below(32) {
+        0..=3 => two_coils(epsilon, rng),
+        4..=8 => {
+            closed[1] = true;
+            coil_and_pad(epsilon, rng)
+        }
+        9..=12 => coil_and_meander(rng),
+        13..=16 => two_meanders(epsilon, rng),
+        17..=23 => two_on_grid(60, rng),
+        24..=27 => two_of_arcs(rng),
+        28..=30 => two_anywhere(rng),
+        _ => two_on_grid(200, rng),
     };
     let (first, second) = somewhere(first, second, rng);
+    let first = either_way(first, closed[0], rng);
+    let second = either_way(second, closed[1], rng);
     let (first, second) = if rng.one_in(2) {
         (first, second)
     } else {
         (second, first)
     };
     Layout {
-        first: either_way(first, rng),
-        second: either_way(second, rng),
+        first,
+        second,
         epsilon,
     }
 }
@@ -78,10 +85,10 @@ fn size(rng: &mut Rng, most: u64) -> usize {
     1 + rng.below(most) as usize
 }
 
-fn either_way(path: Vec<Vertex>, rng: &mut Rng) -> Drawn {
+fn either_way(path: Vec<Vertex>, closed: bool, rng: &mut Rng) -> Drawn {
     let path = mended(path);
     let path = if rng.one_in(2) { path } else { reversed(&path) };
-    Drawn::new(&path, rng.one_in(3))
+    Drawn::new(&path, closed)
 }
 
 /// Both as they are, or both turned, enlarged and moved alike.
@@ -176,9 +183,9 @@ fn two_meanders(epsilon: f64, rng: &mut Rng) -> (Vec<Vertex>, Vec<Vertex>) {
     (first, placed(&second, turn, 1.0, by))
 }
 
-fn two_on_grid(rng: &mut Rng) -> (Vec<Vertex>, Vec<Vertex>) {
-    let most = rng.pick(&[2, 3, 5, 12]);
-    let mut one = || on_grid(size(rng, 60), most, rng);
+fn two_on_grid(most: u64, rng: &mut Rng) -> (Vec<Vertex>, Vec<Vertex>) {
+    let reach = rng.pick(&[2, 3, 5, 12]);
+    let mut one = || on_grid(size(rng, most), reach, rng);
     (one(), one())
 }
 

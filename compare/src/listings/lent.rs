@@ -134,15 +134,21 @@ impl Lent {
     fn wrong_row(&self, rows: &Rows) -> Option<String> {
         let indices = self.indices[GUARD..].chunks_exact(3);
         let points = self.points[GUARD..].chunks_exact(4);
-        let ours = indices.zip(points);
-        let unlike = |(at, (row, (indices, points))): (usize, (&Row, (&[u64], &[f64])))| {
-            (!is_row(row, indices, points)).then(|| {
-                let (i, [v, u], class) = (hex(points), row.indices, row.class);
-                let expected = hex(&row.points);
-                format!("row {at}: {indices:?} {i}, expected [{v}, {u}, {class}] {expected}")
-            })
-        };
-        rows.rows.iter().zip(ours).enumerate().find_map(unlike)
+        for ((row, indices), points) in rows.rows.iter().zip(indices).zip(points) {
+            if !is_row(row, indices, points) {
+                let Row {
+                    indices: [i, j],
+                    class,
+                    points: expected,
+                    ..
+                } = row;
+                let (ours, expected) = (hex(points), hex(expected));
+                return Some(format!(
+                    "row {indices:?} {ours}, expected [{i}, {j}, {class}] {expected}"
+                ));
+            }
+        }
+        None
     }
 
     /// A place that is not as it was, but for the first so many of the slice.
@@ -166,4 +172,105 @@ fn is_row(row: &Row, indices: &[u64], points: &[f64]) -> bool {
     indices == [row.indices[0], row.indices[1], row.class]
         && same(given, &row.points[..row.given])
         && absent.iter().all(|x| x.to_bits() == 0)
+}
+
+#[cfg(test)]
+mod tests {
+    use super::*;
+
+    const ROOM: Room = Room {
+        indices: 7,
+        points: 9,
+        counts: 3,
+    };
+
+    /// A point that is no number, one in a place of zero, and two places left.
+    fn rows() -> Rows {
+        let row = Row {
+            indices: [3, 5],
+            class: 2,
+            points: [f64::NAN, 0.0, 0.0, 0.0],
+            given: 2,
+        };
+        Rows {
+            rows: vec![row],
+            pairs: 40,
+        }
+    }
+
+    /// What a right call leaves, and then what is done to it.
+    fn answered(spoil: impl Fn(capi::Rows)) -> Option<String> {
+        let mut lent = Lent::new(ROOM, Old::Nans);
+        let slices = lent.slices();
+        slices.indices[..3].copy_from_slice(&[3, 5, 2]);
+        slices.points[..4].copy_from_slice(&[-f64::NAN, -0.0, 0.0, 0.0]);
+        slices.counts[..2].copy_from_slice(&[1, 40]);
+        spoil(lent.slices());
+        lent.wrong(0, &Expected::Answered(&rows()))
+    }
+
+    #[test]
+    fn right_answer_passes() {
+        assert_eq!(answered(|_| {}), None);
+        let lent = Lent::new(ROOM, Old::Bits(7));
+        assert_eq!(lent.wrong(REFUSED + 8, &Expected::Refused(8)), None);
+        assert_eq!(lent.wrong(NO_ROOM, &Expected::NoRoom), None);
+    }
+
+    #[test]
+    fn every_place_is_looked_at() {
+        for place in 0..ROOM.indices {
+            assert!(answered(|lent| lent.indices[place] ^= 1).is_some());
+        }
+        for place in 0..ROOM.points {
+            let spoil = |x: f64| if x.is_nan() { 1.0 } else { x + 1.0 };
+            assert!(answered(|lent| lent.points[place] = spoil(lent.points[place])).is_some());
+        }
+        for place in 0..ROOM.counts {
+            assert!(answered(|lent| lent.counts[place] += 1).is_some());
+        }
+        // an absent number is +0, and another NaN than the old one is a change
+        assert!(answered(|lent| lent.points[3] = -0.0).is_some());
+        assert!(answered(|lent| lent.points[8] = f64::NAN).is_some());
+    }
+
+    #[test]
+    fn places_beside_the_slices_are_looked_at() {
+        let untouched = || Lent::new(ROOM, Old::Nans);
+        let refused = |lent: Lent| lent.wrong(REFUSED + 8, &Expected::Refused(8));
+        assert_eq!(refused(untouched()), None);
+        for beside in [0, GUARD - 1] {
+            for behind in [false, true] {
+                let at = |len: usize| if behind { len - 1 - beside } else { beside };
+                let mut lents = [untouched(), untouched(), untouched()];
+                lents[0].indices[at(GUARD + ROOM.indices + GUARD)] = 1;
+                lents[1].points[at(GUARD + ROOM.points + GUARD)] = 1.0;
+                lents[2].counts[at(GUARD + ROOM.counts + GUARD)] = 1;
+                assert!(lents.into_iter().all(|lent| refused(lent).is_some()));
+            }
+        }
+    }
+
+    #[test]
+    fn refusals_write_nothing_and_tell_their_number() {
+        let mut lent = Lent::new(ROOM, Old::Zeros);
+        assert!(lent.wrong(REFUSED + 4, &Expected::Refused(8)).is_some());
+        assert!(lent.wrong(0, &Expected::Refused(8)).is_some());
+        assert!(lent.wrong(REFUSED + 8, &Expected::NoRoom).is_some());
+        lent.slices().counts[0] = 1;
+        assert!(lent.wrong(REFUSED + 8, &Expected::Refused(8)).is_some());
+        assert!(lent.wrong(NO_ROOM, &Expected::NoRoom).is_some());
+    }
+
+    #[test]
+    fn paths_are_looked_at() {
+        let drawn = Drawn {
+            numbers: vec![0.0, 1.0, f64::NAN],
+            closed: true,
+        };
+        let mut lent = LentPath::new(&drawn);
+        assert!(lent.is(&drawn) && lent.path().numbers.len() == 3);
+        lent.memory[GUARD] = -0.0;
+        assert!(!lent.is(&drawn));
+    }
 }
