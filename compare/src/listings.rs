@@ -44,7 +44,7 @@ pub fn check(count: u64, seed: u64) -> u64 {
     run.sizes();
     run.row_counts();
     run.long_paths();
-    for _ in 0..4 + count / FULL {
+    for _ in 0..2 + count / (4 * FULL) {
         run.damaged();
     }
     for _ in 0..count / 16 {
@@ -186,15 +186,19 @@ impl Run {
         }
     }
 
-    /// Open and closed paths, with one fault and with two.
+    /// Open and closed paths, with one fault and with two. Four vertices or more have a first, an inner and a last segment; a
+    /// single one has no segment, but its numbers are looked at.
     fn damaged(&mut self) {
         for flags in FLAGS {
-            let layout = damage::accepted(flags, &mut self.rng);
-            for damaged in damage::one_at_a_time(&layout) {
-                self.every_call(&damaged);
-            }
-            for damaged in damage::two_at_once(&layout, &mut self.rng) {
-                self.every_call(&damaged);
+            let many = 4 + self.rng.below(3) as usize;
+            for vertices in [[many, 4], [1, many], [many, 1], [2, 2]] {
+                let layout = damage::accepted(vertices, flags, &mut self.rng);
+                for damaged in damage::one_at_a_time(&layout) {
+                    self.every_call(&damaged);
+                }
+                for damaged in damage::two_at_once(&layout, &mut self.rng) {
+                    self.every_call(&damaged);
+                }
             }
         }
     }

@@ -78,11 +78,11 @@ fn numbers(layout: &mut Layout, path: usize) -> &mut Vec<f64> {
     &mut if path == 0 { first } else { second }.numbers
 }
 
-/// A small accepted layout, of four to six vertices a path, so that each has a first, an inner and a last segment.
-pub fn accepted(closed: [bool; 2], rng: &mut Rng) -> Layout {
-    let [first, second] = closed.map(|closed| {
-        let vertices = 4 + rng.below(3) as usize;
-        Drawn::new(&mended(on_grid(vertices, 3, rng)), closed)
+/// A small accepted layout, of so many vertices a path.
+pub fn accepted(vertices: [usize; 2], closed: [bool; 2], rng: &mut Rng) -> Layout {
+    let [first, second] = [0, 1].map(|path| {
+        let vertices = on_grid(vertices[path], 3, rng);
+        Drawn::new(&mended(vertices), closed[path])
     });
     let epsilon = epsilon(rng);
     Layout {

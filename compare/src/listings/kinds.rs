@@ -2,7 +2,7 @@
 
 use super::layout::Call;
 use super::lent::{Old, Room};
-use super::model::{row_room, Fault, Path};
+use super::model::{row_room, Fault, Path, Place};
 
 /// A call as it was made.
 pub struct Case<'a> {
@@ -55,7 +55,7 @@ impl Kinds {
         if call != Call::Twice {
             kinds.of_turns();
         }
-        kinds.of_refusals();
+        kinds.of_refusals(if call == Call::Mutual { 2 } else { 1 });
         kinds
     }
 
@@ -151,7 +151,17 @@ impl Kinds {
         });
     }
 
-    fn of_refusals(&mut self) {
+    fn of_refusals(&mut self, paths: usize) {
+        for at in 0..paths {
+            for n in [1, 2] {
+                let name = format!("path {at}, {n} vertices, a number refused");
+                self.add(name, move |c| {
+                    let is =
+                        |place: Place| matches!(place, Place::Number { path, .. } if path == at);
+                    c.paths[at].vertices() == n && c.fault.is_some_and(|fault| is(fault.place))
+                });
+            }
+        }
         self.add("two faults", |c| c.faults.len() > 1);
         self.add("a fault, and no row room", |c| {
             !c.faults.is_empty() && c.row_room() == 0
