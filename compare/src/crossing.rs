@@ -140,6 +140,6 @@ impl Scores {
 
 /// Which kind of pair two bulges make.
 fn kind(v: f64, u: f64) -> usize {
-    let arc = |bulge: f64| usize::from(!(bulge.abs() < 1e-8));
+    let arc = |bulge: f64| usize::from(bulge.is_nan() || bulge.abs() >= 1e-8);
     2 * arc(v) + arc(u)
 }

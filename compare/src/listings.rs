@@ -22,13 +22,13 @@ use lent::{Old, Room};
 use score::{Known, Score};
 
 use crate::inputs::values::epsilon;
-use crate::inputs::{Kind, Pair, Vertex};
+use crate::inputs::{Kind, Pair, Point, Vertex};
 use crate::rng::Rng;
 
 /// Whether each of two paths is closed.
 const FLAGS: [[bool; 2]; 4] = [[false, false], [false, true], [true, false], [true, true]];
 
-/// From this count on, the largest paths are listed with themselves.
+/// From this count on, the largest listings there are take part.
 const FULL: u64 = 1 << 20;
 
 /// Compares the listings on small paths of every size with every room, on layouts with chosen numbers of rows, on layouts with one
@@ -224,17 +224,17 @@ impl Run {
         }
     }
 
-    /// The largest path there is, closed, with itself, in exactly the room that it needs.
+    /// The largest paths there are, closed, in exactly the room that they need: round coils, one that reaches into the other.
     fn largest(&mut self) {
-        let rng = &mut self.rng;
-        let path = shapes::walk(4096, 50_000.0, 1_000_000.0, false, rng);
-        let first = Drawn::new(&path, true);
+        let coil = shapes::short_steps(4096);
+        let by = Point { x: 120.0, y: 5.0 };
+        let other = shapes::placed(&coil, (0.6, 0.8), 1.0, by);
         let layout = Layout {
-            second: first.clone(),
-            first,
-            epsilon: 1e-5,
+            first: Drawn::new(&coil, true),
+            second: Drawn::new(&other, true),
+            epsilon: epsilon(&mut self.rng),
         };
-        for call in [Call::Twice, Call::Own] {
+        for call in [Call::Mutual, Call::Own] {
             self.in_rooms(&layout, call, |rows, _| vec![Room::of(rows)]);
         }
     }

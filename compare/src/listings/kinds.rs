@@ -46,11 +46,20 @@ pub struct Kinds(Vec<Kind>);
 const TURNS: [usize; 3] = [2047, 2048, 2049];
 
 impl Kinds {
-    /// Those that a call must meet. Only a full run lists the largest path twice, or by itself, and then as a closed one.
+    /// Those that a call must meet: only a full run lists as many pairs as there can be.
     pub fn of(call: Call, full: bool) -> Kinds {
         let mut kinds = Kinds(Vec::new());
         let paths = if call == Call::Own { 1 } else { 2 };
-        kinds.of_paths(paths, |closed| call == Call::Mutual || full && closed);
+        kinds.of_paths(paths, |closed| match call {
+            Call::Mutual => true,
+            Call::Twice => false,
+            Call::Own => full && closed,
+        });
+        if full && call == Call::Mutual {
+            kinds.add("as many pairs as there can be", |c| {
+                c.is_answered() && c.paths.iter().all(|path| path.segments() == 4096)
+            });
+        }
         kinds.of_rooms();
         if call != Call::Twice {
             kinds.of_turns();

@@ -89,12 +89,9 @@ pub fn arcs(vertices: usize, step: f64, rng: &mut Rng) -> Vec<Vertex> {
     (0..vertices).map(|_| next()).collect()
 }
 
-/// Steps of up to `step` each way, turned back at the edges of a sheet that reaches to `edge` on every side.
+/// Steps of up to `step` each way from the middle of a sheet, turned back at its edges, which are `edge` away on every side.
 pub fn walk(vertices: usize, step: f64, edge: f64, bulged: bool, rng: &mut Rng) -> Vec<Vertex> {
-    let mut at = Point {
-        x: rng.between(-edge, edge),
-        y: rng.between(-edge, edge),
-    };
+    let mut at = Point::default();
     let mut next = || {
         let bulge = if bulged {
             rng.sign() * rng.between(0.125, 1.0)
