@@ -7,7 +7,7 @@ use cavalier_contours::polyline::{pline_seg_intr, PlineSegIntr, PlineVertex};
 
 use super::layout::{ours, Call, Drawn, Layout};
 use super::model::{Listed, Path, Row};
-use super::shapes::{coil, placed, pocket, short_steps, walk};
+use super::shapes::{coil, placed, pocket, short_steps, to_and_fro};
 use crate::capi::Rows;
 use crate::crossing::REFUSED;
 use crate::inputs::{Point, Vertex};
@@ -17,7 +17,8 @@ use crate::rng::Rng;
 const RUNS: usize = 3;
 /// A listing of fewer pairs than this is made so often that a run has as many.
 const PAIRS_A_RUN: u64 = 1 << 20;
-const SIZES: [usize; 4] = [64, 256, 1024, 4096];
+/// Of 64, 256, 1,024 and 4,096 segments.
+const SIDES: [usize; 4] = [8, 16, 32, 64];
 const EPSILON: f64 = 1e-5;
 
 pub fn run() {
@@ -28,10 +29,13 @@ pub fn run() {
         "", "pairs", "rows", "ours", "the Rust", "ratio"
     );
     for (name, bulged) in [("lines", false), ("arcs", true)] {
-        for size in SIZES {
-            let step = 1280.0 / (size as f64).sqrt();
-            let mut one = || Drawn::new(&walk(size, step, 500.0, bulged, &mut rng), true);
-            let layout = beside(one(), one());
+        for side in SIDES {
+            let mut one = |off: f64| {
+                let path = to_and_fro(side, off, bulged, &mut rng);
+                Drawn::new(&path, true)
+            };
+            let layout = beside(one(0.0), one(0.5));
+            let size = side * side;
             timed(&format!("{size} {name} by {size}"), &layout, Call::Mutual);
         }
     }
@@ -46,7 +50,7 @@ pub fn run() {
     let outline = Drawn::new(&pocket(corner, 120.0, 90.0, 5.0), true);
     let layout = beside(open(&winding), outline);
     timed("coil of 2000, a pocket's outline", &layout, Call::Mutual);
-    let layout = beside(open(&winding), open(&moved(&winding, 220.0, 200.25)));
+    let layout = beside(open(&winding), open(&moved(&winding, 240.0, 225.25)));
     timed("coil of 2000, another", &layout, Call::Mutual);
     timed("coil of 2000, by itself", &layout, Call::Own);
 }

@@ -89,27 +89,27 @@ pub fn arcs(vertices: usize, step: f64, rng: &mut Rng) -> Vec<Vertex> {
     (0..vertices).map(|_| next()).collect()
 }
 
-/// Steps of up to `step` each way from the middle of a sheet, turned back at its edges, which are `edge` away on every side.
-pub fn walk(vertices: usize, step: f64, edge: f64, bulged: bool, rng: &mut Rng) -> Vec<Vertex> {
-    let mut at = Point::default();
-    let mut next = || {
+/// To and fro over a sheet of 1,000 by 1,000, `side` segments across and `side` of such lines, `off` lines away from the edge, no
+/// vertex quite in its place.
+pub fn to_and_fro(side: usize, off: f64, bulged: bool, rng: &mut Rng) -> Vec<Vertex> {
+    let cell = 1000.0 / side as f64;
+    let mut next = |i: usize| {
+        let (line, along) = (i / side, i % side);
+        let along = if line % 2 == 0 {
+            along
+        } else {
+            side - 1 - along
+        };
+        let mut near = |place: f64| cell * (place + rng.between(-0.3, 0.3));
+        let (x, y) = (near(along as f64), near(line as f64 + off));
         let bulge = if bulged {
-            rng.sign() * rng.between(0.125, 1.0)
+            rng.sign() * rng.between(0.1, 0.5)
         } else {
             0.0
         };
-        let here = Vertex { at, bulge };
-        for x in [&mut at.x, &mut at.y] {
-            let far = *x + rng.between(-step, step);
-            *x = if far.abs() <= edge {
-                far
-            } else {
-                *x - (far - *x)
-            };
-        }
-        here
+        vertex(x, y, bulge)
     };
-    (0..vertices).map(|_| next()).collect()
+    (0..side * side).map(&mut next).collect()
 }
 
 /// A round coil in short lines, some 50 a turn, so many in all.
