@@ -1,7 +1,7 @@
 //! The model on what the scope states, and on listings that one can work out by hand.
 
 use super::layout::Drawn;
-use super::model::{row_room, Fault, Listed, Place, Rows};
+use super::model::{row_room, Fault, Listed, Listing, Place, Rows};
 use super::shapes::{crossed, crossed_by_itself};
 
 const EPSILON: f64 = 1e-5;
@@ -23,12 +23,21 @@ fn arc(from: [f64; 2], to: [f64; 2], bulge: f64) -> Drawn {
     path(&[[from[0], from[1], bulge], [to[0], to[1], 0.0]], false)
 }
 
+/// The rows, or the refusal, in a room for so many.
+fn listing(listed: Listed, epsilon: f64, room: usize) -> Result<Rows, Fault> {
+    let listing = Listing::new(listed, epsilon);
+    match listing.fault(room) {
+        Some(fault) => Err(fault),
+        None => Ok(listing.rows),
+    }
+}
+
 fn mutual(first: &Drawn, second: &Drawn, epsilon: f64, room: usize) -> Result<Rows, Fault> {
-    Listed::Mutual(first.path(), second.path()).listing(epsilon, room)
+    listing(Listed::Mutual(first.path(), second.path()), epsilon, room)
 }
 
 fn own(drawn: &Drawn, room: usize) -> Result<Rows, Fault> {
-    Listed::Own(drawn.path()).listing(EPSILON, room)
+    listing(Listed::Own(drawn.path()), EPSILON, room)
 }
 
 /// Indices, class and points of each row.

@@ -61,6 +61,12 @@ pub struct Rows {
     pub pairs: u64,
 }
 
+/// A listing for any room: the first two faults, or else the rows.
+pub struct Listing {
+    pub faults: Vec<Fault>,
+    pub rows: Rows,
+}
+
 /// A refusal's number, and what it was given for. Only the number is told.
 #[derive(Clone, Copy, Debug, PartialEq)]
 pub struct Fault {
@@ -134,15 +140,6 @@ impl<'a> Listed<'a> {
         }
         found
     }
-
-    /// The listing for a room of so many rows.
-    #[cfg(test)]
-    pub fn listing(self, epsilon: f64, room: usize) -> Result<Rows, Fault> {
-        match self.faults(epsilon).next() {
-            Some(fault) => Err(fault),
-            None => self.rows(epsilon).within(room),
-        }
-    }
 }
 
 impl Row {
@@ -169,22 +166,28 @@ impl Rows {
         }
         self.rows.push(Row::new([i, j], answer));
     }
-
-    #[cfg(test)]
-    fn within(self, room: usize) -> Result<Rows, Fault> {
-        if self.rows.len() > room {
-            Err(NO_ROW_ROOM)
-        } else {
-            Ok(self)
-        }
-    }
 }
 
-/// What is given if there are more rows than the row room.
-pub const NO_ROW_ROOM: Fault = Fault {
-    number: 8,
-    place: Place::Room,
-};
+impl Listing {
+    pub fn new(listed: Listed, epsilon: f64) -> Listing {
+        let faults: Vec<Fault> = listed.faults(epsilon).take(2).collect();
+        let rows = if faults.is_empty() {
+            listed.rows(epsilon)
+        } else {
+            Rows::default()
+        };
+        Listing { faults, rows }
+    }
+
+    /// The fault that is told if there is room for so many rows. More rows than that are the last in order.
+    pub fn fault(&self, room: usize) -> Option<Fault> {
+        let number = 8;
+        let place = Place::Room;
+        let too_many = self.rows.rows.len() > room;
+        let first = self.faults.first().copied();
+        first.or(too_many.then_some(Fault { number, place }))
+    }
+}
 
 /// How many whole rows both slices have room for.
 pub fn row_room(indices: usize, points: usize) -> usize {

@@ -4,7 +4,7 @@
 use super::kinds::{Case, Kinds};
 use super::layout::{ours, Call, Layout};
 use super::lent::{Expected, Lent, LentPath, Old, Room};
-use super::model::{row_room, Fault, Rows, NO_ROW_ROOM};
+use super::model::{row_room, Listing};
 use super::sites::Sites;
 
 const SHOWN: u64 = 5;
@@ -26,37 +26,21 @@ pub struct Score {
 pub struct Known<'a> {
     layout: &'a Layout,
     call: Call,
-    faults: Vec<Fault>,
-    rows: Rows,
+    listing: Listing,
 }
 
 impl<'a> Known<'a> {
     pub fn new(layout: &'a Layout, call: Call) -> Known<'a> {
-        let listed = layout.listed(call);
-        let faults: Vec<Fault> = listed.faults(layout.epsilon).take(2).collect();
-        let rows = if faults.is_empty() {
-            listed.rows(layout.epsilon)
-        } else {
-            Rows::default()
-        };
         Known {
             layout,
             call,
-            faults,
-            rows,
+            listing: Listing::new(layout.listed(call), layout.epsilon),
         }
     }
 
     /// How many rows it has; none if it is refused.
     pub fn rows(&self) -> usize {
-        self.rows.rows.len()
-    }
-
-    /// The fault that is told for slices of these lengths.
-    fn fault(&self, room: Room) -> Option<Fault> {
-        let short = self.rows() > row_room(room.indices, room.points);
-        let first = self.faults.first().copied();
-        first.or(short.then_some(NO_ROW_ROOM))
+        self.listing.rows.rows.len()
     }
 }
 
@@ -83,11 +67,12 @@ impl Score {
         let mut lent = Lent::new(room, old);
         let told = ours(listed, layout.epsilon, lent.slices());
 
-        let fault = known.fault(room);
+        let Listing { faults, rows } = &known.listing;
+        let fault = known.listing.fault(row_room(room.indices, room.points));
         let expected = match fault {
             _ if room.counts < 2 => Expected::NoRoom,
             Some(fault) => Expected::Refused(fault.number),
-            None => Expected::Answered(&known.rows),
+            None => Expected::Answered(rows),
         };
         let wrong = lent.wrong(told, &expected).or_else(|| {
             let kept = first.is(&layout.first) && second.is(&layout.second);
@@ -99,7 +84,7 @@ impl Score {
         self.count(&expected);
         let case = Case {
             paths: &layout.listed(known.call).paths(),
-            faults: &known.faults,
+            faults,
             fault,
             rows: known.rows(),
             room,
