@@ -1,5 +1,5 @@
-//! Whole-path listings as the scope's prose has them, and from nothing else: which pairs are looked at, which make a row, what is
-//! refused and in which order. How a pair meets is the Rust's own answer.
+//! Whole-path listings as the scope's prose has them: which pairs are looked at, which make a row, what is refused and in which
+//! order. How a pair meets is the Rust's own answer; what a number is refused for is the table's, as for the pair call.
 
 use cavalier_contours::polyline::{pline_seg_intr, PlineSegIntr, PlineVertex};
 

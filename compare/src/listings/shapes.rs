@@ -1,4 +1,4 @@
-//! Paths as they are cut, and others: coils, meanders, pads, chains of arcs, walks on a coarse grid.
+//! Paths as they are cut, and others: coils, meanders, pads, walks of arcs, random vertices on a coarse grid.
 //!
 //! As everywhere here, no function is used whose last bit a machine may choose.
 
