@@ -8,3 +8,4 @@ pub mod Ready
 pub mod Stores
 pub mod Outcome
 pub mod Entry
+pub mod Complete

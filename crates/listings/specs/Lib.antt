@@ -6,4 +6,5 @@ pub mod Listing
 pub mod Filled
 pub mod Told
 pub mod Refusals
+pub mod Complete
 pub mod Laws
