@@ -7,3 +7,5 @@ pub mod Reader
 pub mod Examples
 pub mod Laws
 pub mod Exactly
+pub mod Shown
+pub mod Read

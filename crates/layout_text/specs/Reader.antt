@@ -19,6 +19,15 @@ abbrev pub andThen : {A B : Type 0} → Got A → (A → List ℕ → Got B) →
 andThen nothing next = nothing
 andThen (got a rest) next = next a rest
 
+-- what is left alone
+pub data Passed : Type 0 where
+  stuck : Passed
+  over : List ℕ → Passed
+
+abbrev pub passed : {A : Type 0} → Got A → Passed
+passed nothing = stuck
+passed (got a rest) = over rest
+
 -- ---- bytes
 
 -- what a byte is: a digit's worth, or one of these
