@@ -5,3 +5,4 @@ pub mod Complete
 pub mod Sound
 pub mod Long
 pub mod Signs
+pub mod Put

@@ -6,7 +6,9 @@ use vertex::fill;
 
 mod bytes;
 pub mod limits;
+mod lines;
 mod number;
+mod put;
 mod shape;
 mod value;
 mod vertex;

@@ -7,7 +7,7 @@ use native.Mathlib.Omega.{arith}
 use borrow.Author.Needs.{needs}
 use lib.ListN.{length, drop, length-set}
 use Rattle.layout_text.specs.Reader.{verticesOf}
-use Rattle.layout_text.proofs.Lines.{no-line, a-line, lines-end, lines-broken, stored, store-line, filled-broken, filled-end}
+use Rattle.layout_text.proofs.VertexLines.{no-line, a-line, lines-end, lines-broken, stored, store-line, filled-broken, filled-end}
 use Rattle.layout_text.proofs.vertex.fill.Statement.{statement}
 use Rattle.layout_text.proofs.vertex.fill.Tie as tie
 

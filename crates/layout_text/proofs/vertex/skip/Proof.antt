@@ -8,7 +8,7 @@ use borrow.Author.Needs.{needs}
 use lib.ListN.{drop}
 use Rattle.layout_text.specs.Reader.{passed, verticesOf}
 use Rattle.layout_text.specs.Shown.{shownPlace}
-use Rattle.layout_text.proofs.Lines.{no-line, a-line, lines-end, lines-broken, pass-line}
+use Rattle.layout_text.proofs.VertexLines.{no-line, a-line, lines-end, lines-broken, pass-line}
 use Rattle.layout_text.proofs.vertex.skip.Statement.{statement}
 use Rattle.layout_text.proofs.vertex.skip.Tie as tie
 

@@ -1,0 +1,1 @@
+-- What the writer promises: its answer, and what stands in the slice after it.
