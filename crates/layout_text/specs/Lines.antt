@@ -5,7 +5,7 @@ use mathlib.Core.Bool.{Bool, cond}
 use mathlib.Core.List.{List, [], _∷_, _++_}
 use lib.Dec.{ltb, eqb}
 use lib.ListN.{getD}
-use lib.Ieee.{Float, binary64, ofBits, toBits}
+use lib.Ieee.{Float, nan, binary64, toBits}
 use Rattle.layout_text.specs.Decimal.{decimal}
 
 -- ---- words
@@ -100,9 +100,8 @@ countText pairs rows = pairsWord ++ decimal pairs ++ rowsWord ++ decimal rows ++
 -- row k of the index rows, three numbers a row, and of the float rows, four a row
 unfoldable pub rowAt : List ℕ → List Float → ℕ → List ℕ
 rowAt index points k =
-    let zeroth = ofBits binary64 0 in
     rowText (getD index (k * 3) 0) (getD index (k * 3 + 1) 0) (getD index (k * 3 + 2) 0)
-    (getD points (k * 4) zeroth) (getD points (k * 4 + 1) zeroth) (getD points (k * 4 + 2) zeroth) (getD points (k * 4 + 3) zeroth)
+    (getD points (k * 4) nan) (getD points (k * 4 + 1) nan) (getD points (k * 4 + 2) nan) (getD points (k * 4 + 3) nan)
 
 -- n rows from row k on
 unfoldable pub rowsText : List ℕ → List Float → ℕ → ℕ → List ℕ

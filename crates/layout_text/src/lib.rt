@@ -6,7 +6,7 @@ use vertex::fill;
 
 mod bytes;
 pub mod limits;
-mod lines;
+pub mod lines;
 mod number;
 mod put;
 mod shape;

@@ -1,12 +1,23 @@
 // The lines of an answer. specs/Lines.antt has their text; what is promised of them is in specs/Written.antt.
-ghost use Prim.Native.Nat.{_+_, _≤_};
+ghost use Prim.Native.Nat.{_+_, _*_, _≤_};
 ghost use lib.ListN.{length};
 ghost use Rattle.layout_text.specs.Lines as lines;
-ghost use Rattle.layout_text.specs.Put.{PutIn};
+ghost use Rattle.layout_text.specs.Put.{Put, PutIn};
+ghost use Rattle.layout_text.specs.Written.{RefusalLine, AnswerLines};
 use super::put::put_byte;
 use super::put::put_number;
 use super::put::put_whole;
 use super::put::put_word;
+
+// how much room is asked for a line
+pub const LINE: usize = 128;
+
+// How many bytes were written; or that the rows' slices have fewer rows than told, or that the slice has too little room.
+pub enum Written {
+    Length(usize),
+    NoRows,
+    NoRoom,
+}
 
 // The name of a class.
 fn put_class(out: &mut [u8], at: usize, class: u64) -> usize
@@ -74,4 +85,81 @@ fn put_row(
     let e = put_class(out, d, class);
     let f = put_points(out, e, class, x1, y1, x2, y2);
     put_byte(out, f, b'\n')
+}
+
+// The line with the counts, which has at most 128 bytes.
+fn put_counts(out: &mut [u8], pairs: u64, rows: u64) -> usize
+    requires { ⌜ 128 ≤ length (now out) ⌝ }
+    ensures { λ r. ⌜ PutIn 128 (lines.countText pairs rows) (now (out .entry)) 0 (now (out .exit)) r ⌝ }
+{
+    let a = put_word(out, 0, b"pairs ");
+    let b = put_whole(out, a, pairs);
+    let c = put_word(out, b, b" rows ");
+    let d = put_whole(out, c, rows);
+    put_byte(out, d, b'\n')
+}
+
+// The lines of the rows.
+fn put_rows(out: &mut [u8], start: usize, rows: usize, index: &[u64], points: &[f64]) -> usize
+    requires { ⌜ rows * 3 ≤ length (now index) ⌝ }
+    requires { ⌜ rows * 4 ≤ length (now points) ⌝ }
+    requires { ⌜ start + rows * 128 ≤ length (now out) ⌝ }
+    ensures { λ r. ⌜ Put (lines.rowsText (now (index .entry)) (now (points .entry)) rows 0) (now (out .entry)) start (now (out .exit)) r ⌝ }
+{
+    let mut at = start;
+    let mut k = 0;
+    while k < rows {
+        let i = k * 3;
+        let p = k * 4;
+        at = put_row(
+            out,
+            at,
+            index[i],
+            index[i + 1],
+            index[i + 2],
+            points[p],
+            points[p + 1],
+            points[p + 2],
+            points[p + 3],
+        );
+        k += 1;
+    }
+    at
+}
+
+// Writes the line of a refusal.
+pub fn write_refusal(number: u64, out: &mut [u8]) -> Written
+    ensures { λ r. ⌜ RefusalLine number r (now (out .entry)) (now (out .exit)) ⌝ }
+{
+    if out.len() < LINE {
+        return Written::NoRoom;
+    }
+    let a = put_word(out, 0, b"refused ");
+    let b = put_whole(out, a, number);
+    let c = put_byte(out, b, b'\n');
+    Written::Length(c)
+}
+
+// Writes the line with the counts and a line for each row: index rows have three numbers, float rows four.
+pub fn write_answer(
+    pairs: u64,
+    rows: usize,
+    index: &[u64],
+    points: &[f64],
+    out: &mut [u8],
+) -> Written
+    ensures { λ r. ⌜ AnswerLines pairs rows (now (index .entry)) (now (points .entry)) r (now (out .entry)) (now (out .exit)) ⌝ }
+{
+    if index.len() / 3 < rows {
+        return Written::NoRows;
+    }
+    if points.len() / 4 < rows {
+        return Written::NoRows;
+    }
+    if out.len() / LINE <= rows {
+        return Written::NoRoom;
+    }
+    let counts = put_counts(out, pairs, rows as u64);
+    let end = put_rows(out, counts, rows, index, points);
+    Written::Length(end)
 }
