@@ -3,4 +3,3 @@ pub mod Told
 pub mod VertexLines
 pub mod Texts
 pub mod Ends
-pub mod Rows

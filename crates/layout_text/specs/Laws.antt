@@ -5,4 +5,3 @@ pub mod Complete
 pub mod Sound
 pub mod Long
 pub mod Signs
-pub mod Put

@@ -4,9 +4,6 @@ pub mod Decimal
 pub mod Form
 pub mod Numbers
 pub mod Reader
-pub mod Lines
-pub mod Put
-pub mod Written
 pub mod Examples
 pub mod Laws
 pub mod Exactly

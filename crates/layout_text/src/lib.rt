@@ -6,9 +6,7 @@ use vertex::fill;
 
 mod bytes;
 pub mod limits;
-pub mod lines;
 mod number;
-mod put;
 mod shape;
 mod value;
 mod vertex;
