@@ -2,3 +2,5 @@ pub mod Lines
 pub mod Put
 pub mod Written
 pub mod Laws
+pub mod Settle
+pub mod Examples

@@ -34,7 +34,7 @@ pub fn write_refusal(number: u64, out: &mut [u8]) -> Written
 
 // Writes the line with the counts and a line for each row: index rows have three numbers, float rows four.
 pub fn write_answer(
-    pairs: u64,
+    pairs: usize,
     rows: usize,
     index: &[u64],
     points: &[f64],
@@ -51,7 +51,7 @@ pub fn write_answer(
     if out.len() / LINE <= rows {
         return Written::NoRoom;
     }
-    let counts = put_counts(out, pairs, rows as u64);
+    let counts = put_counts(out, pairs as u64, rows as u64);
     let end = put_rows(out, counts, rows, index, points);
     Written::Length(end)
 }

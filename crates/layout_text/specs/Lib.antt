@@ -9,3 +9,5 @@ pub mod Laws
 pub mod Exactly
 pub mod Shown
 pub mod Read
+pub mod Exact
+pub mod Settle

@@ -3,6 +3,7 @@ ghost use mathlib.Core.Path.{_≡_};
 ghost use mathlib.Core.Bool.{true, false};
 ghost use Prim.Native.Nat.{_≤_, _<_};
 ghost use lib.ListN.{drop};
+ghost use Rattle.layout_text.specs.Limits as limit;
 ghost use Rattle.layout_text.specs.Reader.{digitsOf, positiveOf, zeroOf, countOf, wholeOf, other};
 ghost use Rattle.layout_text.specs.Shown.{shownNumber};
 use super::bytes;
@@ -15,7 +16,7 @@ pub enum Number {
 
 // The digits from `start` up to the end.
 fn digits(text: &[u8], start: usize, negative: bool, most: u64, end: u64) -> Number
-    requires { ⌜ most ≤ 1048576 ⌝ }
+    requires { ⌜ most ≤ limit.coordinate ⌝ }
     ensures { λ r. ⌜ shownNumber (now (text .entry)) r ≡ digitsOf negative most end 0 (drop start (now (text .entry))) ⌝ }
 {
     let mut n: u64 = 0;
@@ -39,7 +40,7 @@ fn digits(text: &[u8], start: usize, negative: bool, most: u64, end: u64) -> Num
 
 // A number above 0.
 fn positive(text: &[u8], start: usize, negative: bool, most: u64, end: u64) -> Number
-    requires { ⌜ most ≤ 1048576 ⌝ }
+    requires { ⌜ most ≤ limit.coordinate ⌝ }
     ensures { λ r. ⌜ shownNumber (now (text .entry)) r ≡ positiveOf negative most end (drop start (now (text .entry))) ⌝ }
 {
     let k = bytes::kind_at(text, start);
@@ -65,7 +66,7 @@ fn zero(text: &[u8], start: usize, end: u64) -> Number
 
 // A number without a minus.
 pub fn count(text: &[u8], start: usize, most: u64, end: u64) -> Number
-    requires { ⌜ most ≤ 1048576 ⌝ }
+    requires { ⌜ most ≤ limit.coordinate ⌝ }
     requires { ⌜ end < other ⌝ }
     ensures { λ r. ⌜ shownNumber (now (text .entry)) r ≡ countOf most end (drop start (now (text .entry))) ⌝ }
 {
@@ -77,7 +78,7 @@ pub fn count(text: &[u8], start: usize, most: u64, end: u64) -> Number
 
 // A number with or without one.
 pub fn whole(text: &[u8], start: usize, most: u64, end: u64) -> Number
-    requires { ⌜ most ≤ 1048576 ⌝ }
+    requires { ⌜ most ≤ limit.coordinate ⌝ }
     requires { ⌜ end < other ⌝ }
     ensures { λ r. ⌜ shownNumber (now (text .entry)) r ≡ wholeOf most end (drop start (now (text .entry))) ⌝ }
 {

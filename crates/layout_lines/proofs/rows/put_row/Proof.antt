@@ -1,8 +1,6 @@
 -- `layout_lines::rows::put_row` meets its contract: the parts of the line follow one another. Assumes nothing.
-use native.Mathlib.Omega.{arith}
 use borrow.Author.Needs.{needs}
-use Rattle.layout_lines.specs.Lines.{rowText}
-use Rattle.layout_lines.specs.Laws.Put.{put-join}
+use Rattle.layout_lines.specs.Laws.Lines.{row-put}
 use Rattle.layout_lines.proofs.rows.put_row.Statement.{statement}
 use Rattle.layout_lines.proofs.rows.put_row.Tie as tie
 
@@ -31,7 +29,6 @@ same-length : tie.Need-same-length
 same-length c = search needs
 
 returns : tie.Need-returns
-unfolding rowText
 returns c =
     let end = c .before .before in
     let points = end .before .before .before .before in
@@ -40,22 +37,14 @@ returns c =
     let second = gap .before .before .before .before in
     let space = second .before .before .before .before in
     let first = space .before .before .before .before in
-    let one = put-join (first .put-whole .ensures .is-put) (space .put-byte .ensures) in
-    let two = put-join (put-join one (second .put-whole2 .ensures .is-put)) (gap .put-byte2 .ensures) in
-    let all = put-join (put-join two (class .put-class .ensures .is-put)) (points .put-points .ensures .is-put) in
-    record {
-      is-put = put-join all (end .put-byte3 .ensures);
-      short = omega (
-        arith,
-        first .put-whole .ensures .short,
-        space .put-byte .ensures .after,
-        second .put-whole2 .ensures .short,
-        gap .put-byte2 .ensures .after,
-        class .put-class .ensures .short,
-        points .put-points .ensures .short,
-        end .put-byte3 .ensures .after,
-      );
-    }
+    row-put _ _ _ _ _ _ _
+    (first .put-whole .ensures)
+    (space .put-byte .ensures)
+    (second .put-whole2 .ensures)
+    (gap .put-byte2 .ensures)
+    (class .put-class .ensures)
+    (points .put-points .ensures)
+    (end .put-byte3 .ensures)
 
 pub put-row-spec : {M : Type 1} → statement M
 put-row-spec =
