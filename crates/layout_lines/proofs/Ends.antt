@@ -23,7 +23,8 @@ module _ (index : List ℕ) (points : List Float) (rows k : ℕ) where
       rw none (put-none out at)
 
   pub rows-more : k < rows → {out mid now : List ℕ} {at to next : ℕ} → Put (rowAt index points k) out at mid to
-      → Put (rowsText index points (rows - (k + 1)) (k + 1)) mid to now next → Put (rowsText index points (rows - k) k) out at now next
+      → Put (rowsText index points (rows - (k + 1)) (k + 1)) mid to now next
+      → Put (rowsText index points (rows - k) k) out at now next
   unfolding rowsText
   rows-more h p q =
       let one : rows - k ≡ suc (rows - (k + 1)) = omega arith in
@@ -39,7 +40,8 @@ module _ (rowless roomless : Bool) (bytes old : List ℕ) where
     pub no-room : roomless ≡ true → Lines rowless roomless bytes Written·.NoRoom old old
     no-room e = record { told = rw (rowed, e); holds = rw (rowed, e) }
 
-    pub written : roomless ≡ false → (now : List ℕ) (next : ℕ) → Put bytes old 0 now next → Lines rowless roomless bytes (Written·.Length next) old now
+    pub written : roomless ≡ false → (now : List ℕ) (next : ℕ) → Put bytes old 0 now next
+        → Lines rowless roomless bytes (Written·.Length next) old now
     written e now next p =
         let long : next ≡ length bytes = omega (arith, p .after) in
         record { told = rw (rowed, e, long); holds = rw (rowed, e) (p .holds) }

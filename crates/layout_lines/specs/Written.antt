@@ -1,5 +1,5 @@
--- What the writer promises: its answer, and what stands in the slice after it. It asks for 128 bytes a line, which is more than any
--- line has; where there are fewer, or the rows' slices have fewer rows than are told, nothing is written.
+-- What the writer promises: its answer, and what stands in the slice after it. It asks for 128 bytes a line, which is more than
+-- any line has; where there are fewer, or the rows' slices have fewer rows than are told, nothing is written.
 use Prim.Native.Nat.{ℕ, _/_}
 use mathlib.Core.Path.{_≡_}
 use mathlib.Core.Bool.{Bool, false, _||_, cond}
@@ -28,4 +28,5 @@ RefusalLine number r old now = Lines false (ltb (length old) line) (refusedText 
 -- the counts and the rows
 abbrev pub AnswerLines : ℕ → ℕ → List ℕ → List Float → Written → List ℕ → List ℕ → Type 0
 AnswerLines pairs rows index points r old now =
-    Lines (ltb (length index / 3) rows || ltb (length points / 4) rows) (leb (length old / line) rows) (answerText pairs rows index points) r old now
+    Lines (ltb (length index / 3) rows || ltb (length points / 4) rows) (leb (length old / line) rows)
+    (answerText pairs rows index points) r old now

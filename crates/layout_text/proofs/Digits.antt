@@ -21,16 +21,19 @@ module _ (text : List ℕ) (negative : Bool) (most end n i : ℕ) where
     unfolding digitsOf
     at-mark h e = rw (drop-cons text i 0 inside, add-one, lt-ltb _ _ h, eq-eqb _ _ e)
 
-    pub at-other : 9 < kindOf (getD text i 0) → (kindOf (getD text i 0) ≡ end → ⊥) → digitsOf negative most end n (drop i text) ≡ nothing
+    pub at-other : 9 < kindOf (getD text i 0) → (kindOf (getD text i 0) ≡ end → ⊥)
+        → digitsOf negative most end n (drop i text) ≡ nothing
     unfolding digitsOf
     at-other h e = rw (drop-cons text i 0 inside, lt-ltb _ _ h, ne-eqb _ _ e)
 
-    pub at-beyond : kindOf (getD text i 0) ≤ 9 → most < n * 10 + kindOf (getD text i 0) → digitsOf negative most end n (drop i text) ≡ nothing
+    pub at-beyond : kindOf (getD text i 0) ≤ 9 → most < n * 10 + kindOf (getD text i 0)
+        → digitsOf negative most end n (drop i text) ≡ nothing
     unfolding digitsOf
     at-beyond h g = rw (drop-cons text i 0 inside, le-ltb _ _ h, lt-ltb _ _ g)
 
     pub at-digit : kindOf (getD text i 0) ≤ 9 → n * 10 + kindOf (getD text i 0) ≤ most
-        → digitsOf negative most end (n * 10 + kindOf (getD text i 0)) (drop (i + 1) text) ≡ digitsOf negative most end n (drop i text)
+        → digitsOf negative most end (n * 10 + kindOf (getD text i 0)) (drop (i + 1) text)
+        ≡ digitsOf negative most end n (drop i text)
     unfolding digitsOf
     at-digit h g = rw (drop-cons text i 0 inside, add-one, le-ltb _ _ h, le-ltb _ _ g)
 

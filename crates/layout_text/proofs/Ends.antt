@@ -28,7 +28,8 @@ module _ (text : List ℕ) (first second : List Float) where
         }
 
     module _ (two : limit.room ≤ length second) where
-      pub form-broken : (s : Shape) → Shaped text s → s ≡ Shape·.Broken → ReadLayout text (Reading·.Refused refusal) first first second second
+      pub form-broken : (s : Shape) → Shaped text s → s ≡ Shape·.Broken
+          → ReadLayout text (Reading·.Refused refusal) first first second second
       form-broken s shaped e =
           let is : reads text ≡ broken = rw e at shaped in
           record {

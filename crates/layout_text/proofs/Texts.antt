@@ -1,4 +1,5 @@
--- A text, part by part: where a part is missing the text breaks its form, and where all are there and nothing more it says a layout.
+-- A text, part by part: where a part is missing the text breaks its form, and where all are there and nothing more it says a
+-- layout.
 use Prim.Native.Nat.{ℕ, zero, suc, _≤_, _<_}
 use mathlib.Core.Path.{_≡_, refl, sym, ap, _∙_, subst}
 use mathlib.Core.Bool.{Bool, true, false}
@@ -10,7 +11,8 @@ use lib.Seq.{drop-cons}
 use lib.IntN.{ℤ, pos}
 use Rattle.layout_text.specs.Limits as limit
 use Rattle.layout_text.specs.Layout.{Vertex, Layout, size, whole}
-use Rattle.layout_text.specs.Reader.{Got, nothing, got, Passed, stuck, over, passed, other, space, newline, countOf, verticesOf, linesOf, broken, layout, reads}
+use Rattle.layout_text.specs.Reader.{Got, nothing, got, Passed, stuck, over, passed, other, space, newline, countOf}
+use Rattle.layout_text.specs.Reader.{verticesOf, linesOf, broken, layout, reads}
 use Rattle.layout_text.specs.Shown.{shownNumber, shownPlace}
 use Rattle.layout_text.specs.Laws.Sound.{count-spelt}
 use Rattle.layout_text.proofs.Told.{a-number}

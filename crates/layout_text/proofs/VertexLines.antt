@@ -101,7 +101,8 @@ three-set old k x y b =
 
 pub store-line : (n i : ℕ) (t : List ℕ) → i < n → {x y b : Float} {rest : List ℕ} → Line (vertexOf t) (x ∷ y ∷ b ∷ []) rest
     → (old : List Float) (k : ℕ)
-    → stored (verticesOf (n - (i + 1)) rest) (set (set (set old k x) (k + 1) y) (k + 2) b) (k + 3) ≡ stored (verticesOf (n - i) t) old k
+    → stored (verticesOf (n - (i + 1)) rest) (set (set (set old k x) (k + 1) y) (k + 2) b) (k + 3)
+    ≡ stored (verticesOf (n - i) t) old k
 store-line n i t h {x} {y} {b} {rest} line old k =
     let g = verticesOf (n - (i + 1)) rest in
     let three : k + 3 ≡ suc (suc (suc k)) = omega arith in

@@ -4,7 +4,8 @@ use mathlib.Core.Bool.{Bool, true, false}
 use mathlib.Core.List.{List, [], _∷_, _++_}
 use lib.Dec.{ltb}
 
--- At most k digits of n; `small` says whether n is below ten, where it is one digit. Else its last digit follows those of its tenth.
+-- At most k digits of n; `small` says whether n is below ten, where it is one digit. Else its last digit follows those of its
+-- tenth.
 unfoldable pub decimalIn : ℕ → Bool → ℕ → List ℕ
 decimalIn zero small n = []
 decimalIn (suc k) true n = (48 + n) ∷ []

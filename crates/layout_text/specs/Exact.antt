@@ -58,8 +58,8 @@ module _ (f : Format) (enough : 16 ≤ low f) (wide : 16 < prec f) where
   quotient : (s : Bool) (n d : ℕ) → 0 < d → n ≤ 2 ^ 16 → HasValue (round f s (n * d) (65536 * d)) s n 65536
   quotient s n d p h =
       reduced (round f s (n * d) (65536 * d)) s n d 65536 p
-      (round-exact f s (n * d) (65536 * d) n (low f - 16) (omega arith) (lt-of-le-of-lt h (pow-lt wide)) (room (low f) (emax f) n enough h)
-      (counted (low f) n d enough))
+      (round-exact f s (n * d) (65536 * d) n (low f - 16) (omega arith) (lt-of-le-of-lt h (pow-lt wide))
+      (room (low f) (emax f) n enough h) (counted (low f) n d enough))
 
   signed : (t s : Bool) (n m : ℕ) (e : ℤ) → t ≡ s → m * up e * 1 ≡ n * down e → n ≤ 2 ^ 16
       → HasValue (round f t (m * up e * 1) (65536 * down e)) s n 65536

@@ -29,8 +29,8 @@ to-broken (layout l) e = let z : _≡_ {A = ℕ} 0 1 = cc in absurd (omega arith
 
 -- ---- in the caller's words, where both buffers have room
 
-module _ {text : List ℕ} {r : Reading} {first first′ second second′ : List Float} (read : ReadLayout text r first first′ second second′)
-    (room : roomless first second ≡ false) where
+module _ {text : List ℕ} {r : Reading} {first first′ second second′ : List Float}
+    (read : ReadLayout text r first first′ second second′) (room : roomless first second ≡ false) where
   -- the text of a layout within the limits is read as its counts and its paths
   pub read-when : (l : Layout) → Within l → text ≡ textOf l
       → (r ≡ Reading·.Counts (length (l .first)) (length (l .second)))

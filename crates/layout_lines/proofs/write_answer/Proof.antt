@@ -1,4 +1,5 @@
--- `layout_lines::write_answer` meets its contract: its tests are the definition's, and the rows follow the counts. Assumes nothing.
+-- `layout_lines::write_answer` meets its contract: its tests are the definition's, and the rows follow the counts. Assumes
+-- nothing.
 use borrow.Author.Needs.{needs}
 use borrow.Author.Tests.{lt-ltb, le-ltb, le-leb, lt-leb}
 use Rattle.layout_lines.specs.Lines.{answerText}
@@ -34,7 +35,8 @@ returns-4 c =
     let counts = rows .before .before .before .before in
     let room = counts .before .before in
     let points = room .before in
-    written _ _ _ _ (rw (le-ltb _ _ (points .before .if1 .left), le-ltb _ _ (points .if2 .left))) (lt-leb _ _ (room .if3 .left)) _ _
+    written _ _ _ _ (rw (le-ltb _ _ (points .before .if1 .left), le-ltb _ _ (points .if2 .left)))
+    (lt-leb _ _ (room .if3 .left)) _ _
     (put-join (counts .put-counts .ensures .is-put) (rows .put-rows .ensures))
 
 pub write-answer-spec : {M : Type 1} → statement M

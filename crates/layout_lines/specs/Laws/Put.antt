@@ -25,7 +25,8 @@ put-none old at = record { holds = refl; after = omega arith }
 pub put-one : (old : List ℕ) (at b : ℕ) → Put (b ∷ []) old at (set old at b) (at + 1)
 put-one old at b = record { holds = refl; after = refl }
 
-pub put-join : {a b old mid now : List ℕ} {at k next : ℕ} → Put a old at mid k → Put b mid k now next → Put (a ++ b) old at now next
+pub put-join : {a b old mid now : List ℕ} {at k next : ℕ} → Put a old at mid k → Put b mid k now next
+    → Put (a ++ b) old at now next
 put-join {a} {b} {old} {mid} {now} {at} {k} {next} p q =
     let from : sets mid k b ≡ sets (sets old at a) (at + length a) b = rw (p .holds, p .after) in
     let long = length-append a b in
@@ -79,12 +80,14 @@ last-inside whole p e h same = omega (arith, p .after)
 -- ---- a word, byte by byte
 
 module _ (word out : List ℕ) (at i : ℕ) where
-  pub word-turn : i < length word → sets (set out (at + i) (getD word i 0)) (at + (i + 1)) (drop (i + 1) word) ≡ sets out (at + i) (drop i word)
+  pub word-turn : i < length word
+      → sets (set out (at + i) (getD word i 0)) (at + (i + 1)) (drop (i + 1) word) ≡ sets out (at + i) (drop i word)
   word-turn h =
       let e : at + (i + 1) ≡ suc (at + i) = omega arith in
       rw (e, drop-cons word i 0 h, add-one i)
 
-  pub word-end : (old : List ℕ) → i ≤ length word → length word ≤ i → sets out (at + i) (drop i word) ≡ sets old at word → Put word old at out (at + i)
+  pub word-end : (old : List ℕ) → i ≤ length word → length word ≤ i → sets out (at + i) (drop i word) ≡ sets old at word
+      → Put word old at out (at + i)
   word-end old h g e =
       let same : i ≡ length word = omega arith in
       record { holds = rw (drop-of-length-le word g) at e; after = ap (λ (k : ℕ). at + k) same }
@@ -94,9 +97,11 @@ module _ (word out : List ℕ) (at i : ℕ) where
 pub hex-after : (k n : ℕ) {old now : List ℕ} {at next : ℕ} → Put (hex k n) old at now next → next ≡ at + k
 hex-after k n {at = at} p = p .after ∙ ap (λ (l : ℕ). at + l) (hex-long k n)
 
-pub decimal-in : (n : ℕ) → n < 10 ^ 20 → {old now : List ℕ} {at next : ℕ} → Put (decimal n) old at now next → PutIn 20 (decimal n) old at now next
+pub decimal-in : (n : ℕ) → n < 10 ^ 20 → {old now : List ℕ} {at next : ℕ} → Put (decimal n) old at now next
+    → PutIn 20 (decimal n) old at now next
 decimal-in n h p = record { is-put = p; short = omega (arith, p .after, decimal-long 19 n h) }
 
 -- a word of at most so many bytes
-pub word-in : (most : ℕ) {word old now : List ℕ} {at next : ℕ} → Put word old at now next → length word ≤ most → PutIn most word old at now next
+pub word-in : (most : ℕ) {word old now : List ℕ} {at next : ℕ} → Put word old at now next → length word ≤ most
+    → PutIn most word old at now next
 word-in most p h = record { is-put = p; short = omega (arith, p .after) }

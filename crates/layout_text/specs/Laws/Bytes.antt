@@ -26,9 +26,11 @@ byte-digit d h = rw (lt-ltb _ _ h)
 pub byte-of : (b : ℕ) → kindOf b < other → b ≡ byteOf (kindOf b)
 unfolding kindOf byteOf
 byte-of b =
-    go (ltb b 48) (nltb→le b 48) (eqb b 45) (eqb→eq b 45) (eqb b 32) (eqb→eq b 32) (eqb b 10) (eqb→eq b 10) (ltb b 58) (ltb→lt b 58)
+    go (ltb b 48) (nltb→le b 48) (eqb b 45) (eqb→eq b 45) (eqb b 32) (eqb→eq b 32) (eqb b 10) (eqb→eq b 10)
+    (ltb b 58) (ltb→lt b 58)
   where
-    go : (low : Bool) → (T (not low) → 48 ≤ b) → (m : Bool) → (T m → b ≡ 45) → (s : Bool) → (T s → b ≡ 32) → (n : Bool) → (T n → b ≡ 10)
+    go : (low : Bool) → (T (not low) → 48 ≤ b) → (m : Bool) → (T m → b ≡ 45) → (s : Bool) → (T s → b ≡ 32) → (n : Bool)
+        → (T n → b ≡ 10)
         → (d : Bool) → (T d → b < 58)
         → cond low (cond m minus (cond s space (cond n newline other))) (cond d (b - 48) other) < other
         → b ≡ byteOf (cond low (cond m minus (cond s space (cond n newline other))) (cond d (b - 48) other))

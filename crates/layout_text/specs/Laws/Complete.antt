@@ -13,7 +13,8 @@ use Rattle.layout_text.specs.Limits as limit
 use Rattle.layout_text.specs.Layout.{Vertex, Layout, VertexWithin, EachWithin, none, more, Within, size, whole}
 use Rattle.layout_text.specs.Decimal.{decimal}
 use Rattle.layout_text.specs.Form.{wholeText, vertexText, verticesText, textOf}
-use Rattle.layout_text.specs.Reader.{Got, nothing, got, andThen, kindOf, firstKind, digitsOf, positiveOf, zeroOf, countOf, wholeOf, vertexOf, verticesOf, linesOf, space, newline, minus}
+use Rattle.layout_text.specs.Reader.{Got, nothing, got, andThen, kindOf, firstKind, digitsOf, positiveOf, zeroOf, countOf}
+use Rattle.layout_text.specs.Reader.{wholeOf, vertexOf, verticesOf, linesOf, space, newline, minus}
 use Rattle.layout_text.specs.Laws.Decimal.{decimal-small, decimal-large}
 use Rattle.layout_text.specs.Laws.Bytes.{kind-digit}
 
@@ -81,7 +82,8 @@ module _ (negative : Bool) (most end : ℕ) where
     unfolding digitsOf
     digits-end n t = rw (ends, lt-ltb _ _ mark, eq-eqb end end refl)
 
-    pub positive-read : (m : ℕ) (t : List ℕ) → 0 < m → m ≤ most → positiveOf negative most end (decimal m ++ (e ∷ t)) ≡ got (whole negative m) t
+    pub positive-read : (m : ℕ) (t : List ℕ) → 0 < m → m ≤ most
+        → positiveOf negative most end (decimal m ++ (e ∷ t)) ≡ got (whole negative m) t
     unfolding positiveOf
     positive-read m t p h =
         let first = first-digit m (e ∷ t) p in
@@ -146,7 +148,8 @@ pub lines-read : (l : Layout) → Within l → linesOf (textOf l) ≡ got l []
 unfolding linesOf textOf
 lines-read l w =
     let lines = verticesText (l .first) ++ verticesText (l .second) in
-    let n-read = count-read limit.vertices space 32 is-space (omega arith) (length (l .first)) (decimal (length (l .second)) ++ (10 ∷ lines)) (w .first-count) in
+    let counted = decimal (length (l .second)) ++ (10 ∷ lines) in
+    let n-read = count-read limit.vertices space 32 is-space (omega arith) (length (l .first)) counted (w .first-count) in
     let m-read = count-read limit.vertices newline 10 is-newline (omega arith) (length (l .second)) lines (w .second-count) in
     let first-read = vertices-read (l .first) (verticesText (l .second)) (w .first-each) in
     let second-read = rw (append-nil (verticesText (l .second))) at (vertices-read (l .second) [] (w .second-each)) in

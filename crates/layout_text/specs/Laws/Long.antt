@@ -17,7 +17,8 @@ use Rattle.layout_text.specs.Laws.Decimal.{decimal-small, decimal-large}
 -- a number below 10 ^ (k + 1) has at most k + 1 digits
 pub decimal-long : (k n : ℕ) → n < 10 ^ suc k → length (decimal n) ≤ suc k
 decimal-long zero n h = rw (decimal-small n h) (omega arith)
-decimal-long (suc k) n h = go (10 ^ suc k) (pow-succ' 10 (suc k)) (ltb n 10) (ltb→lt n 10) (nltb→le n 10) (decimal-long k (n / 10))
+decimal-long (suc k) n h =
+    go (10 ^ suc k) (pow-succ' 10 (suc k)) (ltb n 10) (ltb→lt n 10) (nltb→le n 10) (decimal-long k (n / 10))
   where
     go : (p : ℕ) → 10 ^ suc (suc k) ≡ 10 * p → (small : Bool) → (T small → n < 10) → (T (not small) → 10 ≤ n)
         → (n / 10 < p → length (decimal (n / 10)) ≤ suc k) → length (decimal n) ≤ suc (suc k)

@@ -19,7 +19,8 @@ unfolding units neg
 units-neg f q k = go (ltb (q * 2 ^ k) (2 ^ (low f + suc (emax f)))) (odd-neg (suc (prec f)) q k (low f))
   where
     go : (small : Bool) → neg (odd (suc (prec f)) false q k (low f)) ≡ odd (suc (prec f)) true q k (low f)
-        → neg (cond small (odd (suc (prec f)) false q k (low f)) (inf false)) ≡ cond small (odd (suc (prec f)) true q k (low f)) (inf true)
+        → neg (cond small (odd (suc (prec f)) false q k (low f)) (inf false))
+        ≡ cond small (odd (suc (prec f)) true q k (low f)) (inf true)
     go true e = e
     go false e = refl
 

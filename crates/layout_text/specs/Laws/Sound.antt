@@ -13,7 +13,8 @@ use Rattle.layout_text.specs.Limits as limit
 use Rattle.layout_text.specs.Layout.{Vertex, Layout, VertexWithin, EachWithin, none, more, Within, size, whole}
 use Rattle.layout_text.specs.Decimal.{decimal}
 use Rattle.layout_text.specs.Form.{wholeText, vertexText, verticesText, textOf}
-use Rattle.layout_text.specs.Reader.{Got, nothing, got, andThen, kindOf, firstKind, digitsOf, positiveOf, zeroOf, countOf, wholeOf, vertexOf, verticesOf, linesOf, space, newline, minus, other}
+use Rattle.layout_text.specs.Reader.{Got, nothing, got, andThen, kindOf, firstKind, digitsOf, positiveOf, zeroOf, countOf}
+use Rattle.layout_text.specs.Reader.{wholeOf, vertexOf, verticesOf, linesOf, space, newline, minus, other}
 use Rattle.layout_text.specs.Laws.Decimal.{decimal-small, decimal-more}
 use Rattle.layout_text.specs.Laws.Bytes.{byteOf, byte-of, digit-byte}
 
@@ -30,7 +31,8 @@ pub record Both {A B : Type 0} (g : Got A) (next : A → List ℕ → Got B) (b 
   pub one : g ≡ got a between
   pub two : next a between ≡ got b rest
 
-both : {A B : Type 0} (g : Got A) (next : A → List ℕ → Got B) {b : B} {rest : List ℕ} → andThen g next ≡ got b rest → Both g next b rest
+both : {A B : Type 0} (g : Got A) (next : A → List ℕ → Got B) {b : B} {rest : List ℕ} → andThen g next ≡ got b rest
+    → Both g next b rest
 both nothing next e = never e
 both (got a r) next e = record { a = a; between = r; one = refl; two = e }
 
@@ -87,7 +89,8 @@ module _ (negative : Bool) (most end : ℕ) (known : end < other) {z : ℤ} {res
       go (ltb most (kindOf b)) (nltb→le most (kindOf b)) (rw (le-ltb _ _ low, one) at e)
     where
       go : (beyond : Bool) → (T (not beyond) → kindOf b ≤ most)
-          → cond beyond nothing (digitsOf negative most end (kindOf b) t) ≡ got z rest → Spelt negative most end (kindOf b) t z rest
+          → cond beyond nothing (digitsOf negative most end (kindOf b) t) ≡ got z rest
+          → Spelt negative most end (kindOf b) t z rest
       go true within e = never e
       go false within e = digits-spelt t (kindOf b) p (within tt) e
 
@@ -115,7 +118,8 @@ module _ (negative : Bool) (most end : ℕ) (known : end < other) {z : ℤ} {res
           let below : kindOf b < 10 = omega arith in
           let above : 0 < kindOf b = pos-of-ne-zero (eqb-false (kindOf b) 0 same) in
           let s = first-spelt negative most end known b t above below e in
-          let one : b ∷ t ≡ decimal (kindOf b) ++ t = rw (decimal-small (kindOf b) below) (ap (λ (c : ℕ). c ∷ t) (digit-byte b below)) in
+          let first : b ∷ t ≡ (48 + kindOf b) ∷ t = ap (λ (c : ℕ). c ∷ t) (digit-byte b below) in
+          let one : b ∷ t ≡ decimal (kindOf b) ++ t = rw (decimal-small (kindOf b) below) first in
           record { m = s .m; is = s .is; fits = s .fits; above = omega (arith, s .grown); spelt = one ∙ s .spelt }
 
 -- ---- numbers, with what ends them
@@ -151,7 +155,8 @@ module _ (most end : ℕ) (known : end < other) {z : ℤ} {rest : List ℕ} wher
   unfolding zeroOf firstKind
   zero-spelt [] e = go (eqb other end) (eqb→eq other end) e
     where
-      go : (ended : Bool) → (T ended → other ≡ end) → cond ended (got (pos 0) []) nothing ≡ got z rest → ([] ≡ byteOf end ∷ rest) × (z ≡ pos 0)
+      go : (ended : Bool) → (T ended → other ≡ end) → cond ended (got (pos 0) []) nothing ≡ got z rest
+          → ([] ≡ byteOf end ∷ rest) × (z ≡ pos 0)
       go true ended e = let k = ended tt in absurd (omega arith)
       go false ended e = never e
   zero-spelt (b ∷ t) e = go (eqb (kindOf b) end) (eqb→eq (kindOf b) end) e
@@ -185,7 +190,8 @@ module _ (most end : ℕ) (known : end < other) {z : ℤ} {rest : List ℕ} wher
   unfolding wholeOf
   whole-spelt text e = go (eqb (firstKind text) minus) (eqb→eq (firstKind text) minus) e
     where
-      go : (lead : Bool) → (T lead → firstKind text ≡ minus) → cond lead (positiveOf true most end (drop 1 text)) (countOf most end text) ≡ got z rest
+      go : (lead : Bool) → (T lead → firstKind text ≡ minus)
+          → cond lead (positiveOf true most end (drop 1 text)) (countOf most end text) ≡ got z rest
           → ByteText most end text z rest
       go true lead e =
           let s = positive-spelt true most end known (drop 1 text) e in
@@ -216,7 +222,8 @@ abbrev VertexLine : List ℕ → List ℕ → Vertex → Type 0
 VertexLine text rest v = (text ≡ vertexText v ++ rest) × VertexWithin v
 
 -- three numbers, each with what ends it, are a line
-line-spelt : (text t1 t2 rest : List ℕ) (x y b : ℤ) → ByteText limit.coordinate space text x t1 → ByteText limit.coordinate space t1 y t2
+line-spelt : (text t1 t2 rest : List ℕ) (x y b : ℤ) → ByteText limit.coordinate space text x t1
+    → ByteText limit.coordinate space t1 y t2
     → ByteText limit.bulge newline t2 b rest → VertexLine text rest (record { x = x; y = y; bulge = b })
 unfolding vertexText byteOf
 line-spelt text t1 t2 rest x y b sx sy sb =
@@ -245,24 +252,30 @@ no-lines : (text : List ℕ) → VerticesLines 0 text text []
 unfolding verticesText
 no-lines text = record { spelt = refl; within = none; count = refl }
 
-more-lines : (n : ℕ) (text between rest : List ℕ) (v : Vertex) (vs : List Vertex) → VertexLine text between v → VerticesLines n between rest vs
+more-lines : (n : ℕ) (text between rest : List ℕ) (v : Vertex) (vs : List Vertex) → VertexLine text between v
+    → VerticesLines n between rest vs
     → VerticesLines (suc n) text rest (v ∷ vs)
 unfolding verticesText
 more-lines n text between rest v vs line lines =
     record {
-      spelt = line .0 ∙ ap (λ (l : List ℕ). vertexText v ++ l) (lines .spelt) ∙ sym (append-assoc (vertexText v) (verticesText vs) rest);
+      spelt =
+          line .0
+          ∙ ap (λ (l : List ℕ). vertexText v ++ l) (lines .spelt)
+          ∙ sym (append-assoc (vertexText v) (verticesText vs) rest);
       within = more (line .1) (lines .within);
       count = ap suc (lines .count);
     }
 
-pub vertices-spelt : (n : ℕ) (text : List ℕ) {vs : List Vertex} {rest : List ℕ} → verticesOf n text ≡ got vs rest → VerticesLines n text rest vs
+pub vertices-spelt : (n : ℕ) (text : List ℕ) {vs : List Vertex} {rest : List ℕ} → verticesOf n text ≡ got vs rest
+    → VerticesLines n text rest vs
 unfolding verticesOf
 vertices-spelt zero text e = carried (λ us r. VerticesLines 0 text r us) e (no-lines text)
 vertices-spelt (suc k) text e =
     let s = both (vertexOf text) _ e in
     let t = both (verticesOf k (s .between)) _ (s .two) in
     carried (λ us r. VerticesLines (suc k) text r us) (t .two)
-    (more-lines k text (s .between) (t .between) (s .a) (t .a) (vertex-spelt text (s .one)) (vertices-spelt k (s .between) (t .one)))
+    (more-lines k text (s .between) (t .between) (s .a) (t .a)
+    (vertex-spelt text (s .one)) (vertices-spelt k (s .between) (t .one)))
 
 -- ---- a text
 

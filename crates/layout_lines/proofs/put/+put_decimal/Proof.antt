@@ -1,4 +1,5 @@
--- The proof of the cycle of calls {put_decimal}. The measure is the number: the digits of its tenth, then the last. Assumes nothing.
+-- The proof of the cycle of calls {put_decimal}. The measure is the number: the digits of its tenth, then the last. Assumes
+-- nothing.
 use Prim.Native.Nat.{ℕ, _<_}
 use mathlib.Core.Path.{sym}
 use native.Mathlib.Omega.{arith}

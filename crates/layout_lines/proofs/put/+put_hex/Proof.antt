@@ -1,4 +1,5 @@
--- The proof of the cycle of calls {put_hex}. The measure is the number of digits: those of the sixteenth, then the last. Assumes nothing.
+-- The proof of the cycle of calls {put_hex}. The measure is the number of digits: those of the sixteenth, then the last.
+-- Assumes nothing.
 use Prim.Native.Nat.{ℕ, _<_}
 use native.Mathlib.Nat.{pos-of-ne-zero}
 use native.Mathlib.Omega.{arith}

@@ -1,5 +1,5 @@
--- `layout_lines::put::bits` meets its contract: only a NaN differs from itself, and its bits are those that the kit's text has for it.
--- Assumes nothing.
+-- `layout_lines::put::bits` meets its contract: only a NaN differs from itself, and its bits are those that the kit's text has
+-- for it. Assumes nothing.
 use mathlib.Core.Path.{_≡_, refl, sym, ap, _∙_, subst}
 use mathlib.Core.Bool.{Bool, true, false, not}
 use borrow.Author.Needs.{needs}

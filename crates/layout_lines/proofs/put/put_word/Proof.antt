@@ -1,5 +1,5 @@
--- `layout_lines::put::put_word` meets its contract. The loop's invariant: the rest of the word, put after what stands now, gives what
--- the whole word gives. Assumes nothing.
+-- `layout_lines::put::put_word` meets its contract. The loop's invariant: the rest of the word, put after what stands now,
+-- gives what the whole word gives. Assumes nothing.
 use Prim.Native.Nat.{_+_, _-_, _≤_}
 use mathlib.Core.Path.{_≡_, refl, _∙_}
 use native.Mathlib.Nat.{add-zero}

@@ -1,5 +1,5 @@
--- `layout_lines::rows::put_points` meets its contract: its tests are the definition's, and the numbers follow one another. Assumes
--- nothing.
+-- `layout_lines::rows::put_points` meets its contract: its tests are the definition's, and the numbers follow one another.
+-- Assumes nothing.
 use native.Mathlib.Omega.{arith}
 use borrow.Author.Needs.{needs}
 use borrow.Author.Tests.{lt-ltb, le-ltb}

@@ -1,5 +1,5 @@
--- `layout_lines::rows::put_rows` meets its contract. The loop's invariant: to put the rows that are left after what stands now is to
--- put all of them. Assumes nothing.
+-- `layout_lines::rows::put_rows` meets its contract. The loop's invariant: to put the rows that are left after what stands now
+-- is to put all of them. Assumes nothing.
 use Prim.Native.Nat.{ℕ, _+_, _*_, _-_, _≤_}
 use mathlib.Core.Path.{_≡_, refl, _∙_}
 use mathlib.Core.List.{List}
@@ -16,7 +16,8 @@ use Rattle.layout_lines.proofs.rows.put_rows.Tie as tie
 abbrev Inv-loop : tie.InvT-loop
 Inv-loop out₀ start rows index points at₀ k₀ out at k =
     (k ≤ rows) × (length out ≡ length out₀) × (at ≤ start + k * 128)
-    × ((now : List ℕ) (next : ℕ) → Put (rowsText index points (rows - k) k) out at now next → Put (rowsText index points rows 0) out₀ start now next)
+    × ((now : List ℕ) (next : ℕ) → Put (rowsText index points (rows - k) k) out at now next
+    → Put (rowsText index points rows 0) out₀ start now next)
 
 abbrev μ-loop : tie.MeasureT-loop
 μ-loop out₀ start rows index points at₀ k₀ out at k = rows - k

@@ -1,5 +1,5 @@
--- `layout_text::bytes::kind_at` meets its contract: past the end nothing is left, before it the byte is the first of what is left.
--- Assumes nothing.
+-- `layout_text::bytes::kind_at` meets its contract: past the end nothing is left, before it the byte is the first of what is
+-- left. Assumes nothing.
 use mathlib.Core.Path.{_∙_}
 use native.Mathlib.Omega.{arith}
 use borrow.Author.Needs.{needs}

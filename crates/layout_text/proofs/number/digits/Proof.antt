@@ -1,5 +1,5 @@
--- `layout_text::number::digits` meets its contract. The loop's invariant: what is left of the text, after the digits so far, reads
--- as the whole does. Assumes nothing.
+-- `layout_text::number::digits` meets its contract. The loop's invariant: what is left of the text, after the digits so far,
+-- reads as the whole does. Assumes nothing.
 use Prim.Native.Nat.{_≤_, _-_}
 use mathlib.Core.Path.{_≡_, refl, sym, _∙_}
 use native.Mathlib.Omega.{arith}
@@ -45,7 +45,8 @@ returns-2 c =
     let told = c .before .before in
     let turn = told .before .before in
     let high = rw (told .kind .ensures) at (c .before .if1 .taken) in
-    sym (at-other _ _ _ _ _ _ (turn .loop-test .taken) high (λ e. c .if2 .left (told .kind .ensures ∙ e))) ∙ turn .before .loop .inv .1
+    sym (at-other _ _ _ _ _ _ (turn .loop-test .taken) high (λ e. c .if2 .left (told .kind .ensures ∙ e)))
+    ∙ turn .before .loop .inv .1
 
 mul-n : tie.Need-mul-n Inv-loop μ-loop
 mul-n c = omega arith
@@ -74,7 +75,8 @@ loop-again c =
     let turn = told .before .before in
     let low = rw (told .kind .ensures) at (c .before .if1 .left) in
     let within = rw (told .kind .ensures) at (c .if3 .left) in
-    (c .if3 .left, rw (told .kind .ensures) (at-digit _ _ _ _ _ _ (turn .loop-test .taken) low within ∙ turn .before .loop .inv .1))
+    let step = at-digit _ _ _ _ _ _ (turn .loop-test .taken) low within in
+    (c .if3 .left, rw (told .kind .ensures) (step ∙ turn .before .loop .inv .1))
 
 returns-4 : tie.Need-returns-4 Inv-loop μ-loop
 unfolding shownNumber

@@ -1,4 +1,5 @@
--- `layout_text::number::whole` meets its contract: its test is the definition's, and the byte that it passes is there. Assumes nothing.
+-- `layout_text::number::whole` meets its contract: its test is the definition's, and the byte that it passes is there. Assumes
+-- nothing.
 use native.Mathlib.Omega.{arith}
 use borrow.Author.Needs.{needs}
 use borrow.Author.Tests.{eq-eqb, ne-eqb}

@@ -7,7 +7,8 @@ use lib.ListN.{drop-of-length-le}
 use lib.Seq.{drop-cons}
 use Rattle.layout_text.specs.Reader.{got}
 use Rattle.layout_text.proofs.Told.{no-number}
-use Rattle.layout_text.proofs.Texts.{counted, no-place, a-place, too-long, no-count, no-count-2, no-first, no-second, text-left, text-over}
+use Rattle.layout_text.proofs.Texts.{counted, no-place, a-place, too-long, no-count, no-count-2, no-first, no-second}
+use Rattle.layout_text.proofs.Texts.{text-left, text-over}
 use Rattle.layout_text.proofs.shape.shape_of.Statement.{statement}
 use Rattle.layout_text.proofs.shape.shape_of.Tie as tie
 

@@ -7,13 +7,15 @@ use native.Mathlib.Omega.{arith}
 use borrow.Author.Needs.{needs}
 use lib.ListN.{length, drop, length-set}
 use Rattle.layout_text.specs.Reader.{verticesOf}
-use Rattle.layout_text.proofs.VertexLines.{no-line, a-line, lines-end, lines-broken, stored, store-line, filled-broken, filled-end}
+use Rattle.layout_text.proofs.VertexLines.{no-line, a-line, lines-end, lines-broken, stored, store-line, filled-broken}
+use Rattle.layout_text.proofs.VertexLines.{filled-end}
 use Rattle.layout_text.proofs.vertex.fill.Statement.{statement}
 use Rattle.layout_text.proofs.vertex.fill.Tie as tie
 
 abbrev Inv-loop : tie.InvT-loop
 Inv-loop text start n out₀ at₀ to₀ i₀ out at to i =
-    (to ≡ i * 3) × (length out ≡ length out₀) × (stored (verticesOf (n - i) (drop at text)) out to ≡ stored (verticesOf n (drop start text)) out₀ 0)
+    (to ≡ i * 3) × (length out ≡ length out₀)
+    × (stored (verticesOf (n - i) (drop at text)) out to ≡ stored (verticesOf n (drop start text)) out₀ 0)
 
 abbrev μ-loop : tie.MeasureT-loop
 μ-loop text start n out₀ at₀ to₀ i₀ out at to i = n - i
@@ -81,7 +83,8 @@ loop-again c =
     let turn = read .before in (
       omega arith,
       simp length-set (turn .before .loop .inv .1),
-      store-line _ _ _ (turn .loop-test .taken) (a-line _ (read .vertex .ensures) (line .v .given .1)) _ _ ∙ turn .before .loop .inv .2,
+      store-line _ _ _ (turn .loop-test .taken) (a-line _ (read .vertex .ensures) (line .v .given .1)) _ _
+          ∙ turn .before .loop .inv .2,
     )
 
 same-length-2 : tie.Need-same-length-2 Inv-loop μ-loop

@@ -1,5 +1,5 @@
--- `layout_text::vertex::skip` meets its contract. The loop's invariant: after the lines that are left stands what stands after all.
--- Assumes nothing.
+-- `layout_text::vertex::skip` meets its contract. The loop's invariant: after the lines that are left stands what stands after
+-- all. Assumes nothing.
 use Prim.Native.Nat.{_≤_, _-_}
 use mathlib.Core.Path.{_≡_, sym, ap, _∙_}
 use native.Mathlib.Nat.{sub-zero}

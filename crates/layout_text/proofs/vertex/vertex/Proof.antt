@@ -1,4 +1,5 @@
--- `layout_text::vertex::vertex` meets its contract: each number that it reads is the definition's, at the same place. Assumes nothing.
+-- `layout_text::vertex::vertex` meets its contract: each number that it reads is the definition's, at the same place. Assumes
+-- nothing.
 use borrow.Author.Needs.{needs}
 use Rattle.layout_text.specs.Reader.{vertexOf}
 use Rattle.layout_text.specs.Shown.{shownVertex, numbersOf}
