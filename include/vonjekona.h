@@ -11,6 +11,7 @@
 #ifndef VONJEKONA_H
 #define VONJEKONA_H
 
+#include <stdbool.h>
 #include <stddef.h>
 #include <stdint.h>
 
@@ -154,6 +155,51 @@ uint64_t vj_pair(double v1x, double v1y, double v1_bulge,
                            double u1x, double u1y, double u1_bulge,
                            double u2x, double u2y, double u2_bulge,
                            double epsilon, double *out, size_t room);
+
+/*
+ * Listings of whole paths. A path is lent as `len` binary64 numbers, from `path`
+ * on, three a vertex: x, y and the bulge of the segment that starts there; and
+ * a flag. n vertices have n - 1 segments open and n closed, the last of which
+ * runs back to vertex 0; with n below 2 there are none. A pointer may not be
+ * null, even where its length is 0.
+ *
+ * Rows go into two slices: three whole numbers a row from `indices` on, which
+ * are the segment's index in the first path, that in the second, and the
+ * class, 1 to 5, as with vj_pair; four numbers a row from `points` on, the
+ * class's points x before y, +0 in the places that it does not need. Pairs of
+ * class 0 make no row. Rows come in order, the first path's index outermost,
+ * both rising. As many rows fit as both slices have room for in whole rows.
+ * The memory that is lent to be written is the call's alone while it runs; the
+ * same path may be lent twice to vj_mutual. What is returned is
+ *
+ *   VJ_NO_ROOM      if counts_room is below 2: nothing was written;
+ *   VJ_REFUSED + N  else, if a number is refused: nothing was written. N is the
+ *                   refusal of the first fault in the order below;
+ *   0               else. Then counts[0] is how many rows were written and
+ *                   counts[1] how many pairs were looked at. What stands after
+ *                   the last row, and after counts[1], is as it was.
+ *
+ * The order: epsilon, 4; the first path's length, 6 if it is no multiple of 3,
+ * then 7 if it has more than 4,096 vertices; the second path's length likewise;
+ * the first path's vertices in order, each x, y and bulge, an open path's last
+ * bulge too; then its arcs in order, 5; the second path's likewise; last, 8 if
+ * there are more rows than fit.
+ */
+
+/* Every segment of the first path with every segment of the second. */
+uint64_t vj_mutual(const double *first, size_t first_len, bool first_closed,
+                   const double *second, size_t second_len, bool second_closed,
+                   double epsilon, uint64_t *indices, size_t indices_room,
+                   double *points, size_t points_room, uint64_t *counts,
+                   size_t counts_room);
+
+/*
+ * The segments i and j of one path, i < j, neighbours excepted: j is not i + 1,
+ * and of a closed path the first does not go with the last.
+ */
+uint64_t vj_self(const double *path, size_t len, bool closed, double epsilon,
+                 uint64_t *indices, size_t indices_room, double *points,
+                 size_t points_room, uint64_t *counts, size_t counts_room);
 
 #ifdef __cplusplus
 }

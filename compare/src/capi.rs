@@ -71,6 +71,33 @@ mod raw {
             out: *mut f64,
             room: usize,
         ) -> u64;
+        pub fn vj_mutual(
+            first: *const f64,
+            first_len: usize,
+            first_closed: bool,
+            second: *const f64,
+            second_len: usize,
+            second_closed: bool,
+            epsilon: f64,
+            indices: *mut u64,
+            indices_room: usize,
+            points: *mut f64,
+            points_room: usize,
+            counts: *mut u64,
+            counts_room: usize,
+        ) -> u64;
+        pub fn vj_self(
+            path: *const f64,
+            len: usize,
+            closed: bool,
+            epsilon: f64,
+            indices: *mut u64,
+            indices_room: usize,
+            points: *mut f64,
+            points_room: usize,
+            counts: *mut u64,
+            counts_room: usize,
+        ) -> u64;
     }
 }
 
@@ -106,4 +133,63 @@ pub fn vj_pair(n: [f64; 13], out: &mut [f64]) -> u64 {
     let [a, b, c, d, e, f, g, h, i, j, k, l, epsilon] = n;
     let (start, room) = (out.as_mut_ptr(), out.len());
     unsafe { raw::vj_pair(a, b, c, d, e, f, g, h, i, j, k, l, epsilon, start, room) }
+}
+
+/// What a listing writes into: three whole numbers a row, four floats a row, and its counts.
+#[cfg(feature = "rust-text")]
+pub struct Rows<'a> {
+    pub indices: &'a mut [u64],
+    pub points: &'a mut [f64],
+    pub counts: &'a mut [u64],
+}
+
+/// Two paths, each with whether it is closed, and an epsilon.
+#[cfg(feature = "rust-text")]
+pub fn vj_mutual(first: (&[f64], bool), second: (&[f64], bool), epsilon: f64, rows: Rows) -> u64 {
+    let Rows {
+        indices,
+        points,
+        counts,
+    } = rows;
+    unsafe {
+        raw::vj_mutual(
+            first.0.as_ptr(),
+            first.0.len(),
+            first.1,
+            second.0.as_ptr(),
+            second.0.len(),
+            second.1,
+            epsilon,
+            indices.as_mut_ptr(),
+            indices.len(),
+            points.as_mut_ptr(),
+            points.len(),
+            counts.as_mut_ptr(),
+            counts.len(),
+        )
+    }
+}
+
+/// A path with whether it is closed, and an epsilon.
+#[cfg(feature = "rust-text")]
+pub fn vj_self(path: (&[f64], bool), epsilon: f64, rows: Rows) -> u64 {
+    let Rows {
+        indices,
+        points,
+        counts,
+    } = rows;
+    unsafe {
+        raw::vj_self(
+            path.0.as_ptr(),
+            path.0.len(),
+            path.1,
+            epsilon,
+            indices.as_mut_ptr(),
+            indices.len(),
+            points.as_mut_ptr(),
+            points.len(),
+            counts.as_mut_ptr(),
+            counts.len(),
+        )
+    }
 }

@@ -2,13 +2,15 @@
 
 mod bench;
 mod calls;
-mod faults;
+pub mod faults;
 mod limits;
 mod score;
 
 pub use bench::run as bench;
-pub use calls::{Call, CALLS};
+pub use calls::{of_segments, Call, CALLS, REFUSED};
+pub use limits::specials;
 use score::Score;
+pub use score::NO_ROOM;
 
 use crate::inputs::values::epsilon;
 use crate::inputs::{Kind, Pair};
@@ -138,6 +140,6 @@ impl Scores {
 
 /// Which kind of pair two bulges make.
 fn kind(v: f64, u: f64) -> usize {
-    let arc = |bulge: f64| usize::from(!(bulge.abs() < 1e-8));
+    let arc = |bulge: f64| usize::from(bulge.is_nan() || bulge.abs() >= 1e-8);
     2 * arc(v) + arc(u)
 }

@@ -14,6 +14,8 @@ mod inputs;
 #[cfg(feature = "rust-text")]
 mod lent;
 #[cfg(feature = "rust-text")]
+mod listings;
+#[cfg(feature = "rust-text")]
 mod numbers;
 #[cfg(feature = "rust-text")]
 mod partings;
@@ -35,7 +37,8 @@ const USAGE: &str = "\
 usage: compare check [COUNT [SEED]]  compare each float function on COUNT random inputs (default 10485760, seed 1), each
                                      function of the plane on a quarter as many accepted ones, an eighth of all bit
                                      patterns, and some beside the limits; each kernel and the pair call until twice
-                                     as many were answered, and on some that are refused
+                                     as many were answered, and on some that are refused; listings of whole paths
+                                     until as many pairs were looked at, and on chosen ones
        compare record FILE           write the recorded list for the program replay
        compare bench                 nanoseconds a call, ours beside the machine's own and the Rust's";
 
@@ -51,7 +54,10 @@ fn main() -> ExitCode {
         ["bench"] => {
             bench::run();
             #[cfg(feature = "rust-text")]
-            crossing::bench();
+            {
+                crossing::bench();
+                listings::bench();
+            }
             Ok(())
         }
         _ => Err(USAGE.to_string()),
@@ -85,7 +91,11 @@ fn check(numbers: &[&str]) -> Result<(), String> {
 
 #[cfg(feature = "rust-text")]
 fn check_text(count: u64, seed: u64) -> u64 {
-    text::check() + partings::check() + plane::check(count, seed) + crossing::check(count, seed)
+    text::check()
+        + partings::check()
+        + plane::check(count, seed)
+        + crossing::check(count, seed)
+        + listings::check(count, seed)
 }
 
 #[cfg(not(feature = "rust-text"))]

@@ -242,7 +242,8 @@ fn of_circles(answer: CircleCircleIntr<f64>) -> (u64, Numbers) {
     }
 }
 
-fn of_segments(answer: PlineSegIntr<f64>) -> (u64, Numbers) {
+/// The number of a pair's case, and its points.
+pub fn of_segments(answer: PlineSegIntr<f64>) -> (u64, Numbers) {
     match answer {
         PlineSegIntr::NoIntersect => (0, [].into()),
         PlineSegIntr::TangentIntersect { point } => (1, of_points(&[point])),

@@ -19,7 +19,7 @@ pub fn two_to(power: i32) -> f64 {
     f64::from_bits(((1023 + power) as u64) << 52)
 }
 
-fn fault(look: Look, x: f64) -> Option<u64> {
+pub fn fault(look: Look, x: f64) -> Option<u64> {
     let (refusal, within) = match look {
         Look::Epsilon => (4, x >= two_to(-40) && x <= 0.5),
         Look::Coordinate => (2, x.abs() <= 1_048_576.0),

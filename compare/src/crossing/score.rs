@@ -5,7 +5,8 @@ use crate::lent::Lent;
 use crate::numbers::{hex, same, Numbers};
 
 const SHOWN: u64 = 5;
-const NO_ROOM: u64 = 512;
+/// What is returned where the room for an answer is too small.
+pub const NO_ROOM: u64 = 512;
 const PLACES: usize = 4;
 
 pub struct Score {

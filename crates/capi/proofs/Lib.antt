@@ -1,2 +1,3 @@
 mod Ends
 mod Numbers
+mod ListingNumbers

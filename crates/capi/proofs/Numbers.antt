@@ -41,13 +41,13 @@ use Rattle.crossing.specs.declared.pline_seg_intersect.PlineSegAnswer.the-varia
 use Rattle.capi.specs.Handed.{ofLineLine, ofLineCircle, ofCircleCircle, ofPlineSeg}
 
 -- ---- a check's
-record Small (c : Checked) : Type 0 where
+pub record Small (c : Checked) : Type 0 where
   pub below : refusal c < 256
 
-fine : Small Fine
+pub fine : Small Fine
 fine = record { below = omega arith }
 
-refused : (test : Bool) (n : ℕ) (p : Place) → n < 256 → Small (refuse test n p)
+pub refused : (test : Bool) (n : ℕ) (p : Place) → n < 256 → Small (refuse test n p)
 unfolding refuse
 refused true n p h = record { below = h }
 refused false n p h = fine
@@ -57,7 +57,7 @@ unfolding later
 both Fine b ha hb = hb
 both (Bad f) b ha hb = ha
 
-and : {a b : Checked} → Small a → Small b → Small (later a b)
+pub and : {a b : Checked} → Small a → Small b → Small (later a b)
 and {a} {b} = both a b
 
 module _ (x : Float) (p : Place) where
@@ -65,15 +65,15 @@ module _ (x : Float) (p : Place) where
   unfolding Each.finite
   finite = refused _ 1 p (omega arith)
 
-  epsilon : Small (Each.epsilon x p)
+  pub epsilon : Small (Each.epsilon x p)
   unfolding Each.epsilon
   epsilon = refused _ 4 p (omega arith)
 
-  coordinate : Small (Each.coordinate x p)
+  pub coordinate : Small (Each.coordinate x p)
   unfolding Each.coordinate
   coordinate = and finite (refused _ 2 p (omega arith))
 
-  bulge : Small (Each.bulge x p)
+  pub bulge : Small (Each.bulge x p)
   unfolding Each.bulge
   bulge = and finite (refused _ 3 p (omega arith))
 
@@ -90,7 +90,7 @@ module _ (x : Float) (p : Place) where
   chord true = fine
   chord false = refused _ 5 p (omega arith)
 
-arc-chord : (a b : PlineVertex) (owner index : ℕ) → Small (arcChord a b owner index)
+pub arc-chord : (a b : PlineVertex) (owner index : ℕ) → Small (arcChord a b owner index)
 unfolding arcChord
 arc-chord a b owner index = chord _ _ (bulgeIsZero a)
 

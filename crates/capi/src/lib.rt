@@ -6,6 +6,7 @@ ghost use Rattle.floats.specs.Bits;
 
 pub mod answer;
 pub mod calls;
+pub mod listing;
 
 // The absolute value.
 #[no_mangle]

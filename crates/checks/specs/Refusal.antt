@@ -1,4 +1,4 @@
--- The scope's numbers of the refusals that a look at one number, or at a path's length, can give.
+-- The scope's numbers of the refusals that a look at one number, at a path's length or at a listing's rows can give.
 use Prim.Native.Nat.{ℕ}
 
 -- a coordinate, bulge or radius is NaN or infinite
@@ -28,6 +28,10 @@ length = 6
 -- a path has too many vertices
 abbrev pub vertices : ℕ
 vertices = 7
+
+-- a listing has more rows than fit
+abbrev pub rows : ℕ
+rows = 8
 
 -- a circle's radius is out of its range, or a coordinate of its centre is too large
 abbrev pub circle : ℕ

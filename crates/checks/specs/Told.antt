@@ -6,7 +6,7 @@ use mathlib.Core.List.{List, [], _∷_}
 use Prim.Native.Nat.{ℕ}
 use lib.Dec.{eqb}
 use Rattle.checks.specs.declared.fault.Item.{Item}
-use Rattle.checks.specs.declared.fault.Item.the-variants.{Epsilon, X, Y, Bulge, Radius, CenterX, CenterY, Chord, Length}
+use Rattle.checks.specs.declared.fault.Item.the-variants.{Epsilon, X, Y, Bulge, Radius, CenterX, CenterY, Chord, Length, Rows}
 use Rattle.checks.specs.declared.fault.Checked.{Checked}
 use Rattle.checks.specs.declared.fault.Checked.the-variants.{Fine, Bad}
 use Rattle.checks.specs.Fault.{at, bad}
@@ -21,6 +21,7 @@ item CenterX = 5
 item CenterY = 6
 item Chord = 7
 item Length = 8
+item Rows = 9
 
 abbrev pub told : Checked → List ℕ
 told Fine = 0 ∷ []
@@ -37,7 +38,8 @@ item-back n =
     (cond (eqb n 5) CenterX
     (cond (eqb n 6) CenterY
     (cond (eqb n 7) Chord
-    Length)))))))
+    (cond (eqb n 8) Length
+    Rows))))))))
 
 item-same : (i : Item) → item-back (item i) ≡ i
 unfolding item-back
@@ -50,6 +52,7 @@ item-same CenterX = refl
 item-same CenterY = refl
 item-same Chord = refl
 item-same Length = refl
+item-same Rows = refl
 
 back : List ℕ → Checked
 back [] = Fine

@@ -2,7 +2,7 @@
 ghost use mathlib.Core.Path.{_≡_};
 ghost use Rattle.checks.specs.Fault as fault;
 
-// Which of its owner's numbers; `Length` is how many numbers a path has.
+// Which of its owner's numbers; `Length` is how many numbers a path has, `Rows` how many rows a listing has.
 pub enum Item {
     Epsilon,
     X,
@@ -13,6 +13,7 @@ pub enum Item {
     CenterY,
     Chord,
     Length,
+    Rows,
 }
 
 // Where a number stands in a call.

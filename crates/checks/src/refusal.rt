@@ -1,5 +1,5 @@
-// The scope's numbers of the refusals that a look at one number, or at a path's length, can give. specs/Refusal.antt has the
-// same.
+// The scope's numbers of the refusals that a look at one number, at a path's length or at a listing's rows can give.
+// specs/Refusal.antt has the same.
 
 // a coordinate, bulge or radius is NaN or infinite
 pub const NOT_FINITE: u64 = 1;
@@ -21,6 +21,9 @@ pub const LENGTH: u64 = 6;
 
 // a path has too many vertices
 pub const VERTICES: u64 = 7;
+
+// a listing has more rows than fit
+pub const ROWS: u64 = 8;
 
 // a circle's radius is out of its range, or a coordinate of its centre is too large
 pub const CIRCLE: u64 = 9;

@@ -1,0 +1,241 @@
+//! Whole-path listings beside a listing that is written here from the scope's prose, over the Rust's pair function: rows, counts,
+//! refusals and their order, and every place of the lent slices.
+
+mod bench;
+mod damage;
+mod draw;
+#[cfg(test)]
+mod examples;
+mod kinds;
+mod layout;
+mod lent;
+mod model;
+mod rooms;
+mod score;
+mod shapes;
+mod sites;
+
+pub use bench::run as bench;
+
+use layout::{Call, Drawn, Layout, CALLS};
+use lent::{Old, Room};
+use score::{Known, Score};
+
+use crate::inputs::values::epsilon;
+use crate::inputs::{Kind, Pair, Point, Vertex};
+use crate::rng::Rng;
+
+/// Whether each of two paths is closed.
+const FLAGS: [[bool; 2]; 4] = [[false, false], [false, true], [true, false], [true, true]];
+
+/// From this count on, the largest listings there are take part.
+const FULL: u64 = 1 << 20;
+
+/// Compares the listings on small paths of every size with every room, on layouts with chosen numbers of rows, on layouts with one
+/// fault and with two; on `count / 16` pairs of segments, and on random layouts until `count` pairs were looked at. Answers how
+/// many differences there were, and kinds of input that never occurred.
+pub fn check(count: u64, seed: u64) -> u64 {
+    let full = count >= FULL;
+    let mut run = Run {
+        rng: Rng::new(seed),
+        scores: CALLS.map(|call| Score::new(call, full)),
+    };
+    run.classes();
+    run.sizes();
+    run.row_counts();
+    run.long_paths();
+    for _ in 0..2 + count / (4 * FULL) {
+        run.damaged();
+    }
+    for _ in 0..count / 16 {
+        run.pairs();
+    }
+    let before = run.looked_at();
+    while run.looked_at() < before + count {
+        run.layout();
+    }
+    if full {
+        run.largest();
+    }
+    run.scores.iter().map(Score::report).sum()
+}
+
+struct Run {
+    rng: Rng,
+    scores: [Score; 3],
+}
+
+impl Run {
+    fn score(&mut self, call: Call) -> &mut Score {
+        &mut self.scores[call as usize]
+    }
+
+    fn looked_at(&self) -> u64 {
+        self.scores.iter().map(|score| score.pairs).sum()
+    }
+
+    /// One call with a drawn room.
+    fn once(&mut self, layout: &Layout, call: Call) {
+        let known = Known::new(layout, call);
+        let (room, old) = (
+            Room::draw(known.rows(), &mut self.rng),
+            Old::draw(&mut self.rng),
+        );
+        self.score(call).compare(&known, room, old);
+    }
+
+    fn every_call(&mut self, layout: &Layout) {
+        for call in CALLS {
+            self.once(layout, call);
+        }
+    }
+
+    fn in_rooms(
+        &mut self,
+        layout: &Layout,
+        call: Call,
+        rooms: impl Fn(usize, &mut Rng) -> Vec<Room>,
+    ) {
+        let known = Known::new(layout, call);
+        for room in rooms(known.rows(), &mut self.rng) {
+            let old = Old::draw(&mut self.rng);
+            self.score(call).compare(&known, room, old);
+        }
+    }
+
+    /// A row of each class by itself.
+    fn classes(&mut self) {
+        for pair in draw::of_each_class() {
+            let layout = draw::of_pair(&pair, [false; 2]);
+            self.in_rooms(&layout, Call::Mutual, Room::up_to);
+            self.in_rooms(&layout, Call::Twice, Room::up_to);
+            self.in_rooms(&draw::joined(&pair, false), Call::Own, Room::up_to);
+        }
+    }
+
+    /// Paths of few vertices, open and closed, beside each other, in every room up to one row more than needed.
+    fn sizes(&mut self) {
+        for first in 0..6 {
+            for second in 0..6 {
+                for [first_closed, second_closed] in FLAGS {
+                    let mut path = |vertices: usize, closed: bool| {
+                        let path = shapes::on_grid(vertices, 2, &mut self.rng);
+                        Drawn::new(&shapes::mended(path), closed)
+                    };
+                    let first = path(first, first_closed);
+                    let second = path(second, second_closed);
+                    let epsilon = epsilon(&mut self.rng);
+                    let layout = Layout {
+                        first,
+                        second,
+                        epsilon,
+                    };
+                    for call in CALLS {
+                        self.in_rooms(&layout, call, Room::up_to);
+                    }
+                }
+            }
+        }
+    }
+
+    /// Chosen numbers of rows, in rooms about them and about those at which an implementation may change its way.
+    fn row_counts(&mut self) {
+        for rows in [1, 2047, 2048, 2049, 4290] {
+            let (first, second) = shapes::crossed(rows, 46);
+            let mutual = self.open(&first, &second);
+            self.in_rooms(&mutual, Call::Mutual, Room::about);
+            let own = self.open(&shapes::crossed_by_itself(rows, 46), &[]);
+            self.in_rooms(&own, Call::Own, Room::about);
+        }
+    }
+
+    fn open(&mut self, first: &[Vertex], second: &[Vertex]) -> Layout {
+        Layout {
+            first: Drawn::new(first, false),
+            second: Drawn::new(second, false),
+            epsilon: self.rng.pick(&[1e-8, 1e-5, 1.0 / 1024.0]),
+        }
+    }
+
+    /// As many vertices as a path may have, and one more, beside a short path and after it; and the same with a fault far behind.
+    fn long_paths(&mut self) {
+        for (vertices, flags) in [4096, 4097].into_iter().flat_map(|n| FLAGS.map(|f| (n, f))) {
+            let rng = &mut self.rng;
+            let mut path = |vertices: usize, closed: bool| {
+                let path = shapes::on_grid(vertices, 1000, rng);
+                Drawn::new(&shapes::mended(path), closed)
+            };
+            let (long, short) = (path(vertices, flags[0]), path(3, flags[1]));
+            let mut faulty = long.clone();
+            let at = rng.below(long.numbers.len() as u64) as usize;
+            faulty.numbers[at] = f64::NAN;
+            let epsilon = epsilon(rng);
+            let layout = |first: &Drawn, second: &Drawn| Layout {
+                first: first.clone(),
+                second: second.clone(),
+                epsilon,
+            };
+            let rooms = |rows: usize, rng: &mut Rng| vec![Room::of(rows), Room::draw(rows, rng)];
+            self.in_rooms(&layout(&long, &short), Call::Mutual, rooms);
+            self.in_rooms(&layout(&short, &long), Call::Mutual, rooms);
+            self.once(&layout(&short, &faulty), Call::Mutual);
+            self.every_call(&layout(&faulty, &short));
+            if vertices > 4096 {
+                self.every_call(&layout(&long, &short));
+            }
+        }
+    }
+
+    /// Open and closed paths, with one fault and with two. Four vertices or more have a first, an inner and a last segment; a
+    /// single one has no segment, but its numbers are looked at.
+    fn damaged(&mut self) {
+        for flags in FLAGS {
+            let many = 4 + self.rng.below(3) as usize;
+            for vertices in [[many, 4], [1, many], [many, 1], [2, 2]] {
+                let layout = damage::accepted(vertices, flags, &mut self.rng);
+                for damaged in damage::one_at_a_time(&layout) {
+                    self.every_call(&damaged);
+                }
+                for damaged in damage::two_at_once(&layout, &mut self.rng) {
+                    self.every_call(&damaged);
+                }
+            }
+        }
+    }
+
+    /// A pair of segments, of those that the pair call is compared on, as two paths or in one.
+    fn pairs(&mut self) {
+        let pair = Pair::draw(Kind::Accepted, &mut self.rng);
+        let closed = [0; 2].map(|_| self.rng.one_in(4));
+        if self.rng.one_in(2) {
+            self.once(&draw::of_pair(&pair, closed), Call::Mutual);
+        } else {
+            self.once(&draw::joined(&pair, closed[0]), Call::Own);
+        }
+    }
+
+    /// A random layout.
+    fn layout(&mut self) {
+        let layout = draw::draw(&mut self.rng);
+        self.once(&layout, Call::Mutual);
+        self.once(&layout, Call::Own);
+        if self.rng.one_in(4) {
+            self.once(&layout, Call::Twice);
+        }
+    }
+
+    /// The largest paths there are, closed, in exactly the room that they need: round coils, one that reaches into the other.
+    fn largest(&mut self) {
+        let coil = shapes::short_steps(4096);
+        let by = Point { x: 120.0, y: 5.0 };
+        let other = shapes::placed(&coil, (0.6, 0.8), 1.0, by);
+        let layout = Layout {
+            first: Drawn::new(&coil, true),
+            second: Drawn::new(&other, true),
+            epsilon: epsilon(&mut self.rng),
+        };
+        for call in [Call::Mutual, Call::Own] {
+            self.in_rooms(&layout, call, |rows, _| vec![Room::of(rows)]);
+        }
+    }
+}

@@ -1,0 +1,180 @@
+//! Layouts with faults: each number of each vertex at every limit and beyond it, chords as short as an arc's may be, lengths, the
+//! epsilon; one at a time, and every two at once.
+
+use super::layout::{Drawn, Layout};
+use super::shapes::{mended, on_grid};
+use crate::crossing::faults::two_to;
+use crate::crossing::specials;
+use crate::inputs::values::epsilon;
+use crate::rng::Rng;
+
+/// What is done to a layout. A path is 0 or 1.
+#[derive(Clone, Copy)]
+enum Damage {
+    Epsilon(f64),
+    /// A number more or two than whole vertices have.
+    Longer {
+        path: usize,
+        by: usize,
+    },
+    /// 4,097 vertices.
+    TooMany {
+        path: usize,
+    },
+    Number {
+        path: usize,
+        at: usize,
+        number: f64,
+    },
+    /// A segment from the origin, so long, along an axis.
+    Chord {
+        path: usize,
+        segment: usize,
+        long: f64,
+        bulge: f64,
+    },
+}
+
+impl Damage {
+    fn apply(self, layout: &mut Layout) {
+        match self {
+            Damage::Epsilon(epsilon) => layout.epsilon = epsilon,
+            Damage::Longer { path, by } => numbers(layout, path).extend(vec![0.5; by]),
+            Damage::TooMany { path } => {
+                let numbers = numbers(layout, path);
+                let more = numbers.len() % 3;
+                numbers.resize(3 * 4097 + more, 0.25);
+            }
+            Damage::Number { path, at, number } => numbers(layout, path)[at] = number,
+            Damage::Chord {
+                path,
+                segment,
+                long,
+                bulge,
+            } => {
+                let numbers = numbers(layout, path);
+                let (from, vertices) = (3 * segment, numbers.len() / 3);
+                let to = 3 * ((segment + 1) % vertices);
+                numbers[from..from + 3].copy_from_slice(&[0.0, 0.0, bulge]);
+                let way = [[long, 0.0], [0.0, long]][segment % 2];
+                numbers[to..to + 2].copy_from_slice(&way);
+            }
+        }
+    }
+}
+
+impl Layout {
+    fn damaged(&self, damages: &[Damage]) -> Layout {
+        let mut layout = self.clone();
+        for damage in damages {
+            damage.apply(&mut layout);
+        }
+        layout
+    }
+}
+
+fn numbers(layout: &mut Layout, path: usize) -> &mut Vec<f64> {
+    let Layout { first, second, .. } = layout;
+    &mut if path == 0 { first } else { second }.numbers
+}
+
+/// A small accepted layout, of so many vertices a path.
+pub fn accepted(vertices: [usize; 2], closed: [bool; 2], rng: &mut Rng) -> Layout {
+    let [first, second] = [0, 1].map(|path| {
+        let vertices = on_grid(vertices[path], 3, rng);
+        Drawn::new(&mended(vertices), closed[path])
+    });
+    let epsilon = epsilon(rng);
+    Layout {
+        first,
+        second,
+        epsilon,
+    }
+}
+
+/// Every limit, its neighbours, NaNs and infinities in every place; each chord about the shortest that an arc may have.
+pub fn one_at_a_time(layout: &Layout) -> Vec<Layout> {
+    let mut all = Vec::new();
+    for special in specials() {
+        all.push(Damage::Epsilon(special));
+        all.extend(places(layout).map(|(path, at)| Damage::Number {
+            path,
+            at,
+            number: special,
+        }));
+    }
+    for short in shorts() {
+        for bulge in bulges() {
+            all.extend(segments(layout).map(|(path, segment)| Damage::Chord {
+                path,
+                segment,
+                long: short,
+                bulge,
+            }));
+        }
+    }
+    for path in 0..2 {
+        all.extend([1, 2].map(|by| Damage::Longer { path, by }));
+        all.push(Damage::TooMany { path });
+    }
+    let damaged = |damage: &Damage| layout.damaged(&[*damage]);
+    all.iter().map(damaged).collect()
+}
+
+/// Every two of: a number refused for each reason that its place has, a chord too short, a length, the epsilon. The first in the
+/// scope's order is to be told.
+pub fn two_at_once(layout: &Layout, rng: &mut Rng) -> Vec<Layout> {
+    let all = faults(layout, rng);
+    let before = |i: usize| all[..i].iter().map(move |other| (i, other));
+    let two = (0..all.len()).flat_map(before);
+    two.map(|(i, other)| layout.damaged(&[all[i], *other]))
+        .collect()
+}
+
+fn faults(layout: &Layout, rng: &mut Rng) -> Vec<Damage> {
+    let no_number = [f64::NAN, f64::INFINITY, f64::NEG_INFINITY];
+    let mut all = vec![Damage::Epsilon(rng.pick(&[0.0, f64::NAN, 0.75]))];
+    for (path, at) in places(layout) {
+        let limit: f64 = if at % 3 == 2 { 1.0 } else { 1_048_576.0 };
+        let beyond = rng.sign() * f64::from_bits(limit.to_bits() + 1);
+        let numbers = [rng.pick(&no_number), beyond];
+        all.extend(numbers.map(|number| Damage::Number { path, at, number }));
+    }
+    all.extend(segments(layout).map(|(path, segment)| Damage::Chord {
+        path,
+        segment,
+        long: 0.0,
+        bulge: 0.5,
+    }));
+    for path in 0..2 {
+        let by = 1 + rng.below(2) as usize;
+        all.extend([Damage::Longer { path, by }, Damage::TooMany { path }]);
+    }
+    all
+}
+
+/// Every number of both paths.
+fn places(layout: &Layout) -> impl Iterator<Item = (usize, usize)> {
+    let lengths = [layout.first.numbers.len(), layout.second.numbers.len()];
+    (0..2).flat_map(move |path| (0..lengths[path]).map(move |at| (path, at)))
+}
+
+/// Every vertex that a segment starts at, were both paths closed.
+fn segments(layout: &Layout) -> impl Iterator<Item = (usize, usize)> {
+    places(layout)
+        .filter(|(_, at)| at % 3 == 0)
+        .map(|(path, at)| (path, at / 3))
+}
+
+/// The shortest chord of an arc, the floats next to it, and none at all.
+fn shorts() -> [f64; 4] {
+    let least = two_to(-40).to_bits();
+    [0, least - 1, least, least + 1].map(f64::from_bits)
+}
+
+/// The smallest bulges of arcs and the largest of lines, and one of an arc.
+fn bulges() -> [f64; 5] {
+    let least = 1e-8f64.to_bits();
+    let [below, at] = [least - 1, least].map(f64::from_bits);
+    [below, at, -below, -at, 0.5]
+}

@@ -1,0 +1,359 @@
+//! The model on what the scope states, and on listings that one can work out by hand.
+
+use super::layout::Drawn;
+use super::model::{row_room, Fault, Listed, Listing, Place, Rows};
+use super::shapes::{crossed, crossed_by_itself};
+
+const EPSILON: f64 = 1e-5;
+const NEXT_ABOVE_LIMIT: f64 = 1_048_576.0 + 1.0 / (1u64 << 32) as f64;
+
+/// Vertices as x, y, bulge.
+fn path(vertices: &[[f64; 3]], closed: bool) -> Drawn {
+    Drawn {
+        numbers: vertices.concat(),
+        closed,
+    }
+}
+
+fn line(from: [f64; 2], to: [f64; 2]) -> Drawn {
+    arc(from, to, 0.0)
+}
+
+fn arc(from: [f64; 2], to: [f64; 2], bulge: f64) -> Drawn {
+    path(&[[from[0], from[1], bulge], [to[0], to[1], 0.0]], false)
+}
+
+/// The rows, or the refusal, in a room for so many.
+fn listing(listed: Listed, epsilon: f64, room: usize) -> Result<Rows, Fault> {
+    let listing = Listing::new(listed, epsilon);
+    match listing.fault(room) {
+        Some(fault) => Err(fault),
+        None => Ok(listing.rows),
+    }
+}
+
+fn mutual(first: &Drawn, second: &Drawn, epsilon: f64, room: usize) -> Result<Rows, Fault> {
+    listing(Listed::Mutual(first.path(), second.path()), epsilon, room)
+}
+
+fn own(drawn: &Drawn, room: usize) -> Result<Rows, Fault> {
+    listing(Listed::Own(drawn.path()), EPSILON, room)
+}
+
+/// Indices, class and points of each row.
+fn told(rows: &Rows) -> Vec<([u64; 2], u64, Vec<f64>)> {
+    let row = rows.rows.iter();
+    row.map(|row| (row.indices, row.class, row.points[..row.given].to_vec()))
+        .collect()
+}
+
+fn refusal(result: Result<Rows, Fault>) -> u64 {
+    result.err().map_or(0, |fault| fault.number)
+}
+
+/// The one row of two single segments, or that there is none.
+fn pair(v: &Drawn, u: &Drawn, epsilon: f64) -> Option<(u64, Vec<f64>)> {
+    let rows = mutual(v, u, epsilon, 1).expect("accepted");
+    assert_eq!(rows.pairs, 1);
+    let mut rows = told(&rows);
+    assert!(rows.iter().all(|(indices, ..)| *indices == [0, 0]));
+    rows.pop().map(|(_, class, points)| (class, points))
+}
+
+#[test]
+fn examples_d_to_l() {
+    let half = arc([-1.0, 0.0], [1.0, 0.0], 1.0);
+    let four = line([0.0, 0.0], [4.0, 0.0]);
+    let two = line([0.0, 0.0], [2.0, 0.0]);
+    let upright = line([2.0, 0.25], [2.0, 4.0]);
+    let back = |bulge| arc([1.0, 0.0], [-1.0, 0.0], bulge);
+    let found = |v: &Drawn, u: &Drawn| pair(v, u, EPSILON);
+
+    let d = found(&four, &line([1.0, 0.0], [5.0, 0.0]));
+    assert_eq!(d, Some((4, vec![1.0, 0.0, 4.0, 0.0])));
+    let e = found(&two, &line([2.0, 0.0], [5.0, 0.0]));
+    assert_eq!(e, Some((2, vec![2.0, 0.0])));
+    assert_eq!(pair(&two, &line([3.0, 0.0], [5.0, 0.0]), 0.5), None);
+    assert_eq!(pair(&four, &upright, 0.5), Some((2, vec![2.0, 0.0])));
+    assert_eq!(pair(&four, &upright, 0.125), None);
+    let h = found(&half, &back(1.0));
+    assert_eq!(h, Some((3, vec![1.0, 0.0, -1.0, 0.0])));
+    let i = found(&half, &back(-1.0));
+    assert_eq!(i, Some((5, vec![1.0, 0.0, -1.0, 0.0])));
+    let j = found(&line([0.0, -2.0], [0.0, 2.0]), &half);
+    assert_eq!(j, Some((2, vec![0.0, -1.0])));
+    let k = found(&line([-2.0, -1.0], [2.0, -1.0]), &half);
+    assert_eq!(k, Some((1, vec![0.0, -1.0])));
+    let l = found(&line([1.0, 0.0], [1.0, 0.0]), &two);
+    assert_eq!(l, Some((2, vec![1.0, 0.0])));
+}
+
+/// The text program's example.
+#[test]
+fn one_pair_one_row() {
+    let first = line([0.0, 0.0], [4.0, 0.0]);
+    let second = line([2.0, -2.0], [2.0, 2.0]);
+    let rows = mutual(&first, &second, 1.0 / 1024.0, 1).expect("accepted");
+    assert_eq!(rows.pairs, 1);
+    assert_eq!(told(&rows), [([0, 0], 2, vec![2.0, 0.0])]);
+}
+
+/// A square and a bar across it: the first path's index outermost, both rising.
+#[test]
+fn order_of_rows() {
+    let square = [
+        [0.0, 0.0, 0.0],
+        [4.0, 0.0, 0.0],
+        [4.0, 4.0, 0.0],
+        [0.0, 4.0, 0.0],
+    ];
+    // right across at height 1, up on the outside, and back at height 3
+    let bar = [
+        [-1.0, 1.0, 0.0],
+        [5.0, 1.0, 0.0],
+        [5.0, 3.0, 0.0],
+        [-1.0, 3.0, 0.0],
+    ];
+    let (square, bar) = (path(&square, true), path(&bar, false));
+    let rows = mutual(&square, &bar, EPSILON, 4).expect("accepted");
+    assert_eq!(rows.pairs, 12);
+    let expected = [
+        ([1, 0], 2, vec![4.0, 1.0]),
+        ([1, 2], 2, vec![4.0, 3.0]),
+        ([3, 0], 2, vec![0.0, 1.0]),
+        ([3, 2], 2, vec![0.0, 3.0]),
+    ];
+    assert_eq!(told(&rows), expected);
+    let rows = mutual(&bar, &square, EPSILON, 4).expect("accepted");
+    let indices: Vec<[u64; 2]> = rows.rows.iter().map(|row| row.indices).collect();
+    assert_eq!(indices, [[0, 1], [0, 3], [2, 1], [2, 3]]);
+}
+
+/// The last segment of a closed path runs back to vertex 0 with the last bulge.
+#[test]
+fn closing_segment() {
+    let ends = [[1.0, 0.0, 0.0], [-1.0, 0.0, 1.0]];
+    let upright = line([0.0, -2.0], [0.0, 2.0]);
+    let open = mutual(&path(&ends, false), &upright, EPSILON, 2).expect("accepted");
+    assert_eq!(told(&open), [([0, 0], 2, vec![0.0, 0.0])]);
+    let closed = mutual(&path(&ends, true), &upright, EPSILON, 2).expect("accepted");
+    let expected = [([0, 0], 2, vec![0.0, 0.0]), ([1, 0], 2, vec![0.0, -1.0])];
+    assert_eq!((closed.pairs, told(&closed)), (2, expected.to_vec()));
+}
+
+/// n segments have n (n - 1) / 2 pairs, without the n - 1 of neighbours, and one more if closed.
+#[test]
+fn pairs_looked_at() {
+    let corners = [
+        [0.0, 0.0, 0.0],
+        [10.0, 0.0, 0.0],
+        [20.0, 5.0, 0.0],
+        [10.0, 10.0, 0.0],
+        [0.0, 10.0, 0.0],
+        [-10.0, 5.0, 0.0],
+    ];
+    let open = [0, 0, 0, 0, 1, 3, 6];
+    let closed = [0, 0, 0, 0, 2, 5, 9];
+    let segments = [0, 0, 1, 2, 3, 4, 5];
+    let closed_segments = [0, 0, 2, 3, 4, 5, 6];
+    let across = line([0.0, 50.0], [1.0, 50.0]);
+    for n in 0..=corners.len() {
+        let drawn = [path(&corners[..n], false), path(&corners[..n], true)];
+        let pairs = |drawn: &Drawn| own(drawn, 0).expect("no rows").pairs;
+        assert_eq!(drawn.each_ref().map(pairs), [open[n], closed[n]]);
+        let pairs = |drawn: &Drawn| mutual(drawn, &across, EPSILON, 0).expect("no rows").pairs;
+        assert_eq!(
+            drawn.each_ref().map(pairs),
+            [segments[n], closed_segments[n]]
+        );
+    }
+}
+
+/// A loop that crosses itself: the second and the last but one of its lines.
+#[test]
+fn own_crossing() {
+    let path = path(
+        &[
+            [0.0, 0.0, 0.0],
+            [2.0, 0.0, 0.0],
+            [2.0, 2.0, 0.0],
+            [1.0, 2.0, 0.0],
+            [1.0, -1.0, 0.0],
+        ],
+        false,
+    );
+    let rows = own(&path, 1).expect("accepted");
+    assert_eq!(rows.pairs, 3);
+    assert_eq!(told(&rows), [([0, 3], 2, vec![1.0, 0.0])]);
+    assert_eq!(refusal(own(&path, 0)), 8);
+}
+
+#[test]
+fn one_path_lent_twice() {
+    let bent = path(&[[0.0, 0.0, 0.0], [1.0, 0.0, 0.0], [1.0, 1.0, 0.0]], false);
+    let rows = mutual(&bent, &bent, EPSILON, 4).expect("accepted");
+    assert_eq!(rows.pairs, 4);
+    let classes: Vec<_> = rows
+        .rows
+        .iter()
+        .map(|row| (row.indices, row.class))
+        .collect();
+    assert_eq!(
+        classes,
+        [([0, 0], 4), ([0, 1], 2), ([1, 0], 2), ([1, 1], 4)]
+    );
+}
+
+#[test]
+fn limits() {
+    let at = |x: f64, bulge: f64| path(&[[0.0, 0.0, bulge], [x, 0.0, 0.0]], false);
+    let alone = |drawn: &Drawn| refusal(own(drawn, 0));
+    assert_eq!(alone(&at(1_048_576.0, 0.0)), 0);
+    assert_eq!(alone(&at(NEXT_ABOVE_LIMIT, 0.0)), 2);
+    assert_eq!(alone(&at(1.0, 1.0)), 0);
+    assert_eq!(alone(&at(1.0, 1.0 + f64::EPSILON)), 3);
+    assert_eq!(alone(&at(0.0, 0.5)), 5);
+    assert_eq!(alone(&at(0.0, 0.0)), 0);
+    let short = 1.0 / (1u64 << 40) as f64;
+    assert_eq!(alone(&at(short, 0.5)), 0);
+    assert_eq!(alone(&at(short * (1.0 - f64::EPSILON), 0.5)), 5);
+    for epsilon in [short, 0.5] {
+        assert_eq!(refusal(mutual(&at(1.0, 0.0), &at(1.0, 0.0), epsilon, 9)), 0);
+    }
+    for epsilon in [f64::NAN, f64::INFINITY, 0.0, -0.25, short / 2.0, 0.5625] {
+        assert_eq!(refusal(mutual(&at(1.0, 0.0), &at(1.0, 0.0), epsilon, 9)), 4);
+    }
+    let many = |vertices: usize| path(&vec![[0.0, 0.0, 0.0]; vertices], false);
+    let few = many(1);
+    assert_eq!(refusal(mutual(&many(4096), &few, EPSILON, 0)), 0);
+    assert_eq!(refusal(mutual(&many(4097), &few, EPSILON, 0)), 7);
+}
+
+/// A single vertex has no segments, but its numbers are looked at; and an open path's last bulge is.
+#[test]
+fn numbers_of_no_segment() {
+    assert_eq!(refusal(own(&path(&[[0.0, 0.0, 2.0]], false), 0)), 3);
+    assert_eq!(refusal(own(&path(&[[0.0, f64::NAN, 0.0]], true), 0)), 1);
+    let last = path(&[[0.0, 0.0, 0.0], [1.0, 0.0, f64::INFINITY]], false);
+    assert_eq!(refusal(own(&last, 0)), 1);
+    // a closing arc from a point to itself, and the same one open
+    let ends = [[1.0, 1.0, 0.0], [1.0, 1.0, 1.0]];
+    assert_eq!(refusal(own(&path(&ends, true), 0)), 5);
+    assert_eq!(refusal(own(&path(&ends, false), 0)), 0);
+}
+
+/// Faults are taken away one after the other, and the next in the scope's order shows.
+#[test]
+fn order_of_refusals() {
+    let bad = [
+        [f64::NAN, NEXT_ABOVE_LIMIT, 1.5],
+        [0.0, 0.0, 1.0],
+        [0.0, 0.0, 0.0],
+    ];
+    let mut first = path(&bad, false);
+    let mut second = path(&bad, false);
+    first.numbers.push(0.0);
+    second.numbers.resize(3 * 4097, 0.0);
+    let mut epsilon = 1.0;
+    let mut shown = Vec::new();
+    let mut show = |first: &Drawn, second: &Drawn, epsilon: f64| {
+        shown.push(mutual(first, second, epsilon, 0).err());
+    };
+    show(&first, &second, epsilon);
+    epsilon = EPSILON;
+    show(&first, &second, epsilon);
+    first.numbers.pop();
+    show(&first, &second, epsilon);
+    second.numbers.truncate(9);
+    for at in 0..3 {
+        show(&first, &second, epsilon);
+        first.numbers[at] = 0.0;
+    }
+    show(&first, &second, epsilon);
+    first.numbers[6] = 2.0;
+    for at in 0..3 {
+        show(&first, &second, epsilon);
+        second.numbers[at] = 0.0;
+    }
+    show(&first, &second, epsilon);
+    second.numbers[6] = 2.0;
+    show(&first, &second, epsilon);
+
+    let number = |number: u64, path: usize, which: usize| Fault {
+        number,
+        place: Place::Number {
+            path,
+            vertex: 0,
+            which,
+        },
+    };
+    let other = |number: u64, place: Place| Fault { number, place };
+    let expected = [
+        other(4, Place::Epsilon),
+        other(6, Place::Length { path: 0 }),
+        other(7, Place::Length { path: 1 }),
+        number(1, 0, 0),
+        number(2, 0, 1),
+        number(3, 0, 2),
+        other(
+            5,
+            Place::Chord {
+                path: 0,
+                segment: 1,
+            },
+        ),
+        number(1, 1, 0),
+        number(2, 1, 1),
+        number(3, 1, 2),
+        other(
+            5,
+            Place::Chord {
+                path: 1,
+                segment: 1,
+            },
+        ),
+        other(8, Place::Room),
+    ];
+    assert_eq!(shown, expected.map(Some));
+}
+
+/// The smaller of the whole rows in the two slices.
+#[test]
+fn rooms() {
+    assert_eq!(row_room(0, 0), 0);
+    assert_eq!(row_room(2, 400), 0);
+    assert_eq!(row_room(300, 3), 0);
+    assert_eq!(row_room(11, 12), 3);
+    assert_eq!(row_room(12, 11), 2);
+    let first = line([0.0, 0.0], [4.0, 0.0]);
+    let second = line([2.0, -2.0], [2.0, 2.0]);
+    assert_eq!(refusal(mutual(&first, &second, EPSILON, 0)), 8);
+    assert_eq!(refusal(mutual(&first, &first, EPSILON, 1)), 0);
+    // no rows need no room
+    let away = line([2.0, 1.0], [2.0, 2.0]);
+    assert_eq!(refusal(mutual(&first, &away, EPSILON, 0)), 0);
+}
+
+/// Layouts that are made to have so many rows have them.
+#[test]
+fn chosen_numbers_of_rows() {
+    for (rows, across) in [
+        (1, 1),
+        (5, 1),
+        (4, 7),
+        (21, 7),
+        (25, 7),
+        (2047, 46),
+        (2049, 46),
+    ] {
+        let (first, second) = crossed(rows, across);
+        let (first, second) = (Drawn::new(&first, false), Drawn::new(&second, false));
+        let found = mutual(&first, &second, EPSILON, rows).expect("exactly so many");
+        assert!(found.rows.len() == rows && found.rows.iter().all(|row| row.class == 2));
+        let fingers = rows / across + 1;
+        assert_eq!(found.pairs, ((2 * fingers - 1) * (2 * across - 1)) as u64);
+        let path = Drawn::new(&crossed_by_itself(rows, across), false);
+        let found = own(&path, rows).expect("exactly so many");
+        assert!(found.rows.len() == rows && found.rows.iter().all(|row| row.class == 2));
+    }
+}

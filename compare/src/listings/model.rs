@@ -1,0 +1,239 @@
+//! Whole-path listings as the scope's prose has them: which pairs are looked at, which make a row, what is refused and in which
+//! order. How a pair meets is the Rust's own answer; what a number is refused for is the table's, as for the pair call.
+
+use cavalier_contours::polyline::{pline_seg_intr, PlineSegIntr, PlineVertex};
+
+use crate::crossing::faults::{chord, fault, Look};
+use crate::crossing::of_segments;
+
+/// A path as it is lent: x, y and bulge of one vertex after the other.
+#[derive(Clone, Copy)]
+pub struct Path<'a> {
+    pub numbers: &'a [f64],
+    pub closed: bool,
+}
+
+impl Path<'_> {
+    pub fn vertices(self) -> usize {
+        self.numbers.len() / 3
+    }
+
+    /// One fewer than vertices if it is open, as many if it is closed; a single vertex makes none.
+    pub fn segments(self) -> usize {
+        match self.vertices() {
+            0 | 1 => 0,
+            n if self.closed => n,
+            n => n - 1,
+        }
+    }
+
+    fn vertex(self, i: usize) -> PlineVertex {
+        let n = &self.numbers[3 * i..];
+        PlineVertex::new(n[0], n[1], n[2])
+    }
+
+    /// Where segment i begins and ends: the last one of a closed path ends at vertex 0.
+    pub fn segment(self, i: usize) -> (PlineVertex, PlineVertex) {
+        let next = if i + 1 == self.vertices() { 0 } else { i + 1 };
+        (self.vertex(i), self.vertex(next))
+    }
+}
+
+/// What is listed: two paths' crossings, or those of one path with itself.
+#[derive(Clone, Copy)]
+pub enum Listed<'a> {
+    Mutual(Path<'a>, Path<'a>),
+    Own(Path<'a>),
+}
+
+/// A pair that meets: its indices, its class, and the coordinates of its points, two numbers or four, with +0 behind.
+pub struct Row {
+    pub indices: [u64; 2],
+    pub class: u64,
+    pub points: [f64; 4],
+    pub given: usize,
+}
+
+/// The rows of a listing, in order, and how many pairs were looked at.
+#[derive(Default)]
+pub struct Rows {
+    pub rows: Vec<Row>,
+    pub pairs: u64,
+}
+
+/// A listing for any room: the first two faults, or else the rows.
+pub struct Listing {
+    pub faults: Vec<Fault>,
+    pub rows: Rows,
+}
+
+/// A refusal's number, and what it was given for. Only the number is told.
+#[derive(Clone, Copy, Debug, PartialEq)]
+pub struct Fault {
+    pub number: u64,
+    pub place: Place,
+}
+
+/// Paths, vertices, their numbers (x, y, bulge) and segments count from 0.
+#[derive(Clone, Copy, Debug, PartialEq)]
+pub enum Place {
+    Epsilon,
+    Length {
+        path: usize,
+    },
+    Number {
+        path: usize,
+        vertex: usize,
+        which: usize,
+    },
+    Chord {
+        path: usize,
+        segment: usize,
+    },
+    Room,
+}
+
+const MOST_VERTICES: usize = 4096;
+
+impl<'a> Listed<'a> {
+    pub fn paths(self) -> Vec<Path<'a>> {
+        match self {
+            Listed::Mutual(first, second) => vec![first, second],
+            Listed::Own(path) => vec![path],
+        }
+    }
+
+    /// The faults in the scope's order, of which the first is told. The row room is left out: it comes last, after these.
+    pub fn faults(self, epsilon: f64) -> impl Iterator<Item = Fault> + 'a {
+        let each = move || self.paths().into_iter().enumerate();
+        let shapes = each().filter_map(|(at, path)| shape(path, at));
+        let insides = each().flat_map(|(at, path)| numbers(path, at).chain(chords(path, at)));
+        epsilon_fault(epsilon)
+            .into_iter()
+            .chain(shapes)
+            .chain(insides)
+    }
+
+    /// The rows of accepted paths.
+    pub fn rows(self, epsilon: f64) -> Rows {
+        let mut found = Rows::default();
+        match self {
+            Listed::Mutual(first, second) => {
+                for i in 0..first.segments() {
+                    for j in 0..second.segments() {
+                        found.look((first, i), (second, j), epsilon);
+                    }
+                }
+            }
+            Listed::Own(path) => {
+                let n = path.segments();
+                for i in 0..n {
+                    for j in i + 1..n {
+                        let follows = j == i + 1;
+                        let around = path.closed && i == 0 && j == n - 1;
+                        if !follows && !around {
+                            found.look((path, i), (path, j), epsilon);
+                        }
+                    }
+                }
+            }
+        }
+        found
+    }
+}
+
+impl Row {
+    pub fn new([i, j]: [usize; 2], answer: PlineSegIntr<f64>) -> Row {
+        let (class, values) = of_segments(answer);
+        let mut points = [0.0; 4];
+        points[..values.len()].copy_from_slice(&values);
+        Row {
+            indices: [i as u64, j as u64],
+            class,
+            points,
+            given: values.len(),
+        }
+    }
+}
+
+impl Rows {
+    fn look(&mut self, (v, i): (Path, usize), (u, j): (Path, usize), epsilon: f64) {
+        let ((v1, v2), (u1, u2)) = (v.segment(i), u.segment(j));
+        let answer = pline_seg_intr(v1, v2, u1, u2, epsilon);
+        self.pairs += 1;
+        if let PlineSegIntr::NoIntersect = answer {
+            return;
+        }
+        self.rows.push(Row::new([i, j], answer));
+    }
+}
+
+impl Listing {
+    pub fn new(listed: Listed, epsilon: f64) -> Listing {
+        let faults: Vec<Fault> = listed.faults(epsilon).take(2).collect();
+        let rows = if faults.is_empty() {
+            listed.rows(epsilon)
+        } else {
+            Rows::default()
+        };
+        Listing { faults, rows }
+    }
+
+    /// The fault that is told if there is room for so many rows. More rows than that are the last in order.
+    pub fn fault(&self, room: usize) -> Option<Fault> {
+        let number = 8;
+        let place = Place::Room;
+        let too_many = self.rows.rows.len() > room;
+        let first = self.faults.first().copied();
+        first.or(too_many.then_some(Fault { number, place }))
+    }
+}
+
+/// How many whole rows both slices have room for.
+pub fn row_room(indices: usize, points: usize) -> usize {
+    (indices / 3).min(points / 4)
+}
+
+fn epsilon_fault(epsilon: f64) -> Option<Fault> {
+    let number = fault(Look::Epsilon, epsilon)?;
+    let place = Place::Epsilon;
+    Some(Fault { number, place })
+}
+
+/// A length that is no whole vertices, or else too many of them.
+fn shape(path: Path, at: usize) -> Option<Fault> {
+    let number = if path.numbers.len() % 3 != 0 {
+        6
+    } else if path.vertices() > MOST_VERTICES {
+        7
+    } else {
+        return None;
+    };
+    let place = Place::Length { path: at };
+    Some(Fault { number, place })
+}
+
+/// Every vertex in order, each x, y, bulge: the last bulge of an open path too, though it is no segment's.
+fn numbers(path: Path<'_>, at: usize) -> impl Iterator<Item = Fault> + '_ {
+    const LOOKS: [Look; 3] = [Look::Coordinate, Look::Coordinate, Look::Bulge];
+    path.numbers.iter().enumerate().filter_map(move |(i, x)| {
+        let (vertex, which) = (i / 3, i % 3);
+        let number = fault(LOOKS[which], *x)?;
+        let place = Place::Number {
+            path: at,
+            vertex,
+            which,
+        };
+        Some(Fault { number, place })
+    })
+}
+
+/// Every segment in order.
+fn chords(path: Path<'_>, at: usize) -> impl Iterator<Item = Fault> + '_ {
+    (0..path.segments()).filter_map(move |segment| {
+        let (v1, v2) = path.segment(segment);
+        let number = chord(&[v1.x, v1.y, v1.bulge, v2.x, v2.y, v2.bulge])?;
+        let place = Place::Chord { path: at, segment };
+        Some(Fault { number, place })
+    })
+}

@@ -1,0 +1,167 @@
+//! Holds one call after the other to the model, and counts what was met: rows by class, refusals by number and place, kinds of
+//! input, and differences.
+
+use super::kinds::{Case, Kinds};
+use super::layout::{ours, Call, Layout};
+use super::lent::{Expected, Lent, LentPath, Old, Room};
+use super::model::{row_room, Listing};
+use super::sites::Sites;
+
+const SHOWN: u64 = 5;
+const CLASSES: [&str; 6] = ["none", "tangent", "one", "two", "lines", "arcs"];
+
+pub struct Score {
+    call: Call,
+    answered: u64,
+    pub pairs: u64,
+    classes: [u64; 6],
+    refusals: [u64; 11],
+    no_room: u64,
+    sites: Sites,
+    kinds: Kinds,
+    differences: u64,
+}
+
+/// A layout with what the model makes of it: worked out once, for any number of calls.
+pub struct Known<'a> {
+    layout: &'a Layout,
+    call: Call,
+    listing: Listing,
+}
+
+impl<'a> Known<'a> {
+    pub fn new(layout: &'a Layout, call: Call) -> Known<'a> {
+        Known {
+            layout,
+            call,
+            listing: Listing::new(layout.listed(call), layout.epsilon),
+        }
+    }
+
+    /// How many rows it has; none if it is refused.
+    pub fn rows(&self) -> usize {
+        self.listing.rows.rows.len()
+    }
+}
+
+impl Score {
+    pub fn new(call: Call, full: bool) -> Score {
+        Score {
+            call,
+            answered: 0,
+            pairs: 0,
+            classes: [0; 6],
+            refusals: [0; 11],
+            no_room: 0,
+            sites: Sites::of(call),
+            kinds: Kinds::of(call, full),
+            differences: 0,
+        }
+    }
+
+    /// Makes the call with slices of these lengths and these old contents.
+    pub fn compare(&mut self, known: &Known, room: Room, old: Old) {
+        let layout = known.layout;
+        let (first, second) = (LentPath::new(&layout.first), LentPath::new(&layout.second));
+        let listed = known.call.of(first.path(), second.path());
+        let mut lent = Lent::new(room, old);
+        let told = ours(listed, layout.epsilon, lent.slices());
+
+        let Listing { faults, rows } = &known.listing;
+        let fault = known.listing.fault(row_room(room.indices, room.points));
+        let expected = match fault {
+            _ if room.counts < 2 => Expected::NoRoom,
+            Some(fault) => Expected::Refused(fault.number),
+            None => Expected::Answered(rows),
+        };
+        let wrong = lent.wrong(told, &expected).or_else(|| {
+            let kept = first.is(&layout.first) && second.is(&layout.second);
+            (!kept).then(|| "a path was written to".to_string())
+        });
+        if let Some(what) = wrong {
+            self.differ(known, room, &what);
+        }
+        self.count(&expected);
+        let case = Case {
+            paths: &layout.listed(known.call).paths(),
+            faults,
+            fault,
+            rows: known.rows(),
+            room,
+            old,
+        };
+        self.sites.count(&case);
+        self.kinds.count(&case);
+    }
+
+    fn count(&mut self, expected: &Expected) {
+        match expected {
+            Expected::NoRoom => self.no_room += 1,
+            Expected::Refused(number) => self.refusals[*number as usize] += 1,
+            Expected::Answered(rows) => {
+                self.answered += 1;
+                self.pairs += rows.pairs;
+                for row in &rows.rows {
+                    self.classes[row.class as usize] += 1;
+                }
+            }
+        }
+    }
+
+    fn differ(&mut self, known: &Known, room: Room, what: &str) {
+        const NUMBERS: usize = 24;
+        self.differences += 1;
+        if self.differences > SHOWN {
+            return;
+        }
+        println!("{}: {what}", self.name());
+        println!("  {room:?}, epsilon {:e}", known.layout.epsilon);
+        for path in known.layout.listed(known.call).paths() {
+            let front = &path.numbers[..path.numbers.len().min(NUMBERS)];
+            let (length, closed) = (path.numbers.len(), path.closed);
+            println!("  a path of {length} numbers, closed {closed}: {front:?}");
+        }
+    }
+
+    fn name(&self) -> &'static str {
+        match self.call {
+            Call::Mutual => "mutual listing",
+            Call::Twice => "mutual listing, one path lent twice",
+            Call::Own => "self listing",
+        }
+    }
+
+    /// Prints the counts, and answers how many differences there were; a kind of input that never occurred is one.
+    pub fn report(&self) -> u64 {
+        let rows = CLASSES.iter().zip(&self.classes).skip(1);
+        let rows: Vec<String> = rows
+            .map(|(name, count)| format!("{name} {count}"))
+            .collect();
+        let refusals: Vec<String> = (1..)
+            .zip(&self.refusals[1..])
+            .filter(|(_, count)| **count > 0)
+            .map(|(number, count)| format!("{count} by {number}"))
+            .collect();
+        let name = self.name();
+        println!(
+            "{name}: {} answered, {} pairs, rows {}, refused {}, {} without room, {} differences",
+            self.answered,
+            self.pairs,
+            rows.join(", "),
+            refusals.join(", "),
+            self.no_room,
+            self.differences
+        );
+        let unmet = CLASSES.iter().zip(&self.classes).skip(1);
+        let unmet = unmet.filter(|(_, count)| **count == 0);
+        let unmet: Vec<String> = unmet
+            .map(|(class, _)| format!("rows of class {class}"))
+            .chain(self.sites.report(name))
+            .chain(self.kinds.report(name))
+            .collect();
+        for what in &unmet {
+            println!("{name}: NEVER MET: {what}");
+        }
+        self.differences + unmet.len() as u64
+    }
+}

@@ -1,0 +1,120 @@
+-- Every number that a listing's answer tells is below 256, by the checks that give it; so its code is below 512. And the ends of
+-- handing a listing over.
+use Prim.Native.Nat.{ℕ, zero, suc, _+_, _<_, _≤_}
+use native.Mathlib.Omega.{arith}
+use mathlib.Core.Path.{_≡_, refl, sym, ap, _∙_, subst}
+use mathlib.Core.Bool.{Bool, true, false}
+use mathlib.Core.List.{List, [], _∷_, _++_}
+use borrow.Author.Tests.{lt-ltb, le-ltb}
+use lib.Ieee.{Float}
+use lib.ListN.{length}
+use Rattle.checks.specs.declared.fault.Checked.{Checked}
+use Rattle.checks.specs.declared.fault.Checked.the-variants.{Fine, Bad}
+use Rattle.checks.specs.declared.fault.Item.the-variants.{Epsilon, X, Y, Bulge}
+use Rattle.checks.specs.Fault.{at}
+use Rattle.checks.specs.Each
+use Rattle.checks.specs.First.{first as firstFault}
+use Rattle.checks.specs.Laws.Chains.{first-append}
+use Rattle.plane.specs.declared.pline_vertex.PlineVertex.{PlineVertex}
+use Rattle.paths.specs.declared.path.Segment.{Segment}
+use Rattle.paths.specs.Path.{vertex, vertexCount}
+use Rattle.paths.specs.Segments.{segmentFrom, segmentCount}
+use Rattle.paths.specs.Shape.{shape}
+use Rattle.paths.specs.Check.{along, ofVertex, ofSegment, vertexChecks, arcChecks, pathChecks}
+use Rattle.listings.specs.declared.row.Row.{Row}
+use Rattle.listings.specs.declared.row.Look.{Look}
+use Rattle.listings.specs.declared.answer.ListingAnswer.{ListingAnswer}
+use Rattle.listings.specs.Order.{Pair, mutualPairs, selfPairs}
+use Rattle.listings.specs.Rows.{rowsOf, lookedAt}
+use Rattle.listings.specs.Look.{look}
+use Rattle.listings.specs.Listing.{
+  Outcome,
+  Leaves,
+  roomCheck,
+  outcomeOf,
+  outcome,
+  mutualChecks,
+  mutualListing,
+  selfChecks,
+  selfListing,
+}
+use Rattle.capi.specs.HandedListing.{HandedListing, code, counted}
+use Rattle.capi.proofs.Numbers.{Small, fine, refused, and, epsilon, coordinate, bulge, arc-chord}
+
+-- ---- lists of checks
+append : (cs ds : List Checked) → Small (firstFault cs) → Small (firstFault ds) → Small (firstFault (cs ++ ds))
+append cs ds a b = subst Small (sym (first-append cs ds)) (and a b)
+
+each : (checks : ℕ → List Checked) → ((i : ℕ) → Small (firstFault (checks i))) → (i k : ℕ) → Small (firstFault (along checks i k))
+each checks small i zero = fine
+each checks small i (suc k) = append (checks i) (along checks (i + 1) k) (small i) (each checks small (i + 1) k)
+
+shape-small : (path : List Float) (owner : ℕ) → Small (shape path owner)
+unfolding shape
+shape-small path owner = and (refused _ 6 _ (omega arith)) (refused _ 7 _ (omega arith))
+
+path-small : (path : List Float) (closed : Bool) (owner : ℕ) → Small (firstFault (pathChecks path closed owner))
+unfolding ofVertex ofSegment
+path-small path closed owner =
+    append (vertexChecks path owner) (arcChecks path closed owner)
+    (each (ofVertex path owner) at-vertex 0 (vertexCount path))
+    (each (ofSegment path owner) at-segment 0 (segmentCount path closed))
+  where
+    at-vertex : (i : ℕ) → Small (firstFault (ofVertex path owner i))
+    at-vertex i =
+        let v = vertex path i in
+        and (coordinate (v .x) (at owner i X)) (and (coordinate (v .y) (at owner i Y)) (and (bulge (v .bulge) (at owner i Bulge)) fine))
+
+    at-segment : (i : ℕ) → Small (firstFault (ofSegment path owner i))
+    at-segment i = let s = segmentFrom path i in and (arc-chord (s .v1) (s .v2) owner i) fine
+
+-- ---- an outcome's code
+of-checked : (c : Checked) (rows : List Row) (looked : ℕ) (i : List ℕ) (p : List Float) → Small c
+    → code (outcomeOf c rows looked i p .answer) < 512
+of-checked Fine rows looked i p small = omega arith
+of-checked (Bad fault) rows looked i p small = omega (arith, small .below)
+
+of-outcome : (checks : List Checked) (f : ℕ → ℕ → Look) (ps : List Pair) (i : List ℕ) (p : List Float) → Small (firstFault checks)
+    → code (outcome checks f ps i p .answer) < 512
+unfolding outcome roomCheck
+of-outcome checks f ps i p small =
+    of-checked _ _ _ i p (append checks _ small (and (refused _ 8 _ (omega arith)) fine))
+
+pub mutual-small : (first : List Float) (firstClosed : Bool) (second : List Float) (secondClosed : Bool) (eps : Float)
+    (i : List ℕ) (p : List Float) → code (mutualListing first firstClosed second secondClosed eps i p .answer) < 512
+unfolding mutualListing
+mutual-small first firstClosed second secondClosed eps i p =
+    let c0 : List Checked = Each.epsilon eps (at 0 0 Epsilon) ∷ shape first 0 ∷ shape second 1 ∷ [] in
+    let c1 = pathChecks first firstClosed 0 in
+    of-outcome (mutualChecks first firstClosed second secondClosed eps) (look first second eps)
+    (mutualPairs (segmentCount first firstClosed) (segmentCount second secondClosed)) i p
+    (append (c0 ++ c1) (pathChecks second secondClosed 1)
+    (append c0 c1
+    (and (epsilon eps (at 0 0 Epsilon)) (and (shape-small first 0) (and (shape-small second 1) fine)))
+    (path-small first firstClosed 0))
+    (path-small second secondClosed 1))
+
+pub self-small : (path : List Float) (closed : Bool) (eps : Float) (i : List ℕ) (p : List Float)
+    → code (selfListing path closed eps i p .answer) < 512
+unfolding selfListing
+self-small path closed eps i p =
+    let c0 : List Checked = Each.epsilon eps (at 0 0 Epsilon) ∷ shape path 0 ∷ [] in
+    of-outcome (selfChecks path closed eps) (look path path eps) (selfPairs (segmentCount path closed) closed) i p
+    (append c0 (pathChecks path closed 0) (and (epsilon eps (at 0 0 Epsilon)) (and (shape-small path 0) fine)) (path-small path closed 0))
+
+-- ---- the two ends
+module _ (o : Outcome) (c₀ i₀ : List ℕ) (p₀ : List Float) where
+  pub no-room : length c₀ < 2 → HandedListing o 512 c₀ c₀ i₀ i₀ p₀ p₀
+  no-room h =
+      let e = lt-ltb (length c₀) 2 h in record { told = simp e; counts = simp e; indices = simp e; points = simp e }
+
+  pub handed : 2 ≤ length c₀ → (a : ListingAnswer) (n : ℕ) (c i : List ℕ) (p : List Float) → Leaves o a i p → n ≡ code a
+      → c ≡ counted a c₀ → HandedListing o n c₀ c i₀ i p₀ p
+  handed h a n c i p leaves told counts =
+      let e = le-ltb (length c₀) 2 h in
+      record {
+        told = simp e (told ∙ ap code (leaves .answer));
+        counts = simp e (counts ∙ ap (λ (t : ListingAnswer). counted t c₀) (leaves .answer));
+        indices = simp e (leaves .indices);
+        points = simp e (leaves .points);
+      }

@@ -1,0 +1,32 @@
+-- How a listing goes to a caller in C: a number is returned, the two counts stand in a third lent slice, and the rows in the two
+-- slices that the listing was lent.
+use Prim.Native.Nat.{ℕ, _+_}
+use mathlib.Core.Path.{_≡_}
+use mathlib.Core.Bool.{Bool, cond}
+use mathlib.Core.List.{List, [], _∷_}
+use lib.Dec.{ltb}
+use lib.ListN.{length}
+use lib.Seq.{sets}
+use lib.Ieee.{Float}
+use Rattle.listings.specs.declared.answer.ListingAnswer.{ListingAnswer}
+use Rattle.listings.specs.declared.answer.ListingAnswer.the-variants.{Refused, Listed}
+use Rattle.listings.specs.Listing.{Outcome}
+
+-- 512 where the counts' slice has not two places, else 256 and the number of a refusal, else 0
+abbrev pub short : List ℕ → Bool
+short counts = ltb (length counts) 2
+
+abbrev pub code : ListingAnswer → ℕ
+code (Refused n) = 256 + n
+code (Listed rows pairs) = 0
+
+-- rows written, pairs looked at
+abbrev pub counted : ListingAnswer → List ℕ → List ℕ
+counted (Refused n) old = old
+counted (Listed rows pairs) old = sets old 0 (rows ∷ pairs ∷ [])
+
+pub record HandedListing (o : Outcome) (returned : ℕ) (c₀ c i₀ i : List ℕ) (p₀ p : List Float) : Type 0 where
+  pub told : returned ≡ cond (short c₀) 512 (code (o .answer))
+  pub counts : c ≡ cond (short c₀) c₀ (counted (o .answer) c₀)
+  pub indices : i ≡ cond (short c₀) i₀ (o .indices)
+  pub points : p ≡ cond (short c₀) p₀ (o .points)

@@ -1,0 +1,84 @@
+// The listings of two paths and of one. The counts go into a lent slice of their own.
+ghost use mathlib.Core.Path.{_≡_};
+ghost use Prim.Native.Nat.{_≤_, _<_};
+ghost use lib.ListN.{length};
+ghost use Rattle.listings.specs.Listing;
+ghost use Rattle.capi.specs.HandedListing as handed;
+use listings::answer::ListingAnswer;
+use listings::mutual_listing;
+use listings::self_listing;
+
+// Writes the counts of an answer to the front of `counts` and returns 0; a refusal writes nothing, and 256 and its number are
+// returned.
+fn hand_counts(answer: ListingAnswer, counts: &mut [u64]) -> u64
+    requires { ⌜ 2 ≤ length (now counts) ⌝ }
+    requires { ⌜ handed.code answer < 512 ⌝ }
+    ensures { λ r. ⌜ r ≡ handed.code answer ⌝ }
+    ensures { λ r. ⌜ now (counts .exit) ≡ handed.counted answer (now (counts .entry)) ⌝ }
+{
+    match answer {
+        ListingAnswer::Refused(n) => 256 + n,
+        ListingAnswer::Listed { rows, pairs } => {
+            counts[0] = rows as u64;
+            counts[1] = pairs as u64;
+            0
+        }
+    }
+}
+
+// Which segments of the first path meet which of the second.
+#[no_mangle]
+pub extern "C" fn vj_mutual(
+    first: &[f64],
+    first_closed: bool,
+    second: &[f64],
+    second_closed: bool,
+    epsilon: f64,
+    indices: &mut [u64],
+    points: &mut [f64],
+    counts: &mut [u64],
+) -> u64
+    ensures { λ r. ⌜
+        handed.HandedListing
+        (Listing.mutualListing (now (first .entry)) «first_closed» (now (second .entry)) «second_closed» epsilon
+        (now (indices .entry)) (now (points .entry)))
+        r (now (counts .entry)) (now (counts .exit)) (now (indices .entry)) (now (indices .exit))
+        (now (points .entry)) (now (points .exit)) ⌝ }
+{
+    if counts.len() < 2 {
+        return 512;
+    }
+    let answer = mutual_listing::mutual_listing(
+        first,
+        first_closed,
+        second,
+        second_closed,
+        epsilon,
+        indices,
+        points,
+    );
+    hand_counts(answer, counts)
+}
+
+// Which segments of a path meet, neighbours excepted.
+#[no_mangle]
+pub extern "C" fn vj_self(
+    path: &[f64],
+    closed: bool,
+    epsilon: f64,
+    indices: &mut [u64],
+    points: &mut [f64],
+    counts: &mut [u64],
+) -> u64
+    ensures { λ r. ⌜
+        handed.HandedListing
+        (Listing.selfListing (now (path .entry)) closed epsilon (now (indices .entry)) (now (points .entry)))
+        r (now (counts .entry)) (now (counts .exit)) (now (indices .entry)) (now (indices .exit))
+        (now (points .entry)) (now (points .exit)) ⌝ }
+{
+    if counts.len() < 2 {
+        return 512;
+    }
+    let answer = self_listing::self_listing(path, closed, epsilon, indices, points);
+    hand_counts(answer, counts)
+}

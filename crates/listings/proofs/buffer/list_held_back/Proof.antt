@@ -1,0 +1,184 @@
+-- `listings::buffer::list_held_back` meets its contract: the buffer is a page of all pairs. Where it ends the listing, it is copied;
+-- where it is as long as the slices and pairs are left, there are too many rows; else the rest follows behind it.
+use mathlib.Core.Path.{_≡_, refl, sym, ap, _∙_}
+use mathlib.Core.Bool.{true}
+use mathlib.Core.List.{List}
+use Prim.Native.Nat.{ℕ, _≤_}
+use native.Mathlib.Omega.{arith}
+use borrow.Author.Needs.{needs}
+use denote.Ref.{now}
+use lib.Ieee.{Float, binary64, ofBits}
+use lib.ListN.{length, replicate, length-replicate}
+use lib.Seq.{length-sets}
+use Rattle.listings.specs.declared.row.Row.{Row}
+use Rattle.listings.specs.Row.{indicesOf, pointsOf, flat}
+use Rattle.listings.specs.Look.{look}
+use Rattle.listings.specs.Laws.Job as job_of
+use Rattle.listings.specs.Laws.Pages.{page, joins, too-many}
+use Rattle.listings.specs.Laws.Filling.{Filled}
+use Rattle.listings.specs.Laws.Outcome.{filled-first, is-refused, held-back, hold}
+use Rattle.listings.proofs.buffer.list_held_back.Statement.{statement}
+use Rattle.listings.proofs.buffer.list_held_back.Tie as tie
+
+abbrev start : tie.After-fill → tie.Start
+start c = c .before .before .before .before .before .before .before .before .before
+
+-- the buffer, at first
+abbrev no-indices : List ℕ
+no-indices = replicate 6144 0
+
+abbrev no-points : List Float
+no-points = replicate 8192 (ofBits binary64 0)
+
+long-no-indices : length no-indices ≡ 6144
+long-no-indices = let z : ℕ = 0 in length-replicate 6144 z
+
+long-no-points : length no-points ≡ 8192
+long-no-points = let z : Float = ofBits binary64 0 in length-replicate 8192 z
+
+abbrev held : tie.After-fill → List Row
+held c =
+    let a = start c .args in
+    page (look (now (a .first)) (now (a .second)) (a .job .epsilon)) (job_of.every (a .job)) (c .before .before .before .lesser .result) .rows
+
+-- the buffer is a page of all pairs
+done : (c : tie.After-fill)
+    → let a = start c .args in
+    Filled (a .job) true 0
+    (page (look (now (a .first)) (now (a .second)) (a .job .epsilon)) (job_of.every (a .job)) (c .before .before .before .lesser .result))
+    (c .fill .result)
+    no-indices (c .fill .last .1 .1 .1 .1 .1 .1 .1 .1 .0)
+    no-points (c .fill .last .1 .1 .1 .1 .1 .1 .1 .1 .1 .0)
+done c =
+    let a = start c .args in
+    filled-first (look (now (a .first)) (now (a .second)) (a .job .epsilon)) (a .job) (c .before .before .before .before .from .result)
+    (c .before .before .before .lesser .result) (c .fill .result) _ _ _ _
+    (c .before .before .before .before .from .ensures) (c .fill .ensures)
+
+abbrev most : tie.After-fill → ℕ
+most c = c .before .before .before .lesser .result
+
+few : (c : tie.After-fill) → c .fill .result .rows ≤ most c
+few c =
+    let a = start c .args in
+    let j = joins (look (now (a .first)) (now (a .second)) (a .job .epsilon)) (job_of.every (a .job)) (most c) in
+    omega (arith, done c .rows, j .few)
+
+long-indices : (c : tie.After-fill) → length (c .fill .last .1 .1 .1 .1 .1 .1 .1 .1 .0) ≡ 6144
+long-indices c = ap length (done c .indices) ∙ length-sets no-indices 0 (flat indicesOf (held c)) ∙ long-no-indices
+
+long-points : (c : tie.After-fill) → length (c .fill .last .1 .1 .1 .1 .1 .1 .1 .1 .1 .0) ≡ 8192
+long-points c = ap length (done c .points) ∙ length-sets no-points 0 (flat pointsOf (held c)) ∙ long-no-points
+
+from-requires : tie.Need-from-requires
+from-requires c κs = search needs
+
+lesser-requires : tie.Need-lesser-requires
+lesser-requires c κs = search needs
+
+slice-aggregate-fill : tie.Need-slice-aggregate-fill
+slice-aggregate-fill c = search needs
+
+slice-aggregate-fill-2 : tie.Need-slice-aggregate-fill-2
+slice-aggregate-fill-2 c = search needs
+
+fill-requires : tie.Need-fill-requires
+fill-requires c κs =
+    let e = c .before .before .lesser .ensures in
+    let s = c .before .before .before .before .before .before .before .before in
+    (s .pre .0, (omega arith, (omega arith, (omega (arith, e), omega (arith, e)))))
+
+slice-aggregate-copy-rows : tie.Need-slice-aggregate-copy-rows
+slice-aggregate-copy-rows c = search needs
+
+slice-aggregate-copy-rows-2 : tie.Need-slice-aggregate-copy-rows-2
+slice-aggregate-copy-rows-2 c = search needs
+
+copy-rows-requires : tie.Need-copy-rows-requires
+copy-rows-requires c κs =
+    let f = c .before .before .before .before .before .before .before in
+    let e = f .before .before .before .lesser .ensures in
+    let h = start f .pre .1 in (
+      (omega (arith, long-indices f, few f, e), omega (arith, long-points f, few f, e)),
+      (omega (arith, few f, e, h), omega (arith, few f, e, h)),
+    )
+
+same-length : tie.Need-same-length
+same-length c = search needs
+
+same-length-2 : tie.Need-same-length-2
+same-length-2 c = search needs
+
+returns : tie.Need-returns
+returns c =
+    let k = c .before .before .before .before in
+    let t = k .before .before .before .before .before in
+    let f = t .before .before .before in
+    let a = start f .args in
+    let F = look (now (a .first)) (now (a .second)) (a .job .epsilon) in
+    let ps = job_of.every (a .job) in
+    let e = f .before .before .before .lesser .ensures in
+    let d = done f in
+    held-back F ps (now (a .indices)) (now (a .points)) (most f) (page F ps (most f)) (joins F ps (most f))
+    (omega (arith, e, start f .pre .1)) (sym (d .ended) ∙ t .if1 .taken) _ _ no-indices _ _ no-points _ _
+    (d .rows) (d .pairs) (omega (arith, e, long-no-indices)) (omega (arith, e, long-no-points))
+    (d .indices) (d .points) (k .copy-rows .ensures .0) (k .copy-rows .ensures .1)
+
+returns-2 : tie.Need-returns-2
+returns-2 c =
+    let f = c .before .before .before .before in
+    let a = start f .args in
+    let F = look (now (a .first)) (now (a .second)) (a .job .epsilon) in
+    let ps = job_of.every (a .job) in
+    let more = too-many F (joins F ps (most f)) (sym (done f .ended) ∙ c .before .if1 .left) in
+    let e = f .before .before .before .lesser .ensures in
+    is-refused F ps (now (a .indices)) (now (a .points)) (omega (arith, more, e, start f .pre .1, c .if2 .taken)) _ _ refl refl
+
+slice-aggregate-list-behind : tie.Need-slice-aggregate-list-behind
+slice-aggregate-list-behind c = search needs
+
+slice-aggregate-list-behind-2 : tie.Need-slice-aggregate-list-behind-2
+slice-aggregate-list-behind-2 c = search needs
+
+list-behind-requires : tie.Need-list-behind-requires
+list-behind-requires c κs =
+    let o = c .before .before .before .before in
+    let f = o .before .before .before .before in
+    let a = start f .args in
+    let F = look (now (a .first)) (now (a .second)) (a .job .epsilon) in
+    let all : most f ≡ 2048 = omega (arith, f .before .before .before .lesser .ensures, o .if2 .left) in
+    let behind = hold F (a .job) 2048 (most f) (f .fill .result) no-indices _ no-points _ all (done f) (o .before .if1 .left)
+    long-no-indices long-no-points in
+    (start f .pre .0, (start f .pre .1, (omega (arith, o .if2 .left), behind)))
+
+same-length-3 : tie.Need-same-length-3
+same-length-3 c = search needs
+
+same-length-4 : tie.Need-same-length-4
+same-length-4 c = search needs
+
+returns-3 : tie.Need-returns-3
+returns-3 c = search needs
+
+pub list-held-back-spec : {M : Type 1} → statement M
+list-held-back-spec =
+    tie.close
+    (tie.spec
+    from-requires
+    lesser-requires
+    slice-aggregate-fill
+    slice-aggregate-fill-2
+    fill-requires
+    slice-aggregate-copy-rows
+    slice-aggregate-copy-rows-2
+    copy-rows-requires
+    same-length
+    same-length-2
+    returns
+    returns-2
+    slice-aggregate-list-behind
+    slice-aggregate-list-behind-2
+    list-behind-requires
+    same-length-3
+    same-length-4
+    returns-3)

@@ -1,0 +1,60 @@
+-- `listings::mutual_listing::check_mutual` meets its contract: the chain of its calls is the list of checks.
+use borrow.Author.Needs.{needs}
+use denote.Ref.{now}
+use Rattle.listings.specs.Laws.Entry.{mutual-chain}
+use Rattle.listings.proofs.mutual_listing.check_mutual.Statement.{statement}
+use Rattle.listings.proofs.mutual_listing.check_mutual.Tie as tie
+
+epsilon-requires : tie.Need-epsilon-requires
+epsilon-requires c κs = search needs
+
+shape-requires : tie.Need-shape-requires
+shape-requires c κs = search needs
+
+later-requires : tie.Need-later-requires
+later-requires c κs = search needs
+
+shape-requires-2 : tie.Need-shape-requires-2
+shape-requires-2 c κs = search needs
+
+later-requires-2 : tie.Need-later-requires-2
+later-requires-2 c κs = search needs
+
+check-path-requires : tie.Need-check-path-requires
+check-path-requires c κs = search needs
+
+check-path-requires-2 : tie.Need-check-path-requires-2
+check-path-requires-2 c κs = search needs
+
+returns : tie.Need-returns
+returns c =
+    let p1 = c .before in
+    let p2 = p1 .before in
+    let p3 = p2 .before in
+    let p4 = p3 .before in
+    let p5 = p4 .before in
+    let p6 = p5 .before in
+    let a = p6 .before .before .before .args in
+    simp (
+      c .check-path2 .ensures,
+      p1 .check-path .ensures,
+      p2 .later2 .ensures,
+      p3 .shape2 .ensures,
+      p4 .later .ensures,
+      p5 .shape .ensures,
+      p6 .epsilon .ensures,
+      mutual-chain (now (a .first)) (a .first-closed) (now (a .second)) (a .second-closed) (a .epsilon),
+    )
+
+pub check-mutual-spec : {M : Type 1} → statement M
+check-mutual-spec =
+    tie.close
+    (tie.spec
+    epsilon-requires
+    shape-requires
+    later-requires
+    shape-requires-2
+    later-requires-2
+    check-path-requires
+    check-path-requires-2
+    returns)

@@ -1,0 +1,82 @@
+-- `listings::mutual_listing::mutual_listing` meets its contract: a fault is told as it is; where there is none, every pair may be
+-- looked at, and the job's listing is the two paths'.
+use mathlib.Core.Path.{_≡_, refl, sym, _∙_}
+use borrow.Author.Needs.{needs}
+use denote.Ref.{now}
+use Rattle.checks.specs.declared.fault.Checked.the-variants.{Fine}
+use Rattle.listings.specs.Listing.{checkMutual}
+use Rattle.listings.specs.Laws.Entry.{mutual-ready, mutual-listed, mutual-refused}
+use Rattle.listings.proofs.mutual_listing.mutual_listing.Statement.{statement}
+use Rattle.listings.proofs.mutual_listing.mutual_listing.Tie as tie
+
+abbrev start : tie.After-check-mutual → tie.Start
+start c = c .before .before .before .before .before
+
+-- no fault was found
+fine : (c : tie.After-enum-told)
+    → let a = start (c .before .before) .args in
+    checkMutual (now (a .first)) (a .first-closed) (now (a .second)) (a .second-closed) (a .epsilon) ≡ Fine
+fine c = sym (c .before .before .check-mutual .ensures) ∙ c .enum-told .given .1
+
+check-mutual-requires : tie.Need-check-mutual-requires
+check-mutual-requires c κs = search needs
+
+enum-told : tie.Need-enum-told
+enum-told c = search needs
+
+segment-count-requires : tie.Need-segment-count-requires
+segment-count-requires c κs = search needs
+
+segment-count-requires-2 : tie.Need-segment-count-requires-2
+segment-count-requires-2 c κs = search needs
+
+list-requires : tie.Need-list-requires
+list-requires c κs =
+    let m = c .before .before in
+    let n = m .before in
+    let t = n .before in
+    let a = start (t .before .before) .args in
+    mutual-ready (now (a .first)) (a .first-closed) (now (a .second)) (a .second-closed) (a .epsilon) (fine t)
+    _ refl (n .segment-count .ensures) (m .segment-count2 .ensures)
+
+enum-known-looked : tie.Need-enum-known-looked
+enum-known-looked c = search needs
+
+same-length : tie.Need-same-length
+same-length c = search needs
+
+same-length-2 : tie.Need-same-length-2
+same-length-2 c = search needs
+
+returns : tie.Need-returns
+returns c =
+    let l = c .before .before .before .before in
+    let m = l .before .before .before in
+    let n = m .before in
+    let t = n .before in
+    let a = start (t .before .before) .args in
+    mutual-listed (now (a .first)) (a .first-closed) (now (a .second)) (a .second-closed) (a .epsilon) (fine t)
+    _ (l .list .result) (now (a .indices)) _ (now (a .points)) _
+    refl refl (n .segment-count .ensures) (m .segment-count2 .ensures) (l .list .ensures)
+
+returns-2 : tie.Need-returns-2
+returns-2 c =
+    let k = c .before .before .before in
+    let a = start k .args in
+    mutual-refused (now (a .first)) (a .first-closed) (now (a .second)) (a .second-closed) (a .epsilon)
+    _ (now (a .indices)) (now (a .points)) (sym (k .check-mutual .ensures) ∙ c .before .looked .given .1)
+
+pub mutual-listing-spec : {M : Type 1} → statement M
+mutual-listing-spec =
+    tie.close
+    (tie.spec
+    check-mutual-requires
+    enum-told
+    segment-count-requires
+    segment-count-requires-2
+    list-requires
+    enum-known-looked
+    same-length
+    same-length-2
+    returns
+    returns-2)

@@ -1,0 +1,73 @@
+-- `listings::self_listing::self_listing` meets its contract: a fault is told as it is; where there is none, every pair may be looked
+-- at, and the job's listing is the path's.
+use mathlib.Core.Path.{_≡_, refl, sym, _∙_}
+use borrow.Author.Needs.{needs}
+use denote.Ref.{now}
+use Rattle.checks.specs.declared.fault.Checked.the-variants.{Fine}
+use Rattle.listings.specs.Listing.{checkSelf}
+use Rattle.listings.specs.Laws.Entry.{self-ready, self-listed, self-refused}
+use Rattle.listings.proofs.self_listing.self_listing.Statement.{statement}
+use Rattle.listings.proofs.self_listing.self_listing.Tie as tie
+
+abbrev start : tie.After-check-self → tie.Start
+start c = c .before .before .before .before
+
+-- no fault was found
+fine : (c : tie.After-enum-told)
+    → let a = start (c .before .before) .args in checkSelf (now (a .path)) (a .closed) (a .epsilon) ≡ Fine
+fine c = sym (c .before .before .check-self .ensures) ∙ c .enum-told .given .1
+
+check-self-requires : tie.Need-check-self-requires
+check-self-requires c κs = search needs
+
+enum-told : tie.Need-enum-told
+enum-told c = search needs
+
+segment-count-requires : tie.Need-segment-count-requires
+segment-count-requires c κs = search needs
+
+list-requires : tie.Need-list-requires
+list-requires c κs =
+    let n = c .before .before in
+    let t = n .before in
+    let a = start (t .before .before) .args in
+    self-ready (now (a .path)) (a .closed) (a .epsilon) (fine t) _ refl (n .segment-count .ensures) (n .segment-count .ensures)
+
+enum-known-looked : tie.Need-enum-known-looked
+enum-known-looked c = search needs
+
+same-length : tie.Need-same-length
+same-length c = search needs
+
+same-length-2 : tie.Need-same-length-2
+same-length-2 c = search needs
+
+returns : tie.Need-returns
+returns c =
+    let l = c .before .before .before .before in
+    let n = l .before .before .before in
+    let t = n .before in
+    let a = start (t .before .before) .args in
+    self-listed (now (a .path)) (a .closed) (a .epsilon) (fine t) _ (l .list .result) (now (a .indices)) _ (now (a .points)) _
+    refl refl refl (n .segment-count .ensures) (n .segment-count .ensures) (l .list .ensures)
+
+returns-2 : tie.Need-returns-2
+returns-2 c =
+    let k = c .before .before .before in
+    let a = start k .args in
+    self-refused (now (a .path)) (a .closed) (a .epsilon)
+    _ (now (a .indices)) (now (a .points)) (sym (k .check-self .ensures) ∙ c .before .looked .given .1)
+
+pub self-listing-spec : {M : Type 1} → statement M
+self-listing-spec =
+    tie.close
+    (tie.spec
+    check-self-requires
+    enum-told
+    segment-count-requires
+    list-requires
+    enum-known-looked
+    same-length
+    same-length-2
+    returns
+    returns-2)

@@ -1,0 +1,10 @@
+pub mod Job
+pub mod Sequence
+pub mod Order
+pub mod Pages
+pub mod Filling
+pub mod Loop
+pub mod Ready
+pub mod Stores
+pub mod Outcome
+pub mod Entry

@@ -1,0 +1,81 @@
+-- Values on the front of a list: stored one after the other, copied, and stored after others that stand there.
+use mathlib.Core.Path.{_≡_, refl, sym, ap, _∙_}
+use mathlib.Core.List.{List, [], _∷_, _++_, append-assoc, append-nil}
+use Prim.Native.Nat.{ℕ, suc, _+_, _*_, _<_, _≤_}
+use native.Mathlib.Nat.{zero-add, add-zero, add-mul}
+use native.Mathlib.Numerals.{add-one}
+use native.Mathlib.Omega.{arith}
+use lib.ListN.{length, length-append, set, getD, take, drop}
+use lib.Seq.{paste, paste-suc, sets, sets-eq, take-at, take-length, drop-length}
+use Rattle.listings.specs.declared.row.Row.{Row}
+use Rattle.listings.specs.Row.{flat}
+use Rattle.listings.specs.Listing.{over}
+
+module _ {A : Type 0} where
+  -- ---- one turn of a loop that copies to the front
+  pub copied : (d s t : List A) (k : ℕ) (z : A) → t ≡ paste d 0 s k → k < length d → k < length s
+      → set t k (getD s k z) ≡ paste d 0 s (k + 1)
+  copied d s t k z e inside from =
+      ap (λ (l : List A). set l k (getD s k z)) e
+      ∙ ap (λ (i : ℕ). set (paste d 0 s k) i (getD s k z)) (sym (zero-add k))
+      ∙ paste-suc d 0 s k z (rw (zero-add k) inside) from
+      ∙ ap (paste d 0 s) (sym (add-one k))
+
+  -- ---- stores
+  pub sets-append : (l : List A) (i : ℕ) (vs ws : List A) → sets (sets l i vs) (i + length vs) ws ≡ sets l i (vs ++ ws)
+  sets-append l i [] ws = ap (λ (k : ℕ). sets l k ws) (add-zero i)
+  sets-append l i (v ∷ vs) ws =
+      let e : i + suc (length vs) ≡ suc i + length vs = omega arith in
+      ap (λ (k : ℕ). sets (sets (set l i v) (suc i) vs) k ws) e ∙ sets-append (set l i v) (suc i) vs ws
+
+  pub sets-over : (l vs : List A) → length vs ≤ length l → sets l 0 vs ≡ over l vs
+  sets-over l vs h =
+      sets-eq vs l 0 (omega (arith, h)) ∙ ap (λ (k : ℕ). vs ++ drop k l) (zero-add (length vs))
+
+  -- copied from a list that has them on its front
+  pub paste-over : (l b vs : List A) (n : ℕ) → n ≡ length vs → paste l 0 (over b vs) n ≡ over l vs
+  paste-over l b vs n e =
+      ap (λ (front : List A). front ++ drop (0 + n) l) (take-at vs (drop (length vs) b) n (sym e))
+      ∙ ap (λ (k : ℕ). vs ++ drop k l) (zero-add n ∙ e)
+
+  pub paste-all : (l vs : List A) (n : ℕ) → n ≡ length vs → paste l 0 vs n ≡ over l vs
+  paste-all l vs n e =
+      ap (λ (k : ℕ). take k vs ++ drop (0 + n) l) e
+      ∙ ap (λ (front : List A). front ++ drop (0 + n) l) (take-length vs)
+      ∙ ap (λ (k : ℕ). vs ++ drop k l) (zero-add n ∙ e)
+
+  -- nothing of what was there is left
+  pub over-all : (l vs : List A) → length l ≡ length vs → over l vs ≡ vs
+  over-all l vs e =
+      ap (λ (k : ℕ). vs ++ drop k l) (sym e) ∙ ap (λ (rest : List A). vs ++ rest) (drop-length l) ∙ append-nil vs
+
+  -- stored behind others
+  pub sets-beyond : (l vs ws : List A) (k : ℕ) → length vs ≡ k → k + length ws ≤ length l
+      → sets (over l vs) k ws ≡ over l (vs ++ ws)
+  sets-beyond l vs ws k e h =
+      let first = sets-over l vs (omega (arith, e, h)) in
+      ap (λ (d : List A). sets d k ws) (sym first)
+      ∙ ap (λ (i : ℕ). sets (sets l 0 vs) i ws) (sym e ∙ sym (zero-add (length vs)))
+      ∙ sets-append l 0 vs ws
+      ∙ sets-over l (vs ++ ws) (omega (arith, length-append vs ws, e, h))
+
+  -- ---- the numbers of rows
+  pub flat-append : (numbers : Row → List A) (rows more : List Row)
+      → flat numbers (rows ++ more) ≡ flat numbers rows ++ flat numbers more
+  flat-append numbers [] more = refl
+  flat-append numbers (r ∷ rows) more =
+      ap (λ (l : List A). numbers r ++ l) (flat-append numbers rows more)
+      ∙ sym (append-assoc (numbers r) (flat numbers rows) (flat numbers more))
+
+  pub flat-length : (numbers : Row → List A) (width : ℕ) → ((r : Row) → length (numbers r) ≡ width)
+      → (rows : List Row) → length (flat numbers rows) ≡ length rows * width
+  flat-length numbers width each [] = omega arith
+  flat-length numbers width each (r ∷ rows) =
+      let n = length rows in
+      omega (
+        arith,
+        length-append (numbers r) (flat numbers rows),
+        each r,
+        flat-length numbers width each rows,
+        add-mul n 1 width,
+      )

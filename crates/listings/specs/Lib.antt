@@ -1,0 +1,9 @@
+pub mod Row
+pub mod Order
+pub mod Rows
+pub mod Look
+pub mod Listing
+pub mod Filled
+pub mod Told
+pub mod Refusals
+pub mod Laws

@@ -1,0 +1,42 @@
+-- The pairs of a listing, in the scope's order: the first path's index outermost, both rising.
+use mathlib.Core.Bool.{Bool, true, false, cond, not, _&&_, _||_}
+use mathlib.Core.List.{List, [], _∷_, _++_}
+use Prim.Native.Nat.{ℕ, zero, suc, _+_, _-_}
+use lib.Dec.{eqb}
+
+-- segment i of the first path and segment j of the second
+pub record Pair : Type 0 where
+  pub i : ℕ
+  pub j : ℕ
+
+-- i with j, j + 1, .., count of them
+abbrev pub along : ℕ → ℕ → ℕ → List Pair
+along i j zero = []
+along i j (suc count) = record { i = i; j = j } ∷ along i (suc j) count
+
+-- i with every index from j up to, not including, `to i`; then i + 1, i + 2, .., in all `count` of them, each with every index from
+-- `from` of it on
+abbrev pub pairsFrom : (ℕ → ℕ) → (ℕ → ℕ) → ℕ → ℕ → ℕ → List Pair
+pairsFrom from to i j zero = []
+pairsFrom from to i j (suc count) = along i j (to i - j) ++ pairsFrom from to (suc i) (from (suc i)) count
+
+-- 0, 1, .., n - 1, each with every index from `from` of it up to, not including, `to` of it
+abbrev pub pairs : (ℕ → ℕ) → (ℕ → ℕ) → ℕ → List Pair
+pairs from to n = pairsFrom from to 0 (from 0) n
+
+-- ---- a mutual listing: each of n segments with each of m
+abbrev pub mutualPairs : ℕ → ℕ → List Pair
+mutualPairs n m = pairs (λ i. 0) (λ i. m) n
+
+-- ---- a self listing: i < j, neighbours excepted
+-- the next one, and of a closed path the first and the last
+abbrev pub neighbours : ℕ → Bool → Pair → Bool
+neighbours n closed p = eqb (p .j) (p .i + 1) || (closed && eqb (p .i) 0 && eqb (p .j + 1) n)
+
+-- those for which the test says so
+abbrev pub keep : (Pair → Bool) → List Pair → List Pair
+keep test [] = []
+keep test (p ∷ ps) = cond (test p) (p ∷ keep test ps) (keep test ps)
+
+abbrev pub selfPairs : ℕ → Bool → List Pair
+selfPairs n closed = keep (λ p. not (neighbours n closed p)) (pairs (λ i. i + 1) (λ i. n) n)

@@ -1,0 +1,11 @@
+// Listings: which segments of two paths, or of one path, meet, and where. Rows go into slices that the caller lends.
+pub mod answer;
+mod buffer;
+mod fill;
+pub mod filled;
+mod look;
+pub mod mutual_listing;
+mod order;
+pub mod row;
+mod rows;
+pub mod self_listing;
