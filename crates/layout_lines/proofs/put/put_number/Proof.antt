@@ -1,0 +1,31 @@
+-- `layout_lines::put::put_number` meets its contract: a space, then the digits. Assumes nothing.
+use native.Mathlib.Omega.{arith}
+use borrow.Author.Needs.{needs}
+use Rattle.layout_lines.specs.Lines.{numberText}
+use Rattle.layout_lines.specs.Laws.Put.{put-join, hex-after}
+use Rattle.layout_lines.proofs.put.put_number.Statement.{statement}
+use Rattle.layout_lines.proofs.put.put_number.Tie as tie
+
+put-byte-requires : tie.Need-put-byte-requires
+put-byte-requires c κs = search needs
+
+bits-requires : tie.Need-bits-requires
+bits-requires c κs = search needs
+
+put-hex-requires : tie.Need-put-hex-requires
+put-hex-requires c κs = search needs
+
+same-length : tie.Need-same-length
+same-length c = search needs
+
+returns : tie.Need-returns
+unfolding numberText
+returns c =
+    let called = c .before .before in
+    let digits = rw (called .before .bits .ensures) at (called .put-hex .ensures) in
+    let space = called .before .before .before .before .before .put-byte .ensures in
+    record { is-put = put-join space digits; short = omega (arith, space .after, hex-after 16 _ digits) }
+
+pub put-number-spec : {M : Type 1} → statement M
+put-number-spec =
+    tie.close (tie.spec put-byte-requires bits-requires put-hex-requires same-length returns)

@@ -1,0 +1,93 @@
+-- `layout_lines::rows::put_points` meets its contract: its tests are the definition's, and the numbers follow one another.
+-- Assumes nothing.
+use native.Mathlib.Omega.{arith}
+use borrow.Author.Needs.{needs}
+use borrow.Author.Tests.{lt-ltb, le-ltb}
+use Rattle.layout_lines.specs.Lines.{pointsText}
+use Rattle.layout_lines.specs.Laws.Put.{put-none, put-join}
+use Rattle.layout_lines.proofs.rows.put_points.Statement.{statement}
+use Rattle.layout_lines.proofs.rows.put_points.Tie as tie
+
+returns : tie.Need-returns
+unfolding pointsText
+returns c = rw (lt-ltb _ 1 (c .if1 .taken)) (record { is-put = put-none _ _; short = omega arith })
+
+put-number-requires : tie.Need-put-number-requires
+put-number-requires c κs = search needs
+
+put-number-requires-2 : tie.Need-put-number-requires-2
+put-number-requires-2 c κs = search needs
+
+same-length : tie.Need-same-length
+same-length c = search needs
+
+returns-2 : tie.Need-returns-2
+unfolding pointsText
+returns-2 c =
+    let y1 = c .before .before in
+    let x1 = y1 .before .before .before .before in
+    let class = x1 .before .before in
+    rw (le-ltb _ 1 (class .before .if1 .left), lt-ltb _ 3 (class .if2 .taken))
+    (record {
+      is-put = put-join (x1 .put-number .ensures .is-put) (y1 .put-number2 .ensures .is-put);
+      short = omega (arith, x1 .put-number .ensures .short, y1 .put-number2 .ensures .short);
+    })
+
+put-number-requires-3 : tie.Need-put-number-requires-3
+put-number-requires-3 c κs = search needs
+
+put-number-requires-4 : tie.Need-put-number-requires-4
+put-number-requires-4 c κs = search needs
+
+put-number-requires-5 : tie.Need-put-number-requires-5
+put-number-requires-5 c κs = search needs
+
+put-number-requires-6 : tie.Need-put-number-requires-6
+put-number-requires-6 c κs = search needs
+
+same-length-2 : tie.Need-same-length-2
+same-length-2 c = search needs
+
+returns-3 : tie.Need-returns-3
+unfolding pointsText
+returns-3 c =
+    let y2 = c .before .before in
+    let x2 = y2 .before .before .before .before in
+    let y1 = x2 .before .before .before .before in
+    let x1 = y1 .before .before .before .before in
+    let class = x1 .before .before in
+    let one = put-join (x1 .put-number3 .ensures .is-put) (y1 .put-number4 .ensures .is-put) in
+    rw (le-ltb _ 1 (class .before .before .if1 .left), le-ltb _ 3 (class .before .if2 .left), lt-ltb _ 6 (class .if3 .taken))
+    (record {
+      is-put = put-join (put-join one (x2 .put-number5 .ensures .is-put)) (y2 .put-number6 .ensures .is-put);
+      short = omega (
+        arith,
+        x1 .put-number3 .ensures .short,
+        y1 .put-number4 .ensures .short,
+        x2 .put-number5 .ensures .short,
+        y2 .put-number6 .ensures .short,
+      );
+    })
+
+returns-4 : tie.Need-returns-4
+unfolding pointsText
+returns-4 c =
+    rw (le-ltb _ 1 (c .before .before .if1 .left), le-ltb _ 3 (c .before .if2 .left), le-ltb _ 6 (c .if3 .left))
+    (record { is-put = put-none _ _; short = omega arith })
+
+pub put-points-spec : {M : Type 1} → statement M
+put-points-spec =
+    tie.close
+    (tie.spec
+    returns
+    put-number-requires
+    put-number-requires-2
+    same-length
+    returns-2
+    put-number-requires-3
+    put-number-requires-4
+    put-number-requires-5
+    put-number-requires-6
+    same-length-2
+    returns-3
+    returns-4)

@@ -1,0 +1,49 @@
+-- `layout_lines::write_refusal` meets its contract: the parts of the line follow one another. Assumes nothing.
+use mathlib.Core.Path.{refl}
+use borrow.Author.Needs.{needs}
+use borrow.Author.Tests.{lt-ltb, le-ltb}
+use Rattle.layout_lines.specs.Lines.{refusedText}
+use Rattle.layout_lines.specs.Laws.Put.{put-join}
+use Rattle.layout_lines.proofs.Ends.{no-room, written}
+use Rattle.layout_lines.proofs.write_refusal.Statement.{statement}
+use Rattle.layout_lines.proofs.write_refusal.Tie as tie
+
+returns : tie.Need-returns
+returns c = no-room _ _ _ _ refl (lt-ltb _ _ (c .if1 .taken))
+
+slice-aggregate-put-word : tie.Need-slice-aggregate-put-word
+slice-aggregate-put-word c = search needs
+
+put-word-requires : tie.Need-put-word-requires
+put-word-requires c κs = search needs
+
+put-whole-requires : tie.Need-put-whole-requires
+put-whole-requires c κs = search needs
+
+put-byte-requires : tie.Need-put-byte-requires
+put-byte-requires c κs = search needs
+
+same-length : tie.Need-same-length
+same-length c = search needs
+
+returns-2 : tie.Need-returns-2
+unfolding refusedText
+returns-2 c =
+    let end = c .before .before in
+    let number = end .before .before .before .before in
+    let start = number .before .before .before .before in
+    let room = start .before .before .before in
+    let bytes = put-join (put-join (start .put-word .ensures) (number .put-whole .ensures .is-put)) (end .put-byte .ensures) in
+    written _ _ _ _ refl (le-ltb _ _ (room .if1 .left)) _ _ bytes
+
+pub write-refusal-spec : {M : Type 1} → statement M
+write-refusal-spec =
+    tie.close
+    (tie.spec
+    returns
+    slice-aggregate-put-word
+    put-word-requires
+    put-whole-requires
+    put-byte-requires
+    same-length
+    returns-2)

@@ -1,0 +1,112 @@
+-- The text of an answer: a refusal's line, or a line with the counts and a line for each row. A row is two segments' indices, the
+-- class's name, and the points that the class has, each number as the sixteen hex digits of its bits.
+use Prim.Native.Nat.{ℕ, zero, suc, _+_, _*_, _/_, _%_}
+use mathlib.Core.Bool.{Bool, cond}
+use mathlib.Core.List.{List, [], _∷_, _++_}
+use lib.Dec.{ltb, eqb}
+use lib.ListN.{getD}
+use lib.Ieee.{Float, nan, binary64, toBits}
+use Rattle.layout_text.specs.Decimal.{decimal}
+
+-- ---- words
+
+abbrev pub space : List ℕ
+space = 32 ∷ []
+
+abbrev pub newline : List ℕ
+newline = 10 ∷ []
+
+-- "refused "
+abbrev pub refusedWord : List ℕ
+refusedWord = 114 ∷ 101 ∷ 102 ∷ 117 ∷ 115 ∷ 101 ∷ 100 ∷ 32 ∷ []
+
+-- "pairs "
+abbrev pub pairsWord : List ℕ
+pairsWord = 112 ∷ 97 ∷ 105 ∷ 114 ∷ 115 ∷ 32 ∷ []
+
+-- " rows "
+abbrev pub rowsWord : List ℕ
+rowsWord = 32 ∷ 114 ∷ 111 ∷ 119 ∷ 115 ∷ 32 ∷ []
+
+-- "tangent"
+abbrev pub tangentWord : List ℕ
+tangentWord = 116 ∷ 97 ∷ 110 ∷ 103 ∷ 101 ∷ 110 ∷ 116 ∷ []
+
+-- "one"
+abbrev pub oneWord : List ℕ
+oneWord = 111 ∷ 110 ∷ 101 ∷ []
+
+-- "two"
+abbrev pub twoWord : List ℕ
+twoWord = 116 ∷ 119 ∷ 111 ∷ []
+
+-- "lines"
+abbrev pub linesWord : List ℕ
+linesWord = 108 ∷ 105 ∷ 110 ∷ 101 ∷ 115 ∷ []
+
+-- "arcs"
+abbrev pub arcsWord : List ℕ
+arcsWord = 97 ∷ 114 ∷ 99 ∷ 115 ∷ []
+
+-- "none"
+abbrev pub noneWord : List ℕ
+noneWord = 110 ∷ 111 ∷ 110 ∷ 101 ∷ []
+
+-- ---- numbers
+
+-- a hex digit: '0' to '9', 'a' to 'f'
+unfoldable pub glyph : ℕ → ℕ
+glyph d = cond (ltb d 10) (48 + d) (87 + d)
+
+-- the last k hex digits of n
+unfoldable pub hex : ℕ → ℕ → List ℕ
+hex zero n = []
+hex (suc k) n = hex k (n / 16) ++ (glyph (n % 16) ∷ [])
+
+-- a space, then a number's bits; those of a NaN are 7ff8000000000000, as `toBits` has it
+unfoldable pub numberText : Float → List ℕ
+numberText x = space ++ hex 16 (toBits binary64 x)
+
+-- ---- a row
+
+-- the scope's numbers of the classes; a listing has no others
+unfoldable pub classText : ℕ → List ℕ
+classText class =
+    cond (eqb class 1) tangentWord
+    (cond (eqb class 2) oneWord
+    (cond (eqb class 3) twoWord
+    (cond (eqb class 4) linesWord
+    (cond (eqb class 5) arcsWord noneWord))))
+
+-- a tangent and a single crossing have one point, the other classes two
+unfoldable pub pointsText : ℕ → Float → Float → Float → Float → List ℕ
+pointsText class x1 y1 x2 y2 =
+    cond (ltb class 1) []
+    (cond (ltb class 3) (numberText x1 ++ numberText y1)
+    (cond (ltb class 6) (numberText x1 ++ numberText y1 ++ numberText x2 ++ numberText y2) []))
+
+unfoldable pub rowText : ℕ → ℕ → ℕ → Float → Float → Float → Float → List ℕ
+rowText i j class x1 y1 x2 y2 =
+    decimal i ++ space ++ decimal j ++ space ++ classText class ++ pointsText class x1 y1 x2 y2 ++ newline
+
+-- ---- an answer
+
+unfoldable pub refusedText : ℕ → List ℕ
+refusedText n = refusedWord ++ decimal n ++ newline
+
+unfoldable pub countText : ℕ → ℕ → List ℕ
+countText pairs rows = pairsWord ++ decimal pairs ++ rowsWord ++ decimal rows ++ newline
+
+-- row k of the index rows, three numbers a row, and of the float rows, four a row
+unfoldable pub rowAt : List ℕ → List Float → ℕ → List ℕ
+rowAt index points k =
+    rowText (getD index (k * 3) 0) (getD index (k * 3 + 1) 0) (getD index (k * 3 + 2) 0)
+    (getD points (k * 4) nan) (getD points (k * 4 + 1) nan) (getD points (k * 4 + 2) nan) (getD points (k * 4 + 3) nan)
+
+-- n rows from row k on
+unfoldable pub rowsText : List ℕ → List Float → ℕ → ℕ → List ℕ
+rowsText index points zero k = []
+rowsText index points (suc n) k = rowAt index points k ++ rowsText index points n (k + 1)
+
+unfoldable pub answerText : ℕ → ℕ → List ℕ → List Float → List ℕ
+answerText pairs rows index points = countText pairs rows ++ rowsText index points rows 0

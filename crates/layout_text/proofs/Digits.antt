@@ -1,0 +1,48 @@
+-- One turn of the loop that reads digits: what is left is nothing, or a first byte and what is left after that.
+use Prim.Native.Nat.{ℕ, _+_, _*_, _≤_, _<_}
+use mathlib.Core.Path.{_≡_}
+use mathlib.Core.Bool.{Bool}
+use mathlib.Core.List.{List}
+use native.Mathlib.Numerals.{add-one}
+use borrow.Author.Tests.{lt-ltb, le-ltb, eq-eqb, ne-eqb}
+use lib.ListN.{length, drop, getD, drop-of-length-le}
+use lib.Seq.{drop-cons}
+use Rattle.layout_text.specs.Layout.{whole}
+use Rattle.layout_text.specs.Reader.{nothing, got, other, kindOf, firstKind, digitsOf}
+
+module _ (text : List ℕ) (negative : Bool) (most end n i : ℕ) where
+  pub at-end : length text ≤ i → digitsOf negative most end n (drop i text) ≡ nothing
+  unfolding digitsOf
+  at-end h = rw (drop-of-length-le)
+
+  module _ (inside : i < length text) where
+    pub at-mark : 9 < kindOf (getD text i 0) → kindOf (getD text i 0) ≡ end
+        → digitsOf negative most end n (drop i text) ≡ got (whole negative n) (drop (i + 1) text)
+    unfolding digitsOf
+    at-mark h e = rw (drop-cons text i 0 inside, add-one, lt-ltb _ _ h, eq-eqb _ _ e)
+
+    pub at-other : 9 < kindOf (getD text i 0) → (kindOf (getD text i 0) ≡ end → ⊥)
+        → digitsOf negative most end n (drop i text) ≡ nothing
+    unfolding digitsOf
+    at-other h e = rw (drop-cons text i 0 inside, lt-ltb _ _ h, ne-eqb _ _ e)
+
+    pub at-beyond : kindOf (getD text i 0) ≤ 9 → most < n * 10 + kindOf (getD text i 0)
+        → digitsOf negative most end n (drop i text) ≡ nothing
+    unfolding digitsOf
+    at-beyond h g = rw (drop-cons text i 0 inside, le-ltb _ _ h, lt-ltb _ _ g)
+
+    pub at-digit : kindOf (getD text i 0) ≤ 9 → n * 10 + kindOf (getD text i 0) ≤ most
+        → digitsOf negative most end (n * 10 + kindOf (getD text i 0)) (drop (i + 1) text)
+        ≡ digitsOf negative most end n (drop i text)
+    unfolding digitsOf
+    at-digit h g = rw (drop-cons text i 0 inside, add-one, le-ltb _ _ h, le-ltb _ _ g)
+
+-- the first byte of what is left at i
+module _ (text : List ℕ) (i : ℕ) where
+  pub first-past : length text ≤ i → other ≡ firstKind (drop i text)
+  unfolding firstKind
+  first-past h = rw (drop-of-length-le)
+
+  pub first-at : i < length text → kindOf (getD text i 0) ≡ firstKind (drop i text)
+  unfolding firstKind
+  first-at h = rw (drop-cons text i 0 h)

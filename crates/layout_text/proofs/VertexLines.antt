@@ -1,0 +1,122 @@
+-- One turn of a loop over vertices: the line at hand, then the lines that are left.
+use Prim.Native.Nat.{ℕ, zero, suc, _+_, _*_, _-_, _≤_, _<_}
+use mathlib.Core.Path.{_≡_, refl, sym, ap, _∙_}
+use mathlib.Core.List.{List, [], _∷_}
+use native.Mathlib.Omega.{arith}
+use lib.ListN.{length, drop, set, length-set}
+use lib.Seq.{sets}
+use lib.Ieee.{Float}
+use Rattle.layout_text.specs.Layout.{Vertex}
+use Rattle.layout_text.specs.Numbers.{coordinate, bulge, pathOf}
+use Rattle.layout_text.specs.Reader.{Got, nothing, got, Passed, stuck, over, passed, andThen, vertexOf, verticesOf}
+use Rattle.layout_text.specs.Shown.{shownVertex, numbersOf, Filled}
+use Rattle.layout_text.specs.declared.vertex.Corner.{Corner}
+use Rattle.layout_text.specs.declared.vertex.Corner.the-variants as Corner·
+
+-- ---- the line at hand
+
+-- the vertex of a line that was read
+pub record Line (g : Got Vertex) (numbers : List Float) (rest : List ℕ) : Type 0 where
+  pub v : Vertex
+  pub is : g ≡ got v rest
+  pub numbered : numbers ≡ pathOf (v ∷ [])
+
+line-of : (g : Got Vertex) {numbers : List Float} {rest : List ℕ} → got numbers rest ≡ numbersOf g → Line g numbers rest
+unfolding numbersOf
+line-of nothing e = let z : _≡_ {A = ℕ} 0 1 = cc in absurd (omega arith)
+line-of (got v r) {numbers} {rest} e =
+    let same : r ≡ rest = cc in
+    record { v = v; is = rw same; numbered = cc }
+
+no-line-of : (g : Got Vertex) → nothing ≡ numbersOf g → g ≡ nothing
+unfolding numbersOf
+no-line-of nothing e = refl
+no-line-of (got v r) e = let z : _≡_ {A = ℕ} 0 1 = cc in absurd (omega arith)
+
+module _ (text : List ℕ) {g : Got Vertex} {r : Corner} (is : shownVertex text r ≡ numbersOf g) where
+  pub no-line : r ≡ Corner·.Broken → g ≡ nothing
+  unfolding shownVertex
+  no-line e = no-line-of g (ap (shownVertex text) (sym e) ∙ is)
+
+  pub a-line : {x y b : Float} {next : ℕ} → r ≡ Corner·.At x y b next → Line g (x ∷ y ∷ b ∷ []) (drop next text)
+  unfolding shownVertex
+  a-line e = line-of g (ap (shownVertex text) (sym e) ∙ is)
+
+-- ---- the lines that are left, at i of n
+
+left : (n i : ℕ) → i < n → n - i ≡ suc (n - (i + 1))
+left n i h = omega arith
+
+none-left : (n i : ℕ) → n ≤ i → n - i ≡ 0
+none-left n i h = omega arith
+
+module _ (n i : ℕ) (t : List ℕ) where
+  pub lines-end : n ≤ i → verticesOf (n - i) t ≡ got [] t
+  unfolding verticesOf
+  lines-end h = rw (none-left n i h)
+
+  module _ (inside : i < n) where
+    pub lines-broken : vertexOf t ≡ nothing → verticesOf (n - i) t ≡ nothing
+    unfolding verticesOf
+    lines-broken e = rw (left n i inside, e)
+
+    pub lines-read : {v : Vertex} {rest : List ℕ} → vertexOf t ≡ got v rest
+        → verticesOf (n - i) t ≡ andThen (verticesOf (n - (i + 1)) rest) (λ vs r. got (v ∷ vs) r)
+    unfolding verticesOf
+    lines-read e = rw (left n i inside, e)
+
+-- ---- passing them
+
+after-passed : (v : Vertex) (g : Got (List Vertex)) → passed g ≡ passed (andThen g (λ vs r. got (v ∷ vs) r))
+after-passed v nothing = refl
+after-passed v (got vs r) = refl
+
+pub pass-line : (n i : ℕ) (t : List ℕ) → i < n → {numbers : List Float} {rest : List ℕ} → Line (vertexOf t) numbers rest
+    → passed (verticesOf (n - (i + 1)) rest) ≡ passed (verticesOf (n - i) t)
+pass-line n i t h {numbers} {rest} line =
+    after-passed (line .v) (verticesOf (n - (i + 1)) rest) ∙ sym (ap passed (lines-read n i t h (line .is)))
+
+-- ---- writing them
+
+-- what stands in a slice once the vertices read are written from k on
+pub data Stored : Type 0 where
+  gone : Stored
+  kept : List Float → Stored
+
+abbrev pub stored : Got (List Vertex) → List Float → ℕ → Stored
+stored nothing old k = gone
+stored (got vs rest) old k = kept (sets old k (pathOf vs))
+
+after-stored : (v : Vertex) (g : Got (List Vertex)) (old : List Float) (k : ℕ)
+    → stored g (sets old k (pathOf (v ∷ []))) (suc (suc (suc k))) ≡ stored (andThen g (λ vs r. got (v ∷ vs) r)) old k
+after-stored v nothing old k = refl
+after-stored v (got vs r) old k = refl
+
+-- three numbers written one after the other
+three-set : (old : List Float) (k : ℕ) (x y b : Float) → set (set (set old k x) (k + 1) y) (k + 2) b ≡ sets old k (x ∷ y ∷ b ∷ [])
+three-set old k x y b =
+    let one : k + 1 ≡ suc k = omega arith in
+    let two : k + 2 ≡ suc (suc k) = omega arith in
+    rw (one, two)
+
+pub store-line : (n i : ℕ) (t : List ℕ) → i < n → {x y b : Float} {rest : List ℕ} → Line (vertexOf t) (x ∷ y ∷ b ∷ []) rest
+    → (old : List Float) (k : ℕ)
+    → stored (verticesOf (n - (i + 1)) rest) (set (set (set old k x) (k + 1) y) (k + 2) b) (k + 3)
+    ≡ stored (verticesOf (n - i) t) old k
+store-line n i t h {x} {y} {b} {rest} line old k =
+    let g = verticesOf (n - (i + 1)) rest in
+    let three : k + 3 ≡ suc (suc (suc k)) = omega arith in
+    let written = three-set old k x y b ∙ ap (sets old k) (line .numbered) in
+    rw (written, three) (after-stored (line .v) g old k)
+    ∙ sym (ap (λ (got-them : Got (List Vertex)). stored got-them old k) (lines-read n i t h (line .is)))
+
+pub filled-broken : (h : Got (List Vertex)) (old now : List Float) → gone ≡ stored h old 0 → Filled h old now
+filled-broken h old now s vs rest is =
+    let e = s ∙ ap (λ (g : Got (List Vertex)). stored g old 0) is in
+    let z : _≡_ {A = ℕ} 0 1 = cc in
+    absurd (omega arith)
+
+pub filled-end : (h : Got (List Vertex)) (old now : List Float) → kept now ≡ stored h old 0 → Filled h old now
+filled-end h old now s vs rest is =
+    let e = s ∙ ap (λ (g : Got (List Vertex)). stored g old 0) is in
+    cc

@@ -1,0 +1,28 @@
+-- `layout_text::number::zero` meets its contract: the byte is the first of what is left. Assumes nothing.
+use native.Mathlib.Omega.{arith}
+use borrow.Author.Needs.{needs}
+use borrow.Author.Tests.{eq-eqb, ne-eqb}
+use lib.Seq.{drop-drop}
+use Rattle.layout_text.specs.Reader.{zeroOf}
+use Rattle.layout_text.specs.Shown.{shownNumber}
+use Rattle.layout_text.proofs.number.zero.Statement.{statement}
+use Rattle.layout_text.proofs.number.zero.Tie as tie
+
+kind-at-requires : tie.Need-kind-at-requires
+kind-at-requires c κs = search needs
+
+add-t6 : tie.Need-add-t6
+add-t6 c =
+    let inside = c .before .kind-at .ensures .1 (omega arith) in
+    omega arith
+
+returns : tie.Need-returns
+unfolding zeroOf shownNumber
+returns c = simp (← c .before .kind-at .ensures .0, eq-eqb _ _ (c .if1 .taken), drop-drop)
+
+returns-2 : tie.Need-returns-2
+unfolding zeroOf shownNumber
+returns-2 c = simp (← c .before .kind-at .ensures .0, ne-eqb _ _ (c .if1 .left))
+
+pub zero-spec : {M : Type 1} → statement M
+zero-spec = tie.close (tie.spec kind-at-requires add-t6 returns returns-2)

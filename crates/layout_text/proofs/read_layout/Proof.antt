@@ -1,0 +1,73 @@
+-- `layout_text::read_layout` meets its contract: it writes only what `shape_of` has found to be there. Assumes nothing.
+use native.Mathlib.Omega.{arith}
+use borrow.Author.Needs.{needs}
+use Rattle.layout_text.proofs.Ends.{first-short, second-short, form-broken, both-written, fits-of}
+use Rattle.layout_text.proofs.read_layout.Statement.{statement}
+use Rattle.layout_text.proofs.read_layout.Tie as tie
+
+returns : tie.Need-returns
+returns c = first-short _ _ _ (c .if1 .taken)
+
+returns-2 : tie.Need-returns-2
+returns-2 c = second-short _ _ _ (c .before .if1 .left) (c .if2 .taken)
+
+shape-of-requires : tie.Need-shape-of-requires
+shape-of-requires c κs = search needs
+
+enum-known-n : tie.Need-enum-known-n
+enum-known-n c = search needs
+
+enum-told : tie.Need-enum-told
+enum-told c = search needs
+
+returns-3 : tie.Need-returns-3
+returns-3 c =
+    let shape = c .before .before in
+    let room = shape .before in
+    form-broken _ _ _ (room .before .if1 .left) (room .if2 .left) _ (shape .shape-of .ensures) (c .enum-told .given .1)
+
+fill-requires : tie.Need-fill-requires
+fill-requires c κs =
+    let told = c .before .before in
+    let shape = told .before .before in
+    let fit = fits-of _ (shape .shape-of .ensures) (told .n .given .1) in
+    omega (arith, fit .n-within, shape .before .before .if1 .left)
+
+fill-requires-2 : tie.Need-fill-requires-2
+fill-requires-2 c κs =
+    let told = c .before .before .before .before .before .before in
+    let shape = told .before .before in
+    let fit = fits-of _ (shape .shape-of .ensures) (told .n .given .1) in
+    omega (arith, fit .m-within, shape .before .if2 .left)
+
+same-length : tie.Need-same-length
+same-length c = search needs
+
+same-length-2 : tie.Need-same-length-2
+same-length-2 c = search needs
+
+returns-4 : tie.Need-returns-4
+returns-4 c =
+    let second = c .before .before in
+    let first = second .before .before .before .before in
+    let told = first .before .before .before in
+    let shape = told .before .before in
+    let room = shape .before in
+    let fit = fits-of _ (shape .shape-of .ensures) (told .n .given .1) in
+    both-written _ _ _ (room .before .if1 .left) (room .if2 .left) _ _ _ _ _ _ fit (first .fill .ensures) (second .fill2 .ensures)
+
+pub read-layout-spec : {M : Type 1} → statement M
+read-layout-spec =
+    tie.close
+    (tie.spec
+    returns
+    returns-2
+    shape-of-requires
+    enum-known-n
+    enum-told
+    returns-3
+    fill-requires
+    fill-requires-2
+    same-length
+    same-length-2
+    returns-4)

@@ -1,0 +1,24 @@
+-- `layout_text::value::coordinate` meets its contract: a negative number's float is the other's, negated. Assumes nothing.
+use mathlib.Core.Path.{_∙_, ap}
+use borrow.Author.Needs.{needs}
+use lib.Ieee.{neg}
+use Rattle.layout_text.specs.Laws.Signs.{zero-value, plain-value, minus-value}
+use Rattle.layout_text.proofs.value.coordinate.Statement.{statement}
+use Rattle.layout_text.proofs.value.coordinate.Tie as tie
+
+nearest-u64-to-f64-requires : tie.Need-nearest-u64-to-f64-requires
+nearest-u64-to-f64-requires c κs = search needs
+
+returns : tie.Need-returns
+returns c = c .before .nearest-u64-to-f64 .ensures ∙ zero-value _ (c .before .before .args .negative) (c .if1 .taken)
+
+returns-2 : tie.Need-returns-2
+returns-2 c =
+    rw (c .if2 .taken)
+    (ap neg (c .before .before .nearest-u64-to-f64 .ensures) ∙ minus-value _ (c .before .if1 .left))
+
+returns-3 : tie.Need-returns-3
+returns-3 c = rw (c .if2 .left) (c .before .before .nearest-u64-to-f64 .ensures ∙ plain-value _)
+
+pub coordinate-spec : {M : Type 1} → statement M
+coordinate-spec = tie.close (tie.spec nearest-u64-to-f64-requires returns returns-2 returns-3)

@@ -1,0 +1,121 @@
+-- `layout_text::vertex::fill` meets its contract. The loop's invariant: the lines that are left, written after what stands now,
+-- give what all of them give. Assumes nothing.
+use Prim.Native.Nat.{_≤_, _*_, _-_}
+use mathlib.Core.Path.{_≡_, refl, sym, ap, _∙_}
+use native.Mathlib.Nat.{sub-zero}
+use native.Mathlib.Omega.{arith}
+use borrow.Author.Needs.{needs}
+use lib.ListN.{length, drop, length-set}
+use Rattle.layout_text.specs.Reader.{verticesOf}
+use Rattle.layout_text.proofs.VertexLines.{no-line, a-line, lines-end, lines-broken, stored, store-line, filled-broken}
+use Rattle.layout_text.proofs.VertexLines.{filled-end}
+use Rattle.layout_text.proofs.vertex.fill.Statement.{statement}
+use Rattle.layout_text.proofs.vertex.fill.Tie as tie
+
+abbrev Inv-loop : tie.InvT-loop
+Inv-loop text start n out₀ at₀ to₀ i₀ out at to i =
+    (to ≡ i * 3) × (length out ≡ length out₀)
+    × (stored (verticesOf (n - i) (drop at text)) out to ≡ stored (verticesOf n (drop start text)) out₀ 0)
+
+abbrev μ-loop : tie.MeasureT-loop
+μ-loop text start n out₀ at₀ to₀ i₀ out at to i = n - i
+
+loop-holds : tie.Need-loop-holds Inv-loop μ-loop
+loop-holds c = (refl, refl, rw sub-zero)
+
+vertex-requires : tie.Need-vertex-requires Inv-loop μ-loop
+vertex-requires c κs = search needs
+
+enum-told : tie.Need-enum-told Inv-loop μ-loop
+enum-told c = search needs
+
+same-length : tie.Need-same-length Inv-loop μ-loop
+same-length c = search needs
+
+returns : tie.Need-returns Inv-loop μ-loop
+returns c =
+    let read = c .before .before in
+    let turn = read .before in
+    let none = no-line _ (read .vertex .ensures) (c .enum-told .given .1) in
+    let broken = lines-broken _ _ _ (turn .loop-test .taken) none in
+    filled-broken _ _ _ (rw broken at (turn .before .loop .inv .2))
+
+enum-known-v : tie.Need-enum-known-v Inv-loop μ-loop
+enum-known-v c = search needs
+
+mul-out : tie.Need-mul-out Inv-loop μ-loop
+mul-out c = search needs
+
+slice-write-out : tie.Need-slice-write-out Inv-loop μ-loop
+slice-write-out c = search needs
+
+add-out : tie.Need-add-out Inv-loop μ-loop
+add-out c = search needs
+
+mul-out-2 : tie.Need-mul-out-2 Inv-loop μ-loop
+mul-out-2 c = search needs
+
+slice-write-out-2 : tie.Need-slice-write-out-2 Inv-loop μ-loop
+slice-write-out-2 c = simp length-set (omega arith)
+
+add-out-2 : tie.Need-add-out-2 Inv-loop μ-loop
+add-out-2 c = search needs
+
+mul-out-3 : tie.Need-mul-out-3 Inv-loop μ-loop
+mul-out-3 c = search needs
+
+slice-write-out-3 : tie.Need-slice-write-out-3 Inv-loop μ-loop
+slice-write-out-3 c = simp length-set (omega arith)
+
+add-to : tie.Need-add-to Inv-loop μ-loop
+add-to c = search needs
+
+add-i : tie.Need-add-i Inv-loop μ-loop
+add-i c = search needs
+
+loop-less : tie.Need-loop-less Inv-loop μ-loop
+loop-less c = search needs
+
+loop-again : tie.Need-loop-again Inv-loop μ-loop
+loop-again c =
+    let line = c .before in
+    let read = line .before .before in
+    let turn = read .before in (
+      omega arith,
+      simp length-set (turn .before .loop .inv .1),
+      store-line _ _ _ (turn .loop-test .taken) (a-line _ (read .vertex .ensures) (line .v .given .1)) _ _
+          ∙ turn .before .loop .inv .2,
+    )
+
+same-length-2 : tie.Need-same-length-2 Inv-loop μ-loop
+same-length-2 c = search needs
+
+returns-2 : tie.Need-returns-2 Inv-loop μ-loop
+returns-2 c = filled-end _ _ _ (rw (lines-end _ _ _ (c .loop-test .left)) at (c .before .loop .inv .2))
+
+pub fill-spec : {M : Type 1} → statement M
+fill-spec =
+    tie.close
+    (tie.spec
+    Inv-loop
+    μ-loop
+    loop-holds
+    vertex-requires
+    enum-told
+    same-length
+    returns
+    enum-known-v
+    mul-out
+    slice-write-out
+    add-out
+    mul-out-2
+    slice-write-out-2
+    add-out-2
+    mul-out-3
+    slice-write-out-3
+    add-to
+    add-i
+    loop-less
+    loop-again
+    same-length-2
+    returns-2)

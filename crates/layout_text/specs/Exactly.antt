@@ -1,0 +1,60 @@
+-- The reader accepts exactly the texts of the form, and reads each as the layout whose text it is.
+use Prim.Native.Nat.{ℕ, _≤_}
+use mathlib.Core.Path.{_≡_, refl, sym, ap, _∙_}
+use mathlib.Core.Bool.{Bool, true, false, not, cond}
+use mathlib.Core.List.{List, [], _∷_, append-nil}
+use native.Mathlib.Omega.{arith}
+use borrow.Author.Tests.{le-ltb}
+use lib.Dec.{ltb}
+use lib.ListN.{length}
+use Rattle.layout_text.specs.Limits as limit
+use Rattle.layout_text.specs.Layout.{Layout, Within}
+use Rattle.layout_text.specs.Form.{textOf}
+use Rattle.layout_text.specs.Reader.{Got, nothing, got, Taken, broken, layout, atEnd, linesOf, reads}
+use Rattle.layout_text.specs.Laws.Complete.{lines-read}
+use Rattle.layout_text.specs.Laws.Sound.{lines-spelt}
+use Rattle.layout_text.specs.Laws.Long.{text-long}
+
+-- nothing in the form is refused: the text of a layout is read as that layout
+pub text-reads : (l : Layout) → Within l → reads (textOf l) ≡ layout l
+unfolding reads
+text-reads l w =
+    let short : length (textOf l) ≤ limit.bytes = omega (arith, text-long l w) in
+    rw (le-ltb _ _ short, lines-read l w)
+
+-- nothing outside is accepted: what is read as a layout is the text of that layout, which is within the limits
+pub read-is-text : (text : List ℕ) (l : Layout) → reads text ≡ layout l → (text ≡ textOf l) × Within l
+unfolding reads
+read-is-text text l e = go (ltb limit.bytes (length text)) (linesOf text) refl e
+  where
+    unbroken : broken ≡ layout l → (text ≡ textOf l) × Within l
+    unbroken e = let z : _≡_ {A = ℕ} 0 1 = cc in absurd (omega arith)
+
+    go : (long : Bool) (g : Got Layout) → linesOf text ≡ g → cond long broken (atEnd g) ≡ layout l → (text ≡ textOf l) × Within l
+    go true g is e = unbroken e
+    go false nothing is e = unbroken e
+    go false (got k []) is e =
+        let same : k ≡ l = cc in
+        let s = lines-spelt text (is ∙ ap (λ (j : Layout). got j []) same) in
+        (s .0 ∙ append-nil (textOf l), s .1)
+    go false (got k (b ∷ rest)) is e = unbroken e
+
+-- so two layouts within the limits have different texts
+pub one-text : (l k : Layout) → Within l → Within k → textOf l ≡ textOf k → l ≡ k
+one-text l k w v e =
+    let same : layout l ≡ layout k = sym (text-reads l w) ∙ ap reads e ∙ text-reads k v in
+    cc
+
+-- and a text is refused exactly if no layout within the limits has it
+pub refused-no-text : (text : List ℕ) → reads text ≡ broken → (l : Layout) → Within l → text ≡ textOf l → ⊥
+refused-no-text text e l w is =
+    let both : broken ≡ layout l = sym e ∙ ap reads is ∙ text-reads l w in
+    let z : _≡_ {A = ℕ} 0 1 = cc in
+    omega arith
+
+pub no-text-refused : (text : List ℕ) → ((l : Layout) → Within l → text ≡ textOf l → ⊥) → reads text ≡ broken
+no-text-refused text none = go (reads text) refl
+  where
+    go : (t : Taken) → reads text ≡ t → t ≡ broken
+    go broken e = refl
+    go (layout l) e = let s = read-is-text text l e in absurd (none l (s .1) (s .0))

@@ -1,0 +1,23 @@
+-- The form of a text: the text that a layout has. A line with the two counts, then a line for each vertex of the first path,
+-- then of the second. A newline (10) ends every line, one space (32) stands between numbers, a minus (45) before a negative one.
+use Prim.Native.Nat.{ℕ, suc}
+use mathlib.Core.List.{List, [], _∷_, _++_}
+use lib.ListN.{length}
+use lib.IntN.{ℤ, pos, negsuc}
+use Rattle.layout_text.specs.Decimal.{decimal}
+use Rattle.layout_text.specs.Layout.{Vertex, Layout}
+
+unfoldable pub wholeText : ℤ → List ℕ
+wholeText (pos n) = decimal n
+wholeText (negsuc n) = 45 ∷ decimal (suc n)
+
+unfoldable pub vertexText : Vertex → List ℕ
+vertexText v = wholeText (v .x) ++ 32 ∷ wholeText (v .y) ++ 32 ∷ wholeText (v .bulge) ++ 10 ∷ []
+
+unfoldable pub verticesText : List Vertex → List ℕ
+verticesText [] = []
+verticesText (v ∷ rest) = vertexText v ++ verticesText rest
+
+unfoldable pub textOf : Layout → List ℕ
+textOf l =
+    decimal (length (l .first)) ++ 32 ∷ decimal (length (l .second)) ++ 10 ∷ verticesText (l .first) ++ verticesText (l .second)

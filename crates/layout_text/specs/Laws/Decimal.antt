@@ -1,0 +1,41 @@
+-- Decimal digits: those of a number below ten, of a larger one, of n with one more digit after it; how many there are.
+use Prim.Native.Nat.{ℕ, zero, suc, _+_, _*_, _/_, _%_, _^_, _≤_, _<_}
+use mathlib.Core.Path.{_≡_, refl, sym, ap, _∙_}
+use mathlib.Core.Bool.{Bool, true, false, not}
+use mathlib.Core.List.{List, [], _∷_, _++_}
+use native.Mathlib.Nat.{not-suc-le-zero}
+use native.Mathlib.Omega.{arith}
+use borrow.Author.Tests.{lt-ltb, le-ltb}
+use lib.Dec.{T, ltb, nltb→le}
+use Rattle.layout_text.specs.Decimal.{decimal, decimalIn}
+
+-- more room for digits than n + 1 adds none
+enough : (k j n : ℕ) → n < k → n < j → decimalIn k (ltb n 10) n ≡ decimalIn j (ltb n 10) n
+unfolding decimalIn
+enough zero j n h g = absurd (not-suc-le-zero h)
+enough (suc k) zero n h g = absurd (not-suc-le-zero g)
+enough (suc k) (suc j) n h g = go (ltb n 10) (nltb→le n 10) (enough k j (n / 10))
+  where
+    go : (small : Bool) → (T (not small) → 10 ≤ n)
+        → (n / 10 < k → n / 10 < j → decimalIn k (ltb (n / 10) 10) (n / 10) ≡ decimalIn j (ltb (n / 10) 10) (n / 10))
+        → decimalIn (suc k) small n ≡ decimalIn (suc j) small n
+    go true large rest = refl
+    go false large rest =
+        let h10 = large tt in
+        ap (λ (l : List ℕ). l ++ ((48 + n % 10) ∷ [])) (rest (omega arith) (omega arith))
+
+pub decimal-small : (n : ℕ) → n < 10 → decimal n ≡ (48 + n) ∷ []
+unfolding decimal decimalIn
+decimal-small n h = rw (lt-ltb _ _ h)
+
+pub decimal-large : (n : ℕ) → 10 ≤ n → decimal n ≡ decimal (n / 10) ++ ((48 + n % 10) ∷ [])
+unfolding decimal decimalIn
+decimal-large n h =
+    rw (le-ltb _ _ h)
+    (ap (λ (l : List ℕ). l ++ ((48 + n % 10) ∷ [])) (enough n (suc (n / 10)) (n / 10) (omega arith) (omega arith)))
+
+pub decimal-more : (n d : ℕ) → 0 < n → d < 10 → decimal (n * 10 + d) ≡ decimal n ++ ((48 + d) ∷ [])
+decimal-more n d h g =
+    let tenth : (n * 10 + d) / 10 ≡ n = omega arith in
+    let last : (n * 10 + d) % 10 ≡ d = omega arith in
+    decimal-large (n * 10 + d) (omega arith) ∙ rw (tenth, last)

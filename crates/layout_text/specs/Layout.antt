@@ -1,0 +1,48 @@
+-- A layout: two paths, whose vertices are whole numbers. It says nothing of how a layout is stored.
+use Prim.Native.Nat.{ℕ, suc, _≤_}
+use mathlib.Core.Bool.{Bool, true, false}
+use mathlib.Core.List.{List, [], _∷_}
+use lib.ListN.{length}
+use lib.IntN.{ℤ, pos, negsuc, negℤ}
+use Rattle.layout_text.specs.Limits as limit
+
+-- x, y, and the bulge in 65,536ths
+pub record Vertex : Type 0 where
+  pub x : ℤ
+  pub y : ℤ
+  pub bulge : ℤ
+
+pub record Layout : Type 0 where
+  pub first : List Vertex
+  pub second : List Vertex
+
+-- ---- numbers
+
+-- the magnitude of a whole number
+abbrev pub size : ℤ → ℕ
+size (pos n) = n
+size (negsuc n) = suc n
+
+-- n, or -n
+abbrev pub whole : Bool → ℕ → ℤ
+whole false n = pos n
+whole true n = negℤ (pos n)
+
+-- ---- the limits
+
+pub record VertexWithin (v : Vertex) : Type 0 where
+  pub x-within : size (v .x) ≤ limit.coordinate
+  pub y-within : size (v .y) ≤ limit.coordinate
+  pub bulge-within : size (v .bulge) ≤ limit.bulge
+
+-- every vertex of a list is within the limits
+pub data EachWithin : List Vertex → Type 0 where
+  none : EachWithin []
+  more : {v : Vertex} {rest : List Vertex} → VertexWithin v → EachWithin rest → EachWithin (v ∷ rest)
+
+-- a layout is within the limits
+pub record Within (l : Layout) : Type 0 where
+  pub first-count : length (l .first) ≤ limit.vertices
+  pub second-count : length (l .second) ≤ limit.vertices
+  pub first-each : EachWithin (l .first)
+  pub second-each : EachWithin (l .second)

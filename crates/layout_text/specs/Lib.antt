@@ -1,0 +1,13 @@
+pub mod Limits
+pub mod Layout
+pub mod Decimal
+pub mod Form
+pub mod Numbers
+pub mod Reader
+pub mod Examples
+pub mod Laws
+pub mod Exactly
+pub mod Shown
+pub mod Read
+pub mod Exact
+pub mod Settle

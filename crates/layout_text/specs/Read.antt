@@ -1,0 +1,45 @@
+-- What the reader promises: its answer, and what stands in both buffers after it, for every text and every two buffers.
+use Prim.Native.Nat.{ℕ}
+use mathlib.Core.Path.{_≡_}
+use mathlib.Core.Bool.{Bool, _||_, cond}
+use mathlib.Core.List.{List}
+use lib.Dec.{ltb}
+use lib.ListN.{length}
+use lib.Seq.{sets}
+use lib.Ieee.{Float}
+use Rattle.layout_text.specs.Limits as limit
+use Rattle.layout_text.specs.Layout.{Layout}
+use Rattle.layout_text.specs.Numbers.{pathOf}
+use Rattle.layout_text.specs.Reader.{Taken, broken, layout, reads}
+use Rattle.layout_text.specs.declared.Reading.{Reading}
+use Rattle.layout_text.specs.declared.Reading.the-variants as Reading·
+
+-- the refusal of a text that breaks its form
+abbrev pub refusal : ℕ
+refusal = 10
+
+-- a buffer is too small for a path of the most vertices
+abbrev pub roomless : List Float → List Float → Bool
+roomless first second = ltb (length first) limit.room || ltb (length second) limit.room
+
+-- ---- where there is room
+
+abbrev pub answerOf : Taken → Reading
+answerOf broken = Reading·.Refused refusal
+answerOf (layout l) = Reading·.Counts (length (l .first)) (length (l .second))
+
+-- the old contents of a buffer with a path's numbers from its front; a refused text leaves it as found
+abbrev pub firstOf : Taken → List Float → List Float
+firstOf broken old = old
+firstOf (layout l) old = sets old 0 (pathOf (l .first))
+
+abbrev pub secondOf : Taken → List Float → List Float
+secondOf broken old = old
+secondOf (layout l) old = sets old 0 (pathOf (l .second))
+
+-- ---- the promise
+
+pub record ReadLayout (text : List ℕ) (r : Reading) (first first′ second second′ : List Float) : Type 0 where
+  pub told : r ≡ cond (roomless first second) Reading·.NoRoom (answerOf (reads text))
+  pub first-holds : first′ ≡ cond (roomless first second) first (firstOf (reads text) first)
+  pub second-holds : second′ ≡ cond (roomless first second) second (secondOf (reads text) second)

@@ -1,0 +1,16 @@
+// What the numbers of a layout may be, and how much of it there may be. specs/Limits.antt has the same.
+
+// the largest magnitude of x and of y
+pub const COORDINATE: u64 = 1048576;
+
+// the largest magnitude of a bulge, in 65,536ths
+pub const BULGE: u64 = 65536;
+
+// the most vertices of a path
+pub const VERTICES: u64 = 256;
+
+// the most bytes of a text
+pub const BYTES: usize = 16384;
+
+// how many numbers a buffer must have for a path: three for each of the most vertices
+pub const ROOM: usize = 768;

@@ -1,0 +1,106 @@
+// The lines of a path's vertices.
+ghost use mathlib.Core.Path.{_≡_};
+ghost use Prim.Native.Nat.{_≤_, _*_};
+ghost use lib.ListN.{drop, length};
+ghost use Rattle.layout_text.specs.Reader.{vertexOf, verticesOf, passed};
+ghost use Rattle.layout_text.specs.Shown.{shownVertex, shownPlace, numbersOf, Filled};
+use super::bytes;
+use super::limits;
+use super::number;
+use super::number::Number;
+use super::value;
+
+// A vertex as its three numbers, with the place after it; or that there is none.
+pub enum Corner {
+    Broken,
+    At(f64, f64, f64, usize),
+}
+
+// A place in the text; or that it is broken before.
+pub enum Place {
+    Broken,
+    At(usize),
+}
+
+// The vertex whose line starts at `start`.
+fn vertex(text: &[u8], start: usize) -> Corner
+    ensures { λ r. ⌜ shownVertex (now (text .entry)) r ≡ numbersOf (vertexOf (drop start (now (text .entry)))) ⌝ }
+{
+    let Number::Whole(x_minus, x, after_x) = number::whole(
+        text,
+        start,
+        limits::COORDINATE,
+        bytes::SPACE,
+    ) else {
+        return Corner::Broken;
+    };
+    let Number::Whole(y_minus, y, after_y) = number::whole(
+        text,
+        after_x,
+        limits::COORDINATE,
+        bytes::SPACE,
+    ) else {
+        return Corner::Broken;
+    };
+    let Number::Whole(b_minus, b, after_b) = number::whole(
+        text,
+        after_y,
+        limits::BULGE,
+        bytes::NEWLINE,
+    ) else {
+        return Corner::Broken;
+    };
+    Corner::At(
+        value::coordinate(x_minus, x),
+        value::coordinate(y_minus, y),
+        value::bulge(b_minus, b),
+        after_b,
+    )
+}
+
+// The place after n vertices.
+pub fn skip(text: &[u8], start: usize, n: u64) -> Place
+    ensures { λ r. ⌜ shownPlace (now (text .entry)) r ≡ passed (verticesOf n (drop start (now (text .entry)))) ⌝ }
+{
+    let mut at = start;
+    let mut i: u64 = 0;
+    while i < n {
+        let v = vertex(text, at);
+        match v {
+            Corner::Broken => {
+                return Place::Broken;
+            }
+            Corner::At(_, _, _, next) => {
+                at = next;
+            }
+        }
+        i += 1;
+    }
+    Place::At(at)
+}
+
+// Writes n vertices, three numbers each, to the front of `out`, if all of them are there.
+pub fn fill(text: &[u8], start: usize, n: u64, out: &mut [f64])
+    requires { ⌜ n * 3 ≤ length (now out) ⌝ }
+    ensures { λ _. ⌜ Filled (verticesOf n (drop start (now (text .entry)))) (now (out .entry)) (now (out .exit)) ⌝ }
+{
+    let mut at = start;
+    let mut to = 0;
+    let mut i: u64 = 0;
+    while i < n {
+        let v = vertex(text, at);
+        match v {
+            Corner::Broken => {
+                return;
+            }
+            Corner::At(x, y, b, next) => {
+                out[to] = x;
+                out[to + 1] = y;
+                out[to + 2] = b;
+                at = next;
+            }
+        }
+        to += 3;
+        i += 1;
+    }
+}
