@@ -9,3 +9,4 @@ pub mod Stores
 pub mod Outcome
 pub mod Entry
 pub mod Complete
+pub mod Counts

@@ -1,0 +1,57 @@
+-- The answer of the program `crossings` to a text: "refused 10" where the text breaks its form, else the listing of its two paths,
+-- both open, with epsilon 1/1024 and room for 512 rows.
+use Prim.Native.Nat.{ℕ}
+use mathlib.Core.Bool.{false}
+use mathlib.Core.List.{List}
+use lib.Dec.{ltb}
+use lib.Ieee.{Float, binary64, ofBits}
+use lib.ListN.{length, replicate}
+use Rattle.layout_text.specs.Layout.{Layout}
+use Rattle.layout_text.specs.Numbers.{pathOf}
+use Rattle.layout_text.specs.Reader.{Taken, broken, layout, reads}
+use Rattle.layout_lines.specs.declared.Written.{Written}
+use Rattle.layout_lines.specs.Lines.{refusedText, answerText}
+use Rattle.layout_lines.specs.Written.{Lines}
+use Rattle.listings.specs.declared.answer.ListingAnswer.{ListingAnswer}
+use Rattle.listings.specs.declared.answer.ListingAnswer.the-variants.{Refused, Listed}
+use Rattle.listings.specs.Listing.{Outcome, mutualListing}
+
+-- 1/1024
+abbrev pub epsilon : Float
+epsilon = ofBits binary64 0x3f50_0000_0000_0000
+
+-- rows for 512: three whole numbers and four floats each
+abbrev pub noIndices : List ℕ
+noIndices = replicate 1536 0
+
+abbrev pub noPoints : List Float
+noPoints = replicate 2048 (ofBits binary64 0)
+
+unfoldable pub listing : List Float → List Float → Outcome
+listing first second = mutualListing first false second false epsilon noIndices noPoints
+
+-- the lines of an answer
+abbrev pub linesOf : ListingAnswer → List ℕ → List Float → List ℕ
+linesOf (Refused n) indices points = refusedText n
+linesOf (Listed rows pairs) indices points = answerText pairs rows indices points
+
+unfoldable pub linesFor : List Float → List Float → List ℕ
+linesFor first second = let o = listing first second in linesOf (o .answer) (o .indices) (o .points)
+
+-- ---- the answer to a text
+abbrev pub answerOf : Taken → List ℕ
+answerOf broken = refusedText 10
+answerOf (layout l) = linesFor (pathOf (l .first)) (pathOf (l .second))
+
+unfoldable pub answerTo : List ℕ → List ℕ
+answerTo text = answerOf (reads text)
+
+-- ---- what the functions promise: these bytes on the front of the slice, or nothing where it has fewer than 65,664 places
+abbrev pub room : ℕ
+room = 65664
+
+abbrev pub LinesFor : List Float → List Float → Written → List ℕ → List ℕ → Type 0
+LinesFor first second r old now = Lines false (ltb (length old) room) (linesFor first second) r old now
+
+abbrev pub AnswerTo : List ℕ → Written → List ℕ → List ℕ → Type 0
+AnswerTo text r old now = Lines false (ltb (length old) room) (answerTo text) r old now

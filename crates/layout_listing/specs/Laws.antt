@@ -1,0 +1,2 @@
+-- What only proofs need.
+pub mod Ends

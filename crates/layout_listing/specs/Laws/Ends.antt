@@ -1,0 +1,187 @@
+-- The ends of answering a text: no room, a refusal's line, the lines of a listing; and what the reader's answer says of the buffers.
+use mathlib.Core.Path.{_≡_, refl, sym, ap, _∙_}
+use mathlib.Core.Bool.{Bool, true, false, cond, _||_}
+use mathlib.Core.List.{List, [], _∷_}
+use Prim.Native.Nat.{ℕ, suc, _+_, _*_, _/_, _≤_, _<_}
+use native.Mathlib.Omega.{arith}
+use borrow.Author.Tests.{lt-ltb, le-ltb, lt-leb}
+use lib.Dec.{ltb, leb}
+use lib.Ieee.{Float, binary64, ofBits}
+use lib.ListN.{length, replicate, length-replicate, take, drop}
+use lib.Seq.{sets, sets-eq, length-sets, take-at}
+use Rattle.layout_text.specs.Layout.{Vertex, Layout, Within}
+use Rattle.layout_text.specs.Numbers.{pathOf}
+use Rattle.layout_text.specs.Reader.{Taken, broken, layout, reads}
+use Rattle.layout_text.specs.Exactly.{read-is-text}
+use Rattle.layout_text.specs.Read as read
+use Rattle.layout_text.specs.declared.Reading.{Reading}
+use Rattle.layout_text.specs.declared.Reading.the-variants as Reading·
+use Rattle.layout_lines.specs.declared.Written.{Written}
+use Rattle.layout_lines.specs.declared.Written.the-variants as Written·
+use Rattle.layout_lines.specs.Lines.{refusedText, answerText}
+use Rattle.layout_lines.specs.Written.{Lines, RefusalLine, AnswerLines}
+use Rattle.listings.specs.declared.answer.ListingAnswer.{ListingAnswer}
+use Rattle.listings.specs.declared.answer.ListingAnswer.the-variants.{Refused, Listed}
+use Rattle.listings.specs.Listing.{Outcome, Leaves, mutualListing}
+use Rattle.listings.specs.Laws.Counts.{Fits, mutual-fits}
+use Rattle.layout_listing.specs.Answer.{
+  epsilon,
+  noIndices,
+  noPoints,
+  listing,
+  linesOf,
+  linesFor,
+  answerOf,
+  answerTo,
+  room,
+  LinesFor,
+  AnswerTo,
+}
+
+-- ---- lines
+module _ (bytes old : List ℕ) where
+  pub no-room : length old < room → Lines false (ltb (length old) room) bytes Written·.NoRoom old old
+  no-room h = let e = lt-ltb (length old) room h in record { told = rw e refl; holds = rw e refl }
+
+  module _ (h : room ≤ length old) where
+    -- where there is room for more than is asked
+    enough : (roomless : Bool) → roomless ≡ false → (r : Written) (now : List ℕ) → Lines false roomless bytes r old now
+        → Lines false (ltb (length old) room) bytes r old now
+    enough roomless e r now l =
+        let f = le-ltb (length old) room h in
+        let k = rw e at l in
+        record { told = rw f (k .told); holds = rw f (k .holds) }
+
+pub refusal-line : (n : ℕ) (old : List ℕ) → room ≤ length old → (r : Written) (now : List ℕ) → RefusalLine n r old now
+    → Lines false (ltb (length old) room) (refusedText n) r old now
+refusal-line n old h r now l =
+    enough (refusedText n) old h (ltb (length old) 128) (le-ltb (length old) 128 (omega (arith, h))) r now l
+
+-- ---- a listing's
+module _ (first second : List Float) (old : List ℕ) (h : room ≤ length old) (a : ListingAnswer) (i : List ℕ) (p : List Float)
+    (leaves : Leaves (mutualListing first false second false epsilon noIndices noPoints) a i p) (r : Written) (now : List ℕ) where
+  lines : linesFor first second ≡ linesOf a i p
+  unfolding linesFor listing
+  lines = rw (leaves .answer, leaves .indices, leaves .points) refl
+
+  pub refused-lines : (n : ℕ) → a ≡ Refused n → RefusalLine n r old now → LinesFor first second r old now
+  refused-lines n e l =
+      rw (lines ∙ ap (λ (t : ListingAnswer). linesOf t i p) e) (refusal-line n old h r now l)
+
+  pub listed-lines : (rows pairs : ℕ) → a ≡ Listed rows pairs → AnswerLines pairs rows i p r old now → LinesFor first second r old now
+  listed-lines rows pairs e l =
+      let o = mutualListing first false second false epsilon noIndices noPoints in
+      let fits = mutual-fits first false second false epsilon noIndices noPoints in
+      let z : ℕ = 0 in
+      let y : Float = ofBits binary64 0 in
+      let wide : length noIndices ≡ 1536 = length-replicate 1536 z in
+      let long : length noPoints ≡ 2048 = length-replicate 2048 y in
+      let few : rows ≤ 512 = omega (arith, fits .few rows pairs (sym (leaves .answer) ∙ e), wide, long) in
+      let i-long : length i ≡ 1536 = ap length (leaves .indices) ∙ fits .indices ∙ wide in
+      let p-long : length p ≡ 2048 = ap length (leaves .points) ∙ fits .points ∙ long in
+      let one = le-ltb (length i / 3) rows (omega (arith, few, i-long)) in
+      let two = le-ltb (length p / 4) rows (omega (arith, few, p-long)) in
+      let three = lt-leb (length old / 128) rows (omega (arith, few, h)) in
+      let k : Lines false false (answerText pairs rows i p) r old now = rw (one, two, three) at l in
+      rw (lines ∙ ap (λ (t : ListingAnswer). linesOf t i p) e) (enough (answerText pairs rows i p) old h false refl r now k)
+
+-- ---- the buffers after reading
+abbrev pub buffer : List Float
+buffer = replicate 768 (ofBits binary64 0)
+
+buffer-long : length buffer ≡ 768
+buffer-long = let y : Float = ofBits binary64 0 in length-replicate 768 y
+
+path-long : (vs : List Vertex) → length (pathOf vs) ≡ length vs * 3
+path-long [] = omega arith
+path-long (v ∷ vs) = omega (arith, path-long vs)
+
+-- a path's numbers are the front of its buffer
+front : (vs : List Vertex) (n : ℕ) (held : List Float) → n ≡ length vs → length vs ≤ 256 → held ≡ sets buffer 0 (pathOf vs)
+    → take (n * 3) held ≡ pathOf vs
+front vs n held e few is =
+    let long = path-long vs in
+    ap (take (n * 3)) (is ∙ sets-eq (pathOf vs) buffer 0 (omega (arith, long, few, buffer-long)))
+    ∙ take-at (pathOf vs) (drop (0 + length (pathOf vs)) buffer) (n * 3) (omega (arith, long, e))
+
+-- what counts say
+pub record Fronts (text : List ℕ) (n m : ℕ) (first second : List Float) : Type 0 where
+  pub layout-is : Layout
+  pub reads-it : reads text ≡ layout layout-is
+  pub few-first : n ≤ 256
+  pub few-second : m ≤ 256
+  pub first-long : length first ≡ 768
+  pub second-long : length second ≡ 768
+  pub first-front : take (n * 3) first ≡ pathOf (layout-is .first)
+  pub second-front : take (m * 3) second ≡ pathOf (layout-is .second)
+
+module _ (text : List ℕ) (r : Reading) (first second : List Float) (l : read.ReadLayout text r buffer first buffer second) where
+  answer-is : r ≡ read.answerOf (reads text)
+  answer-is = l .told
+
+  pub counted : (n m : ℕ) → r ≡ Reading·.Counts n m → Fronts text n m first second
+  counted n m e = go (reads text) refl
+    where
+      go : (t : Taken) → reads text ≡ t → Fronts text n m first second
+      go broken is =
+          let both : Reading·.Refused 10 ≡ Reading·.Counts n m = sym (answer-is ∙ ap read.answerOf is) ∙ e in
+          let z : _≡_ {A = ℕ} 0 1 = cc in
+          absurd (omega (arith, z))
+      go (layout k) is =
+          let both : Reading·.Counts (length (k .first)) (length (k .second)) ≡ Reading·.Counts n m =
+          sym (answer-is ∙ ap read.answerOf is) ∙ e in
+          let n-is : n ≡ length (k .first) = cc in
+          let m-is : m ≡ length (k .second) = cc in
+          let w = read-is-text text k is .1 in
+          let on-first : first ≡ sets buffer 0 (pathOf (k .first)) = l .first-holds ∙ ap (λ (t : Taken). read.firstOf t buffer) is in
+          let on-second : second ≡ sets buffer 0 (pathOf (k .second)) = l .second-holds ∙ ap (λ (t : Taken). read.secondOf t buffer) is in
+          record {
+            layout-is = k;
+            reads-it = is;
+            few-first = omega (arith, n-is, w .first-count);
+            few-second = omega (arith, m-is, w .second-count);
+            first-long = ap length on-first ∙ length-sets buffer 0 (pathOf (k .first)) ∙ buffer-long;
+            second-long = ap length on-second ∙ length-sets buffer 0 (pathOf (k .second)) ∙ buffer-long;
+            first-front = front (k .first) n first n-is (w .first-count) on-first;
+            second-front = front (k .second) m second m-is (w .second-count) on-second;
+          }
+
+  -- what a refusal says: it is 10
+  pub refused-is : (n : ℕ) → r ≡ Reading·.Refused n → (reads text ≡ broken) × (n ≡ 10)
+  refused-is n e = go (reads text) refl
+    where
+      go : (t : Taken) → reads text ≡ t → (t ≡ broken) × (n ≡ 10)
+      go broken is =
+          let both : Reading·.Refused 10 ≡ Reading·.Refused n = sym (answer-is ∙ ap read.answerOf is) ∙ e in
+          (refl, cc)
+      go (layout k) is =
+          let both : Reading·.Counts (length (k .first)) (length (k .second)) ≡ Reading·.Refused n =
+          sym (answer-is ∙ ap read.answerOf is) ∙ e in
+          let z : _≡_ {A = ℕ} 0 1 = cc in
+          absurd (omega (arith, z))
+
+  -- the buffers have room
+  pub roomy : r ≡ Reading·.NoRoom → ⊥
+  roomy e = go (reads text) refl
+    where
+      go : (t : Taken) → reads text ≡ t → ⊥
+      go broken is =
+          let both : Reading·.Refused 10 ≡ Reading·.NoRoom = sym (answer-is ∙ ap read.answerOf is) ∙ e in
+          let z : _≡_ {A = ℕ} 0 1 = cc in
+          omega (arith, z)
+      go (layout k) is =
+          let both : Reading·.Counts (length (k .first)) (length (k .second)) ≡ Reading·.NoRoom =
+          sym (answer-is ∙ ap read.answerOf is) ∙ e in
+          let z : _≡_ {A = ℕ} 0 1 = cc in
+          omega (arith, z)
+
+-- ---- the answer to a text
+module _ (text old : List ℕ) (r : Written) (now : List ℕ) where
+  pub broken-answer : (n : ℕ) → room ≤ length old → reads text ≡ broken → n ≡ 10 → RefusalLine n r old now → AnswerTo text r old now
+  unfolding answerTo
+  broken-answer n h is e l = rw is (refusal-line 10 old h r now (rw e at l))
+
+  pub listed-answer : (n m : ℕ) (first second : List Float) → Fronts text n m first second
+      → LinesFor (take (n * 3) first) (take (m * 3) second) r old now → AnswerTo text r old now
+  unfolding answerTo
+  listed-answer n m first second f l = rw (f .reads-it) (rw (f .first-front, f .second-front) at l)

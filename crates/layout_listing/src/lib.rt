@@ -1,0 +1,64 @@
+// From the text of a layout to the text of its listing: all that the program `crossings` does but reading and writing.
+ghost use Rattle.layout_listing.specs.Answer.{AnswerTo, LinesFor};
+use layout_lines::Written;
+use layout_lines::write_answer;
+use layout_lines::write_refusal;
+use layout_text::Reading;
+use layout_text::read_layout;
+use listings::answer::ListingAnswer;
+use listings::mutual_listing::mutual_listing;
+
+// how near is near: 1/1024
+pub const EPSILON: f64 = 0.0009765625;
+
+// how many rows there is room for
+pub const ROWS: usize = 512;
+
+// how many bytes the answer's text is given: 128 a line, for the counts and every row
+pub const ROOM: usize = 65664;
+
+// Writes the lines of the listing of two open paths to the front of `out`, and answers how many bytes they are.
+fn list_paths(first: &[f64], second: &[f64], out: &mut [u8]) -> Written
+    ensures { λ r. ⌜ LinesFor (now (first .entry)) (now (second .entry)) r (now (out .entry)) (now (out .exit)) ⌝ }
+{
+    if out.len() < ROOM {
+        return Written::NoRoom;
+    }
+    let mut indices = [0u64; 1536];
+    let mut points = [0.0f64; 2048];
+    let listed = mutual_listing(
+        first,
+        false,
+        second,
+        false,
+        EPSILON,
+        &mut indices,
+        &mut points,
+    );
+    match listed {
+        ListingAnswer::Refused(n) => write_refusal(n, out),
+        ListingAnswer::Listed { rows, pairs } => write_answer(pairs, rows, &indices, &points, out),
+    }
+}
+
+// Writes the answer to a layout's text to the front of `out`, and answers how many bytes it is; nothing is written if `out` has not
+// the room for the longest answer.
+pub fn list_layout(text: &[u8], out: &mut [u8]) -> Written
+    ensures { λ r. ⌜ AnswerTo (now (text .entry)) r (now (out .entry)) (now (out .exit)) ⌝ }
+{
+    if out.len() < ROOM {
+        return Written::NoRoom;
+    }
+    let mut first = [0.0f64; 768];
+    let mut second = [0.0f64; 768];
+    let read = read_layout(text, &mut first, &mut second);
+    match read {
+        Reading::Counts(n, m) => {
+            let a = n * 3;
+            let b = m * 3;
+            list_paths(&first[..a], &second[..b], out)
+        }
+        Reading::Refused(n) => write_refusal(n, out),
+        Reading::NoRoom => Written::NoRoom,
+    }
+}
