@@ -1,2 +1,5 @@
 pub mod Whole
 pub mod Ring
+pub mod Order
+pub mod Sides
+pub mod Cross

@@ -1,0 +1,125 @@
+-- Two segments that are not parallel: their lines cross in one point, the meeting, which lies steps-v / base of the way along v and
+-- steps-u / base of the way along u. They share a point exactly if both places are from 0 to 1, and never more than one.
+use mathlib.Core.Path.{_≡_, refl, sym, ap, _∙_, subst}
+use mathlib.Core.Logic.{_⊎_, inl, inr, _↔_}
+use mathlib.Core.List.{[], _∷_}
+use Prim.Native.Nat.{ℕ, _*_, _≤_, _<_}
+use native.Mathlib.Nat.{mul-le-mul-left}
+use native.Mathlib.Omega.{arith}
+use lib.IntN.{ℤ, pos, negsuc, negℤ, natAbs, _+ℤ_, _-ℤ_, _*ℤ_, *ℤ-comm}
+use lib.Signed.{_≤ℤ_}
+use Rattle.grid.specs.Promise.{Spot, Point, Along, OnLine, OnSegment, Apart, Parallel, Share, ShareMore, Crossing}
+use Rattle.grid.specs.Plane.Ring.{solve, combine, combine2, var, neg, num, _⊞_, _⊟_, _⊠_}
+use Rattle.grid.specs.Plane.Order.{cancel, cancel-le, pos-le, natural, turned, turned-eq, size-pos}
+use Rattle.grid.specs.Plane.Sides.{across, across-parallel, first, second, place-v, place-u}
+
+-- m / k is from 0 to 1
+abbrev pub Between : ℤ → ℕ → Type 0
+Between m k = (pos 0 ≤ℤ m) × (m ≤ℤ pos k)
+
+-- s / t from 0 to 1 is m / k
+between : (m : ℤ) (k s t : ℕ) → 0 < t → s ≤ t → pos s *ℤ pos k ≡ m *ℤ pos t → Between m k
+between m k s t T l h =
+    let least : (pos 0 *ℤ pos t) ≤ℤ (pos s *ℤ pos k) = pos-le (0 * t) (s * k) .1 (omega arith) in
+    let more : k * s ≤ k * t = mul-le-mul-left k l in
+    let most : (pos s *ℤ pos k) ≤ℤ (pos k *ℤ pos t) = pos-le (s * k) (k * t) .1 (omega arith) in (
+      cancel-le (pos 0) m t T (subst (λ (z : ℤ). (pos 0 *ℤ pos t) ≤ℤ z) h least),
+      cancel-le m (pos k) t T (subst (λ (z : ℤ). z ≤ℤ (pos k *ℤ pos t)) h most),
+    )
+
+-- one place from either start, with the sign of d carried over
+turned-sum : (d x p n a q m : ℤ) → x *ℤ d +ℤ p *ℤ n ≡ a *ℤ d +ℤ q *ℤ m
+    → x *ℤ pos (natAbs d) +ℤ p *ℤ turned d n ≡ a *ℤ pos (natAbs d) +ℤ q *ℤ turned d m
+turned-sum (pos k) x p n a q m h = h
+turned-sum (negsuc k) x p n a q m h = go (negsuc k) h
+  where
+    go : (d : ℤ) → x *ℤ d +ℤ p *ℤ n ≡ a *ℤ d +ℤ q *ℤ m → x *ℤ negℤ d +ℤ p *ℤ negℤ n ≡ a *ℤ negℤ d +ℤ q *ℤ negℤ m
+    go d h =
+        let D = var 0 in let X = var 1 in let P = var 2 in let N = var 3 in let A = var 4 in let Q = var 5 in let M = var 6 in
+        combine (d ∷ x ∷ p ∷ n ∷ a ∷ q ∷ m ∷ []) (X ⊠ neg D ⊞ P ⊠ neg N) (A ⊠ neg D ⊞ Q ⊠ neg M)
+        (neg (num 1)) (X ⊠ D ⊞ P ⊠ N) (A ⊠ D ⊞ Q ⊠ M) h tt
+
+-- the two products lead to one place
+cramer : (x y vx vy a b ux uy : ℤ)
+    → (x *ℤ (vx *ℤ uy -ℤ vy *ℤ ux) +ℤ vx *ℤ (ux *ℤ (y -ℤ b) -ℤ uy *ℤ (x -ℤ a))
+    ≡ a *ℤ (vx *ℤ uy -ℤ vy *ℤ ux) +ℤ ux *ℤ (vx *ℤ (y -ℤ b) -ℤ vy *ℤ (x -ℤ a)))
+    × (y *ℤ (vx *ℤ uy -ℤ vy *ℤ ux) +ℤ vy *ℤ (ux *ℤ (y -ℤ b) -ℤ uy *ℤ (x -ℤ a))
+    ≡ b *ℤ (vx *ℤ uy -ℤ vy *ℤ ux) +ℤ uy *ℤ (vx *ℤ (y -ℤ b) -ℤ vy *ℤ (x -ℤ a)))
+cramer x y vx vy a b ux uy =
+    let X = var 0 in let Y = var 1 in let VX = var 2 in let VY = var 3 in
+    let A = var 4 in let B = var 5 in let UX = var 6 in let UY = var 7 in
+    let D = VX ⊠ UY ⊟ VY ⊠ UX in
+    let N = UX ⊠ (Y ⊟ B) ⊟ UY ⊠ (X ⊟ A) in
+    let M = VX ⊠ (Y ⊟ B) ⊟ VY ⊠ (X ⊟ A) in
+    let all = x ∷ y ∷ vx ∷ vy ∷ a ∷ b ∷ ux ∷ uy ∷ [] in
+    (solve all (X ⊠ D ⊞ VX ⊠ N) (A ⊠ D ⊞ UX ⊠ M) tt, solve all (Y ⊠ D ⊞ VY ⊠ N) (B ⊠ D ⊞ UY ⊠ M) tt)
+
+-- ---- the place of the meeting
+abbrev pub base : Spot → Spot → Spot → Spot → ℕ
+base v1 v2 u1 u2 = natAbs (across v1 v2 u1 u2)
+
+abbrev pub steps-v : Spot → Spot → Spot → Spot → ℤ
+steps-v v1 v2 u1 u2 = turned (across v1 v2 u1 u2) (first v1 v2 u1 u2)
+
+abbrev pub steps-u : Spot → Spot → Spot → Spot → ℤ
+steps-u v1 v2 u1 u2 = turned (across v1 v2 u1 u2) (second v1 v2 u1 u2)
+
+-- P is m / over of the way from a to b
+pub record Placed (P : Point) (a b : Spot) (m : ℤ) : Type 0 where
+  pub at-x : P .x ≡ a .x *ℤ pos (P .over) +ℤ (b .x -ℤ a .x) *ℤ m
+  pub at-y : P .y ≡ a .y *ℤ pos (P .over) +ℤ (b .y -ℤ a .y) *ℤ m
+
+placed-along : (P : Point) (a b : Spot) (m : ℤ) → Placed P a b m → Along P a b m (P .over)
+placed-along P a b m h =
+    record {
+      some = P .positive;
+      at-x = *ℤ-comm (P .x) (pos (P .over)) ∙ ap (λ (z : ℤ). pos (P .over) *ℤ z) (h .at-x);
+      at-y = *ℤ-comm (P .y) (pos (P .over)) ∙ ap (λ (z : ℤ). pos (P .over) *ℤ z) (h .at-y);
+    }
+
+placed-segment : (P : Point) (a b : Spot) (m : ℤ) → Placed P a b m → Between m (P .over) → OnSegment P a b
+placed-segment P a b m h (l, k) =
+    let n = natural m l in
+    let least = subst (λ (z : ℤ). z ≤ℤ pos (P .over)) (n .1) k in (
+      n .0,
+      P .over,
+      pos-le (n .0) (P .over) .0 least,
+      subst (λ (z : ℤ). Along P a b z (P .over)) (n .1) (placed-along P a b m h),
+    )
+
+module _ (v1 v2 u1 u2 : Spot) (slant : ¬ Parallel v1 v2 u1 u2) where
+  pub base-pos : 0 < base v1 v2 u1 u2
+  base-pos = size-pos (across v1 v2 u1 u2) (λ h. slant (across-parallel v1 v2 u1 u2 h))
+
+  abbrev pub meeting : Point
+  meeting =
+      record {
+        x = v1 .x *ℤ pos (base v1 v2 u1 u2) +ℤ (v2 .x -ℤ v1 .x) *ℤ steps-v v1 v2 u1 u2;
+        y = v1 .y *ℤ pos (base v1 v2 u1 u2) +ℤ (v2 .y -ℤ v1 .y) *ℤ steps-v v1 v2 u1 u2;
+        over = base v1 v2 u1 u2;
+        positive = base-pos;
+      }
+
+  pub meeting-v : Placed meeting v1 v2 (steps-v v1 v2 u1 u2)
+  meeting-v = record { at-x = refl; at-y = refl }
+
+  pub meeting-u : Placed meeting u1 u2 (steps-u v1 v2 u1 u2)
+  meeting-u =
+      let same = cramer (v1 .x) (v1 .y) (v2 .x -ℤ v1 .x) (v2 .y -ℤ v1 .y) (u1 .x) (u1 .y) (u2 .x -ℤ u1 .x) (u2 .y -ℤ u1 .y) in
+      let turn = turned-sum (across v1 v2 u1 u2) in
+      record {
+        at-x = turn (v1 .x) (v2 .x -ℤ v1 .x) (first v1 v2 u1 u2) (u1 .x) (u2 .x -ℤ u1 .x) (second v1 v2 u1 u2) (same .0);
+        at-y = turn (v1 .y) (v2 .y -ℤ v1 .y) (first v1 v2 u1 u2) (u1 .y) (u2 .y -ℤ u1 .y) (second v1 v2 u1 u2) (same .1);
+      }
+
+  pub meeting-crosses : Crossing v1 v2 u1 u2 meeting
+  meeting-crosses = (
+    (steps-v v1 v2 u1 u2, base v1 v2 u1 u2, placed-along meeting v1 v2 _ meeting-v),
+    (steps-u v1 v2 u1 u2, base v1 v2 u1 u2, placed-along meeting u1 u2 _ meeting-u),
+  )
+
+  pub meeting-on-v : Between (steps-v v1 v2 u1 u2) (base v1 v2 u1 u2) → OnSegment meeting v1 v2
+  meeting-on-v = placed-segment meeting v1 v2 (steps-v v1 v2 u1 u2) meeting-v
+
+  pub meeting-on-u : Between (steps-u v1 v2 u1 u2) (base v1 v2 u1 u2) → OnSegment meeting u1 u2
+  meeting-on-u = placed-segment meeting u1 u2 (steps-u v1 v2 u1 u2) meeting-u
