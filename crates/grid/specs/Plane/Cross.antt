@@ -54,6 +54,27 @@ cramer x y vx vy a b ux uy =
     let all = x ∷ y ∷ vx ∷ vy ∷ a ∷ b ∷ ux ∷ uy ∷ [] in
     (solve all (X ⊠ D ⊞ VX ⊠ N) (A ⊠ D ⊞ UX ⊠ M) tt, solve all (Y ⊠ D ⊞ VY ⊠ N) (B ⊠ D ⊞ UY ⊠ M) tt)
 
+-- a coordinate c / q that is s / t of the way p from x, where s / t is m / k
+same-place : (c x p s m : ℤ) (q t k : ℕ) → 0 < t → c *ℤ pos t ≡ pos q *ℤ (x *ℤ pos t +ℤ p *ℤ s) → s *ℤ pos k ≡ m *ℤ pos t
+    → c *ℤ pos k ≡ (x *ℤ pos k +ℤ p *ℤ m) *ℤ pos q
+same-place c x p s m q t k H h e =
+    let C = var 0 in let X = var 1 in let P = var 2 in let S = var 3 in let M = var 4 in
+    let Q = var 5 in let R = var 6 in let K = var 7 in
+    cancel (c *ℤ pos k) ((x *ℤ pos k +ℤ p *ℤ m) *ℤ pos q) t H
+    (combine2 (c ∷ x ∷ p ∷ s ∷ m ∷ pos q ∷ pos t ∷ pos k ∷ []) (C ⊠ K ⊠ R) ((X ⊠ K ⊞ P ⊠ M) ⊠ Q ⊠ R)
+    K (C ⊠ R) (Q ⊠ (X ⊠ R ⊞ P ⊠ S)) (Q ⊠ P) (S ⊠ K) (M ⊠ R) h e tt)
+
+-- two ratios that are one third
+same-ratio : (a b c : ℤ) (p q k : ℕ) → 0 < k → a *ℤ pos k ≡ c *ℤ pos p → b *ℤ pos k ≡ c *ℤ pos q → a *ℤ pos q ≡ b *ℤ pos p
+same-ratio a b c p q k H h e =
+    let A = var 0 in let B = var 1 in let C = var 2 in let P = var 3 in let Q = var 4 in let K = var 5 in
+    cancel (a *ℤ pos q) (b *ℤ pos p) k H
+    (combine2 (a ∷ b ∷ c ∷ pos p ∷ pos q ∷ pos k ∷ []) (A ⊠ Q ⊠ K) (B ⊠ P ⊠ K)
+    Q (A ⊠ K) (C ⊠ P) (neg P) (B ⊠ K) (C ⊠ Q) h e tt)
+
+on-line : (P : Point) (a b : Spot) → OnSegment P a b → OnLine P a b
+on-line P a b (s, t, l, h) = (pos s, t, h)
+
 -- ---- the place of the meeting
 abbrev pub base : Spot → Spot → Spot → Spot → ℕ
 base v1 v2 u1 u2 = natAbs (across v1 v2 u1 u2)
@@ -123,3 +144,38 @@ module _ (v1 v2 u1 u2 : Spot) (slant : ¬ Parallel v1 v2 u1 u2) where
 
   pub meeting-on-u : Between (steps-u v1 v2 u1 u2) (base v1 v2 u1 u2) → OnSegment meeting u1 u2
   meeting-on-u = placed-segment meeting u1 u2 (steps-u v1 v2 u1 u2) meeting-u
+
+  -- ---- they share a point exactly if both places are from 0 to 1
+  pub shared-between : Share v1 v2 u1 u2
+      → Between (steps-v v1 v2 u1 u2) (base v1 v2 u1 u2) × Between (steps-u v1 v2 u1 u2) (base v1 v2 u1 u2)
+  shared-between (P, ((s, t, l, on-v), (s', t', l', on-u))) = (
+    between (steps-v v1 v2 u1 u2) (base v1 v2 u1 u2) s t (on-v .some) l
+        (turned-eq (across v1 v2 u1 u2) (first v1 v2 u1 u2) (pos s) (pos t) (place-v v1 v2 u1 u2 P (pos s) (pos s') t t' on-v on-u)),
+    between (steps-u v1 v2 u1 u2) (base v1 v2 u1 u2) s' t' (on-u .some) l'
+        (turned-eq (across v1 v2 u1 u2) (second v1 v2 u1 u2) (pos s') (pos t')
+        (place-u v1 v2 u1 u2 P (pos s) (pos s') t t' on-v on-u)),
+  )
+
+  pub between-shared : Between (steps-v v1 v2 u1 u2) (base v1 v2 u1 u2) → Between (steps-u v1 v2 u1 u2) (base v1 v2 u1 u2)
+      → Share v1 v2 u1 u2
+  between-shared h k = (meeting, (meeting-on-v h, meeting-on-u k))
+
+  -- ---- the lines cross in no other point
+  pub crossing-is : (P : Point) → Crossing v1 v2 u1 u2 P
+      → (P .x *ℤ pos (base v1 v2 u1 u2) ≡ meeting .x *ℤ pos (P .over))
+      × (P .y *ℤ pos (base v1 v2 u1 u2) ≡ meeting .y *ℤ pos (P .over))
+  crossing-is P ((s, t, on-v), (s', t', on-u)) =
+      let place = turned-eq (across v1 v2 u1 u2) (first v1 v2 u1 u2) s (pos t) (place-v v1 v2 u1 u2 P s s' t t' on-v on-u) in (
+        same-place (P .x) (v1 .x) (v2 .x -ℤ v1 .x) s (steps-v v1 v2 u1 u2) (P .over) t (base v1 v2 u1 u2) (on-v .some) (on-v .at-x) place,
+        same-place (P .y) (v1 .y) (v2 .y -ℤ v1 .y) s (steps-v v1 v2 u1 u2) (P .over) t (base v1 v2 u1 u2) (on-v .some) (on-v .at-y) place,
+      )
+
+  pub crossing-once : (P Q : Point) → Crossing v1 v2 u1 u2 P → Crossing v1 v2 u1 u2 Q → ¬ Apart P Q
+  crossing-once P Q h k (inl a) =
+      a (same-ratio (P .x) (Q .x) (meeting .x) (P .over) (Q .over) (base v1 v2 u1 u2) base-pos (crossing-is P h .0) (crossing-is Q k .0))
+  crossing-once P Q h k (inr a) =
+      a (same-ratio (P .y) (Q .y) (meeting .y) (P .over) (Q .over) (base v1 v2 u1 u2) base-pos (crossing-is P h .1) (crossing-is Q k .1))
+
+  pub share-once : ¬ ShareMore v1 v2 u1 u2
+  share-once (P, Q, apart, (p, p'), (q, q')) =
+      crossing-once P Q (on-line P v1 v2 p, on-line P u1 u2 p') (on-line Q v1 v2 q, on-line Q u1 u2 q') apart
