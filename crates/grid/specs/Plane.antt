@@ -3,3 +3,4 @@ pub mod Ring
 pub mod Order
 pub mod Sides
 pub mod Cross
+pub mod Beyond

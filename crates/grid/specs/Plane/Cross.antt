@@ -18,7 +18,7 @@ abbrev pub Between : ℤ → ℕ → Type 0
 Between m k = (pos 0 ≤ℤ m) × (m ≤ℤ pos k)
 
 -- s / t from 0 to 1 is m / k
-between : (m : ℤ) (k s t : ℕ) → 0 < t → s ≤ t → pos s *ℤ pos k ≡ m *ℤ pos t → Between m k
+pub between : (m : ℤ) (k s t : ℕ) → 0 < t → s ≤ t → pos s *ℤ pos k ≡ m *ℤ pos t → Between m k
 between m k s t T l h =
     let least : (pos 0 *ℤ pos t) ≤ℤ (pos s *ℤ pos k) = pos-le (0 * t) (s * k) .1 (omega arith) in
     let more : k * s ≤ k * t = mul-le-mul-left k l in
@@ -90,7 +90,7 @@ pub record Placed (P : Point) (a b : Spot) (m : ℤ) : Type 0 where
   pub at-x : P .x ≡ a .x *ℤ pos (P .over) +ℤ (b .x -ℤ a .x) *ℤ m
   pub at-y : P .y ≡ a .y *ℤ pos (P .over) +ℤ (b .y -ℤ a .y) *ℤ m
 
-placed-along : (P : Point) (a b : Spot) (m : ℤ) → Placed P a b m → Along P a b m (P .over)
+pub placed-along : (P : Point) (a b : Spot) (m : ℤ) → Placed P a b m → Along P a b m (P .over)
 placed-along P a b m h =
     record {
       some = P .positive;
@@ -98,7 +98,7 @@ placed-along P a b m h =
       at-y = *ℤ-comm (P .y) (pos (P .over)) ∙ ap (λ (z : ℤ). pos (P .over) *ℤ z) (h .at-y);
     }
 
-placed-segment : (P : Point) (a b : Spot) (m : ℤ) → Placed P a b m → Between m (P .over) → OnSegment P a b
+pub placed-segment : (P : Point) (a b : Spot) (m : ℤ) → Placed P a b m → Between m (P .over) → OnSegment P a b
 placed-segment P a b m h (l, k) =
     let n = natural m l in
     let least = subst (λ (z : ℤ). z ≤ℤ pos (P .over)) (n .1) k in (
