@@ -4,3 +4,4 @@ pub mod Order
 pub mod Sides
 pub mod Cross
 pub mod Beyond
+pub mod Spots
