@@ -5,3 +5,4 @@ pub mod Sides
 pub mod Cross
 pub mod Beyond
 pub mod Spots
+pub mod Points

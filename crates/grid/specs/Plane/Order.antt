@@ -72,3 +72,49 @@ turned-eq (negsuc k) a s t h = sym (back s (negsuc k)) ∙ ap negℤ h ∙ neg-l
 
     neg-left : (a t : ℤ) → negℤ (a *ℤ t) ≡ negℤ a *ℤ t
     neg-left a t = rw (← whole a, ← whole t) (simp naturals (omega arith))
+
+-- the same by cases: d is not below 0 and nothing is turned, or it is below 0 and all is
+pub record Kept (d : ℤ) : Type 0 where
+  pub least : pos 0 ≤ℤ d
+  pub size : pos (natAbs d) ≡ d
+  pub turn : (z : ℤ) → turned d z ≡ z
+
+pub record Turned (d : ℤ) : Type 0 where
+  pub most : d <ℤ pos 0
+  pub size : pos (natAbs d) ≡ negℤ d
+  pub turn : (z : ℤ) → turned d z ≡ negℤ z
+
+pub sign : (d : ℤ) → Kept d ⊎ Turned d
+sign (pos k) = inl (record { least = pos-le 0 k .1 (omega arith); size = refl; turn = λ z. refl })
+sign (negsuc k) = inr (record { most = ltZ-yes tt; size = refl; turn = λ z. refl })
+
+-- z / d is from 0 to 1 if z is from 0 to d, on either side of 0
+pub inside : (d z : ℤ) → ((pos 0 ≤ℤ z) × (z ≤ℤ d)) ⊎ ((d ≤ℤ z) × (z ≤ℤ pos 0))
+    → (pos 0 ≤ℤ turned d z) × (turned d z ≤ℤ pos (natAbs d))
+inside d z h = go (sign d) h
+  where
+    put : (m k : ℤ) → turned d z ≡ m → pos (natAbs d) ≡ k → (pos 0 ≤ℤ m) × (m ≤ℤ k)
+        → (pos 0 ≤ℤ turned d z) × (turned d z ≤ℤ pos (natAbs d))
+    put m k e f (a, b) = (rw e a, rw (e, f) b)
+
+    up : (d z : ℤ) → pos 0 ≤ℤ d → (d ≤ℤ z) × (z ≤ℤ pos 0) → (pos 0 ≤ℤ z) × (z ≤ℤ d)
+    up d z = rw (← whole d, ← whole z) (simp naturals (omega arith))
+
+    down : (d z : ℤ) → d <ℤ pos 0 → (pos 0 ≤ℤ z) × (z ≤ℤ d) → (pos 0 ≤ℤ negℤ z) × (negℤ z ≤ℤ negℤ d)
+    down d z = rw (← whole d, ← whole z) (simp naturals (omega arith))
+
+    over : (d z : ℤ) → (d ≤ℤ z) × (z ≤ℤ pos 0) → (pos 0 ≤ℤ negℤ z) × (negℤ z ≤ℤ negℤ d)
+    over d z = rw (← whole d, ← whole z) (simp naturals (omega arith))
+
+    go : Kept d ⊎ Turned d → ((pos 0 ≤ℤ z) × (z ≤ℤ d)) ⊎ ((d ≤ℤ z) × (z ≤ℤ pos 0))
+        → (pos 0 ≤ℤ turned d z) × (turned d z ≤ℤ pos (natAbs d))
+    go (inl k) (inl h) = put z d (k .turn z) (k .size) h
+    go (inl k) (inr h) = put z d (k .turn z) (k .size) (up d z (k .least) h)
+    go (inr k) (inl h) = put (negℤ z) (negℤ d) (k .turn z) (k .size) (down d z (k .most) h)
+    go (inr k) (inr h) = put (negℤ z) (negℤ d) (k .turn z) (k .size) (over d z h)
+
+-- a whole number that is not above 0 is a natural with a minus
+pub natural-below : (a : ℤ) → a ≤ℤ pos 0 → (n : ℕ) × (a ≡ negℤ (pos n))
+natural-below (pos zero) h = (0, refl)
+natural-below (pos (suc n)) h = let k : suc n ≤ 0 = pos-le (suc n) 0 .0 h in absurd (omega arith)
+natural-below (negsuc n) h = (suc n, refl)

@@ -75,11 +75,11 @@ module _ (x y vx vy a b ux uy s t s' t' : ℤ)
 
 -- what lies s / t along v and s' / t' along u: s / t is the first product over across, s' / t' the second
 module _ (v1 v2 u1 u2 : Spot) (P : Point) (s s' : ℤ) (t t' : ℕ) (on-v : Along P v1 v2 s t) (on-u : Along P u1 u2 s' t') where
-  same-x : (v1 .x *ℤ pos t +ℤ (v2 .x -ℤ v1 .x) *ℤ s) *ℤ pos t' ≡ (u1 .x *ℤ pos t' +ℤ (u2 .x -ℤ u1 .x) *ℤ s') *ℤ pos t
+  pub same-x : (v1 .x *ℤ pos t +ℤ (v2 .x -ℤ v1 .x) *ℤ s) *ℤ pos t' ≡ (u1 .x *ℤ pos t' +ℤ (u2 .x -ℤ u1 .x) *ℤ s') *ℤ pos t
   same-x =
       one-value (P .x) (v1 .x) (v2 .x) (u1 .x) (u2 .x) s s' (P .over) t t' (P .positive) (on-v .at-x) (on-u .at-x)
 
-  same-y : (v1 .y *ℤ pos t +ℤ (v2 .y -ℤ v1 .y) *ℤ s) *ℤ pos t' ≡ (u1 .y *ℤ pos t' +ℤ (u2 .y -ℤ u1 .y) *ℤ s') *ℤ pos t
+  pub same-y : (v1 .y *ℤ pos t +ℤ (v2 .y -ℤ v1 .y) *ℤ s) *ℤ pos t' ≡ (u1 .y *ℤ pos t' +ℤ (u2 .y -ℤ u1 .y) *ℤ s') *ℤ pos t
   same-y =
       one-value (P .y) (v1 .y) (v2 .y) (u1 .y) (u2 .y) s s' (P .over) t t' (P .positive) (on-v .at-y) (on-u .at-y)
 
