@@ -6,3 +6,4 @@ pub mod Cross
 pub mod Beyond
 pub mod Spots
 pub mod Points
+pub mod Spans

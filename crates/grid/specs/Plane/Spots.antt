@@ -101,7 +101,7 @@ Same a b = (a .x ≡ b .x) × (a .y ≡ b .y)
 abbrev pub IsSpot : Point → Spot → Type 0
 IsSpot P a = (P .x ≡ a .x *ℤ pos (P .over)) × (P .y ≡ a .y *ℤ pos (P .over))
 
-stays : (c a b s : ℤ) (q t : ℕ) → 0 < t → c *ℤ pos t ≡ pos q *ℤ (a *ℤ pos t +ℤ (b -ℤ a) *ℤ s) → a ≡ b → c ≡ a *ℤ pos q
+pub stays : (c a b s : ℤ) (q t : ℕ) → 0 < t → c *ℤ pos t ≡ pos q *ℤ (a *ℤ pos t +ℤ (b -ℤ a) *ℤ s) → a ≡ b → c ≡ a *ℤ pos q
 stays c a b s q t H h e =
     let C = var 0 in let A = var 1 in let B = var 2 in let S = var 3 in let Q = var 4 in let T' = var 5 in
     cancel c (a *ℤ pos q) t H
