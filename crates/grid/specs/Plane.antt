@@ -7,3 +7,4 @@ pub mod Beyond
 pub mod Spots
 pub mod Points
 pub mod Spans
+pub mod Overlap

@@ -121,17 +121,17 @@ abbrev pub mark : Spot → Spot → Spot → ℤ
 mark u1 u2 p = turned (u2 .x -ℤ u1 .x) (p .x -ℤ u1 .x)
 
 -- a point P of u, and of v from a to b
-record Seen (u1 u2 : Spot) (P : Point) (a b : ℤ) (k : ℕ) : Type 0 where
-  s : ℕ
-  r : ℕ
-  s' : ℕ
-  t' : ℕ
-  some : 0 < s + r
-  within : s' ≤ t'
-  on-u : Along P u1 u2 (pos s') t'
-  place : (a *ℤ pos r +ℤ b *ℤ pos s) *ℤ pos t' ≡ pos k *ℤ (pos s' *ℤ pos (s + r))
+pub record Seen (u1 u2 : Spot) (P : Point) (a b : ℤ) (k : ℕ) : Type 0 where
+  pub s : ℕ
+  pub r : ℕ
+  pub s' : ℕ
+  pub t' : ℕ
+  pub some : 0 < s + r
+  pub within : s' ≤ t'
+  pub on-u : Along P u1 u2 (pos s') t'
+  pub place : (a *ℤ pos r +ℤ b *ℤ pos s) *ℤ pos t' ≡ pos k *ℤ (pos s' *ℤ pos (s + r))
 
-seen : (v1 v2 u1 u2 : Spot) (P : Point) → OnSegment P v1 v2 → OnSegment P u1 u2
+pub seen : (v1 v2 u1 u2 : Spot) (P : Point) → OnSegment P v1 v2 → OnSegment P u1 u2
     → Seen u1 u2 P (mark u1 u2 v1) (mark u1 u2 v2) (size u1 u2)
 seen v1 v2 u1 u2 P (s, t, l, on-v) (s', t', l', on-u) =
     let rest : t ≡ s + (t - s) = omega arith in
@@ -174,7 +174,7 @@ module _ (u1 u2 : Spot) (P : Point) (a b : ℤ) (k : ℕ) (h : Seen u1 u2 P a b 
           (neg (num 1)) ((neg M ⊠ R ⊞ neg N ⊠ S) ⊠ T') C h tt
 
   -- the spans meet
-  not-past : (a ≤ℤ pos k) ⊎ (b ≤ℤ pos k)
+  pub not-past : (a ≤ℤ pos k) ⊎ (b ≤ℤ pos k)
   not-past = go (lt-or-le (pos k) a) (lt-or-le (pos k) b)
     where
       go : (pos k <ℤ a) ⊎ (a ≤ℤ pos k) → (pos k <ℤ b) ⊎ (b ≤ℤ pos k) → (a ≤ℤ pos k) ⊎ (b ≤ℤ pos k)
@@ -186,7 +186,7 @@ module _ (u1 u2 : Spot) (P : Point) (a b : ℤ) (k : ℕ) (h : Seen u1 u2 P a b 
           absurd (none-past (x .0) (y .0) k (h .r) (h .s) (h .s') (h .t') (up-place (x .0) (y .0) (x .1) (y .1)) (x .2) (y .2)
           (h .within) (h .on-u .some) (h .some))
 
-  not-before : (pos 0 ≤ℤ a) ⊎ (pos 0 ≤ℤ b)
+  pub not-before : (pos 0 ≤ℤ a) ⊎ (pos 0 ≤ℤ b)
   not-before = go (lt-or-le a (pos 0)) (lt-or-le b (pos 0))
     where
       go : (a <ℤ pos 0) ⊎ (pos 0 ≤ℤ a) → (b <ℤ pos 0) ⊎ (pos 0 ≤ℤ b) → (pos 0 ≤ℤ a) ⊎ (pos 0 ≤ℤ b)
@@ -199,7 +199,7 @@ module _ (u1 u2 : Spot) (P : Point) (a b : ℤ) (k : ℕ) (h : Seen u1 u2 P a b 
           (h .on-u .some) (h .some))
 
   -- where they meet in an end of u at most, the point is that end
-  past-end : 0 < k → pos k ≤ℤ a → pos k ≤ℤ b → IsSpot P u2
+  pub past-end : 0 < k → pos k ≤ℤ a → pos k ≤ℤ b → IsSpot P u2
   past-end K l m =
       let x = from k a l in
       let y = from k b m in
@@ -210,7 +210,7 @@ module _ (u1 u2 : Spot) (P : Point) (a b : ℤ) (k : ℕ) (h : Seen u1 u2 P a b 
         at-end (P .y) (u1 .y) (u2 .y) (pos (h .s')) (P .over) (h .t') (h .on-u .some) (h .on-u .at-y) (ap pos same),
       )
 
-  before-start : 0 < k → a ≤ℤ pos 0 → b ≤ℤ pos 0 → IsSpot P u1
+  pub before-start : 0 < k → a ≤ℤ pos 0 → b ≤ℤ pos 0 → IsSpot P u1
   before-start K l m =
       let x = natural-below a l in
       let y = natural-below b m in

@@ -1,0 +1,147 @@
+-- Two segments on one line, measured on u along the x axis, or along the y axis where u is upright: they share a point exactly if the
+-- spans meet, and more than one exactly if the spans meet in more than one. What they share is found at their ends.
+use mathlib.Core.Path.{_≡_, refl, sym, ap, _∙_, subst}
+use mathlib.Core.Logic.{_⊎_, inl, inr, _↔_}
+use mathlib.Core.List.{[], _∷_}
+use Prim.Native.Nat.{ℕ, _<_}
+use native.Mathlib.Omega.{arith}
+use lib.IntN.{ℤ, pos, negℤ, natAbs, _+ℤ_, _-ℤ_, _*ℤ_}
+use lib.Signed.{_≤ℤ_, _<ℤ_, clashℤ}
+use Rattle.grid.specs.Promise.{Spot, Point, OnSegment, Apart, Shared, Share, ShareMore}
+use Rattle.grid.specs.Plane.Whole.{whole, naturals, gain, loss}
+use Rattle.grid.specs.Plane.Ring.{solve, combine, combine2, equal-of-sub, sub-of-equal, var, num, neg, _⊞_, _⊟_, _⊠_}
+use Rattle.grid.specs.Plane.Order.{turned, sign, Kept, Turned, inside, size-pos, lt-or-le}
+use Rattle.grid.specs.Plane.Sides.{way, cross, across, first, second}
+use Rattle.grid.specs.Plane.Cross.{Between}
+use Rattle.grid.specs.Plane.Points.{Collinear, line-of-v}
+use Rattle.grid.specs.Plane.Spots.{
+  spot,
+  start-on,
+  end-on,
+  Same,
+  Level,
+  level-on,
+  IsSpot,
+  spot-once,
+  flip,
+  share-flipped,
+  share-more-flipped,
+  share-reversed,
+  share-more-reversed,
+}
+use Rattle.grid.specs.Plane.Spans.{
+  Meet,
+  MeetMore,
+  size,
+  mark,
+  seen,
+  not-past,
+  not-before,
+  past-end,
+  before-start,
+}
+
+-- ---- what is shared says that the spans meet
+pub shared-meet : (v1 v2 u1 u2 : Spot) → Share v1 v2 u1 u2 → Meet (mark u1 u2 v1) (mark u1 u2 v2) (size u1 u2)
+shared-meet v1 v2 u1 u2 (P, (p, q)) =
+    let h = seen v1 v2 u1 u2 P p q in (
+      not-past u1 u2 P (mark u1 u2 v1) (mark u1 u2 v2) (size u1 u2) h,
+      not-before u1 u2 P (mark u1 u2 v1) (mark u1 u2 v2) (size u1 u2) h,
+    )
+
+pub shared-more-meet : (v1 v2 u1 u2 : Spot) → 0 < size u1 u2 → ShareMore v1 v2 u1 u2
+    → MeetMore (mark u1 u2 v1) (mark u1 u2 v2) (size u1 u2)
+shared-more-meet v1 v2 u1 u2 K (P, Q, apart, (p, p'), (q, q')) = (
+  past (lt-or-le a (pos k)) (lt-or-le b (pos k)),
+  before (lt-or-le (pos 0) a) (lt-or-le (pos 0) b),
+)
+  where
+    a : ℤ
+    a = mark u1 u2 v1
+
+    b : ℤ
+    b = mark u1 u2 v2
+
+    k : ℕ
+    k = size u1 u2
+
+    past : (a <ℤ pos k) ⊎ (pos k ≤ℤ a) → (b <ℤ pos k) ⊎ (pos k ≤ℤ b) → (a <ℤ pos k) ⊎ (b <ℤ pos k)
+    past (inl l) m = inl l
+    past (inr l) (inl m) = inr m
+    past (inr l) (inr m) =
+        absurd (spot-once P Q u2
+        (past-end u1 u2 P a b k (seen v1 v2 u1 u2 P p p') K l m)
+        (past-end u1 u2 Q a b k (seen v1 v2 u1 u2 Q q q') K l m) apart)
+
+    before : (pos 0 <ℤ a) ⊎ (a ≤ℤ pos 0) → (pos 0 <ℤ b) ⊎ (b ≤ℤ pos 0) → (pos 0 <ℤ a) ⊎ (pos 0 <ℤ b)
+    before (inl l) m = inl l
+    before (inr l) (inl m) = inr m
+    before (inr l) (inr m) =
+        absurd (spot-once P Q u1
+        (before-start u1 u2 P a b k (seen v1 v2 u1 u2 P p p') K l m)
+        (before-start u1 u2 Q a b k (seen v1 v2 u1 u2 Q q q') K l m) apart)
+
+-- ---- the ends of each lie on the other's line
+second-on-u : (v1 v2 u1 u2 : Spot) → Collinear v1 v2 u1 u2 → cross (way u1 u2) (way u1 v2) ≡ pos 0
+second-on-u v1 v2 u1 u2 c =
+    let X = var 0 in let Y = var 1 in let X2 = var 2 in let Y2 = var 3 in
+    let A = var 4 in let B = var 5 in let A2 = var 6 in let B2 = var 7 in
+    combine2 (v1 .x ∷ v1 .y ∷ v2 .x ∷ v2 .y ∷ u1 .x ∷ u1 .y ∷ u2 .x ∷ u2 .y ∷ [])
+    ((A2 ⊟ A) ⊠ (Y2 ⊟ B) ⊟ (B2 ⊟ B) ⊠ (X2 ⊟ A)) (num 0)
+    (num 1) ((A2 ⊟ A) ⊠ (Y ⊟ B) ⊟ (B2 ⊟ B) ⊠ (X ⊟ A)) (num 0)
+    (neg (num 1)) ((X2 ⊟ X) ⊠ (B2 ⊟ B) ⊟ (Y2 ⊟ Y) ⊠ (A2 ⊟ A)) (num 0) (c .from-u) (c .parallel) tt
+
+second-on-v : (v1 v2 u1 u2 : Spot) → Collinear v1 v2 u1 u2 → cross (way v1 v2) (way v1 u2) ≡ pos 0
+second-on-v v1 v2 u1 u2 c =
+    let X = var 0 in let Y = var 1 in let X2 = var 2 in let Y2 = var 3 in
+    let A = var 4 in let B = var 5 in let A2 = var 6 in let B2 = var 7 in
+    combine2 (v1 .x ∷ v1 .y ∷ v2 .x ∷ v2 .y ∷ u1 .x ∷ u1 .y ∷ u2 .x ∷ u2 .y ∷ [])
+    ((X2 ⊟ X) ⊠ (B2 ⊟ Y) ⊟ (Y2 ⊟ Y) ⊠ (A2 ⊟ X)) (num 0)
+    (neg (num 1)) ((X2 ⊟ X) ⊠ (Y ⊟ B) ⊟ (Y2 ⊟ Y) ⊠ (X ⊟ A)) (num 0)
+    (num 1) ((X2 ⊟ X) ⊠ (B2 ⊟ B) ⊟ (Y2 ⊟ Y) ⊠ (A2 ⊟ A)) (num 0) (c .from-v) (c .parallel) tt
+
+-- ---- an end of u inside v, on the x axis
+-- v begins before u's start, and does not end before it
+start-inside : (x x2 a a2 : ℤ) → turned (a2 -ℤ a) (x -ℤ a) <ℤ pos 0 → pos 0 ≤ℤ turned (a2 -ℤ a) (x2 -ℤ a)
+    → Between (turned (x2 -ℤ x) (a -ℤ x)) (natAbs (x2 -ℤ x))
+start-inside x x2 a a2 h k = inside (x2 -ℤ x) (a -ℤ x) (go (sign (a2 -ℤ a)))
+  where
+    up : (x x2 a : ℤ) → (x -ℤ a) <ℤ pos 0 → pos 0 ≤ℤ (x2 -ℤ a) → (pos 0 ≤ℤ (a -ℤ x)) × ((a -ℤ x) ≤ℤ (x2 -ℤ x))
+    up x x2 a = rw (← whole x, ← whole x2, ← whole a) (simp naturals (omega arith))
+
+    down : (x x2 a : ℤ) → negℤ (x -ℤ a) <ℤ pos 0 → pos 0 ≤ℤ negℤ (x2 -ℤ a) → ((x2 -ℤ x) ≤ℤ (a -ℤ x)) × ((a -ℤ x) ≤ℤ pos 0)
+    down x x2 a = rw (← whole x, ← whole x2, ← whole a) (simp naturals (omega arith))
+
+    go : Kept (a2 -ℤ a) ⊎ Turned (a2 -ℤ a)
+        → ((pos 0 ≤ℤ (a -ℤ x)) × ((a -ℤ x) ≤ℤ (x2 -ℤ x))) ⊎ (((x2 -ℤ x) ≤ℤ (a -ℤ x)) × ((a -ℤ x) ≤ℤ pos 0))
+    go (inl e) =
+        inl (up x x2 a (subst (λ (z : ℤ). z <ℤ pos 0) (e .turn (x -ℤ a)) h) (subst (λ (z : ℤ). pos 0 ≤ℤ z) (e .turn (x2 -ℤ a)) k))
+    go (inr e) =
+        inr (down x x2 a (subst (λ (z : ℤ). z <ℤ pos 0) (e .turn (x -ℤ a)) h) (subst (λ (z : ℤ). pos 0 ≤ℤ z) (e .turn (x2 -ℤ a)) k))
+
+-- v begins before u's end, and does not end before it
+end-inside : (x x2 a a2 : ℤ) → turned (a2 -ℤ a) (x -ℤ a) <ℤ pos (natAbs (a2 -ℤ a))
+    → pos (natAbs (a2 -ℤ a)) ≤ℤ turned (a2 -ℤ a) (x2 -ℤ a)
+    → Between (turned (x2 -ℤ x) (a2 -ℤ x)) (natAbs (x2 -ℤ x))
+end-inside x x2 a a2 h k = inside (x2 -ℤ x) (a2 -ℤ x) (go (sign (a2 -ℤ a)))
+  where
+    up : (x x2 a a2 : ℤ) → (x -ℤ a) <ℤ (a2 -ℤ a) → (a2 -ℤ a) ≤ℤ (x2 -ℤ a) → (pos 0 ≤ℤ (a2 -ℤ x)) × ((a2 -ℤ x) ≤ℤ (x2 -ℤ x))
+    up x x2 a a2 = rw (← whole x, ← whole x2, ← whole a, ← whole a2) (simp naturals (omega arith))
+
+    down : (x x2 a a2 : ℤ) → negℤ (x -ℤ a) <ℤ negℤ (a2 -ℤ a) → negℤ (a2 -ℤ a) ≤ℤ negℤ (x2 -ℤ a)
+        → ((x2 -ℤ x) ≤ℤ (a2 -ℤ x)) × ((a2 -ℤ x) ≤ℤ pos 0)
+    down x x2 a a2 = rw (← whole x, ← whole x2, ← whole a, ← whole a2) (simp naturals (omega arith))
+
+    first-at : (z d : ℤ) → turned (a2 -ℤ a) (x -ℤ a) ≡ z → pos (natAbs (a2 -ℤ a)) ≡ d → z <ℤ d
+    first-at z d e f = subst (λ (w : ℤ). z <ℤ w) f (subst (λ (w : ℤ). w <ℤ pos (natAbs (a2 -ℤ a))) e h)
+
+    last-at : (z d : ℤ) → turned (a2 -ℤ a) (x2 -ℤ a) ≡ z → pos (natAbs (a2 -ℤ a)) ≡ d → d ≤ℤ z
+    last-at z d e f = subst (λ (w : ℤ). w ≤ℤ z) f (subst (λ (w : ℤ). pos (natAbs (a2 -ℤ a)) ≤ℤ w) e k)
+
+    go : Kept (a2 -ℤ a) ⊎ Turned (a2 -ℤ a)
+        → ((pos 0 ≤ℤ (a2 -ℤ x)) × ((a2 -ℤ x) ≤ℤ (x2 -ℤ x))) ⊎ (((x2 -ℤ x) ≤ℤ (a2 -ℤ x)) × ((a2 -ℤ x) ≤ℤ pos 0))
+    go (inl e) =
+        inl (up x x2 a a2 (first-at (x -ℤ a) (a2 -ℤ a) (e .turn (x -ℤ a)) (e .size)) (last-at (x2 -ℤ a) (a2 -ℤ a) (e .turn (x2 -ℤ a)) (e .size)))
+    go (inr e) =
+        inr (down x x2 a a2 (first-at (negℤ (x -ℤ a)) (negℤ (a2 -ℤ a)) (e .turn (x -ℤ a)) (e .size))
+        (last-at (negℤ (x2 -ℤ a)) (negℤ (a2 -ℤ a)) (e .turn (x2 -ℤ a)) (e .size)))
