@@ -6,11 +6,11 @@ use mathlib.Core.List.{[], _∷_}
 use Prim.Native.Nat.{ℕ, _<_}
 use native.Mathlib.Omega.{arith}
 use lib.IntN.{ℤ, pos, negℤ, natAbs, _+ℤ_, _-ℤ_, _*ℤ_}
-use lib.Signed.{_≤ℤ_, _<ℤ_, clashℤ}
+use lib.Signed.{_≤ℤ_, _<ℤ_, clashℤ, ≤ℤ-refl, <ℤ-≤ℤ-trans}
 use Rattle.grid.specs.Promise.{Spot, Point, OnSegment, Apart, Shared, Share, ShareMore}
 use Rattle.grid.specs.Plane.Whole.{whole, naturals, gain, loss}
 use Rattle.grid.specs.Plane.Ring.{solve, combine, combine2, equal-of-sub, sub-of-equal, var, num, neg, _⊞_, _⊟_, _⊠_}
-use Rattle.grid.specs.Plane.Order.{turned, sign, Kept, Turned, inside, size-pos, lt-or-le}
+use Rattle.grid.specs.Plane.Order.{pos-le, turned, sign, Kept, Turned, inside, size-pos, lt-or-le}
 use Rattle.grid.specs.Plane.Sides.{way, cross, across, first, second}
 use Rattle.grid.specs.Plane.Cross.{Between}
 use Rattle.grid.specs.Plane.Points.{Collinear, line-of-v}
@@ -145,3 +145,105 @@ end-inside x x2 a a2 h k = inside (x2 -ℤ x) (a2 -ℤ x) (go (sign (a2 -ℤ a))
     go (inr e) =
         inr (down x x2 a a2 (first-at (negℤ (x -ℤ a)) (negℤ (a2 -ℤ a)) (e .turn (x -ℤ a)) (e .size))
         (last-at (negℤ (x2 -ℤ a)) (negℤ (a2 -ℤ a)) (e .turn (x2 -ℤ a)) (e .size)))
+
+-- ---- spans that meet say what is shared
+-- before 0, from 0 to k, or past k
+abbrev Where : ℤ → ℕ → Type 0
+Where m k = (m <ℤ pos 0) ⊎ Between m k ⊎ (pos k <ℤ m)
+
+where-is : (m : ℤ) (k : ℕ) → Where m k
+where-is m k = go (lt-or-le m (pos 0)) (lt-or-le (pos k) m)
+  where
+    go : (m <ℤ pos 0) ⊎ (pos 0 ≤ℤ m) → (pos k <ℤ m) ⊎ (m ≤ℤ pos k) → Where m k
+    go (inl l) h = inl l
+    go (inr l) (inl h) = inr (inr h)
+    go (inr l) (inr h) = inr (inl (l, h))
+
+le-of-lt : (a b : ℤ) → a <ℤ b → a ≤ℤ b
+le-of-lt a b = rw (← whole a, ← whole b) (simp naturals (omega arith))
+
+lt-trans-le : (a b c : ℤ) → a ≤ℤ b → b <ℤ c → a <ℤ c
+lt-trans-le a b c = rw (← whole a, ← whole b, ← whole c) (simp naturals (omega arith))
+
+lt-le : (a b c : ℤ) → a <ℤ b → b ≤ℤ c → a <ℤ c
+lt-le a b c h k = <ℤ-≤ℤ-trans h k
+
+past-zero : (k : ℕ) (m : ℤ) → pos k <ℤ m → pos 0 <ℤ m
+past-zero k m h = lt-trans-le (pos 0) (pos k) m (pos-le 0 k .1 (omega arith)) h
+
+lt-trans : (a b c : ℤ) → a <ℤ b → b <ℤ c → a <ℤ c
+lt-trans a b c = rw (← whole a, ← whole b, ← whole c) (simp naturals (omega arith))
+
+-- two grid points with places in this order differ on the axis
+pub marks-differ : (u1 u2 p q : Spot) → mark u1 u2 p <ℤ mark u1 u2 q → p .x ≡ q .x → ⊥
+marks-differ u1 u2 p q l e =
+    clashℤ l (le-of-eq (ap (λ (z : ℤ). turned (u2 .x -ℤ u1 .x) (z -ℤ u1 .x)) e))
+  where
+    le-of-eq : {a b : ℤ} → a ≡ b → b ≤ℤ a
+    le-of-eq {a} {b} e = subst (λ (z : ℤ). z ≤ℤ a) e (≤ℤ-refl a)
+
+not-zero : (x y : ℤ) → (x ≡ y → ⊥) → (y -ℤ x) ≡ pos 0 → ⊥
+not-zero x y n h = n (sym (equal-of-sub y x h))
+
+module _ (v1 v2 u1 u2 : Spot) (c : Collinear v1 v2 u1 u2) (slant : (u2 .x -ℤ u1 .x) ≡ pos 0 → ⊥) where
+  -- an end of v on u
+  first-end : Between (mark u1 u2 v1) (size u1 u2) → Shared v1 v2 u1 u2 (spot v1)
+  first-end h = (start-on v1 v2, level-on u1 u2 v1 slant (record { on-line = c .from-u; on-axis = h }))
+
+  last-end : Between (mark u1 u2 v2) (size u1 u2) → Shared v1 v2 u1 u2 (spot v2)
+  last-end h =
+      (end-on v1 v2, level-on u1 u2 v2 slant (record { on-line = second-on-u v1 v2 u1 u2 c; on-axis = h }))
+
+  -- an end of u on v
+  u-start : mark u1 u2 v1 <ℤ pos 0 → pos 0 ≤ℤ mark u1 u2 v2 → Shared v1 v2 u1 u2 (spot u1)
+  u-start l h = (
+    level-on v1 v2 u1 (not-zero (v1 .x) (v2 .x) (marks-differ u1 u2 v1 v2 (lt-le (mark u1 u2 v1) (pos 0) (mark u1 u2 v2) l h)))
+        (record { on-line = line-of-v v1 v2 u1 u2 (c .from-v); on-axis = start-inside (v1 .x) (v2 .x) (u1 .x) (u2 .x) l h }),
+    start-on u1 u2,
+  )
+
+  u-end : mark u1 u2 v1 <ℤ pos (size u1 u2) → pos (size u1 u2) ≤ℤ mark u1 u2 v2 → Shared v1 v2 u1 u2 (spot u2)
+  u-end l h = (
+    level-on v1 v2 u2
+        (not-zero (v1 .x) (v2 .x) (marks-differ u1 u2 v1 v2 (lt-le (mark u1 u2 v1) (pos (size u1 u2)) (mark u1 u2 v2) l h)))
+        (record { on-line = second-on-v v1 v2 u1 u2 c; on-axis = end-inside (v1 .x) (v2 .x) (u1 .x) (u2 .x) l h }),
+    end-on u1 u2,
+  )
+
+-- the same with v's ends in the other order
+reversed : (v1 v2 u1 u2 : Spot) → Collinear v1 v2 u1 u2 → Collinear v2 v1 u1 u2
+reversed v1 v2 u1 u2 c =
+    let X = var 0 in let Y = var 1 in let X2 = var 2 in let Y2 = var 3 in
+    let A = var 4 in let B = var 5 in let A2 = var 6 in let B2 = var 7 in
+    let all = v1 .x ∷ v1 .y ∷ v2 .x ∷ v2 .y ∷ u1 .x ∷ u1 .y ∷ u2 .x ∷ u2 .y ∷ [] in
+    record {
+      parallel = combine all ((X ⊟ X2) ⊠ (B2 ⊟ B) ⊟ (Y ⊟ Y2) ⊠ (A2 ⊟ A)) (num 0)
+          (neg (num 1)) ((X2 ⊟ X) ⊠ (B2 ⊟ B) ⊟ (Y2 ⊟ Y) ⊠ (A2 ⊟ A)) (num 0) (c .parallel) tt;
+      from-u = second-on-u v1 v2 u1 u2 c;
+      from-v = combine all ((X ⊟ X2) ⊠ (Y2 ⊟ B) ⊟ (Y ⊟ Y2) ⊠ (X2 ⊟ A)) (num 0)
+          (neg (num 1)) ((X2 ⊟ X) ⊠ (Y ⊟ B) ⊟ (Y2 ⊟ Y) ⊠ (X ⊟ A)) (num 0) (c .from-v) tt;
+    }
+
+pub meet-shared : (v1 v2 u1 u2 : Spot) → Collinear v1 v2 u1 u2 → ((u2 .x -ℤ u1 .x) ≡ pos 0 → ⊥)
+    → Meet (mark u1 u2 v1) (mark u1 u2 v2) (size u1 u2)
+    → Share v1 v2 u1 u2
+meet-shared v1 v2 u1 u2 c slant (lo, hi) =
+    go (where-is (mark u1 u2 v1) (size u1 u2)) (where-is (mark u1 u2 v2) (size u1 u2)) lo hi
+  where
+    go : Where (mark u1 u2 v1) (size u1 u2)
+        → Where (mark u1 u2 v2) (size u1 u2)
+        → (mark u1 u2 v1 ≤ℤ pos (size u1 u2)) ⊎ (mark u1 u2 v2 ≤ℤ pos (size u1 u2))
+        → (pos 0 ≤ℤ mark u1 u2 v1) ⊎ (pos 0 ≤ℤ mark u1 u2 v2)
+        → Share v1 v2 u1 u2
+    go (inr (inl h)) w lo hi = (spot v1, first-end v1 v2 u1 u2 c slant h)
+    go (inl l) (inr (inl h)) lo hi = (spot v2, last-end v1 v2 u1 u2 c slant h)
+    go (inr (inr g)) (inr (inl h)) lo hi = (spot v2, last-end v1 v2 u1 u2 c slant h)
+    go (inl l) (inl m) lo (inl h) = clashℤ l h
+    go (inl l) (inl m) lo (inr h) = clashℤ m h
+    go (inr (inr g)) (inr (inr h)) (inl k) hi = clashℤ g k
+    go (inr (inr g)) (inr (inr h)) (inr k) hi = clashℤ h k
+    go (inl l) (inr (inr h)) lo hi =
+        (spot u1, u-start v1 v2 u1 u2 c slant l (le-of-lt (pos 0) (mark u1 u2 v2) (past-zero (size u1 u2) (mark u1 u2 v2) h)))
+    go (inr (inr g)) (inl m) lo hi =
+        share-reversed v1 v2 u1 u2
+        (spot u1, u-start v2 v1 u1 u2 (reversed v1 v2 u1 u2 c) slant m (le-of-lt (pos 0) (mark u1 u2 v1) (past-zero (size u1 u2) (mark u1 u2 v1) g)))
