@@ -118,3 +118,37 @@ pub natural-below : (a : ℤ) → a ≤ℤ pos 0 → (n : ℕ) × (a ≡ negℤ 
 natural-below (pos zero) h = (0, refl)
 natural-below (pos (suc n)) h = let k : suc n ≤ 0 = pos-le (suc n) 0 .0 h in absurd (omega arith)
 natural-below (negsuc n) h = (suc n, refl)
+
+-- a factor that is not 0 goes
+pub cancel-any : (a b d : ℤ) → (d ≡ pos 0 → ⊥) → a *ℤ d ≡ b *ℤ d → a ≡ b
+cancel-any a b d n h = go (sign d)
+  where
+    back : (a d : ℤ) → a *ℤ negℤ d ≡ negℤ (a *ℤ d)
+    back a d = rw (← whole a, ← whole d) (simp naturals (omega arith))
+
+    go : Kept d ⊎ Turned d → a ≡ b
+    go (inl k) = cancel a b (natAbs d) (size-pos d n) (ap (λ (z : ℤ). a *ℤ z) (k .size) ∙ h ∙ ap (λ (z : ℤ). b *ℤ z) (sym (k .size)))
+    go (inr k) =
+        cancel a b (natAbs d) (size-pos d n)
+        (ap (λ (z : ℤ). a *ℤ z) (k .size) ∙ back a d ∙ ap negℤ h ∙ sym (back b d) ∙ ap (λ (z : ℤ). b *ℤ z) (sym (k .size)))
+
+-- what is turned alike is the same
+pub turned-same : (d x y a : ℤ) → turned d (x -ℤ a) ≡ turned d (y -ℤ a) → x ≡ y
+turned-same d x y a h = go (sign d)
+  where
+    plain : (x y a : ℤ) → x -ℤ a ≡ y -ℤ a → x ≡ y
+    plain x y a = rw (← whole x, ← whole y, ← whole a) (simp naturals (omega arith))
+
+    minus : (x y a : ℤ) → negℤ (x -ℤ a) ≡ negℤ (y -ℤ a) → x ≡ y
+    minus x y a = rw (← whole x, ← whole y, ← whole a) (simp naturals (omega arith))
+
+    go : Kept d ⊎ Turned d → x ≡ y
+    go (inl k) = plain x y a (sym (k .turn (x -ℤ a)) ∙ h ∙ k .turn (y -ℤ a))
+    go (inr k) = minus x y a (sym (k .turn (x -ℤ a)) ∙ h ∙ k .turn (y -ℤ a))
+
+pub lt-of-le-ne : (a b : ℤ) → a ≤ℤ b → (a ≡ b → ⊥) → a <ℤ b
+lt-of-le-ne a b l n = go (lt-or-le a b)
+  where
+    go : (a <ℤ b) ⊎ (b ≤ℤ a) → a <ℤ b
+    go (inl h) = h
+    go (inr h) = absurd (n (le-antisym a b l h))

@@ -10,12 +10,13 @@ use lib.Signed.{_≤ℤ_, _<ℤ_, clashℤ, ≤ℤ-refl, <ℤ-≤ℤ-trans}
 use Rattle.grid.specs.Promise.{Spot, Point, OnSegment, Apart, Shared, Share, ShareMore}
 use Rattle.grid.specs.Plane.Whole.{whole, naturals, gain, loss}
 use Rattle.grid.specs.Plane.Ring.{solve, combine, combine2, equal-of-sub, sub-of-equal, var, num, neg, _⊞_, _⊟_, _⊠_}
-use Rattle.grid.specs.Plane.Order.{pos-le, turned, sign, Kept, Turned, inside, size-pos, lt-or-le}
+use Rattle.grid.specs.Plane.Order.{cancel, cancel-any, lt-of-le-ne, turned-same, pos-le, turned, sign, Kept, Turned, inside, size-pos, lt-or-le}
 use Rattle.grid.specs.Plane.Sides.{way, cross, across, first, second}
 use Rattle.grid.specs.Plane.Cross.{Between}
-use Rattle.grid.specs.Plane.Points.{Collinear, line-of-v}
+use Rattle.grid.specs.Plane.Points.{Collinear, line-of-v, cross-flipped}
 use Rattle.grid.specs.Plane.Spots.{
   spot,
+  one-pos,
   start-on,
   end-on,
   Same,
@@ -247,3 +248,148 @@ meet-shared v1 v2 u1 u2 c slant (lo, hi) =
     go (inr (inr g)) (inl m) lo hi =
         share-reversed v1 v2 u1 u2
         (spot u1, u-start v2 v1 u1 u2 (reversed v1 v2 u1 u2 c) slant m (le-of-lt (pos 0) (mark u1 u2 v1) (past-zero (size u1 u2) (mark u1 u2 v1) g)))
+
+-- ---- and in more than one
+pos-lt : (k : ℕ) → 0 < k → pos 0 <ℤ pos k
+pos-lt k h = simp naturals (omega arith)
+
+mark-start : (u1 u2 : Spot) → mark u1 u2 u1 ≡ pos 0
+mark-start u1 u2 = go (sign (u2 .x -ℤ u1 .x))
+  where
+    none : (a : ℤ) → a -ℤ a ≡ pos 0
+    none a = solve (a ∷ []) (var 0 ⊟ var 0) (num 0) tt
+
+    minus-none : (a : ℤ) → negℤ (a -ℤ a) ≡ pos 0
+    minus-none a = solve (a ∷ []) (neg (var 0 ⊟ var 0)) (num 0) tt
+
+    go : Kept (u2 .x -ℤ u1 .x) ⊎ Turned (u2 .x -ℤ u1 .x) → mark u1 u2 u1 ≡ pos 0
+    go (inl e) = e .turn (u1 .x -ℤ u1 .x) ∙ none (u1 .x)
+    go (inr e) = e .turn (u1 .x -ℤ u1 .x) ∙ minus-none (u1 .x)
+
+mark-end : (u1 u2 : Spot) → mark u1 u2 u2 ≡ pos (size u1 u2)
+mark-end u1 u2 = go (sign (u2 .x -ℤ u1 .x))
+  where
+    go : Kept (u2 .x -ℤ u1 .x) ⊎ Turned (u2 .x -ℤ u1 .x) → mark u1 u2 u2 ≡ pos (size u1 u2)
+    go (inl e) = e .turn (u2 .x -ℤ u1 .x) ∙ sym (e .size)
+    go (inr e) = e .turn (u2 .x -ℤ u1 .x) ∙ sym (e .size)
+
+-- two shared grid points in this order on the axis are two
+two-shared : (v1 v2 u1 u2 p q : Spot) → Shared v1 v2 u1 u2 (spot p) → Shared v1 v2 u1 u2 (spot q)
+    → mark u1 u2 p <ℤ mark u1 u2 q
+    → ShareMore v1 v2 u1 u2
+two-shared v1 v2 u1 u2 p q h k l =
+    (spot p, spot q, inl (λ e. marks-differ u1 u2 p q l (cancel (p .x) (q .x) 1 one-pos e)), h, k)
+
+module _ (v1 v2 u1 u2 : Spot) (c : Collinear v1 v2 u1 u2) (slant : (u2 .x -ℤ u1 .x) ≡ pos 0 → ⊥)
+    (rising : mark u1 u2 v1 <ℤ mark u1 u2 v2)
+    (early : mark u1 u2 v1 <ℤ pos (size u1 u2))
+    (late : pos 0 <ℤ mark u1 u2 v2) where
+  -- the first that is shared: v's start, or u's where v begins before it; it comes before v's end and before u's
+  lower : (p : Spot) × Shared v1 v2 u1 u2 (spot p) × (mark u1 u2 p <ℤ mark u1 u2 v2) × (mark u1 u2 p <ℤ pos (size u1 u2))
+  lower = go (lt-or-le (mark u1 u2 v1) (pos 0))
+    where
+      go : (mark u1 u2 v1 <ℤ pos 0) ⊎ (pos 0 ≤ℤ mark u1 u2 v1)
+          → (p : Spot) × Shared v1 v2 u1 u2 (spot p) × (mark u1 u2 p <ℤ mark u1 u2 v2) × (mark u1 u2 p <ℤ pos (size u1 u2))
+      go (inr h) = (v1, first-end v1 v2 u1 u2 c slant (h, le-of-lt (mark u1 u2 v1) (pos (size u1 u2)) early), rising, early)
+      go (inl h) = (
+        u1,
+        u-start v1 v2 u1 u2 c slant h (le-of-lt (pos 0) (mark u1 u2 v2) late),
+        subst (λ (z : ℤ). z <ℤ mark u1 u2 v2) (sym (mark-start u1 u2)) late,
+        subst (λ (z : ℤ). z <ℤ pos (size u1 u2)) (sym (mark-start u1 u2)) (pos-lt (size u1 u2) (size-pos (u2 .x -ℤ u1 .x) slant)),
+      )
+
+  ordered : ShareMore v1 v2 u1 u2
+  ordered = go (lt-or-le (pos (size u1 u2)) (mark u1 u2 v2))
+    where
+      go : (pos (size u1 u2) <ℤ mark u1 u2 v2) ⊎ (mark u1 u2 v2 ≤ℤ pos (size u1 u2)) → ShareMore v1 v2 u1 u2
+      go (inr h) =
+          two-shared v1 v2 u1 u2 (lower .0) v2 (lower .1)
+          (last-end v1 v2 u1 u2 c slant (le-of-lt (pos 0) (mark u1 u2 v2) late, h)) (lower .2)
+      go (inl h) =
+          two-shared v1 v2 u1 u2 (lower .0) u2 (lower .1)
+          (u-end v1 v2 u1 u2 c slant early (le-of-lt (pos (size u1 u2)) (mark u1 u2 v2) h))
+          (subst (λ (z : ℤ). mark u1 u2 (lower .0) <ℤ z) (sym (mark-end u1 u2)) (lower .3))
+
+-- v has length, so its ends differ on u's axis
+apart-on-axis : (v1 v2 u1 u2 : Spot) → across v1 v2 u1 u2 ≡ pos 0 → ((u2 .x -ℤ u1 .x) ≡ pos 0 → ⊥) → v1 .x ≡ v2 .x → Same v1 v2
+apart-on-axis v1 v2 u1 u2 flat slant e =
+    let X = var 0 in let Y = var 1 in let X2 = var 2 in let Y2 = var 3 in
+    let A = var 4 in let B = var 5 in let A2 = var 6 in let B2 = var 7 in
+    let none : (v1 .y -ℤ v2 .y) *ℤ (u2 .x -ℤ u1 .x) ≡ pos 0 *ℤ (u2 .x -ℤ u1 .x)
+    = combine2 (v1 .x ∷ v1 .y ∷ v2 .x ∷ v2 .y ∷ u1 .x ∷ u1 .y ∷ u2 .x ∷ u2 .y ∷ [])
+    ((Y ⊟ Y2) ⊠ (A2 ⊟ A)) (num 0 ⊠ (A2 ⊟ A))
+    (num 1) ((X2 ⊟ X) ⊠ (B2 ⊟ B) ⊟ (Y2 ⊟ Y) ⊠ (A2 ⊟ A)) (num 0) (B2 ⊟ B) X X2 flat e tt in
+    (e, equal-of-sub (v1 .y) (v2 .y) (cancel-any (v1 .y -ℤ v2 .y) (pos 0) (u2 .x -ℤ u1 .x) slant none))
+
+-- one of two that is below k, or above 0
+least-below : (a b k : ℤ) → a <ℤ b → (a <ℤ k) ⊎ (b <ℤ k) → a <ℤ k
+least-below a b k l (inl m) = m
+least-below a b k l (inr m) = lt-trans a b k l m
+
+most-above : (a b k : ℤ) → a <ℤ b → (k <ℤ a) ⊎ (k <ℤ b) → k <ℤ b
+most-above a b k l (inl m) = lt-trans k a b m l
+most-above a b k l (inr m) = m
+
+other : {A B : Type 0} → A ⊎ B → B ⊎ A
+other (inl h) = inr h
+other (inr h) = inl h
+
+pub meet-shared-more : (v1 v2 u1 u2 : Spot) → Collinear v1 v2 u1 u2 → ((u2 .x -ℤ u1 .x) ≡ pos 0 → ⊥) → ¬ Same v1 v2
+    → MeetMore (mark u1 u2 v1) (mark u1 u2 v2) (size u1 u2)
+    → ShareMore v1 v2 u1 u2
+meet-shared-more v1 v2 u1 u2 c slant long (lo, hi) =
+    go (lt-or-le a b) lo hi
+  where
+    a : ℤ
+    a = mark u1 u2 v1
+
+    b : ℤ
+    b = mark u1 u2 v2
+
+    k : ℤ
+    k = pos (size u1 u2)
+
+    same : a ≡ b → ⊥
+    same e = long (apart-on-axis v1 v2 u1 u2 (c .parallel) slant (turned-same (u2 .x -ℤ u1 .x) (v1 .x) (v2 .x) (u1 .x) e))
+
+    go : (a <ℤ b) ⊎ (b ≤ℤ a) → (a <ℤ k) ⊎ (b <ℤ k) → (pos 0 <ℤ a) ⊎ (pos 0 <ℤ b) → ShareMore v1 v2 u1 u2
+    go (inl l) m n = ordered v1 v2 u1 u2 c slant l (least-below a b k l m) (most-above a b (pos 0) l n)
+    go (inr l) m n =
+        let l' = lt-of-le-ne b a l (λ e. same (sym e)) in
+        share-more-reversed v1 v2 u1 u2
+        (ordered v2 v1 u1 u2 (reversed v1 v2 u1 u2 c) slant l' (least-below b a k l' (other m)) (most-above b a (pos 0) l' (other n)))
+
+-- ---- both directions, by the axis that the kernel takes
+module _ (v1 v2 u1 u2 : Spot) (c : Collinear v1 v2 u1 u2) (slant : (u2 .x -ℤ u1 .x) ≡ pos 0 → ⊥) where
+  pub overlap-by-x : Share v1 v2 u1 u2 ↔ Meet (mark u1 u2 v1) (mark u1 u2 v2) (size u1 u2)
+  overlap-by-x = (shared-meet v1 v2 u1 u2, meet-shared v1 v2 u1 u2 c slant)
+
+  pub overlap-more-by-x : ¬ Same v1 v2 → ShareMore v1 v2 u1 u2 ↔ MeetMore (mark u1 u2 v1) (mark u1 u2 v2) (size u1 u2)
+  overlap-more-by-x long =
+      (shared-more-meet v1 v2 u1 u2 (size-pos (u2 .x -ℤ u1 .x) slant), meet-shared-more v1 v2 u1 u2 c slant long)
+
+pub collinear-flipped : (v1 v2 u1 u2 : Spot) → Collinear v1 v2 u1 u2 → Collinear (flip v1) (flip v2) (flip u1) (flip u2)
+collinear-flipped v1 v2 u1 u2 c =
+    record {
+      parallel = cross-flipped (way v1 v2) (way u1 u2) (c .parallel);
+      from-u = cross-flipped (way u1 u2) (way u1 v1) (c .from-u);
+      from-v = cross-flipped (way v1 v2) (way u1 v1) (c .from-v);
+    }
+
+module _ (v1 v2 u1 u2 : Spot) (c : Collinear v1 v2 u1 u2) (slant : (u2 .y -ℤ u1 .y) ≡ pos 0 → ⊥) where
+  pub overlap-by-y : Share v1 v2 u1 u2
+      ↔ Meet (mark (flip u1) (flip u2) (flip v1)) (mark (flip u1) (flip u2) (flip v2)) (size (flip u1) (flip u2))
+  overlap-by-y =
+      let by-x = overlap-by-x (flip v1) (flip v2) (flip u1) (flip u2) (collinear-flipped v1 v2 u1 u2 c) slant in (
+        λ h. by-x .0 (share-flipped v1 v2 u1 u2 h),
+        λ h. share-flipped (flip v1) (flip v2) (flip u1) (flip u2) (by-x .1 h),
+      )
+
+  pub overlap-more-by-y : ¬ Same v1 v2 → ShareMore v1 v2 u1 u2
+      ↔ MeetMore (mark (flip u1) (flip u2) (flip v1)) (mark (flip u1) (flip u2) (flip v2)) (size (flip u1) (flip u2))
+  overlap-more-by-y long =
+      let by-x = overlap-more-by-x (flip v1) (flip v2) (flip u1) (flip u2) (collinear-flipped v1 v2 u1 u2 c) slant
+      (λ h. long (h .1, h .0)) in (
+        λ h. by-x .0 (share-more-flipped v1 v2 u1 u2 h),
+        λ h. share-more-flipped (flip v1) (flip v2) (flip u1) (flip u2) (by-x .1 h),
+      )

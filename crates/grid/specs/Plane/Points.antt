@@ -126,8 +126,7 @@ line-of-v v1 v2 u1 u2 h =
     combine (v1 .x ∷ v1 .y ∷ v2 .x ∷ v2 .y ∷ u1 .x ∷ u1 .y ∷ [])
     ((C ⊟ A) ⊠ (F ⊟ B) ⊟ (D ⊟ B) ⊠ (E ⊟ A)) (num 0) (neg (num 1)) ((C ⊟ A) ⊠ (B ⊟ F) ⊟ (D ⊟ B) ⊠ (A ⊟ E)) (num 0) h tt
 
-pub flipped-line : (a b p : Spot) → cross (way a b) (way a p) ≡ pos 0 → cross (way (flip a) (flip b)) (way (flip a) (flip p)) ≡ pos 0
-flipped-line a b p h =
+pub cross-flipped : (p q : Spot) → cross p q ≡ pos 0 → cross (flip p) (flip q) ≡ pos 0
+cross-flipped p q h =
     let A = var 0 in let B = var 1 in let C = var 2 in let D = var 3 in
-    combine ((b .x -ℤ a .x) ∷ (b .y -ℤ a .y) ∷ (p .x -ℤ a .x) ∷ (p .y -ℤ a .y) ∷ [])
-    (B ⊠ C ⊟ A ⊠ D) (num 0) (neg (num 1)) (A ⊠ D ⊟ B ⊠ C) (num 0) h tt
+    combine (p .x ∷ p .y ∷ q .x ∷ q .y ∷ []) (B ⊠ C ⊟ A ⊠ D) (num 0) (neg (num 1)) (A ⊠ D ⊟ B ⊠ C) (num 0) h tt
