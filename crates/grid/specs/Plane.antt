@@ -8,3 +8,4 @@ pub mod Spots
 pub mod Points
 pub mod Spans
 pub mod Overlap
+pub mod Parts
