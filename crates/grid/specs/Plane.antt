@@ -9,3 +9,4 @@ pub mod Points
 pub mod Spans
 pub mod Overlap
 pub mod Parts
+pub mod Keeps

@@ -1,0 +1,130 @@
+-- What an answer must show so that the promise is kept: with lines that cross, by the meeting; with parallel ones, by what is shared.
+-- What is left after this is about the floats that the answer was worked out with.
+use mathlib.Core.Path.{_≡_, sym}
+use mathlib.Core.Logic.{_⊎_, inl, inr, _↔_}
+use Prim.Native.Nat.{ℕ}
+use native.Mathlib.Omega.{arith}
+use lib.IntN.{ℤ, pos, _-ℤ_}
+use Rattle.plane.specs.declared.vector2.Vector2.{Vector2}
+use Rattle.crossing.specs.declared.pline_seg_intersect.PlineSegIntr.{PlineSegIntr}
+use Rattle.crossing.specs.declared.pline_seg_intersect.PlineSegIntr.the-variants.{NoIntersect, OneIntersect, OverlappingLines}
+use Rattle.grid.specs.Promise.{Spot, Point, Parallel, Share, ShareMore, Reached, Within, Kept}
+use Rattle.grid.specs.Plane.Cross.{
+  Between,
+  base,
+  steps-v,
+  steps-u,
+  meeting,
+  meeting-crosses,
+  shared-between,
+  share-once,
+}
+use Rattle.grid.specs.Plane.Points.{Collinear, share-collinear}
+use Rattle.grid.specs.Plane.Spots.{Same, flip}
+use Rattle.grid.specs.Plane.Spans.{Meet, MeetMore, size, mark}
+use Rattle.grid.specs.Plane.Overlap.{overlap-by-x, overlap-more-by-x, overlap-by-y, overlap-more-by-y}
+
+-- ---- answers are told apart
+none-or-one : (r : PlineSegIntr) (p q o : Vector2) → (r ≡ NoIntersect) ⊎ (r ≡ OneIntersect o) → r ≡ OverlappingLines p q → ⊥
+none-or-one r p q o (inl e) f = let z : _≡_ {A = ℕ} 0 1 = cc in omega arith
+none-or-one r p q o (inr e) f = let z : _≡_ {A = ℕ} 0 1 = cc in omega arith
+
+-- ---- lines that cross
+pub record Slanted (v1 v2 u1 u2 : Spot) (slant : ¬ Parallel v1 v2 u1 u2) (num den : ℕ) (r : PlineSegIntr) : Type 0 where
+  -- none, or one
+  pub answer : (r ≡ NoIntersect) ⊎ ((p : Vector2) × (r ≡ OneIntersect p))
+  -- one, where both places are from 0 to 1
+  pub seen : Between (steps-v v1 v2 u1 u2) (base v1 v2 u1 u2) → Between (steps-u v1 v2 u1 u2) (base v1 v2 u1 u2) → r ≡ NoIntersect → ⊥
+  -- if one: the meeting is on each segment or near to it, and the point is near to the meeting
+  pub near-v : (p : Vector2) → r ≡ OneIntersect p → Reached (meeting v1 v2 u1 u2 slant) v1 v2 num den
+  pub near-u : (p : Vector2) → r ≡ OneIntersect p → Reached (meeting v1 v2 u1 u2 slant) u1 u2 num den
+  pub near-x : (p : Vector2) → r ≡ OneIntersect p → Within (p .x) (meeting v1 v2 u1 u2 slant .x) (base v1 v2 u1 u2)
+  pub near-y : (p : Vector2) → r ≡ OneIntersect p → Within (p .y) (meeting v1 v2 u1 u2 slant .y) (base v1 v2 u1 u2)
+
+pub slanted-kept : (v1 v2 u1 u2 : Spot) (slant : ¬ Parallel v1 v2 u1 u2) (num den : ℕ) (r : PlineSegIntr)
+    → Slanted v1 v2 u1 u2 slant num den r
+    → Kept v1 v2 u1 u2 num den r
+slanted-kept v1 v2 u1 u2 slant num den r h =
+    record {
+      none-missed = λ e s. let both = shared-between v1 v2 u1 u2 slant s in h .seen (both .0) (both .1) e;
+      overlap = (λ o. absurd (other (h .answer) (o .0) (o .1) (o .2)), λ s. absurd (share-once v1 v2 u1 u2 slant s));
+      beyond = λ p e s. (slant, meeting v1 v2 u1 u2 slant, meeting-crosses v1 v2 u1 u2 slant, h .near-v p e, h .near-u p e);
+      exact = λ p e s. (meeting v1 v2 u1 u2 slant, meeting-crosses v1 v2 u1 u2 slant, h .near-x p e, h .near-y p e);
+    }
+  where
+    other : (r ≡ NoIntersect) ⊎ ((p : Vector2) × (r ≡ OneIntersect p)) → (p q : Vector2) → r ≡ OverlappingLines p q → ⊥
+    other (inl e) p q f = none-or-one r p q p (inl e) f
+    other (inr o) p q f = none-or-one r p q (o .0) (inr (o .1)) f
+
+-- ---- parallel lines: none where nothing is shared, one where one point is, lines where more are
+abbrev pub Told : Spot → Spot → Spot → Spot → PlineSegIntr → Type 0
+Told v1 v2 u1 u2 r =
+    ((r ≡ NoIntersect) × (¬ Share v1 v2 u1 u2))
+    ⊎ ((p : Vector2) × (r ≡ OneIntersect p) × Share v1 v2 u1 u2 × (¬ ShareMore v1 v2 u1 u2))
+    ⊎ ((p : Vector2) × (q : Vector2) × (r ≡ OverlappingLines p q) × ShareMore v1 v2 u1 u2)
+
+share-of-more : (v1 v2 u1 u2 : Spot) → ShareMore v1 v2 u1 u2 → Share v1 v2 u1 u2
+share-of-more v1 v2 u1 u2 s = (s .0, s .3)
+
+pub parallel-kept : (v1 v2 u1 u2 : Spot) (num den : ℕ) (r : PlineSegIntr) → Parallel v1 v2 u1 u2 → Told v1 v2 u1 u2 r
+    → Kept v1 v2 u1 u2 num den r
+parallel-kept v1 v2 u1 u2 num den r par (inl (e, n)) =
+    record {
+      none-missed = λ f. n;
+      overlap = (
+        λ o. absurd (none-or-one r (o .0) (o .1) (o .0) (inl e) (o .2)),
+        λ s. absurd (n (share-of-more v1 v2 u1 u2 s)),
+      );
+      beyond = λ p f s. let z : _≡_ {A = ℕ} 0 1 = cc in absurd (omega arith);
+      exact = λ p f s. absurd (s par);
+    }
+parallel-kept v1 v2 u1 u2 num den r par (inr (inl (p, e, s, n))) =
+    record {
+      none-missed = λ f. let z : _≡_ {A = ℕ} 0 1 = cc in absurd (omega arith);
+      overlap = (λ o. absurd (none-or-one r (o .0) (o .1) p (inr e) (o .2)), λ m. absurd (n m));
+      beyond = λ q f not. absurd (not s);
+      exact = λ q f slant. absurd (slant par);
+    }
+parallel-kept v1 v2 u1 u2 num den r par (inr (inr (p, q, e, s))) =
+    record {
+      none-missed = λ f. let z : _≡_ {A = ℕ} 0 1 = cc in absurd (omega arith);
+      overlap = (λ o. s, λ m. (p, q, e));
+      beyond = λ o f not. absurd (not (share-of-more v1 v2 u1 u2 s));
+      exact = λ o f slant. absurd (slant par);
+    }
+
+-- ---- parallel lines that are not one
+pub apart-told : (v1 v2 u1 u2 : Spot) (r : PlineSegIntr) → Parallel v1 v2 u1 u2 → ¬ Collinear v1 v2 u1 u2 → r ≡ NoIntersect
+    → Told v1 v2 u1 u2 r
+apart-told v1 v2 u1 u2 r par n e = inl (e, λ s. n (share-collinear v1 v2 u1 u2 par s))
+
+-- ---- on one line, both with length: by the spans along x, or along y
+abbrev pub ToldBySpans : ℤ → ℤ → ℕ → PlineSegIntr → Type 0
+ToldBySpans a b k r =
+    ((r ≡ NoIntersect) × (¬ Meet a b k))
+    ⊎ ((p : Vector2) × (r ≡ OneIntersect p) × Meet a b k × (¬ MeetMore a b k))
+    ⊎ ((p : Vector2) × (q : Vector2) × (r ≡ OverlappingLines p q) × MeetMore a b k)
+
+module _ (v1 v2 u1 u2 : Spot) (a b : ℤ) (k : ℕ) (r : PlineSegIntr)
+    (meets : Share v1 v2 u1 u2 ↔ Meet a b k)
+    (more : ShareMore v1 v2 u1 u2 ↔ MeetMore a b k) where
+  told-of : ToldBySpans a b k r → Told v1 v2 u1 u2 r
+  told-of (inl (e, n)) = inl (e, λ s. n (meets .0 s))
+  told-of (inr (inl (p, e, m, n))) = inr (inl (p, e, meets .1 m, λ s. n (more .0 s)))
+  told-of (inr (inr (p, q, e, m))) = inr (inr (p, q, e, more .1 m))
+
+pub spans-told-by-x : (v1 v2 u1 u2 : Spot) (r : PlineSegIntr) → Collinear v1 v2 u1 u2 → ¬ Same v1 v2
+    → ((u2 .x -ℤ u1 .x) ≡ pos 0 → ⊥)
+    → ToldBySpans (mark u1 u2 v1) (mark u1 u2 v2) (size u1 u2) r
+    → Told v1 v2 u1 u2 r
+spans-told-by-x v1 v2 u1 u2 r c long slant =
+    told-of v1 v2 u1 u2 (mark u1 u2 v1) (mark u1 u2 v2) (size u1 u2) r
+    (overlap-by-x v1 v2 u1 u2 c slant) (overlap-more-by-x v1 v2 u1 u2 c slant long)
+
+pub spans-told-by-y : (v1 v2 u1 u2 : Spot) (r : PlineSegIntr) → Collinear v1 v2 u1 u2 → ¬ Same v1 v2
+    → ((u2 .y -ℤ u1 .y) ≡ pos 0 → ⊥)
+    → ToldBySpans (mark (flip u1) (flip u2) (flip v1)) (mark (flip u1) (flip u2) (flip v2)) (size (flip u1) (flip u2)) r
+    → Told v1 v2 u1 u2 r
+spans-told-by-y v1 v2 u1 u2 r c long slant =
+    told-of v1 v2 u1 u2 (mark (flip u1) (flip u2) (flip v1)) (mark (flip u1) (flip u2) (flip v2)) (size (flip u1) (flip u2)) r
+    (overlap-by-y v1 v2 u1 u2 c slant) (overlap-more-by-y v1 v2 u1 u2 c slant long)
