@@ -19,8 +19,21 @@ use Rattle.grid.specs.Plane.Cross.{
   shared-between,
   share-once,
 }
-use Rattle.grid.specs.Plane.Points.{Collinear, share-collinear}
-use Rattle.grid.specs.Plane.Spots.{Same, flip}
+use Rattle.grid.specs.Plane.Sides.{way, cross}
+use Rattle.grid.specs.Plane.Points.{
+  Collinear,
+  share-collinear,
+  both-points,
+  first-point-by-x,
+  first-point-by-y,
+  first-point-once,
+  second-point-by-x,
+  second-point-by-y,
+  second-point-once,
+  line-of-v,
+  cross-flipped,
+}
+use Rattle.grid.specs.Plane.Spots.{Same, Level, flip}
 use Rattle.grid.specs.Plane.Spans.{Meet, MeetMore, size, mark}
 use Rattle.grid.specs.Plane.Overlap.{overlap-by-x, overlap-more-by-x, overlap-by-y, overlap-more-by-y}
 
@@ -128,3 +141,57 @@ pub spans-told-by-y : (v1 v2 u1 u2 : Spot) (r : PlineSegIntr) → Collinear v1 v
 spans-told-by-y v1 v2 u1 u2 r c long slant =
     told-of v1 v2 u1 u2 (mark (flip u1) (flip u2) (flip v1)) (mark (flip u1) (flip u2) (flip v2)) (size (flip u1) (flip u2)) r
     (overlap-by-y v1 v2 u1 u2 c slant) (overlap-more-by-y v1 v2 u1 u2 c slant long)
+
+-- ---- on one line, one without length or both: one exactly if the point lies on the other
+abbrev pub ToldIf : Type 0 → PlineSegIntr → Type 0
+ToldIf A r = ((r ≡ NoIntersect) × (¬ A)) ⊎ ((p : Vector2) × (r ≡ OneIntersect p) × A)
+
+told-if : (v1 v2 u1 u2 : Spot) (A : Type 0) (r : PlineSegIntr) → Share v1 v2 u1 u2 ↔ A → ¬ ShareMore v1 v2 u1 u2 → ToldIf A r
+    → Told v1 v2 u1 u2 r
+told-if v1 v2 u1 u2 A r meets once (inl (e, n)) = inl (e, λ s. n (meets .0 s))
+told-if v1 v2 u1 u2 A r meets once (inr (p, e, h)) = inr (inl (p, e, meets .1 h, once))
+
+pub both-told : (v1 v2 u1 u2 : Spot) (r : PlineSegIntr) → Same v1 v2 → Same u1 u2 → ToldIf (Same v1 u1) r → Told v1 v2 u1 u2 r
+both-told v1 v2 u1 u2 r sv su =
+    told-if v1 v2 u1 u2 (Same v1 u1) r (both-points v1 v2 u1 u2 sv su) (first-point-once v1 v2 u1 u2 sv)
+
+-- a grid point on a line, by its place along x alone
+level-between : (a b p : Spot) → cross (way a b) (way a p) ≡ pos 0 → Level a b p ↔ Between (mark a b p) (size a b)
+level-between a b p l = (λ h. h .on-axis, λ h. record { on-line = l; on-axis = h })
+
+both-ways : {A B C : Type 0} → A ↔ B → B ↔ C → A ↔ C
+both-ways f g = (λ h. g .0 (f .0 h), λ h. f .1 (g .1 h))
+
+module _ (v1 v2 u1 u2 : Spot) (r : PlineSegIntr) (c : Collinear v1 v2 u1 u2) where
+  pub first-told-by-x : Same v1 v2 → ((u2 .x -ℤ u1 .x) ≡ pos 0 → ⊥) → ToldIf (Between (mark u1 u2 v1) (size u1 u2)) r
+      → Told v1 v2 u1 u2 r
+  first-told-by-x still slant =
+      told-if v1 v2 u1 u2 (Between (mark u1 u2 v1) (size u1 u2)) r
+      (both-ways (first-point-by-x v1 v2 u1 u2 still slant) (level-between u1 u2 v1 (c .from-u)))
+      (first-point-once v1 v2 u1 u2 still)
+
+  pub first-told-by-y : Same v1 v2 → ((u2 .y -ℤ u1 .y) ≡ pos 0 → ⊥)
+      → ToldIf (Between (mark (flip u1) (flip u2) (flip v1)) (size (flip u1) (flip u2))) r
+      → Told v1 v2 u1 u2 r
+  first-told-by-y still slant =
+      told-if v1 v2 u1 u2 (Between (mark (flip u1) (flip u2) (flip v1)) (size (flip u1) (flip u2))) r
+      (both-ways (first-point-by-y v1 v2 u1 u2 still slant)
+      (level-between (flip u1) (flip u2) (flip v1) (cross-flipped (way u1 u2) (way u1 v1) (c .from-u))))
+      (first-point-once v1 v2 u1 u2 still)
+
+  pub second-told-by-x : Same u1 u2 → ((v2 .x -ℤ v1 .x) ≡ pos 0 → ⊥) → ToldIf (Between (mark v1 v2 u1) (size v1 v2)) r
+      → Told v1 v2 u1 u2 r
+  second-told-by-x still slant =
+      told-if v1 v2 u1 u2 (Between (mark v1 v2 u1) (size v1 v2)) r
+      (both-ways (second-point-by-x v1 v2 u1 u2 still slant) (level-between v1 v2 u1 (line-of-v v1 v2 u1 u2 (c .from-v))))
+      (second-point-once v1 v2 u1 u2 still)
+
+  pub second-told-by-y : Same u1 u2 → ((v2 .y -ℤ v1 .y) ≡ pos 0 → ⊥)
+      → ToldIf (Between (mark (flip v1) (flip v2) (flip u1)) (size (flip v1) (flip v2))) r
+      → Told v1 v2 u1 u2 r
+  second-told-by-y still slant =
+      told-if v1 v2 u1 u2 (Between (mark (flip v1) (flip v2) (flip u1)) (size (flip v1) (flip v2))) r
+      (both-ways (second-point-by-y v1 v2 u1 u2 still slant)
+      (level-between (flip v1) (flip v2) (flip u1)
+      (cross-flipped (way v1 v2) (way v1 u1) (line-of-v v1 v2 u1 u2 (c .from-v)))))
+      (second-point-once v1 v2 u1 u2 still)
