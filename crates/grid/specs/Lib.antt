@@ -1,3 +1,4 @@
 pub mod Promise
 pub mod Plane
 pub mod Accepted
+pub mod Tests

@@ -1,6 +1,6 @@
 -- What an answer must show so that the promise is kept: with lines that cross, by the meeting; with parallel ones, by what is shared.
 -- What is left after this is about the floats that the answer was worked out with.
-use mathlib.Core.Path.{_≡_, sym}
+use mathlib.Core.Path.{_≡_, refl, subst}
 use mathlib.Core.Logic.{_⊎_, inl, inr, _↔_}
 use Prim.Native.Nat.{ℕ}
 use native.Mathlib.Omega.{arith}
@@ -42,32 +42,49 @@ none-or-one : (r : PlineSegIntr) (p q o : Vector2) → (r ≡ NoIntersect) ⊎ (
 none-or-one r p q o (inl e) f = let z : _≡_ {A = ℕ} 0 1 = cc in omega arith
 none-or-one r p q o (inr e) f = let z : _≡_ {A = ℕ} 0 1 = cc in omega arith
 
--- ---- lines that cross
-pub record Slanted (v1 v2 u1 u2 : Spot) (slant : ¬ Parallel v1 v2 u1 u2) (num den : ℕ) (r : PlineSegIntr) : Type 0 where
-  -- none, or one
-  pub answer : (r ≡ NoIntersect) ⊎ ((p : Vector2) × (r ≡ OneIntersect p))
-  -- one, where both places are from 0 to 1
-  pub seen : Between (steps-v v1 v2 u1 u2) (base v1 v2 u1 u2) → Between (steps-u v1 v2 u1 u2) (base v1 v2 u1 u2) → r ≡ NoIntersect → ⊥
-  -- if one: the meeting is on each segment or near to it, and the point is near to the meeting
-  pub near-v : (p : Vector2) → r ≡ OneIntersect p → Reached (meeting v1 v2 u1 u2 slant) v1 v2 num den
-  pub near-u : (p : Vector2) → r ≡ OneIntersect p → Reached (meeting v1 v2 u1 u2 slant) u1 u2 num den
-  pub near-x : (p : Vector2) → r ≡ OneIntersect p → Within (p .x) (meeting v1 v2 u1 u2 slant .x) (base v1 v2 u1 u2)
-  pub near-y : (p : Vector2) → r ≡ OneIntersect p → Within (p .y) (meeting v1 v2 u1 u2 slant .y) (base v1 v2 u1 u2)
+not-one : (r : PlineSegIntr) (p : Vector2) → r ≡ NoIntersect → r ≡ OneIntersect p → ⊥
+not-one r p e f = let z : _≡_ {A = ℕ} 0 1 = cc in omega arith
 
-pub slanted-kept : (v1 v2 u1 u2 : Spot) (slant : ¬ Parallel v1 v2 u1 u2) (num den : ℕ) (r : PlineSegIntr)
-    → Slanted v1 v2 u1 u2 slant num den r
-    → Kept v1 v2 u1 u2 num den r
-slanted-kept v1 v2 u1 u2 slant num den r h =
-    record {
-      none-missed = λ e s. let both = shared-between v1 v2 u1 u2 slant s in h .seen (both .0) (both .1) e;
-      overlap = (λ o. absurd (other (h .answer) (o .0) (o .1) (o .2)), λ s. absurd (share-once v1 v2 u1 u2 slant s));
-      beyond = λ p e s. (slant, meeting v1 v2 u1 u2 slant, meeting-crosses v1 v2 u1 u2 slant, h .near-v p e, h .near-u p e);
-      exact = λ p e s. (meeting v1 v2 u1 u2 slant, meeting-crosses v1 v2 u1 u2 slant, h .near-x p e, h .near-y p e);
-    }
-  where
-    other : (r ≡ NoIntersect) ⊎ ((p : Vector2) × (r ≡ OneIntersect p)) → (p q : Vector2) → r ≡ OverlappingLines p q → ⊥
-    other (inl e) p q f = none-or-one r p q p (inl e) f
-    other (inr o) p q f = none-or-one r p q (o .0) (inr (o .1)) f
+same-one : (o p : Vector2) → OneIntersect o ≡ OneIntersect p → o ≡ p
+same-one o p e = cc
+
+-- ---- lines that cross: none where a place is not from 0 to 1, or one near to the meeting, which is near to both
+module _ (v1 v2 u1 u2 : Spot) (slant : ¬ Parallel v1 v2 u1 u2) (num den : ℕ) where
+  pub slanted-none : (Between (steps-v v1 v2 u1 u2) (base v1 v2 u1 u2) → Between (steps-u v1 v2 u1 u2) (base v1 v2 u1 u2) → ⊥)
+      → Kept v1 v2 u1 u2 num den NoIntersect
+  slanted-none n =
+      record {
+        none-missed = λ e s. let both = shared-between v1 v2 u1 u2 slant s in n (both .0) (both .1);
+        overlap = (
+          λ o. absurd (none-or-one NoIntersect (o .0) (o .1) (o .0) (inl refl) (o .2)),
+          λ s. absurd (share-once v1 v2 u1 u2 slant s),
+        );
+        beyond = λ p e s. absurd (not-one NoIntersect p refl e);
+        exact = λ p e s. absurd (not-one NoIntersect p refl e);
+      }
+
+  pub slanted-one : (o : Vector2)
+      → Reached (meeting v1 v2 u1 u2 slant) v1 v2 num den
+      → Reached (meeting v1 v2 u1 u2 slant) u1 u2 num den
+      → Within (o .x) (meeting v1 v2 u1 u2 slant .x) (base v1 v2 u1 u2)
+      → Within (o .y) (meeting v1 v2 u1 u2 slant .y) (base v1 v2 u1 u2)
+      → Kept v1 v2 u1 u2 num den (OneIntersect o)
+  slanted-one o near-v near-u near-x near-y =
+      let P = meeting v1 v2 u1 u2 slant in
+      record {
+        none-missed = λ e s. not-one (OneIntersect o) o e refl;
+        overlap = (
+          λ p. absurd (none-or-one (OneIntersect o) (p .0) (p .1) o (inr refl) (p .2)),
+          λ s. absurd (share-once v1 v2 u1 u2 slant s),
+        );
+        beyond = λ p e s. (slant, P, meeting-crosses v1 v2 u1 u2 slant, near-v, near-u);
+        exact = λ p e s. (
+          P,
+          meeting-crosses v1 v2 u1 u2 slant,
+          subst (λ (z : Vector2). Within (z .x) (P .x) (P .over)) (same-one o p e) near-x,
+          subst (λ (z : Vector2). Within (z .y) (P .y) (P .over)) (same-one o p e) near-y,
+        );
+      }
 
 -- ---- parallel lines: none where nothing is shared, one where one point is, lines where more are
 abbrev pub Told : Spot → Spot → Spot → Spot → PlineSegIntr → Type 0
@@ -146,7 +163,7 @@ spans-told-by-y v1 v2 u1 u2 r c long slant =
 abbrev pub ToldIf : Type 0 → PlineSegIntr → Type 0
 ToldIf A r = ((r ≡ NoIntersect) × (¬ A)) ⊎ ((p : Vector2) × (r ≡ OneIntersect p) × A)
 
-told-if : (v1 v2 u1 u2 : Spot) (A : Type 0) (r : PlineSegIntr) → Share v1 v2 u1 u2 ↔ A → ¬ ShareMore v1 v2 u1 u2 → ToldIf A r
+pub told-if : (v1 v2 u1 u2 : Spot) (A : Type 0) (r : PlineSegIntr) → Share v1 v2 u1 u2 ↔ A → ¬ ShareMore v1 v2 u1 u2 → ToldIf A r
     → Told v1 v2 u1 u2 r
 told-if v1 v2 u1 u2 A r meets once (inl (e, n)) = inl (e, λ s. n (meets .0 s))
 told-if v1 v2 u1 u2 A r meets once (inr (p, e, h)) = inr (inl (p, e, meets .1 h, once))
