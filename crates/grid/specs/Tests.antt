@@ -4,21 +4,27 @@ use mathlib.Core.Path.{_≡_, refl, sym, ap, _∙_, subst}
 use mathlib.Core.Logic.{_⊎_, inl, inr, _↔_}
 use mathlib.Core.Bool.{Bool, true, false, cond, not, _&&_, _||_, true≢false, false≢true}
 use Prim.Native.Nat.{ℕ}
+use lib.Dec.{T}
 use lib.IntN.{ℤ, pos}
 use lib.Ieee.{Float}
 use Rattle.floats.specs.Ops.{_⊖_, _⊗_, _⊘_, f0, f1}
 use Rattle.floats.specs.F64
 use Rattle.plane.specs.Vector2 as vector2
 use Rattle.plane.specs.declared.vector2.Vector2.{Vector2}
+use Rattle.plane.specs.PlineVertex as vertex
+use Rattle.plane.specs.PlineVertex.{bulgeIsZero}
+use Rattle.plane.specs.declared.pline_vertex.PlineVertex.{PlineVertex}
 use Rattle.plane.specs.BaseMath.{parametricFromPoint, pointFromParametric}
 use Rattle.plane.specs.Fuzzy.{fuzzyEqZeroEps, fuzzyGtEps, fuzzyLtEps}
 use Rattle.crossing.specs.LineLine
 use Rattle.crossing.specs.LineLine.{within, spanOf}
-use Rattle.crossing.specs.PlineSeg.{lineLineOf, processLineLineIntr}
+use Rattle.crossing.specs.PlineSeg.{lineLineOf, processLineLineIntr, plineSeg}
+use Rattle.crossing.specs.declared.pline_seg_intersect.PlineSegIntr.{PlineSegIntr}
 use Rattle.crossing.specs.declared.line_line_intersect.LineLineIntr.{LineLineIntr}
 use Rattle.crossing.specs.declared.line_line_intersect.LineLineIntr.the-variants.{NoIntersect, TrueIntersect, FalseIntersect, Overlapping}
 use Rattle.crossing.specs.declared.line_line.Span.{Span}
-use Rattle.grid.specs.Promise.{Spot, Point, OnSegment, Parallel, Share, ShareMore, Reached, Within, Kept}
+use Rattle.grid.specs.Promise.{Spot, Point, OnSegment, Parallel, Share, ShareMore, Reached, Within, Kept, On, Epsilon, Promise}
+use Rattle.grid.specs.Accepted.{accepted}
 use Rattle.grid.specs.Plane.Sides.{across, first, second, across-parallel, parallel-across}
 use Rattle.grid.specs.Plane.Cross.{Between, base, steps-v, steps-u, meeting}
 use Rattle.grid.specs.Plane.Spots.{spot, Same}
@@ -203,3 +209,31 @@ module _ (p1 p2 q1 q2 : Spot) (a b c d : Vector2) (e : Float) (num den : ℕ) wh
         line-answer (fuzzyEqZeroEps (vector2.perpDot v u) e) (tests .flat)
         (LineLine.crossing v u w (vector2.perpDot v u) e) (LineLine.parallel a b c d v u w e)
         cross-kept (λ par. told (LineLine.parallel a b c d v u w e) par (parallel-told par))
+
+-- ---- the pair call on two lines is the kernel
+two-lines : (v1 v2 u1 u2 : PlineVertex) (e : Float) → T (bulgeIsZero v1) → T (bulgeIsZero u1)
+    → plineSeg v1 v2 u1 u2 e ≡ processLineLineIntr (vertex.pos v1) (vertex.pos v2) (vertex.pos u1) (vertex.pos u2) e
+unfolding plineSeg
+two-lines v1 v2 u1 u2 e h k = go (bulgeIsZero v1) (bulgeIsZero u1) _ _ _ _ h k
+  where
+    go : (i j : Bool) (x y z w : PlineSegIntr) → T i → T j → cond (i && j) x (cond i y (cond j z w)) ≡ x
+    go true true x y z w h k = refl
+    go true false x y z w h k = absurd k
+    go false j x y z w h k = absurd h
+
+-- so the promise holds if the tests do
+pub tests-promise : ((v1 v2 u1 u2 : PlineVertex) (p1 p2 q1 q2 : Spot) (e : Float) (num den : ℕ)
+    → On v1 p1
+    → On v2 p2
+    → On u1 q1
+    → On u2 q2
+    → Epsilon e num den
+    → Tests p1 p2 q1 q2 (vertex.pos v1) (vertex.pos v2) (vertex.pos u1) (vertex.pos u2) e num den)
+    → Promise
+tests-promise tests v1 v2 u1 u2 p1 p2 q1 q2 e num den a b c d line-v line-u eps = (
+  plineSeg v1 v2 u1 u2 e,
+  accepted v1 v2 u1 u2 p1 p2 q1 q2 e num den a b c d line-v line-u eps,
+  subst (λ (r : PlineSegIntr). Kept p1 p2 q1 q2 num den r) (sym (two-lines v1 v2 u1 u2 e line-v line-u))
+      (tests-keep p1 p2 q1 q2 (vertex.pos v1) (vertex.pos v2) (vertex.pos u1) (vertex.pos u2) e num den
+      (tests v1 v2 u1 u2 p1 p2 q1 q2 e num den a b c d eps)),
+)
