@@ -1,8 +1,8 @@
 -- A pair of grid lines is never refused: every number that the pair call looks at is fine, so it answers what was worked out.
 use mathlib.Core.Path.{_≡_, refl, sym, ap, _∙_, subst}
 use mathlib.Core.Bool.{Bool, true, false, cond}
-use mathlib.Core.List.{List, [], _∷_}
-use Prim.Native.Nat.{ℕ, zero, suc, _+_, _*_, _^_, _≤_, _<_}
+use mathlib.Core.List.{List, _∷_}
+use Prim.Native.Nat.{ℕ, zero, suc, _*_, _^_, _≤_, _<_}
 use native.Mathlib.Nat.{mul-pos, mul-le-mul-right, lt-of-mul-lt-mul-right}
 use native.Mathlib.Omega.{arith}
 use lib.Dec.{T, ltb→lt, lit≤}
@@ -11,18 +11,17 @@ use lib.Ieee.{Float, nan, inf, fin, up, down, lt, ofBits}
 use lib.Ieee.Exact.{HasValue}
 use lib.Ieee.Fits.{down-pos}
 use lib.Ieee.Order.{le-of-values}
-use Rattle.floats.specs.Ops.{_≼_, _≺_}
+use Rattle.floats.specs.Ops.{_≺_}
 use Rattle.floats.specs.F64
 use Rattle.plane.specs.Fuzzy.{fuzzyEqZeroEps, fuzzyEpsilon}
 use Rattle.plane.specs.PlineVertex.{bulgeIsZero}
 use Rattle.plane.specs.declared.pline_vertex.PlineVertex.{PlineVertex}
-use Rattle.checks.specs.declared.fault.Place.{Place}
 use Rattle.checks.specs.declared.fault.Checked.{Checked}
 use Rattle.checks.specs.declared.fault.Checked.the-variants.{Fine}
 use Rattle.checks.specs.Arc.{arcChord}
 use Rattle.checks.specs.Each
 use Rattle.checks.specs.Edges.{powers}
-use Rattle.checks.specs.First.{first, AllFine, none, one, first-fine}
+use Rattle.checks.specs.First.{AllFine, none, one, first-fine}
 use Rattle.checks.specs.Limit
 use Rattle.checks.specs.Laws.Fine.{Within, Between, epsilon-fine, coordinate-fine, bulge-fine}
 use Rattle.crossing.specs.PlineSeg.{plineSeg}

@@ -1,11 +1,11 @@
 -- The line kernel on grid segments keeps the promise if each of its tests says what it should. What is left is one fact for each test
 -- (`Tests`), about floats: that it says whether a whole number is 0, whether two grid points are one, or what is shared.
-use mathlib.Core.Path.{_≡_, refl, sym, ap, _∙_, subst}
-use mathlib.Core.Logic.{_⊎_, inl, inr, _↔_}
+use mathlib.Core.Path.{_≡_, refl, sym, subst}
+use mathlib.Core.Logic.{inl, inr, _↔_}
 use mathlib.Core.Bool.{Bool, true, false, cond, not, _&&_, _||_, true≢false, false≢true}
 use Prim.Native.Nat.{ℕ}
 use lib.Dec.{T}
-use lib.IntN.{ℤ, pos}
+use lib.IntN.{pos}
 use lib.Ieee.{Float}
 use Rattle.floats.specs.Ops.{_⊖_, _⊗_, _⊘_, f0, f1}
 use Rattle.floats.specs.F64
@@ -23,21 +23,13 @@ use Rattle.crossing.specs.declared.pline_seg_intersect.PlineSegIntr.{PlineSegIn
 use Rattle.crossing.specs.declared.line_line_intersect.LineLineIntr.{LineLineIntr}
 use Rattle.crossing.specs.declared.line_line_intersect.LineLineIntr.the-variants.{NoIntersect, TrueIntersect, FalseIntersect, Overlapping}
 use Rattle.crossing.specs.declared.line_line.Span.{Span}
-use Rattle.grid.specs.Promise.{Spot, Point, OnSegment, Parallel, Share, ShareMore, Reached, Within, Kept, On, Epsilon, Promise}
+use Rattle.grid.specs.Promise.{Spot, OnSegment, Parallel, Share, ShareMore, Reached, Within, Kept, On, Epsilon, Promise}
 use Rattle.grid.specs.Accepted.{accepted}
 use Rattle.grid.specs.Plane.Sides.{across, first, second, across-parallel, parallel-across}
 use Rattle.grid.specs.Plane.Cross.{Between, base, steps-v, steps-u, meeting}
 use Rattle.grid.specs.Plane.Spots.{spot, Same}
-use Rattle.grid.specs.Plane.Points.{
-  Collinear,
-  share-collinear,
-  both-points,
-  first-point,
-  first-point-once,
-  second-point,
-  second-point-once,
-}
-use Rattle.grid.specs.Plane.Keeps.{slanted-none, slanted-one, Told, parallel-kept, apart-told, ToldIf, told-if}
+use Rattle.grid.specs.Plane.Points.{Collinear, both-points, first-point, first-point-once, second-point, second-point-once}
+use Rattle.grid.specs.Plane.Keeps.{slanted-none, slanted-one, Told, parallel-kept, apart-told, told-if}
 
 -- ---- the facts: v goes from p1 to p2, u from q1 to q2, and the floats a, b, c, d are these four points
 module _ (p1 p2 q1 q2 : Spot) (a b c d : Vector2) (e : Float) (num den : ℕ) where

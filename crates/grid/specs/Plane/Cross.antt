@@ -1,7 +1,7 @@
 -- Two segments that are not parallel: their lines cross in one point, the meeting, which lies steps-v / base of the way along v and
 -- steps-u / base of the way along u. They share a point exactly if both places are from 0 to 1, and never more than one.
-use mathlib.Core.Path.{_≡_, refl, sym, ap, _∙_, subst}
-use mathlib.Core.Logic.{_⊎_, inl, inr, _↔_}
+use mathlib.Core.Path.{_≡_, refl, ap, _∙_, subst}
+use mathlib.Core.Logic.{inl, inr}
 use mathlib.Core.List.{[], _∷_}
 use Prim.Native.Nat.{ℕ, _*_, _≤_, _<_}
 use native.Mathlib.Nat.{mul-le-mul-left}

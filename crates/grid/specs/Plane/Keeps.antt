@@ -8,7 +8,7 @@ use lib.IntN.{ℤ, pos, _-ℤ_}
 use Rattle.plane.specs.declared.vector2.Vector2.{Vector2}
 use Rattle.crossing.specs.declared.pline_seg_intersect.PlineSegIntr.{PlineSegIntr}
 use Rattle.crossing.specs.declared.pline_seg_intersect.PlineSegIntr.the-variants.{NoIntersect, OneIntersect, OverlappingLines}
-use Rattle.grid.specs.Promise.{Spot, Point, Parallel, Share, ShareMore, Reached, Within, Kept}
+use Rattle.grid.specs.Promise.{Spot, Parallel, Share, ShareMore, Reached, Within, Kept}
 use Rattle.grid.specs.Plane.Cross.{
   Between,
   base,

@@ -1,35 +1,20 @@
 -- Two segments on one line, measured on u along the x axis, or along the y axis where u is upright: they share a point exactly if the
 -- spans meet, and more than one exactly if the spans meet in more than one. What they share is found at their ends.
-use mathlib.Core.Path.{_≡_, refl, sym, ap, _∙_, subst}
+use mathlib.Core.Path.{_≡_, sym, ap, _∙_, subst}
 use mathlib.Core.Logic.{_⊎_, inl, inr, _↔_}
 use mathlib.Core.List.{[], _∷_}
 use Prim.Native.Nat.{ℕ, _<_}
 use native.Mathlib.Omega.{arith}
-use lib.IntN.{ℤ, pos, negℤ, natAbs, _+ℤ_, _-ℤ_, _*ℤ_}
+use lib.IntN.{ℤ, pos, negℤ, natAbs, _-ℤ_, _*ℤ_}
 use lib.Signed.{_≤ℤ_, _<ℤ_, clashℤ, ≤ℤ-refl, <ℤ-≤ℤ-trans}
-use Rattle.grid.specs.Promise.{Spot, Point, OnSegment, Apart, Shared, Share, ShareMore}
-use Rattle.grid.specs.Plane.Whole.{whole, naturals, gain, loss}
-use Rattle.grid.specs.Plane.Ring.{solve, combine, combine2, equal-of-sub, sub-of-equal, var, num, neg, _⊞_, _⊟_, _⊠_}
+use Rattle.grid.specs.Promise.{Spot, Shared, Share, ShareMore}
+use Rattle.grid.specs.Plane.Whole.{whole, naturals}
+use Rattle.grid.specs.Plane.Ring.{solve, combine, combine2, equal-of-sub, var, num, neg, _⊟_, _⊠_}
 use Rattle.grid.specs.Plane.Order.{cancel, cancel-any, lt-of-le-ne, turned-same, pos-le, turned, sign, Kept, Turned, inside, size-pos, lt-or-le}
-use Rattle.grid.specs.Plane.Sides.{way, cross, across, first, second}
+use Rattle.grid.specs.Plane.Sides.{way, cross, across}
 use Rattle.grid.specs.Plane.Cross.{Between}
 use Rattle.grid.specs.Plane.Points.{Collinear, line-of-v, cross-flipped}
-use Rattle.grid.specs.Plane.Spots.{
-  spot,
-  one-pos,
-  start-on,
-  end-on,
-  Same,
-  Level,
-  level-on,
-  IsSpot,
-  spot-once,
-  flip,
-  share-flipped,
-  share-more-flipped,
-  share-reversed,
-  share-more-reversed,
-}
+use Rattle.grid.specs.Plane.Spots.{spot, one-pos, start-on, end-on, Same, level-on, spot-once, flip, share-flipped, share-more-flipped, share-reversed, share-more-reversed}
 use Rattle.grid.specs.Plane.Spans.{
   Meet,
   MeetMore,

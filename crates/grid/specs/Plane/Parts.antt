@@ -1,18 +1,18 @@
 -- The same in naturals, for floats whose values are differences p - n: signs and sizes of differences, places from 0 to 1, distances
 -- beyond an end and from the meeting, and a float's value.
-use mathlib.Core.Path.{_≡_, refl, sym, ap, _∙_, subst}
+use mathlib.Core.Path.{_≡_, refl, sym, subst}
 use mathlib.Core.Logic.{_⊎_, inl, inr, _↔_}
 use mathlib.Core.Bool.{Bool, true, false, not}
 use Prim.Native.Nat.{ℕ, zero, suc, _+_, _-_, _*_, _≤_, _<_}
 use native.Mathlib.Nat.{mul-le-mul, mul-le-mul-right}
 use native.Mathlib.Omega.{arith}
 use lib.Dec.{T, ltb, ltb→lt, nltb→le}
-use lib.IntN.{ℤ, pos, negsuc, negℤ, natAbs, _+ℤ_, _-ℤ_, _*ℤ_}
+use lib.IntN.{ℤ, pos, negsuc, negℤ, natAbs, _-ℤ_, _*ℤ_}
 use lib.Signed.{_≤ℤ_, _<ℤ_}
 use lib.Ieee.{Float, fin, up, down}
 use Rattle.grid.specs.Promise.{Spot, Point, Is, Reached, Within}
-use Rattle.grid.specs.Plane.Whole.{diff, parts, whole, naturals, gain, loss, gain-add, gain-neg}
-use Rattle.grid.specs.Plane.Order.{turned, sign, Kept, Turned}
+use Rattle.grid.specs.Plane.Whole.{diff, parts, naturals, gain, loss, gain-add, gain-neg}
+use Rattle.grid.specs.Plane.Order.{turned}
 use Rattle.grid.specs.Plane.Cross.{Between, Placed}
 use Rattle.grid.specs.Plane.Beyond.{long, reached}
 

@@ -1,12 +1,12 @@
 -- Parallel segments that share a point lie on one line; and where one of them has no length, or both, sharing is that one grid point
 -- lies on the other. Then they never share more than that point.
-use mathlib.Core.Path.{_≡_, refl, sym, ap, _∙_, subst}
-use mathlib.Core.Logic.{_⊎_, inl, inr, _↔_}
+use mathlib.Core.Path.{_≡_, sym, _∙_}
+use mathlib.Core.Logic.{_↔_}
 use mathlib.Core.List.{[], _∷_}
-use Prim.Native.Nat.{ℕ, _*_, _≤_, _<_}
-use lib.IntN.{ℤ, pos, _+ℤ_, _-ℤ_, _*ℤ_}
-use Rattle.grid.specs.Promise.{Spot, Point, OnSegment, Parallel, Share, ShareMore}
-use Rattle.grid.specs.Plane.Ring.{solve, combine, combine2, var, num, neg, _⊞_, _⊟_, _⊠_}
+use Prim.Native.Nat.{ℕ, _<_}
+use lib.IntN.{ℤ, pos, _-ℤ_, _*ℤ_}
+use Rattle.grid.specs.Promise.{Spot, OnSegment, Parallel, Share, ShareMore}
+use Rattle.grid.specs.Plane.Ring.{solve, combine, combine2, var, num, neg, _⊟_, _⊠_}
 use Rattle.grid.specs.Plane.Order.{cancel}
 use Rattle.grid.specs.Plane.Sides.{way, cross, across, first, second, parallel-across, place-v, place-u}
 use Rattle.grid.specs.Plane.Spots.{

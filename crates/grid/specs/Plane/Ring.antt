@@ -2,13 +2,13 @@
 -- nothing is left of the difference of two, they are equal whatever the numbers are. `solve` is used as
 -- `solve (a ∷ b ∷ []) (x0 ⊠ x1) (x1 ⊠ x0) refl`.
 use mathlib.Core.Path.{_≡_, refl, sym, ap, _∙_}
-use mathlib.Core.Bool.{Bool, true, false, not, cond, _&&_}
+use mathlib.Core.Bool.{Bool, true, false, cond, _&&_}
 use mathlib.Core.List.{List, [], _∷_}
-use Prim.Native.Nat.{ℕ, zero, suc, _+_, _*_}
+use Prim.Native.Nat.{ℕ, zero, suc}
 use native.Mathlib.Omega.{arith}
 use lib.Dec.{T, leb, ltb, eqb, eqb→eq}
 use lib.IntN.{ℤ, pos, negsuc, negℤ, _+ℤ_, _-ℤ_, _*ℤ_}
-use Rattle.grid.specs.Plane.Whole.{whole, naturals, gain, loss}
+use Rattle.grid.specs.Plane.Whole.{whole, naturals}
 
 -- ---- the laws that it rests on
 pub mul-assoc : (a b c : ℤ) → a *ℤ b *ℤ c ≡ a *ℤ (b *ℤ c)

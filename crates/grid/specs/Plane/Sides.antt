@@ -1,7 +1,7 @@
 -- The products that the kernel divides, over whole numbers. With v the way from v1 to v2, u the way from u1 to u2 and w the way from
 -- u1 to v1: across is v × u, v's place is (u × w) / across, and u's place is (v × w) / across. Whatever lies on both lines lies
 -- there, so where across is 0 both products are.
-use mathlib.Core.Path.{_≡_, refl, sym, ap, _∙_}
+use mathlib.Core.Path.{_≡_}
 use mathlib.Core.List.{[], _∷_}
 use Prim.Native.Nat.{ℕ, _<_}
 use lib.IntN.{ℤ, pos, _+ℤ_, _-ℤ_, _*ℤ_}

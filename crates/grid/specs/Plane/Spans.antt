@@ -1,22 +1,19 @@
 -- Two segments on one line, measured on u along the x axis: u goes from 0 to size, v from start to stop. They share a point exactly if
 -- these spans meet, and more than one exactly if they meet in more than one.
-use mathlib.Core.Path.{_≡_, refl, sym, ap, _∙_, subst}
-use mathlib.Core.Logic.{_⊎_, inl, inr, _↔_}
+use mathlib.Core.Path.{_≡_, refl, sym, ap, _∙_}
+use mathlib.Core.Logic.{_⊎_, inl, inr}
 use mathlib.Core.List.{[], _∷_}
 use Prim.Native.Nat.{ℕ, suc, _+_, _-_, _*_, _≤_, _<_}
-use native.Mathlib.Nat.{mul-le-mul-right, mul-le-mul-left, le-of-mul-le-mul-right, mul-pos}
+use native.Mathlib.Nat.{mul-le-mul-right, le-of-mul-le-mul-right, mul-pos}
 use native.Mathlib.Omega.{arith}
 use lib.Dec.{ltb→lt, leb→le}
 use lib.IntN.{ℤ, pos, negsuc, negℤ, natAbs, _+ℤ_, _-ℤ_, _*ℤ_}
-use lib.Signed.{_≤ℤ_, _<ℤ_, clashℤ}
-use Rattle.grid.specs.Promise.{Spot, Point, Along, OnSegment, Apart, Share, ShareMore}
-use Rattle.grid.specs.Plane.Whole.{whole, naturals, gain, loss}
-use Rattle.grid.specs.Plane.Ring.{solve, combine, combine2, equal-of-sub, var, num, neg, _⊞_, _⊟_, _⊠_}
-use Rattle.grid.specs.Plane.Order.{cancel, pos-le, natural, natural-below, turned, sign, Kept, Turned, inside, size-pos, lt-or-le, le-trans}
-use Rattle.grid.specs.Plane.Sides.{way, cross, same-x}
-use Rattle.grid.specs.Plane.Cross.{Between}
-use Rattle.grid.specs.Plane.Points.{Collinear}
-use Rattle.grid.specs.Plane.Spots.{spot, start-on, end-on, Level, level-on, IsSpot, spot-once, stays}
+use lib.Signed.{_≤ℤ_, _<ℤ_}
+use Rattle.grid.specs.Promise.{Spot, Point, Along, OnSegment}
+use Rattle.grid.specs.Plane.Ring.{combine, combine2, var, num, neg, _⊞_, _⊟_, _⊠_}
+use Rattle.grid.specs.Plane.Order.{cancel, natural-below, turned, lt-or-le}
+use Rattle.grid.specs.Plane.Sides.{same-x}
+use Rattle.grid.specs.Plane.Spots.{IsSpot}
 
 -- ---- spans: from a to b, in either order, against 0 to k
 abbrev pub Meet : ℤ → ℤ → ℕ → Type 0

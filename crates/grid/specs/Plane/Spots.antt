@@ -1,13 +1,13 @@
 -- Grid points on segments: an end lies on its segment, a segment's ends may change places, the axes may change places, a segment
 -- without length has one point, and a grid point on a segment's line lies on the segment exactly if it does on the x axis.
-use mathlib.Core.Path.{_≡_, refl, sym, ap, _∙_, subst}
-use mathlib.Core.Logic.{_⊎_, inl, inr}
+use mathlib.Core.Path.{_≡_, refl, ap, subst}
+use mathlib.Core.Logic.{inl, inr}
 use mathlib.Core.List.{[], _∷_}
-use Prim.Native.Nat.{ℕ, _+_, _-_, _*_, _≤_, _<_}
+use Prim.Native.Nat.{ℕ, _+_, _-_, _<_}
 use native.Mathlib.Omega.{arith}
 use lib.IntN.{ℤ, pos, natAbs, _+ℤ_, _-ℤ_, _*ℤ_}
 use lib.Signed.{_≤ℤ_}
-use Rattle.grid.specs.Promise.{Spot, Point, Along, OnSegment, Apart, Shared, Share, ShareMore}
+use Rattle.grid.specs.Promise.{Spot, Point, Along, OnSegment, Apart, Share, ShareMore}
 use Rattle.grid.specs.Plane.Ring.{solve, combine, combine2, var, neg, num, _⊞_, _⊟_, _⊠_}
 use Rattle.grid.specs.Plane.Order.{cancel, pos-le, natural, turned, turned-eq, size-pos}
 use Rattle.grid.specs.Plane.Sides.{way, cross}
