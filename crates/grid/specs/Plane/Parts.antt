@@ -1,6 +1,6 @@
 -- The same in naturals, for floats whose values are differences p - n: signs and sizes of differences, places from 0 to 1, distances
 -- beyond an end and from the meeting, and a float's value.
-use mathlib.Core.Path.{_≡_, refl, sym, subst}
+use mathlib.Core.Path.{_≡_, refl, sym, ap, _∙_, subst}
 use mathlib.Core.Logic.{_⊎_, inl, inr, _↔_}
 use mathlib.Core.Bool.{Bool, true, false, not}
 use Prim.Native.Nat.{ℕ, zero, suc, _+_, _-_, _*_, _≤_, _<_}
@@ -191,3 +191,24 @@ passed-between p n k l num den before past s m = between-parts p n k .1 (low (lt
         let e : p - (n + k) + (n + k) ≡ p = omega arith in
         let z : p - (n + k) ≡ 0 = no-step (p - (n + k)) l k num den (past (p - (n + k)) e) s m in
         omega arith
+
+-- ---- a quotient x / d of differences, as (P - N) / D with D above 0
+pub quotient : (d x : ℤ) (dp dn xp xn P N D : ℕ) → d ≡ diff dp dn → x ≡ diff xp xn → 0 < D
+    → ((dn + D ≡ dp) × (P ≡ xp) × (N ≡ xn)) ⊎ ((dp + D ≡ dn) × (P ≡ xn) × (N ≡ xp))
+    → (natAbs d ≡ D) × (turned d x ≡ diff P N)
+quotient d x dp dn xp xn P N D e f H (inl (s, p, n)) = (
+  ap natAbs e ∙ size-up dp dn D (sym s),
+  ap (λ (z : ℤ). turned z x) e
+      ∙ ap (λ (z : ℤ). turned (diff dp dn) z) f
+      ∙ turned-up dp dn xp xn (omega arith)
+      ∙ ap (λ (z : ℕ). diff z xn) (sym p)
+      ∙ ap (λ (z : ℕ). diff P z) (sym n),
+)
+quotient d x dp dn xp xn P N D e f H (inr (s, p, n)) = (
+  ap natAbs e ∙ size-down dp dn D (sym s),
+  ap (λ (z : ℤ). turned z x) e
+      ∙ ap (λ (z : ℤ). turned (diff dp dn) z) f
+      ∙ turned-down dp dn xp xn (omega arith)
+      ∙ ap (λ (z : ℕ). diff z xp) (sym p)
+      ∙ ap (λ (z : ℕ). diff P z) (sym n),
+)
