@@ -3,3 +3,5 @@ pub mod Half
 pub mod Best
 pub mod Count
 pub mod Patterns
+pub mod Signed
+pub mod Order
