@@ -5,3 +5,5 @@ pub mod Count
 pub mod Patterns
 pub mod Signed
 pub mod Order
+pub mod Near
+pub mod Rounded
