@@ -7,3 +7,7 @@ pub mod Signed
 pub mod Order
 pub mod Near
 pub mod Rounded
+pub mod Roundings
+pub mod Whole
+pub mod Quotients
+pub mod Magnitudes

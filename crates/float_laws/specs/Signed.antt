@@ -1,7 +1,7 @@
 -- A finite float as a signed fraction of natural numbers: Diff x p n c says that x is (p - n) / c, for a c above 0. Signed whole
 -- numbers are written as differences since `omega` reads natural numbers only; the same value has many such fractions, and the
 -- laws here go from one to another, and to the kit's sign and size (HasValue) and back.
-use mathlib.Core.Path.{_≡_, refl, sym, ap, _∙_}
+use mathlib.Core.Path.{_≡_, refl, sym, ap, _∙_, subst}
 use Prim.Native.Nat.{ℕ, _+_, _-_, _*_, _^_, _≤_, _<_}
 use native.Mathlib.Nat.{
   add-mul,
@@ -30,6 +30,17 @@ Diff (fin true m e) p n c = m * up e * c + p * down e ≡ n * down e
 abbrev pub SizeOf : Bool → ℕ → ℕ → ℕ → Type 0
 SizeOf s X p n = cond s (X + p ≡ n) (X + n ≡ p)
 
+-- a sign and a size, as a difference
+abbrev pub ups : Bool → ℕ → ℕ
+ups s X = cond s 0 X
+
+abbrev pub downs : Bool → ℕ → ℕ
+downs s X = cond s X 0
+
+pub own-size : (s : Bool) (X : ℕ) → SizeOf s X (ups s X) (downs s X)
+own-size true X = omega arith
+own-size false X = omega arith
+
 -- ---- by sign and size, and back
 pub diff-of : (x : Float) (s : Bool) (X p n c : ℕ) → HasValue x s X c → SizeOf s X p n → Diff x p n c
 diff-of nan s X p n c h k = absurd h
@@ -40,6 +51,9 @@ diff-of (fin true m e) false X p n c (a, h) k = absurd (true≢false a)
 diff-of (fin false m e) true X p n c (a, h) k = absurd (false≢true a)
 diff-of (fin false m e) false X p n c (a, h) k =
     ap (λ (z : ℕ). z + n * down e) h ∙ sym (add-mul X n (down e)) ∙ ap (λ (z : ℕ). z * down e) k
+
+pub own-diff : (x : Float) (s : Bool) (X c : ℕ) → HasValue x s X c → Diff x (ups s X) (downs s X) c
+own-diff x s X c h = diff-of x s X (ups s X) (downs s X) c h (own-size s X)
 
 pub record Signed (x : Float) (p n c : ℕ) : Type 0 where
   pub s : Bool
@@ -54,27 +68,42 @@ minus-mul b a c =
     ∙ ap (λ (z : ℕ). z - c * a) (mul-comm c b)
     ∙ ap (λ (z : ℕ). b * c - z) (mul-comm c a)
 
+part : (a d p n : ℕ) → 0 < d → a + p * d ≡ n * d → (a ≡ (n - p) * d) × (n - p + p ≡ n)
+part a d p n D h =
+    let wide : p * d ≤ n * d = omega arith in
+    let l : p ≤ n = le-of-mul-le-mul-right wide D in
+    (omega (arith, minus-mul n p d), omega arith)
+
 pub signed-of : (x : Float) (p n c : ℕ) → Diff x p n c → Signed x p n c
 signed-of nan p n c h = absurd h
 signed-of (inf t) p n c h = absurd h
 signed-of (fin true m e) p n c h =
     let l = part (m * up e * c) (down e) p n (down-pos e) h in
     record { s = true; size = n - p; value = (refl, l .0); is = l .1 }
-  where
-    part : (a d p n : ℕ) → 0 < d → a + p * d ≡ n * d → (a ≡ (n - p) * d) × (n - p + p ≡ n)
-    part a d p n D h =
-        let wide : p * d ≤ n * d = omega arith in
-        let l : p ≤ n = le-of-mul-le-mul-right wide D in
-        (omega (arith, minus-mul n p d), omega arith)
 signed-of (fin false m e) p n c h =
     let l = part (m * up e * c) (down e) n p (down-pos e) h in
     record { s = false; size = p - n; value = (refl, l .0); is = l .1 }
+
+-- a difference above zero, and one below
+pub size-above : (x : Float) (p n c : ℕ) → n < p → Diff x p n c → HasValue x false (p - n) c
+size-above x p n c l v = let w = signed-of x p n c v in go (w .s) (w .size) (w .value) (w .is)
   where
-    part : (a d p n : ℕ) → 0 < d → a + p * d ≡ n * d → (a ≡ (n - p) * d) × (n - p + p ≡ n)
-    part a d p n D h =
-        let wide : p * d ≤ n * d = omega arith in
-        let l : p ≤ n = le-of-mul-le-mul-right wide D in
-        (omega (arith, minus-mul n p d), omega arith)
+    never : (X : ℕ) → X + p ≡ n → ⊥
+    never X e = omega arith
+
+    go : (s : Bool) (X : ℕ) → HasValue x s X c → SizeOf s X p n → HasValue x false (p - n) c
+    go true X h e = absurd (never X e)
+    go false X h e = let same : X ≡ p - n = omega arith in subst (λ (z : ℕ). HasValue x false z c) same h
+
+pub size-below : (x : Float) (p n c : ℕ) → p < n → Diff x p n c → HasValue x true (n - p) c
+size-below x p n c l v = let w = signed-of x p n c v in go (w .s) (w .size) (w .value) (w .is)
+  where
+    never : (X : ℕ) → X + n ≡ p → ⊥
+    never X e = omega arith
+
+    go : (s : Bool) (X : ℕ) → HasValue x s X c → SizeOf s X p n → HasValue x true (n - p) c
+    go false X h e = absurd (never X e)
+    go true X h e = let same : X ≡ n - p = omega arith in subst (λ (z : ℕ). HasValue x true z c) same h
 
 -- ---- finite floats, and no others, have such a fraction
 pub diff-finite : (x : Float) (p n c : ℕ) → Diff x p n c → T (finite x)
@@ -93,14 +122,10 @@ pub units-of : (f : Format) (x : Float) → T (finite x) → T (fits f x) → Un
 units-of f x t h =
     let k = counted f x t h in
     record {
-      p = cond (k .s) 0 (k .count);
-      n = cond (k .s) (k .count) 0;
-      is = diff-of x (k .s) (k .count) _ _ (2 ^ low f) (k .value) (own (k .s) (k .count));
+      p = ups (k .s) (k .count);
+      n = downs (k .s) (k .count);
+      is = own-diff x (k .s) (k .count) (2 ^ low f) (k .value);
     }
-  where
-    own : (s : Bool) (X : ℕ) → SizeOf s X (cond s 0 X) (cond s X 0)
-    own true X = omega arith
-    own false X = omega arith
 
 -- ---- from one fraction to another of the same value
 module _ (a g p n q k c d : ℕ) (C : 0 < c) (G : 0 < g) where
