@@ -4,3 +4,4 @@ pub mod Turns
 pub mod RootAt
 pub mod Root
 pub mod Picked
+pub mod Sqrt
