@@ -10,7 +10,9 @@ use native.Mathlib.Nat.{
   mul-right-comm,
   mul-comm,
   mul-lt-mul-of-pos-right,
+  mul-le-mul-right,
   lt-of-mul-lt-mul-right,
+  le-of-mul-le-mul-right,
   eq-of-mul-eq-mul-right,
   eq-or-lt-of-le,
 }
@@ -177,3 +179,19 @@ module _ (x y : Float) (p n c q k d : ℕ) (C : 0 < c) (D : 0 < d) (a : Diff x p
       go : (p * d + k * c ≡ q * c + n * d) ⊎ (p * d + k * c < q * c + n * d) → T (lt x y || eq x y)
       go (inl e) = right-of (lt x y) (eq x y) (eq-diff .1 e)
       go (inr l) = left-of (lt x y) (eq x y) (lt-diff .1 l)
+
+-- over one denominator
+module _ (x y : Float) (p n q k c : ℕ) (C : 0 < c) (a : Diff x p n c) (b : Diff y q k c) where
+  pub lt-over : T (lt x y) ↔ (p + k < q + n)
+  lt-over =
+      let r = lt-diff x y p n c q k c C C a b in (
+        λ t. let w = r .0 t in lt-of-mul-lt-mul-right c {m = p + k} {n = q + n} (omega arith),
+        λ l. r .1 (let w = mul-lt-mul-of-pos-right l C in omega arith),
+      )
+
+  pub le-over : T (le x y) ↔ (p + k ≤ q + n)
+  le-over =
+      let r = le-diff x y p n c q k c C C a b in (
+        λ t. let w = r .0 t in le-of-mul-le-mul-right {m = p + k} {n = q + n} {k = c} (omega arith) C,
+        λ l. r .1 (let w = mul-le-mul-right c l in omega arith),
+      )

@@ -162,16 +162,32 @@ product-size false false X Y p n q k a b =
     let e1 : p * q ≡ (X + n) * (Y + k) = ap (λ (z : ℕ). z * q) p-is ∙ ap (λ (z : ℕ). (X + n) * z) q-is in
     omega (arith, e1, ap (λ (z : ℕ). z * k) p-is, ap (λ (z : ℕ). n * z) q-is)
 
--- ---- the four operations, by fractions
+-- ---- the four operations, by fractions: sums over one denominator, and over any two
+pub add-over : (f : Format) (x y : Float) (p n q k c : ℕ) → 0 < c → Diff x p n c → Diff y q k c → Rounded f (add f x y) (p + q) (n + k) c
+add-over f x y p n q k c C a b =
+    let A = signed-of x p n c a in
+    let B = signed-of y q k c b in
+    let is = add-count f x y (A .s) (B .s) (A .size) (B .size) c C (A .value) (B .value) in
+    subst (λ (v : Float). Rounded f v (p + q) (n + k) c) (sym is)
+    (sum-rounded f (A .s) (B .s) (A .size) (B .size) c p n q k (A .is) (B .is))
+
+-- x - y is x + (- y)
+pub sub-over : (f : Format) (x y : Float) (p n q k c : ℕ) → 0 < c → Diff x p n c → Diff y q k c → Rounded f (sub f x y) (p + k) (n + q) c
+unfolding sub
+sub-over f x y p n q k c C a b = add-over f x (neg y) p n k q c C a (neg-diff y q k c b)
+
 module _ (f : Format) (x y : Float) (p n q k c d : ℕ) (C : 0 < c) (D : 0 < d) (a : Diff x p n c) (b : Diff y q k d) where
+  x-over : Diff x (p * d) (n * d) (c * d)
+  x-over = diff-mul x p n c d C a
+
+  y-over : Diff y (q * c) (k * c) (c * d)
+  y-over = subst (λ (z : ℕ). Diff y (q * c) (k * c) z) (mul-comm d c) (diff-mul y q k d c D b)
+
   pub add-rounded : Rounded f (add f x y) (p * d + q * c) (n * d + k * c) (c * d)
-  add-rounded =
-      let A = signed-of x (p * d) (n * d) (c * d) (diff-mul x p n c d C a) in
-      let B = signed-of y (q * c) (k * c) (d * c) (diff-mul y q k d c D b) in
-      let over : HasValue y (B .s) (B .size) (c * d) = subst (λ (z : ℕ). HasValue y (B .s) (B .size) z) (mul-comm d c) (B .value) in
-      let is = add-count f x y (A .s) (B .s) (A .size) (B .size) (c * d) (mul-pos C D) (A .value) over in
-      subst (λ (v : Float). Rounded f v (p * d + q * c) (n * d + k * c) (c * d)) (sym is)
-      (sum-rounded f (A .s) (B .s) (A .size) (B .size) (c * d) (p * d) (n * d) (q * c) (k * c) (A .is) (B .is))
+  add-rounded = add-over f x y (p * d) (n * d) (q * c) (k * c) (c * d) (mul-pos C D) x-over y-over
+
+  pub sub-rounded : Rounded f (sub f x y) (p * d + k * c) (n * d + q * c) (c * d)
+  sub-rounded = sub-over f x y (p * d) (n * d) (q * c) (k * c) (c * d) (mul-pos C D) x-over y-over
 
   pub mul-rounded : Rounded f (mul f x y) (p * q + n * k) (p * k + n * q) (c * d)
   mul-rounded =
@@ -183,12 +199,6 @@ module _ (f : Format) (x y : Float) (p n q k c d : ℕ) (C : 0 < c) (D : 0 < d) 
         is = mul-count f x y (A .s) (B .s) (A .size) (B .size) c d C D (A .value) (B .value);
         exact = product-size (A .s) (B .s) (A .size) (B .size) p n q k (A .is) (B .is);
       }
-
--- x - y is x + (- y)
-pub sub-rounded : (f : Format) (x y : Float) (p n q k c d : ℕ) → 0 < c → 0 < d → Diff x p n c → Diff y q k d
-    → Rounded f (sub f x y) (p * d + k * c) (n * d + q * c) (c * d)
-unfolding sub
-sub-rounded f x y p n q k c d C D a b = add-rounded f x (neg y) p n k q c d C D a (neg-diff y q k d b)
 
 -- x / y for a y of the size Y / d and the sign t: the sign goes to the numerator
 abbrev pub signed-by : Bool → ℕ → ℕ → ℕ

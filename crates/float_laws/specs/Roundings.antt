@@ -11,6 +11,7 @@ use native.Mathlib.Nat.{
   mul-le-mul-right,
   le-of-mul-le-mul-right,
   zero-lt-suc,
+  zero-mul,
   le-trans,
   le-of-eq,
   lt-of-le-of-lt,
@@ -255,30 +256,31 @@ pub record Near (f : Format) (r : Float) (P N c e g : ℕ) : Type 0 where
   pub most : g * (p * c + N * 2 ^ low f) ≤ g * (P * 2 ^ low f + n * c) + e * (c * 2 ^ low f)
   pub least : g * (P * 2 ^ low f + n * c) ≤ g * (p * c + N * 2 ^ low f) + e * (c * 2 ^ low f)
 
--- up to 2 ^ k in size: within 2 ^ k / 2 ^ (prec + 1), half the last place
-pub rounded-near : (f : Format) (r : Float) (P N c k : ℕ) → Rounded f r P N c → 0 < c → P ≤ N + 2 ^ k * c → N ≤ P + 2 ^ k * c
-    → k ≤ emax f → Near f r P N c (2 ^ k) (2 ^ suc (prec f))
-rounded-near f r P N c k h C u l fine =
+-- the count that is made, beside the exact size X / c, at most 2 ^ k
+record Made (f : Format) (X c k : ℕ) : Type 0 where
+  pub under : grid f X c < overflow f
+  pub least : 2 ^ suc (prec f) * (X * 2 ^ low f) ≤ 2 ^ suc (prec f) * (grid f X c * c) + 2 ^ k * (c * 2 ^ low f)
+  pub most : 2 ^ suc (prec f) * (grid f X c * c) ≤ 2 ^ suc (prec f) * (X * 2 ^ low f) + 2 ^ k * (c * 2 ^ low f)
+
+made-near : (f : Format) (X c k : ℕ) → 0 < c → X ≤ 2 ^ k * c → k ≤ emax f → Made f X c k
+made-near f X c k C l fine =
     let K = k + low f in
     let L = 2 ^ low f in
-    let G = grid f (h .size) c in
-    let X-le : h .size ≤ 2 ^ k * c = size-le (h .s) (h .size) P N (2 ^ k * c) (h .exact) u l in
-    let in-K : h .size * L ≤ 2 ^ K * c = scale (h .size) (2 ^ k) L (2 ^ K) (pow-add 2 k (low f)) X-le in
-    let most : G ≤ 2 ^ K = grid-le f (h .size) c (2 ^ K) C (held-pow f K) in-K in
-    let end : G < overflow f = lt-of-le-of-lt most (pow-lt last) in
-    let o = off.round-absolute f (h .size) c K C (enough f) in-K in
-    let place : 2 ^ prec f * 2 ^ (K - prec f) ≡ 2 ^ k * L = sym (pow-add 2 (prec f) (K - prec f)) ∙ ap (λ (z : ℕ). 2 ^ z) (whole f) ∙ pow-add 2 k (low f) in
-    let b = both (h .s) (h .size) G L (2 ^ prec f) (2 ^ (K - prec f)) (2 ^ k) (h .exact) place (o .above) (o .below) in
+    let G = grid f X c in
+    let in-K : X * L ≤ 2 ^ K * c = scale L (2 ^ k) (2 ^ K) (pow-add 2 k (low f)) l in
+    let end : G < overflow f = lt-of-le-of-lt (grid-le f X c (2 ^ K) C (held-pow f K) in-K) (pow-lt last) in
+    let o = off.round-absolute f X c K C (enough f) in-K in
+    let place : 2 ^ prec f * 2 ^ (K - prec f) ≡ 2 ^ k * L =
+    sym (pow-add 2 (prec f) (K - prec f)) ∙ ap (λ (z : ℕ). 2 ^ z) (whole f) ∙ pow-add 2 k (low f) in
+    let g = pow-succ' 2 (prec f) in
     record {
-      p = ups (h .s) G;
-      n = downs (h .s) G;
-      is = own-diff r (h .s) G L (in-units f r P N c h end);
-      most = subst (λ (g : ℕ). g * (ups (h .s) G * c + N * L) ≤ g * (P * L + downs (h .s) G * c) + 2 ^ k * (c * L)) (sym (pow-succ' 2 (prec f))) (b .0);
-      least = subst (λ (g : ℕ). g * (P * L + downs (h .s) G * c) ≤ g * (ups (h .s) G * c + N * L) + 2 ^ k * (c * L)) (sym (pow-succ' 2 (prec f))) (b .1);
+      under = end;
+      least = by (2 ^ suc (prec f)) (2 ^ prec f) (2 ^ (K - prec f)) (2 ^ k) L (X * L) (G * c) g place (o .above);
+      most = by (2 ^ suc (prec f)) (2 ^ prec f) (2 ^ (K - prec f)) (2 ^ k) L (G * c) (X * L) g place (o .below);
     }
   where
-    scale : (X k L K : ℕ) → K ≡ k * L → X ≤ k * c → X * L ≤ K * c
-    scale X k L K e h = omega (arith, mul-le-mul-right L h, ap (λ (z : ℕ). z * c) e)
+    scale : (L B K : ℕ) → K ≡ B * L → X ≤ B * c → X * L ≤ K * c
+    scale L B K e h = omega (arith, mul-le-mul-right L h, ap (λ (z : ℕ). z * c) e)
 
     last : k + low f < low f + suc (emax f)
     last = omega arith
@@ -293,18 +295,77 @@ rounded-near f r P N c k h C u l fine =
     whole : (f : Format) → prec f + (k + low f - prec f) ≡ k + low f
     whole f = let w = enough f in omega arith
 
-    both : (s : Bool) (X G L p u B : ℕ) → SizeOf s X P N → p * u ≡ B * L
-        → 2 * (X * L) ≤ 2 * (G * c) + u * c → 2 * (G * c) ≤ 2 * (X * L) + u * c
-        → (2 * p * (ups s G * c + N * L) ≤ 2 * p * (P * L + downs s G * c) + B * (c * L))
-        × (2 * p * (P * L + downs s G * c) ≤ 2 * p * (ups s G * c + N * L) + B * (c * L))
-    both true X G L p u B x e a b =
-        let w : p * u * c ≡ B * L * c = ap (λ (z : ℕ). z * c) e in
-        let y : p * ((X + P) * L) ≡ p * (N * L) = ap (λ (z : ℕ). p * (z * L)) x in
-        (omega (arith, mul-le-mul-left p a), omega (arith, mul-le-mul-left p b))
-    both false X G L p u B x e a b =
-        let w : p * u * c ≡ B * L * c = ap (λ (z : ℕ). z * c) e in
-        let y : p * ((X + N) * L) ≡ p * (P * L) = ap (λ (z : ℕ). p * (z * L)) x in
-        (omega (arith, mul-le-mul-left p b), omega (arith, mul-le-mul-left p a))
+    by : (g p u B L a b : ℕ) → g ≡ 2 * p → p * u ≡ B * L → 2 * a ≤ 2 * b + u * c → g * a ≤ g * b + B * (c * L)
+    by g p u B L a b e w h =
+        let x : p * u * c ≡ B * L * c = ap (λ (z : ℕ). z * c) w in
+        omega (arith, mul-le-mul-left p h, ap (λ (z : ℕ). z * a) e, ap (λ (z : ℕ). z * b) e)
+
+-- up to 2 ^ k in size: within 2 ^ k / 2 ^ (prec + 1), half the last place
+pub rounded-near : (f : Format) (r : Float) (P N c k : ℕ) → Rounded f r P N c → 0 < c → P ≤ N + 2 ^ k * c → N ≤ P + 2 ^ k * c
+    → k ≤ emax f → Near f r P N c (2 ^ k) (2 ^ suc (prec f))
+rounded-near f r P N c k h C u l fine =
+    let L = 2 ^ low f in
+    let G = grid f (h .size) c in
+    let m = made-near f (h .size) c k C (size-le (h .s) (h .size) P N (2 ^ k * c) (h .exact) u l) fine in
+    let b = both (h .s) (h .size) G L (2 ^ suc (prec f)) (2 ^ k * (c * L)) (h .exact) (m .least) (m .most) in
+    record {
+      p = ups (h .s) G;
+      n = downs (h .s) G;
+      is = own-diff r (h .s) G L (in-units f r P N c h (m .under));
+      most = b .0;
+      least = b .1;
+    }
+  where
+    both : (s : Bool) (X G L g B : ℕ) → SizeOf s X P N → g * (X * L) ≤ g * (G * c) + B → g * (G * c) ≤ g * (X * L) + B
+        → (g * (ups s G * c + N * L) ≤ g * (P * L + downs s G * c) + B) × (g * (P * L + downs s G * c) ≤ g * (ups s G * c + N * L) + B)
+    both true X G L g B x a b = let y : g * ((X + P) * L) ≡ g * (N * L) = ap (λ (z : ℕ). g * (z * L)) x in (omega arith, omega arith)
+    both false X G L g B x a b = let y : g * ((X + N) * L) ≡ g * (P * L) = ap (λ (z : ℕ). g * (z * L)) x in (omega arith, omega arith)
+
+-- the same by sign and size: the exact value has the sign s and the size A / c
+pub record Sized (f : Format) (r : Float) (s : Bool) (A c e g : ℕ) : Type 0 where
+  pub count : ℕ
+  pub is : Diff r (ups s count) (downs s count) (2 ^ low f)
+  pub most : g * (count * c) ≤ g * (A * 2 ^ low f) + e * (c * 2 ^ low f)
+  pub least : g * (A * 2 ^ low f) ≤ g * (count * c) + e * (c * 2 ^ low f)
+
+pub rounded-size : (f : Format) (r : Float) (P N c : ℕ) (s : Bool) (A k : ℕ) → Rounded f r P N c → 0 < c → SizeOf s A P N
+    → A ≤ 2 ^ k * c → k ≤ emax f → Sized f r s A c (2 ^ k) (2 ^ suc (prec f))
+rounded-size f r P N c s A k h C e l fine =
+    let same : h .size ≡ A = one-size (h .s) s (h .size) A (h .exact) e in
+    let m = made-near f A c k C l fine in
+    let in-A : HasValue r (h .s) (grid f A c) (2 ^ low f) =
+    subst (λ (z : ℕ). HasValue r (h .s) (grid f z c) (2 ^ low f)) same (in-units f r P N c h (subst (λ (z : ℕ). grid f z c < overflow f) (sym same) (m .under))) in
+    record {
+      count = grid f A c;
+      is = turned (h .s) s A (h .exact) e same (own-diff r (h .s) (grid f A c) (2 ^ low f) in-A);
+      most = m .most;
+      least = m .least;
+    }
+  where
+    one-size : (s t : Bool) (X A : ℕ) → SizeOf s X P N → SizeOf t A P N → X ≡ A
+    one-size true true X A x a = omega arith
+    one-size true false X A x a = omega arith
+    one-size false true X A x a = omega arith
+    one-size false false X A x a = omega arith
+
+    -- where the signs differ the value is zero
+    none : (A : ℕ) → A ≡ 0 → grid f A c ≡ 0
+    none A e =
+        let held : Held (prec f) 0 = record { y = 0; j = 0; few = pow-pos (prec f); is = refl } in
+        let most : grid f A c ≤ 0 = grid-le f A c 0 C held (le-of-eq (ap (λ (z : ℕ). z * 2 ^ low f) e ∙ zero-mul (2 ^ low f) ∙ sym (zero-mul c))) in
+        omega arith
+
+    turned : (s t : Bool) (A : ℕ) → SizeOf s (h .size) P N → SizeOf t A P N → h .size ≡ A
+        → Diff r (ups s (grid f A c)) (downs s (grid f A c)) (2 ^ low f)
+        → Diff r (ups t (grid f A c)) (downs t (grid f A c)) (2 ^ low f)
+    turned true true A x a i d = d
+    turned false false A x a i d = d
+    turned true false A x a i d =
+        let z : grid f A c ≡ 0 = none A (omega arith) in
+        subst (λ (g : ℕ). Diff r g 0 (2 ^ low f)) (sym z) (subst (λ (g : ℕ). Diff r 0 g (2 ^ low f)) z d)
+    turned false true A x a i d =
+        let z : grid f A c ≡ 0 = none A (omega arith) in
+        subst (λ (g : ℕ). Diff r 0 g (2 ^ low f)) (sym z) (subst (λ (g : ℕ). Diff r g 0 (2 ^ low f)) z d)
 
 -- for any size up to B / c below the format's end: within B / c / 2 ^ prec and half a unit
 pub record NearBy (f : Format) (r : Float) (P N c B : ℕ) : Type 0 where

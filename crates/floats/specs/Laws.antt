@@ -5,3 +5,4 @@ pub mod RootAt
 pub mod Root
 pub mod Picked
 pub mod Sqrt
+pub mod Leaves
