@@ -11,3 +11,4 @@ pub mod Roundings
 pub mod Whole
 pub mod Quotients
 pub mod Magnitudes
+pub mod Binary64

@@ -5,7 +5,7 @@ use Prim.Native.Nat.{ℕ, suc, _+_, _-_, _*_, _^_, _≤_, _<_}
 use native.Mathlib.Nat.{zero-lt-suc, mul-le-mul-right}
 use native.Mathlib.Omega.{arith}
 use mathlib.Core.Bool.{true, false}
-use lib.Ieee.{Float, Format, prec, emax, div, binary32, binary64}
+use lib.Ieee.{Float, Format, prec, emax, low, div, binary32, binary64}
 use lib.Dec.{lit≤}
 use Rattle.float_laws.specs.Signed.{Diff, size-above, size-below}
 use Rattle.float_laws.specs.Rounded.{Rounded, div-rounded}
@@ -33,7 +33,7 @@ module _ (f : Format) (x y : Float) (p n q k : ℕ) (a : Diff x p n 1) (b : Diff
 
 -- ---- how near: any quotient with a numerator up to 2 ^ prec is finite and near; up to 2 ^ k in size, within 2 ^ k / 2 ^ (prec + 1)
 pub quotient-near : (f : Format) (r : Float) (P N D : ℕ) → Rounded f r P N D → 0 < D → P ≤ N + 2 ^ prec f → N ≤ P + 2 ^ prec f
-    → Near f r P N D (2 ^ prec f) (2 ^ suc (prec f))
+    → Near (2 ^ low f) r P N D (2 ^ prec f) (2 ^ suc (prec f))
 quotient-near f r P N D h pos u l =
     let wide : 2 ^ prec f ≤ 2 ^ prec f * D = times (2 ^ prec f) D pos in
     rounded-near f r P N D (prec f) h pos (omega arith) (omega arith) (room f)

@@ -248,13 +248,13 @@ rounded-whole f r P N c q k h C e u l =
 
 -- ---- how far a rounding is off
 
--- r is finite, and within e / g of (P - N) / c; its fraction is over the format's units
-pub record Near (f : Format) (r : Float) (P N c e g : ℕ) : Type 0 where
+-- r is finite, and within e / g of (P - N) / c; its fraction is over L, the format's units
+pub record Near (L : ℕ) (r : Float) (P N c e g : ℕ) : Type 0 where
   pub p : ℕ
   pub n : ℕ
-  pub is : Diff r p n (2 ^ low f)
-  pub most : g * (p * c + N * 2 ^ low f) ≤ g * (P * 2 ^ low f + n * c) + e * (c * 2 ^ low f)
-  pub least : g * (P * 2 ^ low f + n * c) ≤ g * (p * c + N * 2 ^ low f) + e * (c * 2 ^ low f)
+  pub is : Diff r p n (L)
+  pub most : g * (p * c + N * L) ≤ g * (P * L + n * c) + e * (c * L)
+  pub least : g * (P * L + n * c) ≤ g * (p * c + N * L) + e * (c * L)
 
 -- the count that is made, beside the exact size X / c, at most 2 ^ k
 record Made (f : Format) (X c k : ℕ) : Type 0 where
@@ -302,7 +302,7 @@ made-near f X c k C l fine =
 
 -- up to 2 ^ k in size: within 2 ^ k / 2 ^ (prec + 1), half the last place
 pub rounded-near : (f : Format) (r : Float) (P N c k : ℕ) → Rounded f r P N c → 0 < c → P ≤ N + 2 ^ k * c → N ≤ P + 2 ^ k * c
-    → k ≤ emax f → Near f r P N c (2 ^ k) (2 ^ suc (prec f))
+    → k ≤ emax f → Near (2 ^ low f) r P N c (2 ^ k) (2 ^ suc (prec f))
 rounded-near f r P N c k h C u l fine =
     let L = 2 ^ low f in
     let G = grid f (h .size) c in
@@ -322,14 +322,14 @@ rounded-near f r P N c k h C u l fine =
     both false X G L g B x a b = let y : g * ((X + N) * L) ≡ g * (P * L) = ap (λ (z : ℕ). g * (z * L)) x in (omega arith, omega arith)
 
 -- the same by sign and size: the exact value has the sign s and the size A / c
-pub record Sized (f : Format) (r : Float) (s : Bool) (A c e g : ℕ) : Type 0 where
+pub record Sized (L : ℕ) (r : Float) (s : Bool) (A c e g : ℕ) : Type 0 where
   pub count : ℕ
-  pub is : Diff r (ups s count) (downs s count) (2 ^ low f)
-  pub most : g * (count * c) ≤ g * (A * 2 ^ low f) + e * (c * 2 ^ low f)
-  pub least : g * (A * 2 ^ low f) ≤ g * (count * c) + e * (c * 2 ^ low f)
+  pub is : Diff r (ups s count) (downs s count) (L)
+  pub most : g * (count * c) ≤ g * (A * L) + e * (c * L)
+  pub least : g * (A * L) ≤ g * (count * c) + e * (c * L)
 
 pub rounded-size : (f : Format) (r : Float) (P N c : ℕ) (s : Bool) (A k : ℕ) → Rounded f r P N c → 0 < c → SizeOf s A P N
-    → A ≤ 2 ^ k * c → k ≤ emax f → Sized f r s A c (2 ^ k) (2 ^ suc (prec f))
+    → A ≤ 2 ^ k * c → k ≤ emax f → Sized (2 ^ low f) r s A c (2 ^ k) (2 ^ suc (prec f))
 rounded-size f r P N c s A k h C e l fine =
     let same : h .size ≡ A = one-size (h .s) s (h .size) A (h .exact) e in
     let m = made-near f A c k C l fine in
@@ -368,15 +368,15 @@ rounded-size f r P N c s A k h C e l fine =
         subst (λ (g : ℕ). Diff r 0 g (2 ^ low f)) (sym z) (subst (λ (g : ℕ). Diff r g 0 (2 ^ low f)) z d)
 
 -- for any size up to B / c below the format's end: within B / c / 2 ^ prec and half a unit
-pub record NearBy (f : Format) (r : Float) (P N c B : ℕ) : Type 0 where
+pub record NearBy (p-digits L : ℕ) (r : Float) (P N c B : ℕ) : Type 0 where
   pub p : ℕ
   pub n : ℕ
-  pub is : Diff r p n (2 ^ low f)
-  pub most : 2 ^ prec f * (2 * (p * c + N * 2 ^ low f)) ≤ 2 ^ prec f * (2 * (P * 2 ^ low f + n * c)) + 2 * (B * 2 ^ low f) + 2 ^ prec f * c
-  pub least : 2 ^ prec f * (2 * (P * 2 ^ low f + n * c)) ≤ 2 ^ prec f * (2 * (p * c + N * 2 ^ low f)) + 2 * (B * 2 ^ low f) + 2 ^ prec f * c
+  pub is : Diff r p n (L)
+  pub most : 2 ^ p-digits * (2 * (p * c + N * L)) ≤ 2 ^ p-digits * (2 * (P * L + n * c)) + 2 * (B * L) + 2 ^ p-digits * c
+  pub least : 2 ^ p-digits * (2 * (P * L + n * c)) ≤ 2 ^ p-digits * (2 * (p * c + N * L)) + 2 * (B * L) + 2 ^ p-digits * c
 
 pub rounded-relative : (f : Format) (r : Float) (P N c B : ℕ) → Rounded f r P N c → 0 < c → P ≤ N + B → N ≤ P + B
-    → B ≤ 2 ^ emax f * c → NearBy f r P N c B
+    → B ≤ 2 ^ emax f * c → NearBy (prec f) (2 ^ low f) r P N c B
 rounded-relative f r P N c B h C u l fine =
     let L = 2 ^ low f in
     let G = grid f (h .size) c in

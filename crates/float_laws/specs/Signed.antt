@@ -112,13 +112,13 @@ diff-finite (inf t) p n c h = absurd h
 diff-finite (fin true m e) p n c h = tt
 diff-finite (fin false m e) p n c h = tt
 
--- a value of the format, in units of the format's smallest one
-pub record Units (f : Format) (x : Float) : Type 0 where
+-- a value of the format, in units of the format's smallest one, which is 1 / L
+pub record Units (L : ℕ) (x : Float) : Type 0 where
   pub p : ℕ
   pub n : ℕ
-  pub is : Diff x p n (2 ^ low f)
+  pub is : Diff x p n L
 
-pub units-of : (f : Format) (x : Float) → T (finite x) → T (fits f x) → Units f x
+pub units-of : (f : Format) (x : Float) → T (finite x) → T (fits f x) → Units (2 ^ low f) x
 units-of f x t h =
     let k = counted f x t h in
     record {

@@ -211,19 +211,18 @@ module _ (f : Format) (X : ℕ) (some : 0 < X) (r : Float) (fit : T (fits f r)) 
       less Y u R U e = omega arith
 
 -- ---- together: r is the root of A / c, rounded, in units
-pub record Root (f : Format) (A c : ℕ) (r : Float) : Type 0 where
-  pub fit : T (fits f r)
+pub record Root (p L A c : ℕ) (r : Float) : Type 0 where
   pub R : ℕ
-  pub value : HasValue r false R (2 ^ low f)
+  pub value : HasValue r false R (L)
   -- the point halfway to another value of the format lies beyond the exact root
-  pub before : (Y : ℕ) → Held (prec f) Y → Y < R → (Y + R) * (Y + R) * c < 4 * (A * (2 ^ low f * 2 ^ low f))
-  pub after : (Y : ℕ) → Held (prec f) Y → R < Y → 4 * (A * (2 ^ low f * 2 ^ low f)) < (Y + R) * (Y + R) * c
+  pub before : (Y : ℕ) → Held p Y → Y < R → (Y + R) * (Y + R) * c < 4 * (A * (L * L))
+  pub after : (Y : ℕ) → Held p Y → R < Y → 4 * (A * (L * L)) < (Y + R) * (Y + R) * c
   -- it does not cross a value of the format
-  pub least : (Y : ℕ) → Held (prec f) Y → Y * Y * c ≤ A * (2 ^ low f * 2 ^ low f) → Y ≤ R
-  pub most : (Y : ℕ) → Held (prec f) Y → A * (2 ^ low f * 2 ^ low f) ≤ Y * Y * c → R ≤ Y
+  pub least : (Y : ℕ) → Held p Y → Y * Y * c ≤ A * (L * L) → Y ≤ R
+  pub most : (Y : ℕ) → Held p Y → A * (L * L) ≤ Y * Y * c → R ≤ Y
   -- its square is near A / c
-  pub above : 2 ^ prec f * 2 ^ prec f * (A * (2 ^ low f * 2 ^ low f)) ≤ R * R * c * ((2 ^ prec f + 1) * (2 ^ prec f + 1))
-  pub below : 2 ^ prec f * 2 ^ prec f * (R * R * c) ≤ A * (2 ^ low f * 2 ^ low f) * ((2 ^ prec f + 2) * (2 ^ prec f + 2))
+  pub above : 2 ^ p * 2 ^ p * (A * (L * L)) ≤ R * R * c * ((2 ^ p + 1) * (2 ^ p + 1))
+  pub below : 2 ^ p * 2 ^ p * (R * R * c) ≤ A * (L * L) * ((2 ^ p + 2) * (2 ^ p + 2))
 
 -- a positive number's count of units
 record Positive (f : Format) (x : Float) (A c : ℕ) : Type 0 where
@@ -249,7 +248,7 @@ positive f (fin s m e) A c t P C v =
     factor zero l = omega arith
     factor (suc X) l = zero-lt-suc X
 
-pub root-of : (f : Format) (x : Float) (A c : ℕ) → T (fits f x) → 0 < A → 0 < c → HasValue x false A c → Root f A c (rootOf f x)
+pub root-of : (f : Format) (x : Float) (A c : ℕ) → T (fits f x) → 0 < A → 0 < c → HasValue x false A c → Root (prec f) (2 ^ low f) A c (rootOf f x)
 root-of f x A c t P C v =
     let k = positive f x A c t P C v in
     let L = 2 ^ low f in
@@ -259,7 +258,6 @@ root-of f x A c t P C v =
     let near = near-at f (k .X) (k .some) (rootOf f x) fit h in
     let N : A * (L * L) ≡ k .X * L * c = over A (k .X) L (k .is) in
     record {
-      fit = fit;
       R = h .R;
       value = h .value;
       before = λ Y y l. under ((Y + h .R) * (Y + h .R)) (A * (L * L)) (k .X * L) N (h .below Y y l);
@@ -286,12 +284,13 @@ root-of f x A c t P C v =
     dn P Q M N R e l = omega (arith, mul-le-mul-right c l, ap (λ (z : ℕ). z * Q) e)
 
 -- ---- greater numbers have no lesser roots
-pub root-mono : (f : Format) (x y : Float) (A B c d : ℕ) (a : Root f A c x) (b : Root f B d y) → 0 < c → 0 < d
-    → A * d ≤ B * c → a .R ≤ b .R
-root-mono f x y A B c d a b C D l = le-of-suc-le-suc (lt-of-not-le clash)
+pub root-mono : (f : Format) (x y : Float) (A B c d : ℕ) → T (fits f x) → T (fits f y)
+    → (a : Root (prec f) (2 ^ low f) A c x) (b : Root (prec f) (2 ^ low f) B d y)
+    → 0 < c → 0 < d → A * d ≤ B * c → a .R ≤ b .R
+root-mono f x y A B c d s t a b C D l = le-of-suc-le-suc (lt-of-not-le clash)
   where
-    held-root : (A c : ℕ) (x : Float) (a : Root f A c x) → Held (prec f) (a .R)
-    held-root A c x a = held-of f x false (a .R) (a .fit) (a .value) .0
+    held-root : (A c : ℕ) (x : Float) → T (fits f x) → (a : Root (prec f) (2 ^ low f) A c x) → Held (prec f) (a .R)
+    held-root A c x t a = held-of f x false (a .R) t (a .value) .0
 
     never : (S M p q : ℕ) → S * c < 4 * (p * M) → 4 * (q * M) < S * d → p * d ≤ q * c → ⊥
     never S M p q u w l =
@@ -299,7 +298,7 @@ root-mono f x y A B c d a b C D l = le-of-suc-le-suc (lt-of-not-le clash)
 
     clash : suc (b .R) ≤ a .R → ⊥
     clash g =
-        let u = a .before (b .R) (held-root B d y b) g in
-        let w = b .after (a .R) (held-root A c x a) g in
+        let u = a .before (b .R) (held-root B d y t b) g in
+        let w = b .after (a .R) (held-root A c x s a) g in
         never ((b .R + a .R) * (b .R + a .R)) (2 ^ low f * 2 ^ low f) A B u
         (subst (λ (z : ℕ). 4 * (B * (2 ^ low f * 2 ^ low f)) < z * z * d) (add-comm (a .R) (b .R)) w) l
