@@ -1,3 +1,4 @@
 -- The line kernel's floats on the grid, said in whole numbers: laws for the promise's proof.
 pub mod Small
 pub mod Zero
+pub mod Length

@@ -21,10 +21,10 @@ pub record Small (i : ℕ) (x : Float) : Type 0 where
   pub n-le : n ≤ 2 ^ i
 
 -- ---- one operation
-sum-le : (i a b : ℕ) → a ≤ 2 ^ i → b ≤ 2 ^ i → a + b ≤ 2 ^ suc i
+pub sum-le : (i a b : ℕ) → a ≤ 2 ^ i → b ≤ 2 ^ i → a + b ≤ 2 ^ suc i
 sum-le i a b h k = omega (arith, pow-succ' 2 i)
 
-exact : (i a b : ℕ) → suc i ≤ 53 → a ≤ 2 ^ suc i → a ≤ b + 2 ^ 53
+pub exact : (i a b : ℕ) → suc i ≤ 53 → a ≤ 2 ^ suc i → a ≤ b + 2 ^ 53
 exact i a b h k = let w : 2 ^ suc i ≤ 2 ^ 53 = pow-mono h in omega arith
 
 abbrev pub small-add : (i : ℕ) (x y : Float) → suc i ≤ 53 → Small i x → Small i y → Small (suc i) (x ⊕ y)
@@ -51,7 +51,7 @@ small-sub i x y h A B =
       n-le = l;
     }
 
-product-le : (i a b : ℕ) → a ≤ 2 ^ i → b ≤ 2 ^ i → a * b ≤ 2 ^ (i + i)
+pub product-le : (i a b : ℕ) → a ≤ 2 ^ i → b ≤ 2 ^ i → a * b ≤ 2 ^ (i + i)
 product-le i a b h k = le-trans (mul-le-mul h k) (le-of-eq (sym (pow-add 2 i i)))
 
 abbrev pub small-mul : (i : ℕ) (x y : Float) → suc (i + i) ≤ 53 → Small i x → Small i y → Small (suc (i + i)) (x ⊗ y)
@@ -72,17 +72,11 @@ pub record Vec (i : ℕ) (v : Vector2) : Type 0 where
   pub y : Small i (v .y)
 
 module _ (a b : Vector2) (A : Vec 20 a) (B : Vec 20 b) where
-  dx : Small 21 (a .x ⊖ b .x)
-  dx = small-sub 20 (a .x) (b .x) (omega arith) (A .x) (B .x)
-
-  dy : Small 21 (a .y ⊖ b .y)
-  dy = small-sub 20 (a .y) (b .y) (omega arith) (A .y) (B .y)
-
-  sub-x : Diff (vector2.sub a b .x) (A .x .p + B .x .n) (A .x .n + B .x .p) 1
+  pub sub-x : Diff (vector2.sub a b .x) (A .x .p + B .x .n) (A .x .n + B .x .p) 1
   unfolding vector2.sub
   sub-x = small-sub 20 (a .x) (b .x) (omega arith) (A .x) (B .x) .is
 
-  sub-y : Diff (vector2.sub a b .y) (A .y .p + B .y .n) (A .y .n + B .y .p) 1
+  pub sub-y : Diff (vector2.sub a b .y) (A .y .p + B .y .n) (A .y .n + B .y .p) 1
   unfolding vector2.sub
   sub-y = small-sub 20 (a .y) (b .y) (omega arith) (A .y) (B .y) .is
 
