@@ -2,3 +2,4 @@
 pub mod Small
 pub mod Zero
 pub mod Length
+pub mod Range
