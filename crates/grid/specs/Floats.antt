@@ -3,3 +3,4 @@ pub mod Small
 pub mod Zero
 pub mod Length
 pub mod Range
+pub mod Point

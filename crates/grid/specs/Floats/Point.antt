@@ -1,0 +1,218 @@
+-- The point at a parameter on a grid segment: each coordinate is within 1 / 2 ^ 30 of the exact x0 + (x1 - x0) * (P - N) / D, for a
+-- parameter that is one rounding of (P - N) / D and lies less than two epsilons beyond the segment.
+-- The argument: the quotient is off by 2 ^ -53, times a difference of at most 2 ^ 21; the product by 2 ^ -32; the sum, which is at most
+-- 2 ^ 21 in size, by 2 ^ -33. Together that is five eighths of 2 ^ -30.
+use mathlib.Core.Path.{_≡_, refl, sym, ap, _∙_, subst}
+use mathlib.Core.Logic.{_⊎_, inl, inr}
+use Prim.Native.Nat.{ℕ, suc, _+_, _-_, _*_, _^_, _≤_, _<_}
+use native.Mathlib.Nat.{
+  mul-le-mul,
+  mul-le-mul-left,
+  mul-le-mul-right,
+  mul-pos,
+  le-of-mul-le-mul-right,
+  lt-of-mul-lt-mul-right,
+  lt-of-not-le,
+  zero-lt-suc,
+}
+use native.Mathlib.Omega.{arith}
+use mathlib.Core.Bool.{Bool, true, false, not}
+use lib.Dec.{T, leb, leb→le, nleb→lt, lit≤}
+use lib.Ieee.{Float, binary64}
+use lib.Ieee.Digits.{back}
+use Rattle.float_laws.specs.Signed.{Diff, diff-at}
+use Rattle.float_laws.specs.Rounded.{Rounded, add-over, mul-rounded}
+use Rattle.float_laws.specs.Roundings.{Near}
+use Rattle.float_laws.specs.Whole.{most-whole, least-whole}
+use Rattle.float_laws.specs.Binary64.{unit, unit-pos, near64}
+use Rattle.floats.specs.Ops.{_⊕_, _⊗_}
+use Rattle.grid.specs.Floats.Small.{Small}
+
+-- ---- a product of differences: |p - n| ≤ A and |q - k| ≤ B give |(p - n) * (q - k)| ≤ A * B
+pub spread : (p n q k A B : ℕ) → p ≤ n + A → n ≤ p + A → q ≤ k + B → k ≤ q + B
+    → (p * q + n * k ≤ p * k + n * q + A * B) × (p * k + n * q ≤ p * q + n * k + A * B)
+spread p n q k A B a b c d =
+    go (leb n p) (leb k q) (leb→le n p) (nleb→lt n p) (leb→le k q) (nleb→lt k q)
+  where
+    core : (p n q k x y : ℕ) → p ≡ n + x → q ≡ k + y → x ≤ A → y ≤ B
+        → (p * q + n * k ≤ p * k + n * q + A * B) × (p * k + n * q ≤ p * q + n * k + A * B)
+    core p n q k x y e f u v =
+        let e1 : p * q ≡ (n + x) * q = ap (λ (z : ℕ). z * q) e in
+        let e2 : p * k ≡ (n + x) * k = ap (λ (z : ℕ). z * k) e in
+        let f1 : x * q ≡ x * (k + y) = ap (λ (z : ℕ). x * z) f in
+        let m = mul-le-mul u v in
+        (omega arith, omega arith)
+
+    go : (e f : Bool) → (T e → n ≤ p) → (T (not e) → p < n) → (T f → k ≤ q) → (T (not f) → q < k)
+        → (p * q + n * k ≤ p * k + n * q + A * B) × (p * k + n * q ≤ p * q + n * k + A * B)
+    go true true e1 e2 f1 f2 =
+        let l = e1 tt in
+        let m = f1 tt in
+        core p n q k (p - n) (q - k) (omega arith) (omega arith) (omega arith) (omega arith)
+    go true false e1 e2 f1 f2 =
+        let l = e1 tt in
+        let m = f2 tt in
+        let w = core p n k q (p - n) (k - q) (omega arith) (omega arith) (omega arith) (omega arith) in
+        (omega arith, omega arith)
+    go false true e1 e2 f1 f2 =
+        let l = e2 tt in
+        let m = f1 tt in
+        let w = core n p q k (n - p) (q - k) (omega arith) (omega arith) (omega arith) (omega arith) in
+        (omega arith, omega arith)
+    go false false e1 e2 f1 f2 =
+        let l = e2 tt in
+        let m = f2 tt in
+        let w = core n p k q (n - p) (k - q) (omega arith) (omega arith) (omega arith) (omega arith) in
+        (omega arith, omega arith)
+
+-- ---- arithmetic. t is (tp - tn) / L, the product (qp - qn) / L, the sum (cp - cn) / L; x0 is a - b and x1 - x0 is c - d. The three
+-- errors, multiplied out and added up.
+parts : (m1 m2 m3 m4 n1 n2 n3 n4 q1 q2 k1 k2 a1 b1 w : ℕ)
+    → 2 ^ 54 * (m1 + n1 + n2 + m2) ≤ 2 ^ 54 * (n3 + m3 + m4 + n4) + 2 ^ 22 * w
+    → 2 ^ 54 * (q1 + m3 + m4) ≤ 2 ^ 54 * (m1 + m2 + q2) + 2 ^ 22 * w
+    → 2 ^ 54 * (k1 + b1 + q2) ≤ 2 ^ 54 * (a1 + q1 + k2) + 2 ^ 21 * w
+    → 2 ^ 30 * (k1 + b1 + n1 + n2) ≤ 2 ^ 30 * (a1 + n3 + n4 + k2) + w
+parts m1 m2 m3 m4 n1 n2 n3 n4 q1 q2 k1 k2 a1 b1 w x y z = omega arith
+
+module _ (a b c d P N D L tp tn qp qn cp cn : ℕ) where
+  of-quotient : c * (2 ^ 54 * (tp * D + N * L)) + d * (2 ^ 54 * (P * L + tn * D))
+          ≤ c * (2 ^ 54 * (P * L + tn * D)) + d * (2 ^ 54 * (tp * D + N * L)) + 2 ^ 21 * (2 ^ 1 * (D * L))
+      → 2 ^ 54 * (c * tp * D + c * N * L + d * P * L + d * tn * D) ≤ 2 ^ 54 * (c * P * L + c * tn * D + d * tp * D + d * N * L) + 2 ^ 22 * (D * L)
+  of-quotient x = omega arith
+
+  of-product : 2 ^ 54 * (qp + (c * tn + d * tp)) ≤ 2 ^ 54 * (c * tp + d * tn + qn) + 2 ^ 22 * L
+      → 2 ^ 54 * (qp * D + c * tn * D + d * tp * D) ≤ 2 ^ 54 * (c * tp * D + d * tn * D + qn * D) + 2 ^ 22 * (D * L)
+  of-product y = omega (arith, mul-le-mul-right D y)
+
+  of-sum : 2 ^ 54 * (cp + (b * L + qn)) ≤ 2 ^ 54 * (a * L + qp + cn) + 2 ^ 21 * L
+      → 2 ^ 54 * (cp * D + b * L * D + qn * D) ≤ 2 ^ 54 * (a * L * D + qp * D + cn * D) + 2 ^ 21 * (D * L)
+  of-sum z = omega (arith, mul-le-mul-right D z)
+
+  together : c * (2 ^ 54 * (tp * D + N * L)) + d * (2 ^ 54 * (P * L + tn * D))
+          ≤ c * (2 ^ 54 * (P * L + tn * D)) + d * (2 ^ 54 * (tp * D + N * L)) + 2 ^ 21 * (2 ^ 1 * (D * L))
+      → 2 ^ 54 * (qp + (c * tn + d * tp)) ≤ 2 ^ 54 * (c * tp + d * tn + qn) + 2 ^ 22 * L
+      → 2 ^ 54 * (cp + (b * L + qn)) ≤ 2 ^ 54 * (a * L + qp + cn) + 2 ^ 21 * L
+      → 2 ^ 30 * (cp * D + (b * D + (c * N + d * P)) * L) ≤ 2 ^ 30 * ((a * D + (c * P + d * N)) * L + cn * D) + 1 * (D * L)
+  together x y z = flat
+      (parts (c * tp * D) (d * tn * D) (c * tn * D) (d * tp * D) (c * N * L) (d * P * L) (c * P * L) (d * N * L)
+      (qp * D) (qn * D) (cp * D) (cn * D) (a * L * D) (b * L * D) (D * L)
+      (of-quotient x) (of-product y) (of-sum z))
+    where
+      flat : 2 ^ 30 * (cp * D + b * L * D + c * N * L + d * P * L) ≤ 2 ^ 30 * (a * L * D + c * P * L + d * N * L + cn * D) + D * L
+          → 2 ^ 30 * (cp * D + (b * D + (c * N + d * P)) * L) ≤ 2 ^ 30 * ((a * D + (c * P + d * N)) * L + cn * D) + 1 * (D * L)
+      flat h = omega arith
+
+-- so the exact sum is near the exact point, and no more than 2 ^ 21 in size
+in-size : (m1 m2 m3 m4 n1 n2 n3 n4 q1 q2 a1 b1 w : ℕ)
+    → 2 ^ 54 * (m1 + n1 + n2 + m2) ≤ 2 ^ 54 * (n3 + m3 + m4 + n4) + 2 ^ 22 * w
+    → 2 ^ 54 * (q1 + m3 + m4) ≤ 2 ^ 54 * (m1 + m2 + q2) + 2 ^ 22 * w
+    → a1 + n3 + n4 ≤ b1 + n1 + n2 + 1048577 * w
+    → a1 + q1 ≤ b1 + q2 + 2 ^ 21 * w
+in-size m1 m2 m3 m4 n1 n2 n3 n4 q1 q2 a1 b1 w x y z = omega arith
+
+sum-size : (a b c d P N D L tp tn qp qn : ℕ) → 0 < D
+    → c * (2 ^ 54 * (tp * D + N * L)) + d * (2 ^ 54 * (P * L + tn * D))
+    ≤ c * (2 ^ 54 * (P * L + tn * D)) + d * (2 ^ 54 * (tp * D + N * L)) + 2 ^ 21 * (2 ^ 1 * (D * L))
+    → 2 ^ 54 * (qp + (c * tn + d * tp)) ≤ 2 ^ 54 * (c * tp + d * tn + qn) + 2 ^ 22 * L
+    → a * D + (c * P + d * N) ≤ b * D + (c * N + d * P) + 1048577 * D
+    → a * L + qp ≤ b * L + qn + 2 ^ 21 * L
+sum-size a b c d P N D L tp tn qp qn C x y z =
+    le-of-mul-le-mul-right {m = a * L + qp} {n = b * L + qn + 2 ^ 21 * L} {k = D}
+    (back-to (in-size (c * tp * D) (d * tn * D) (c * tn * D) (d * tp * D) (c * N * L) (d * P * L) (c * P * L) (d * N * L)
+    (qp * D) (qn * D) (a * L * D) (b * L * D) (D * L)
+    (of-quotient a b c d P N D L tp tn qp qn 0 0 x) (of-product a b c d P N D L tp tn qp qn 0 0 y) flat)) C
+  where
+    flat : a * L * D + c * P * L + d * N * L ≤ b * L * D + c * N * L + d * P * L + 1048577 * (D * L)
+    flat = omega (arith, mul-le-mul-right L z)
+
+    back-to : a * L * D + qp * D ≤ b * L * D + qn * D + 2 ^ 21 * (D * L) → (a * L + qp) * D ≤ (b * L + qn + 2 ^ 21 * L) * D
+    back-to h = omega arith
+
+-- ---- one coordinate
+-- a common factor, cut
+cut : (x y X Y L : ℕ) → 0 < L → 2 ^ 54 * (x * (1 * L) + Y * L) ≤ 2 ^ 54 * (X * L + y * (1 * L)) + 2 ^ 22 * (1 * L * L)
+    → 2 ^ 54 * (x + Y) ≤ 2 ^ 54 * (X + y) + 2 ^ 22 * L
+cut x y X Y L Q h = le-of-mul-le-mul-right {m = 2 ^ 54 * (x + Y)} {n = 2 ^ 54 * (X + y) + 2 ^ 22 * L} {k = L} (omega arith) Q
+
+cut-sum : (x y X Y L : ℕ) → 0 < L → 2 ^ 54 * (x * L + Y * L) ≤ 2 ^ 54 * (X * L + y * L) + 2 ^ 21 * (L * L)
+    → 2 ^ 54 * (x + Y) ≤ 2 ^ 54 * (X + y) + 2 ^ 21 * L
+cut-sum x y X Y L Q h = le-of-mul-le-mul-right {m = 2 ^ 54 * (x + Y)} {n = 2 ^ 54 * (X + y) + 2 ^ 21 * L} {k = L} (omega arith) Q
+
+pub coordinate : (x0 dx t : Float) (A : Small 20 x0) (B : Small 21 dx) (P N D : ℕ) → Rounded binary64 t P N D → 0 < D
+    → P ≤ N + 2 * D → N ≤ P + 2 * D
+    → A .p * D + (B .p * P + B .n * N) ≤ A .n * D + (B .p * N + B .n * P) + 1048577 * D
+    → A .n * D + (B .p * N + B .n * P) ≤ A .p * D + (B .p * P + B .n * N) + 1048577 * D
+    → Near unit (x0 ⊕ dx ⊗ t) (A .p * D + (B .p * P + B .n * N)) (A .n * D + (B .p * N + B .n * P)) D 1 (2 ^ 30)
+coordinate x0 dx t A B P N D r C u l hi lo =
+    let L = unit in
+    let a = A .p in
+    let b = A .n in
+    let c = B .p in
+    let d = B .n in
+    let T = near64 t P N D 1 r C u l (lit≤ tt) in
+    let tp = T .p in
+    let tn = T .n in
+    let t-up = most-whole binary64 t P N D r C tp tn L unit-pos (T .is) 2 0 (lit≤ tt) (lit≤ tt) (turn P N D u) in
+    let t-dn = least-whole binary64 t P N D r C tp tn L unit-pos (T .is) 0 2 (lit≤ tt) (lit≤ tt) (turn' P N D l) in
+    let off-t = spread c d (2 ^ 54 * (tp * D + N * L)) (2 ^ 54 * (P * L + tn * D)) (2 ^ 21) (2 ^ 1 * (D * L)) (wide c d (B .p-le)) (wide d c (B .n-le)) (T .most) (T .least) in
+    let off-t' = swapped c d (tp * D) (N * L) (P * L) (tn * D) (2 ^ 21 * (2 ^ 1 * (D * L))) (off-t .1) in
+    let product = mul-rounded binary64 dx t c d tp tn 1 L (zero-lt-suc 0) unit-pos (B .is) (T .is) in
+    let p-size = spread c d tp tn (2 ^ 21) (2 * L) (wide c d (B .p-le)) (wide d c (B .n-le)) (plain tp tn L t-up) (plain' tp tn L t-dn) in
+    let Q = near64 (dx ⊗ t) _ _ (1 * L) 22 product (one-unit L unit-pos) (as-unit _ _ L (p-size .0)) (as-unit _ _ L (p-size .1)) (lit≤ tt) in
+    let q-most = cut (Q .p) (Q .n) (c * tp + d * tn) (c * tn + d * tp) L unit-pos (Q .most) in
+    let q-least = cut' (Q .p) (Q .n) (c * tp + d * tn) (c * tn + d * tp) L unit-pos (Q .least) in
+    let q-is : Diff (dx ⊗ t) (Q .p) (Q .n) L = Q .is in
+    let x-is : Diff x0 (a * L) (b * L) L = diff-at x0 a b 1 (a * L) (b * L) L (zero-lt-suc 0) (A .is) (over a b L) in
+    let sum = add-over binary64 x0 (dx ⊗ t) (a * L) (b * L) (Q .p) (Q .n) L unit-pos x-is q-is in
+    let s-up = sum-size a b c d P N D L tp tn (Q .p) (Q .n) C (off-t .0) q-most hi in
+    let s-dn = sum-size b a c d N P D L tn tp (Q .n) (Q .p) C off-t' q-least lo in
+    let Z = near64 (x0 ⊕ dx ⊗ t) _ _ L 21 sum unit-pos s-up s-dn (lit≤ tt) in
+    let z-most = cut-sum (Z .p) (Z .n) (a * L + Q .p) (b * L + Q .n) L unit-pos (Z .most) in
+    let z-least = cut-sum' (Z .p) (Z .n) (a * L + Q .p) (b * L + Q .n) L unit-pos (Z .least) in
+    record {
+      p = Z .p;
+      n = Z .n;
+      is = Z .is;
+      most = together a b c d P N D L tp tn (Q .p) (Q .n) (Z .p) (Z .n) (off-t .0) q-most z-most;
+      least = turned (Z .p * D) (Z .n * D) (a * D + (c * P + d * N)) (b * D + (c * N + d * P)) L (1 * (D * L))
+          (together b a c d N P D L tn tp (Q .n) (Q .p) (Z .n) (Z .p) off-t' q-least z-least);
+    }
+  where
+    turn : (P N D : ℕ) → P ≤ N + 2 * D → P + 0 * D ≤ 2 * D + N
+    turn P N D x = omega arith
+
+    turn' : (P N D : ℕ) → N ≤ P + 2 * D → 0 * D + N ≤ P + 2 * D
+    turn' P N D x = omega arith
+
+    plain : (p n L : ℕ) → p + 0 * L ≤ 2 * L + n → p ≤ n + 2 * L
+    plain p n L x = omega arith
+
+    plain' : (p n L : ℕ) → 0 * L + n ≤ p + 2 * L → n ≤ p + 2 * L
+    plain' p n L x = omega arith
+
+    wide : (c d : ℕ) → c ≤ 2 ^ 21 → c ≤ d + 2 ^ 21
+    wide c d x = omega arith
+
+    one-unit : (L : ℕ) → 0 < L → 0 < 1 * L
+    one-unit L x = omega arith
+
+    as-unit : (x y L : ℕ) → x ≤ y + 2 ^ 21 * (2 * L) → x ≤ y + 2 ^ 22 * (1 * L)
+    as-unit x y L h = omega arith
+
+    over : (a b L : ℕ) → a * L + b * L * 1 ≡ a * L * 1 + b * L
+    over a b L = omega arith
+
+    swapped : (c d x y z w B : ℕ) → c * (2 ^ 54 * (z + w)) + d * (2 ^ 54 * (x + y)) ≤ c * (2 ^ 54 * (x + y)) + d * (2 ^ 54 * (z + w)) + B
+        → c * (2 ^ 54 * (w + z)) + d * (2 ^ 54 * (y + x)) ≤ c * (2 ^ 54 * (y + x)) + d * (2 ^ 54 * (w + z)) + B
+    swapped c d x y z w B h = omega arith
+
+    cut' : (x y X Y L : ℕ) → 0 < L → 2 ^ 54 * (X * L + y * (1 * L)) ≤ 2 ^ 54 * (x * (1 * L) + Y * L) + 2 ^ 22 * (1 * L * L)
+        → 2 ^ 54 * (y + X) ≤ 2 ^ 54 * (Y + x) + 2 ^ 22 * L
+    cut' x y X Y L Q h = le-of-mul-le-mul-right {m = 2 ^ 54 * (y + X)} {n = 2 ^ 54 * (Y + x) + 2 ^ 22 * L} {k = L} (omega arith) Q
+
+    cut-sum' : (x y X Y L : ℕ) → 0 < L → 2 ^ 54 * (X * L + y * L) ≤ 2 ^ 54 * (x * L + Y * L) + 2 ^ 21 * (L * L)
+        → 2 ^ 54 * (y + X) ≤ 2 ^ 54 * (Y + x) + 2 ^ 21 * L
+    cut-sum' x y X Y L Q h = le-of-mul-le-mul-right {m = 2 ^ 54 * (y + X)} {n = 2 ^ 54 * (Y + x) + 2 ^ 21 * L} {k = L} (omega arith) Q
+
+    turned : (x y X Y L B : ℕ) → 2 ^ 30 * (y + X * L) ≤ 2 ^ 30 * (Y * L + x) + B → 2 ^ 30 * (X * L + y) ≤ 2 ^ 30 * (x + Y * L) + B
+    turned x y X Y L B h = omega arith
