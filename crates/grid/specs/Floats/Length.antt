@@ -4,8 +4,8 @@ use mathlib.Core.Path.{_≡_, refl, sym, ap, subst}
 use Prim.Native.Nat.{ℕ, suc, _+_, _-_, _*_, _^_, _≤_, _<_}
 use native.Mathlib.Nat.{zero-lt-suc, mul-le-mul-left, mul-le-mul-right, le-of-mul-le-mul-left}
 use native.Mathlib.Omega.{arith}
-use mathlib.Core.Bool.{false}
-use lib.Dec.{T, lit<, lit≤}
+use mathlib.Core.Bool.{Bool, true, false, not}
+use lib.Dec.{T, leb, leb→le, nleb→lt, lit<, lit≤}
 use lib.Ieee.{Float, binary64, low, fits}
 use lib.Ieee.Exact.{HasValue}
 use lib.Ieee.Fits.{add-fits}
@@ -19,6 +19,34 @@ use Rattle.floats.specs.Laws.Sqrt.{Root, root-of}
 use Rattle.plane.specs.Vector2 as vector2
 use Rattle.plane.specs.declared.vector2.Vector2.{Vector2}
 use Rattle.grid.specs.Floats.Small.{Small, Vec, dots}
+
+-- ---- the self dot is the sum of two squares
+abbrev pub gap : ℕ → ℕ → ℕ
+gap p n = (p - n) + (n - p)
+
+pub gap-square : (p n : ℕ) → gap p n * gap p n + (p * n + n * p) ≡ p * p + n * n
+gap-square p n = go (leb n p) (leb→le n p) (nleb→lt n p)
+  where
+    square : (p n d g : ℕ) → p ≡ n + d → g ≡ d → g * g + (p * n + n * p) ≡ p * p + n * n
+    square p n d g e f =
+        let e1 : p * p ≡ (n + d) * (n + d) = ap (λ (z : ℕ). z * z) e in
+        let e2 : p * n ≡ (n + d) * n = ap (λ (z : ℕ). z * n) e in
+        let f1 : g * g ≡ d * d = ap (λ (z : ℕ). z * z) f in
+        omega arith
+
+    go : (b : Bool) → (T b → n ≤ p) → (T (not b) → p < n) → gap p n * gap p n + (p * n + n * p) ≡ p * p + n * n
+    go true over under = let l = over tt in square p n (p - n) (gap p n) (omega arith) (omega arith)
+    go false over under = let l = under tt in let w = square n p (n - p) (gap p n) (omega arith) (omega arith) in omega arith
+
+pub squares-are : (v : Vector2) (A : Vec 21 v) (S : ℕ) → S + dots v v A A .n ≡ dots v v A A .p
+    → S ≡ gap (A .x .p) (A .x .n) * gap (A .x .p) (A .x .n) + gap (A .y .p) (A .y .n) * gap (A .y .p) (A .y .n)
+squares-are v A S e =
+    plain S (A .x .p) (A .x .n) (A .y .p) (A .y .n) (gap (A .x .p) (A .x .n)) (gap (A .y .p) (A .y .n)) e
+    (gap-square (A .x .p) (A .x .n)) (gap-square (A .y .p) (A .y .n))
+  where
+    plain : (S p n q k g h : ℕ) → S + (p * n + n * p + (q * k + k * q)) ≡ p * p + n * n + (q * q + k * k)
+        → g * g + (p * n + n * p) ≡ p * p + n * n → h * h + (q * k + k * q) ≡ q * q + k * k → S ≡ g * g + h * h
+    plain S p n q k g h e x y = omega arith
 
 pub record Long (v : Vector2) (S : ℕ) : Type 0 where
   pub R : ℕ

@@ -12,7 +12,7 @@ use native.Mathlib.Nat.{
   mul-pos,
   le-of-mul-le-mul-right,
   lt-of-mul-lt-mul-right,
-  lt-of-not-le,
+  le-of-lt,
   zero-lt-suc,
 }
 use native.Mathlib.Omega.{arith}
@@ -25,8 +25,15 @@ use Rattle.float_laws.specs.Rounded.{Rounded, add-over, mul-rounded}
 use Rattle.float_laws.specs.Roundings.{Near}
 use Rattle.float_laws.specs.Whole.{most-whole, least-whole}
 use Rattle.float_laws.specs.Binary64.{unit, unit-pos, near64}
-use Rattle.floats.specs.Ops.{_⊕_, _⊗_}
-use Rattle.grid.specs.Floats.Small.{Small}
+use Rattle.floats.specs.Ops.{_⊕_, _⊖_, _⊗_}
+use Rattle.floats.specs.Laws.Isqrt.{sq-lt}
+use Rattle.plane.specs.Vector2 as vector2
+use Rattle.plane.specs.declared.vector2.Vector2.{Vector2}
+use Rattle.plane.specs.BaseMath.{pointFromParametric}
+use Rattle.grid.specs.Floats.Small.{Small, Vec, small-sub, vec-sub, dots}
+use Rattle.grid.specs.Floats.Zero.{Eps}
+use Rattle.grid.specs.Floats.Length.{gap, squares-are}
+use Rattle.grid.specs.Floats.Range.{Reaches}
 
 -- ---- a product of differences: |p - n| ≤ A and |q - k| ≤ B give |(p - n) * (q - k)| ≤ A * B
 pub spread : (p n q k A B : ℕ) → p ≤ n + A → n ≤ p + A → q ≤ k + B → k ≤ q + B
@@ -216,3 +223,141 @@ coordinate x0 dx t A B P N D r C u l hi lo =
 
     turned : (x y X Y L B : ℕ) → 2 ^ 30 * (y + X * L) ≤ 2 ^ 30 * (Y * L + x) + B → 2 ^ 30 * (X * L + y) ≤ 2 ^ 30 * (x + Y * L) + B
     turned x y X Y L B h = omega arith
+
+-- ---- the exact point of a parameter in reach is no more than 2 ^ 20 + 1 in size
+module _ (a b a1 b1 P N D : ℕ) (am : a ≤ 2 ^ 20) (bm : b ≤ 2 ^ 20) (cm : a1 ≤ 2 ^ 20) (dm : b1 ≤ 2 ^ 20) where
+  Claim : Type 0
+  Claim = (a * D + ((a1 + b) * P + (b1 + a) * N) ≤ b * D + ((a1 + b) * N + (b1 + a) * P) + 1048577 * D)
+      × (b * D + ((a1 + b) * N + (b1 + a) * P) ≤ a * D + ((a1 + b) * P + (b1 + a) * N) + 1048577 * D)
+
+  -- on the segment, s / D of the way: what is left is r / D
+  inside : (s r : ℕ) → P ≡ N + s → D ≡ s + r → Claim
+  unfolding Claim
+  inside s r e f =
+      let e1 : (a1 + b) * P ≡ (a1 + b) * (N + s) = ap (λ (z : ℕ). (a1 + b) * z) e in
+      let e2 : (b1 + a) * P ≡ (b1 + a) * (N + s) = ap (λ (z : ℕ). (b1 + a) * z) e in
+      let f1 : a * D ≡ a * (s + r) = ap (λ (z : ℕ). a * z) f in
+      let f2 : b * D ≡ b * (s + r) = ap (λ (z : ℕ). b * z) f in
+      let m1 = mul-le-mul-right r am in
+      let m2 = mul-le-mul-right r bm in
+      let m3 = mul-le-mul-right s cm in
+      let m4 = mul-le-mul-right s dm in
+      (omega arith, omega arith)
+
+  -- beyond the end, or before the start, by s / D of a side g
+  past-end : (s g : ℕ) → P ≡ N + D + s → a1 + b ≤ b1 + a + g → b1 + a ≤ a1 + b + g → g * s ≤ D → Claim
+  unfolding Claim
+  past-end s g e u l f =
+      let e1 : (a1 + b) * P ≡ (a1 + b) * (N + D + s) = ap (λ (z : ℕ). (a1 + b) * z) e in
+      let e2 : (b1 + a) * P ≡ (b1 + a) * (N + D + s) = ap (λ (z : ℕ). (b1 + a) * z) e in
+      let m1 = mul-le-mul-right s u in
+      let m2 = mul-le-mul-right s l in
+      let m3 = mul-le-mul-right D cm in
+      let m4 = mul-le-mul-right D dm in
+      (omega arith, omega arith)
+
+  past-start : (s g : ℕ) → N ≡ P + s → a1 + b ≤ b1 + a + g → b1 + a ≤ a1 + b + g → g * s ≤ D → Claim
+  unfolding Claim
+  past-start s g e u l f =
+      let e1 : (a1 + b) * N ≡ (a1 + b) * (P + s) = ap (λ (z : ℕ). (a1 + b) * z) e in
+      let e2 : (b1 + a) * N ≡ (b1 + a) * (P + s) = ap (λ (z : ℕ). (b1 + a) * z) e in
+      let m1 = mul-le-mul-right s u in
+      let m2 = mul-le-mul-right s l in
+      let m3 = mul-le-mul-right D am in
+      let m4 = mul-le-mul-right D bm in
+      (omega arith, omega arith)
+
+-- ---- how far a parameter in reach goes: times a side of the segment, less than 1
+module _ (e : Float) (num den : ℕ) (h : Eps e num den) (S P N D : ℕ) (r : Reaches S num den P N D) where
+  short : (a g : ℕ) → g * g ≤ S → a * a * S * (den * den) < 4 * (num * num * (D * D)) → g * a < D
+  short a g l x =
+      let half = mul-le-mul (h .most) (h .most) in
+      let y = mul-le-mul-right (D * D) half in
+      let z : a * a * S * (den * den) < D * D * (den * den) = omega arith in
+      let w : a * a * S < D * D = lt-of-mul-lt-mul-right (den * den) z in
+      let m = mul-le-mul-left (a * a) l in
+      sq-lt (g * a) D (omega arith)
+
+  pub in-range : 0 < S → (P ≤ N + 2 * D) × (N ≤ P + 2 * D)
+  in-range some = (up (leb P (N + D)) (leb→le P (N + D)) (nleb→lt P (N + D)), dn (leb N P) (leb→le N P) (nleb→lt N P))
+    where
+      up : (b : Bool) → (T b → P ≤ N + D) → (T (not b) → N + D < P) → P ≤ N + 2 * D
+      up true lo hi = let w = lo tt in omega arith
+      up false lo hi =
+          let w = hi tt in
+          let x : P - (N + D) + (N + D) ≡ P = omega arith in
+          let s = short (P - (N + D)) 1 some (r .end (P - (N + D)) x) in
+          omega arith
+
+      dn : (b : Bool) → (T b → N ≤ P) → (T (not b) → P < N) → N ≤ P + 2 * D
+      dn true lo hi = let w = lo tt in omega arith
+      dn false lo hi =
+          let w = hi tt in
+          let x : N - P + P ≡ N = omega arith in
+          let s = short (N - P) 1 some (r .start (N - P) x) in
+          omega arith
+
+  -- a coordinate of the exact point: the ends are a - b and a1 - b1, the side g
+  of-size : (a b a1 b1 g : ℕ) → a ≤ 2 ^ 20 → b ≤ 2 ^ 20 → a1 ≤ 2 ^ 20 → b1 ≤ 2 ^ 20
+      → a1 + b ≤ b1 + a + g → b1 + a ≤ a1 + b + g → g * g ≤ S
+      → (a * D + ((a1 + b) * P + (b1 + a) * N) ≤ b * D + ((a1 + b) * N + (b1 + a) * P) + 1048577 * D)
+      × (b * D + ((a1 + b) * N + (b1 + a) * P) ≤ a * D + ((a1 + b) * P + (b1 + a) * N) + 1048577 * D)
+  unfolding Claim
+  of-size a b a1 b1 g am bm cm dm u l q =
+      go (leb N P) (leb P (N + D)) (leb→le N P) (nleb→lt N P) (leb→le P (N + D)) (nleb→lt P (N + D))
+    where
+      go : (x y : Bool) → (T x → N ≤ P) → (T (not x) → P < N) → (T y → P ≤ N + D) → (T (not y) → N + D < P)
+          → (a * D + ((a1 + b) * P + (b1 + a) * N) ≤ b * D + ((a1 + b) * N + (b1 + a) * P) + 1048577 * D)
+          × (b * D + ((a1 + b) * N + (b1 + a) * P) ≤ a * D + ((a1 + b) * P + (b1 + a) * N) + 1048577 * D)
+      go true true x1 x2 y1 y2 =
+          let v = x1 tt in
+          let w = y1 tt in
+          inside a b a1 b1 P N D am bm cm dm (P - N) (D - (P - N)) (omega arith) (omega arith)
+      go true false x1 x2 y1 y2 =
+          let w = y2 tt in
+          let k : P - (N + D) + (N + D) ≡ P = omega arith in
+          let f = short (P - (N + D)) g q (r .end (P - (N + D)) k) in
+          past-end a b a1 b1 P N D am bm cm dm (P - (N + D)) g (omega arith) u l (le-of-lt f)
+      go false true x1 x2 y1 y2 =
+          let w = x2 tt in
+          let k : N - P + P ≡ N = omega arith in
+          let f = short (N - P) g q (r .start (N - P) k) in
+          past-start a b a1 b1 P N D am bm cm dm (N - P) g (omega arith) u l (le-of-lt f)
+      go false false x1 x2 y1 y2 =
+          let v = x2 tt in
+          let w = y2 tt in
+          absurd (omega arith)
+
+-- ---- the point
+module _ (e : Float) (num den : ℕ) (h : Eps e num den)
+    (p0 p1 : Vector2) (A0 : Vec 20 p0) (A1 : Vec 20 p1) (S : ℕ)
+    (square : S + dots (vector2.sub p1 p0) (vector2.sub p1 p0) (vec-sub p1 p0 A1 A0) (vec-sub p1 p0 A1 A0) .n
+        ≡ dots (vector2.sub p1 p0) (vector2.sub p1 p0) (vec-sub p1 p0 A1 A0) (vec-sub p1 p0 A1 A0) .p)
+    (some : 0 < S)
+    (t : Float) (P N D : ℕ) (r : Rounded binary64 t P N D) (C : 0 < D) (reach : Reaches S num den P N D) where
+  abbrev side : Vec 21 (vector2.sub p1 p0)
+  side = vec-sub p1 p0 A1 A0
+
+  pub point-x : Near unit (pointFromParametric p0 p1 t .x)
+      (A0 .x .p * D + (side .x .p * P + side .x .n * N)) (A0 .x .n * D + (side .x .p * N + side .x .n * P)) D 1 (2 ^ 30)
+  unfolding pointFromParametric vector2.add vector2.scale vector2.sub
+  point-x =
+      let w = in-range e num den h S P N D reach some in
+      let k = of-size e num den h S P N D reach (A0 .x .p) (A0 .x .n) (A1 .x .p) (A1 .x .n) (gap (side .x .p) (side .x .n))
+      (A0 .x .p-le) (A0 .x .n-le) (A1 .x .p-le) (A1 .x .n-le) (omega arith) (omega arith) (first S _ _ (squares-are (vector2.sub p1 p0) side S square)) in
+      coordinate (p0 .x) (p1 .x ⊖ p0 .x) t (A0 .x) (small-sub 20 (p1 .x) (p0 .x) (lit≤ tt) (A1 .x) (A0 .x)) P N D r C (w .0) (w .1) (k .0) (k .1)
+    where
+      first : (S g h : ℕ) → S ≡ g * g + h * h → g * g ≤ S
+      first S g h e = omega arith
+
+  pub point-y : Near unit (pointFromParametric p0 p1 t .y)
+      (A0 .y .p * D + (side .y .p * P + side .y .n * N)) (A0 .y .n * D + (side .y .p * N + side .y .n * P)) D 1 (2 ^ 30)
+  unfolding pointFromParametric vector2.add vector2.scale vector2.sub
+  point-y =
+      let w = in-range e num den h S P N D reach some in
+      let k = of-size e num den h S P N D reach (A0 .y .p) (A0 .y .n) (A1 .y .p) (A1 .y .n) (gap (side .y .p) (side .y .n))
+      (A0 .y .p-le) (A0 .y .n-le) (A1 .y .p-le) (A1 .y .n-le) (omega arith) (omega arith) (second S _ _ (squares-are (vector2.sub p1 p0) side S square)) in
+      coordinate (p0 .y) (p1 .y ⊖ p0 .y) t (A0 .y) (small-sub 20 (p1 .y) (p0 .y) (lit≤ tt) (A1 .y) (A0 .y)) P N D r C (w .0) (w .1) (k .0) (k .1)
+    where
+      second : (S g h : ℕ) → S ≡ g * g + h * h → h * h ≤ S
+      second S g h e = omega arith

@@ -39,6 +39,11 @@ use Rattle.crossing.specs.LineLine.{within}
 use Rattle.grid.specs.Floats.Zero.{Eps}
 use Rattle.grid.specs.Floats.Length.{Long}
 
+-- the parameter (P - N) / D, on a vector with the self dot S, lies less than 2 * num / den beyond the end or before the start
+pub record Reaches (S num den P N D : ℕ) : Type 0 where
+  pub end : (a : ℕ) → a + (N + D) ≡ P → a * a * S * (den * den) < 4 * (num * num * (D * D))
+  pub start : (a : ℕ) → a + P ≡ N → a * a * S * (den * den) < 4 * (num * num * (D * D))
+
 -- ---- the epsilon in units
 pub record EpsUnits (e : Float) (num den : ℕ) : Type 0 where
   pub E : ℕ
@@ -417,11 +422,7 @@ module _ (e : Float) (num den : ℕ) (h : Eps e num den)
   within-yes x y = is-true _ (and-i (fuzzyGtEps (t ⊗ len) f0 e) (fuzzyLtEps (t ⊗ len) len e) (after-start x) (before-end y))
 
   -- a yes is right but for less than two epsilons
-  pub record Reaches : Type 0 where
-    pub end : (a : ℕ) → a + (N + D) ≡ P → a * a * S * (den * den) < 4 * (num * num * (D * D))
-    pub start : (a : ℕ) → a + P ≡ N → a * a * S * (den * den) < 4 * (num * num * (D * D))
-
-  pub within-says : within t v e ≡ true → Reaches
+  pub within-says : within t v e ≡ true → Reaches S num den P N D
   unfolding within fuzzyInRangeEps
   within-says x =
       let w : T (fuzzyGtEps (t ⊗ len) f0 e && fuzzyLtEps (t ⊗ len) len e) = subst T (sym x) tt in
