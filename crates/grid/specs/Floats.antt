@@ -4,3 +4,5 @@ pub mod Zero
 pub mod Length
 pub mod Range
 pub mod Point
+pub mod Ratio
+pub mod Crossing
