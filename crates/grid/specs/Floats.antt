@@ -2,6 +2,7 @@
 pub mod Small
 pub mod Zero
 pub mod Length
+pub mod Reach
 pub mod Range
 pub mod Point
 pub mod Ratio

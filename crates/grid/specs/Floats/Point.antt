@@ -11,7 +11,6 @@ use native.Mathlib.Nat.{
   mul-le-mul-right,
   mul-pos,
   le-of-mul-le-mul-right,
-  lt-of-mul-lt-mul-right,
   le-of-lt,
   zero-lt-suc,
 }
@@ -26,14 +25,13 @@ use Rattle.float_laws.specs.Roundings.{Near}
 use Rattle.float_laws.specs.Whole.{most-whole, least-whole}
 use Rattle.float_laws.specs.Binary64.{unit, unit-pos, near64}
 use Rattle.floats.specs.Ops.{_⊕_, _⊖_, _⊗_}
-use Rattle.floats.specs.Laws.Isqrt.{sq-lt}
 use Rattle.plane.specs.Vector2 as vector2
 use Rattle.plane.specs.declared.vector2.Vector2.{Vector2}
 use Rattle.plane.specs.BaseMath.{pointFromParametric}
 use Rattle.grid.specs.Floats.Small.{Small, Vec, small-sub, vec-sub, dots}
 use Rattle.grid.specs.Floats.Zero.{Eps}
 use Rattle.grid.specs.Floats.Length.{gap, squares-are}
-use Rattle.grid.specs.Floats.Range.{Reaches}
+use Rattle.grid.specs.Floats.Reach.{Reaches, short, in-range}
 
 -- ---- a product of differences: |p - n| ≤ A and |q - k| ≤ B give |(p - n) * (q - k)| ≤ A * B
 pub spread : (p n q k A B : ℕ) → p ≤ n + A → n ≤ p + A → q ≤ k + B → k ≤ q + B
@@ -267,36 +265,7 @@ module _ (a b a1 b1 P N D : ℕ) (am : a ≤ 2 ^ 20) (bm : b ≤ 2 ^ 20) (cm : a
       let m4 = mul-le-mul-right D bm in
       (omega arith, omega arith)
 
--- ---- how far a parameter in reach goes: times a side of the segment, less than 1
 module _ (e : Float) (num den : ℕ) (h : Eps e num den) (S P N D : ℕ) (r : Reaches S num den P N D) where
-  short : (a g : ℕ) → g * g ≤ S → a * a * S * (den * den) < 4 * (num * num * (D * D)) → g * a < D
-  short a g l x =
-      let half = mul-le-mul (h .most) (h .most) in
-      let y = mul-le-mul-right (D * D) half in
-      let z : a * a * S * (den * den) < D * D * (den * den) = omega arith in
-      let w : a * a * S < D * D = lt-of-mul-lt-mul-right (den * den) z in
-      let m = mul-le-mul-left (a * a) l in
-      sq-lt (g * a) D (omega arith)
-
-  pub in-range : 0 < S → (P ≤ N + 2 * D) × (N ≤ P + 2 * D)
-  in-range some = (up (leb P (N + D)) (leb→le P (N + D)) (nleb→lt P (N + D)), dn (leb N P) (leb→le N P) (nleb→lt N P))
-    where
-      up : (b : Bool) → (T b → P ≤ N + D) → (T (not b) → N + D < P) → P ≤ N + 2 * D
-      up true lo hi = let w = lo tt in omega arith
-      up false lo hi =
-          let w = hi tt in
-          let x : P - (N + D) + (N + D) ≡ P = omega arith in
-          let s = short (P - (N + D)) 1 some (r .end (P - (N + D)) x) in
-          omega arith
-
-      dn : (b : Bool) → (T b → N ≤ P) → (T (not b) → P < N) → N ≤ P + 2 * D
-      dn true lo hi = let w = lo tt in omega arith
-      dn false lo hi =
-          let w = hi tt in
-          let x : N - P + P ≡ N = omega arith in
-          let s = short (N - P) 1 some (r .start (N - P) x) in
-          omega arith
-
   -- a coordinate of the exact point: the ends are a - b and a1 - b1, the side g
   of-size : (a b a1 b1 g : ℕ) → a ≤ 2 ^ 20 → b ≤ 2 ^ 20 → a1 ≤ 2 ^ 20 → b1 ≤ 2 ^ 20
       → a1 + b ≤ b1 + a + g → b1 + a ≤ a1 + b + g → g * g ≤ S
@@ -316,12 +285,12 @@ module _ (e : Float) (num den : ℕ) (h : Eps e num den) (S P N D : ℕ) (r : Re
       go true false x1 x2 y1 y2 =
           let w = y2 tt in
           let k : P - (N + D) + (N + D) ≡ P = omega arith in
-          let f = short (P - (N + D)) g q (r .end (P - (N + D)) k) in
+          let f = short e num den h S P N D r (P - (N + D)) g q (r .end (P - (N + D)) k) in
           past-end a b a1 b1 P N D am bm cm dm (P - (N + D)) g (omega arith) u l (le-of-lt f)
       go false true x1 x2 y1 y2 =
           let w = x2 tt in
           let k : N - P + P ≡ N = omega arith in
-          let f = short (N - P) g q (r .start (N - P) k) in
+          let f = short e num den h S P N D r (N - P) g q (r .start (N - P) k) in
           past-start a b a1 b1 P N D am bm cm dm (N - P) g (omega arith) u l (le-of-lt f)
       go false false x1 x2 y1 y2 =
           let v = x2 tt in

@@ -38,11 +38,7 @@ use Rattle.plane.specs.Fuzzy.{fuzzyInRangeEps, fuzzyGtEps, fuzzyLtEps}
 use Rattle.crossing.specs.LineLine.{within}
 use Rattle.grid.specs.Floats.Zero.{Eps}
 use Rattle.grid.specs.Floats.Length.{Long}
-
--- the parameter (P - N) / D, on a vector with the self dot S, lies less than 2 * num / den beyond the end or before the start
-pub record Reaches (S num den P N D : ℕ) : Type 0 where
-  pub end : (a : ℕ) → a + (N + D) ≡ P → a * a * S * (den * den) < 4 * (num * num * (D * D))
-  pub start : (a : ℕ) → a + P ≡ N → a * a * S * (den * den) < 4 * (num * num * (D * D))
+use Rattle.grid.specs.Floats.Reach.{Reaches}
 
 -- ---- the epsilon in units
 pub record EpsUnits (e : Float) (num den : ℕ) : Type 0 where
