@@ -7,3 +7,5 @@ pub mod Range
 pub mod Point
 pub mod Ratio
 pub mod Crossing
+pub mod Shared
+pub mod Span

@@ -31,7 +31,7 @@ use Rattle.plane.specs.BaseMath.{pointFromParametric}
 use Rattle.grid.specs.Floats.Small.{Small, Vec, small-sub, vec-sub, dots}
 use Rattle.grid.specs.Floats.Zero.{Eps}
 use Rattle.grid.specs.Floats.Length.{gap, squares-are}
-use Rattle.grid.specs.Floats.Reach.{Reaches, short, in-range}
+use Rattle.grid.specs.Floats.Reach.{Reaches, short, near-by}
 
 -- ---- a product of differences: |p - n| ≤ A and |q - k| ≤ B give |(p - n) * (q - k)| ≤ A * B
 pub spread : (p n q k A B : ℕ) → p ≤ n + A → n ≤ p + A → q ≤ k + B → k ≤ q + B
@@ -285,12 +285,12 @@ module _ (e : Float) (num den : ℕ) (h : Eps e num den) (S P N D : ℕ) (r : Re
       go true false x1 x2 y1 y2 =
           let w = y2 tt in
           let k : P - (N + D) + (N + D) ≡ P = omega arith in
-          let f = short e num den h S P N D r (P - (N + D)) g q (r .end (P - (N + D)) k) in
+          let f = short e num den h S D (P - (N + D)) g q (r .end (P - (N + D)) k) in
           past-end a b a1 b1 P N D am bm cm dm (P - (N + D)) g (omega arith) u l (le-of-lt f)
       go false true x1 x2 y1 y2 =
           let w = x2 tt in
           let k : N - P + P ≡ N = omega arith in
-          let f = short e num den h S P N D r (N - P) g q (r .start (N - P) k) in
+          let f = short e num den h S D (N - P) g q (r .start (N - P) k) in
           past-start a b a1 b1 P N D am bm cm dm (N - P) g (omega arith) u l (le-of-lt f)
       go false false x1 x2 y1 y2 =
           let v = x2 tt in
@@ -311,10 +311,11 @@ module _ (e : Float) (num den : ℕ) (h : Eps e num den)
       (A0 .x .p * D + (side .x .p * P + side .x .n * N)) (A0 .x .n * D + (side .x .p * N + side .x .n * P)) D 1 (2 ^ 30)
   unfolding pointFromParametric vector2.add vector2.scale vector2.sub
   point-x =
-      let w = in-range e num den h S P N D reach some in
+      let hi = near-by e num den h S D some (N + D) P (reach .end) in
+      let lo = near-by e num den h S D some P N (reach .start) in
       let k = of-size e num den h S P N D reach (A0 .x .p) (A0 .x .n) (A1 .x .p) (A1 .x .n) (gap (side .x .p) (side .x .n))
       (A0 .x .p-le) (A0 .x .n-le) (A1 .x .p-le) (A1 .x .n-le) (omega arith) (omega arith) (first S _ _ (squares-are (vector2.sub p1 p0) side S square)) in
-      coordinate (p0 .x) (p1 .x ⊖ p0 .x) t (A0 .x) (small-sub 20 (p1 .x) (p0 .x) (lit≤ tt) (A1 .x) (A0 .x)) P N D r C (w .0) (w .1) (k .0) (k .1)
+      coordinate (p0 .x) (p1 .x ⊖ p0 .x) t (A0 .x) (small-sub 20 (p1 .x) (p0 .x) (lit≤ tt) (A1 .x) (A0 .x)) P N D r C (omega arith) (omega arith) (k .0) (k .1)
     where
       first : (S g h : ℕ) → S ≡ g * g + h * h → g * g ≤ S
       first S g h e = omega arith
@@ -323,10 +324,11 @@ module _ (e : Float) (num den : ℕ) (h : Eps e num den)
       (A0 .y .p * D + (side .y .p * P + side .y .n * N)) (A0 .y .n * D + (side .y .p * N + side .y .n * P)) D 1 (2 ^ 30)
   unfolding pointFromParametric vector2.add vector2.scale vector2.sub
   point-y =
-      let w = in-range e num den h S P N D reach some in
+      let hi = near-by e num den h S D some (N + D) P (reach .end) in
+      let lo = near-by e num den h S D some P N (reach .start) in
       let k = of-size e num den h S P N D reach (A0 .y .p) (A0 .y .n) (A1 .y .p) (A1 .y .n) (gap (side .y .p) (side .y .n))
       (A0 .y .p-le) (A0 .y .n-le) (A1 .y .p-le) (A1 .y .n-le) (omega arith) (omega arith) (second S _ _ (squares-are (vector2.sub p1 p0) side S square)) in
-      coordinate (p0 .y) (p1 .y ⊖ p0 .y) t (A0 .y) (small-sub 20 (p1 .y) (p0 .y) (lit≤ tt) (A1 .y) (A0 .y)) P N D r C (w .0) (w .1) (k .0) (k .1)
+      coordinate (p0 .y) (p1 .y ⊖ p0 .y) t (A0 .y) (small-sub 20 (p1 .y) (p0 .y) (lit≤ tt) (A1 .y) (A0 .y)) P N D r C (omega arith) (omega arith) (k .0) (k .1)
     where
       second : (S g h : ℕ) → S ≡ g * g + h * h → h * h ≤ S
       second S g h e = omega arith

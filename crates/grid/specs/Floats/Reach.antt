@@ -16,7 +16,7 @@ pub record Reaches (S num den P N D : ℕ) : Type 0 where
   pub start : (a : ℕ) → a + P ≡ N → a * a * S * (den * den) < 4 * (num * num * (D * D))
 
 -- ---- how far a parameter in reach goes: times a side of the segment, less than 1
-module _ (e : Float) (num den : ℕ) (h : Eps e num den) (S P N D : ℕ) (r : Reaches S num den P N D) where
+module _ (e : Float) (num den : ℕ) (h : Eps e num den) (S D : ℕ) where
   pub short : (a g : ℕ) → g * g ≤ S → a * a * S * (den * den) < 4 * (num * num * (D * D)) → g * a < D
   short a g l x =
       let half = mul-le-mul (h .most) (h .most) in
@@ -26,42 +26,28 @@ module _ (e : Float) (num den : ℕ) (h : Eps e num den) (S P N D : ℕ) (r : Re
       let m = mul-le-mul-left (a * a) l in
       sq-lt (g * a) D (omega arith)
 
-  pub in-range : 0 < S → (P ≤ N + 2 * D) × (N ≤ P + 2 * D)
-  in-range some = (up (leb P (N + D)) (leb→le P (N + D)) (nleb→lt P (N + D)), dn (leb N P) (leb→le N P) (nleb→lt N P))
-    where
-      up : (b : Bool) → (T b → P ≤ N + D) → (T (not b) → N + D < P) → P ≤ N + 2 * D
-      up true lo hi = let w = lo tt in omega arith
-      up false lo hi =
-          let w = hi tt in
-          let x : P - (N + D) + (N + D) ≡ P = omega arith in
-          let s = short (P - (N + D)) 1 some (r .end (P - (N + D)) x) in
-          omega arith
-
-      dn : (b : Bool) → (T b → N ≤ P) → (T (not b) → P < N) → N ≤ P + 2 * D
-      dn true lo hi = let w = lo tt in omega arith
-      dn false lo hi =
-          let w = hi tt in
-          let x : N - P + P ≡ N = omega arith in
-          let s = short (N - P) 1 some (r .start (N - P) x) in
-          omega arith
-
-  -- over a side of the segment the parameter moves by whole numbers: it lies on the segment
-  pub on-axis : D * D ≤ S → (N ≤ P) × (P ≤ N + D)
-  on-axis side = (dn (leb N P) (leb→le N P) (nleb→lt N P), up (leb P (N + D)) (leb→le P (N + D)) (nleb→lt P (N + D)))
+  -- over a side of the segment the parameter moves by whole numbers, so it is on the segment: at most q where it is in reach of q
+  pub on-axis : D * D ≤ S → (q p : ℕ) → ((a : ℕ) → a + q ≡ p → a * a * S * (den * den) < 4 * (num * num * (D * D))) → p ≤ q
+  on-axis side q p x = go (leb p q) (leb→le p q) (nleb→lt p q)
     where
       never : (a : ℕ) → 0 < a → D * a < D → ⊥
       never a l x = omega (arith, mul-le-mul-left D l)
 
-      up : (b : Bool) → (T b → P ≤ N + D) → (T (not b) → N + D < P) → P ≤ N + D
-      up true lo hi = lo tt
-      up false lo hi =
+      go : (b : Bool) → (T b → p ≤ q) → (T (not b) → q < p) → p ≤ q
+      go true lo hi = lo tt
+      go false lo hi =
           let w = hi tt in
-          let x : P - (N + D) + (N + D) ≡ P = omega arith in
-          absurd (never (P - (N + D)) (omega arith) (short (P - (N + D)) D side (r .end (P - (N + D)) x)))
+          let k : p - q + q ≡ p = omega arith in
+          absurd (never (p - q) (omega arith) (short (p - q) D side (x (p - q) k)))
 
-      dn : (b : Bool) → (T b → N ≤ P) → (T (not b) → P < N) → N ≤ P
-      dn true lo hi = lo tt
-      dn false lo hi =
+  -- and in reach of q it is less than 1 beyond
+  pub near-by : 0 < S → (q p : ℕ) → ((a : ℕ) → a + q ≡ p → a * a * S * (den * den) < 4 * (num * num * (D * D))) → p ≤ q + D
+  near-by some q p x = go (leb p q) (leb→le p q) (nleb→lt p q)
+    where
+      go : (b : Bool) → (T b → p ≤ q) → (T (not b) → q < p) → p ≤ q + D
+      go true lo hi = let w = lo tt in omega arith
+      go false lo hi =
           let w = hi tt in
-          let x : N - P + P ≡ N = omega arith in
-          absurd (never (N - P) (omega arith) (short (N - P) D side (r .start (N - P) x)))
+          let k : p - q + q ≡ p = omega arith in
+          let s = short (p - q) 1 some (x (p - q) k) in
+          omega arith
