@@ -9,3 +9,5 @@ pub mod Ratio
 pub mod Crossing
 pub mod Shared
 pub mod Span
+pub mod Overlap
+pub mod Parallel
