@@ -3,3 +3,12 @@ pub mod Half
 pub mod Best
 pub mod Count
 pub mod Patterns
+pub mod Signed
+pub mod Order
+pub mod Near
+pub mod Rounded
+pub mod Roundings
+pub mod Whole
+pub mod Quotients
+pub mod Magnitudes
+pub mod Binary64

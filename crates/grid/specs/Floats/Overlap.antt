@@ -1,0 +1,158 @@
+-- Grid segments on one line, in whole numbers. The ends of the first lie at (P0 - N0) / D and (P1 - N1) / D of the second, D being a side of
+-- it. The kernel answers NoIntersect where both lie beyond 1 or both before 0, Overlapping where the segments share more than a point,
+-- and TrueIntersect where they share one.
+use mathlib.Core.Path.{_≡_, refl, sym, ap, _∙_, subst}
+use mathlib.Core.Logic.{_⊎_, inl, inr}
+use Prim.Native.Nat.{ℕ, suc, _+_, _-_, _*_, _^_, _≤_, _<_, min}
+use native.Mathlib.Nat.{eq-or-lt-of-le}
+use native.Mathlib.Omega.{arith}
+use mathlib.Core.Bool.{Bool, true, false, not, cond, _||_, true≢false, false≢true}
+use lib.Dec.{T, leb, leb→le, le→leb, nleb→lt}
+use lib.Ieee.{Float, binary64}
+use lib.Ieee.Bits.{is-true, is-false}
+use Rattle.float_laws.specs.Roundings.{Sized}
+use Rattle.float_laws.specs.Binary64.{unit}
+use Rattle.floats.specs.Ops.{_⊖_, _⊗_, f0, f1}
+use Rattle.floats.specs.F64
+use Rattle.plane.specs.Vector2 as vector2
+use Rattle.plane.specs.declared.vector2.Vector2.{Vector2}
+use Rattle.plane.specs.Fuzzy.{fuzzyEqZeroEps, fuzzyGtEps, fuzzyLtEps}
+use Rattle.crossing.specs.LineLine.{overlap, touchingEnd}
+use Rattle.crossing.specs.declared.line_line.Span.{Span}
+use Rattle.crossing.specs.declared.line_line_intersect.LineLineIntr.{LineLineIntr}
+use Rattle.crossing.specs.declared.line_line_intersect.LineLineIntr.the-variants.{NoIntersect, TrueIntersect, Overlapping}
+use Rattle.grid.specs.Floats.Zero.{Eps}
+use Rattle.grid.specs.Floats.Length.{Long}
+use Rattle.grid.specs.Floats.Reach.{on-axis}
+use Rattle.grid.specs.Floats.Range.{before-end, beyond-end, after-start, before-start}
+use Rattle.grid.specs.Floats.Span.{Place, Risen, from-zero, to-one}
+use Rattle.grid.specs.Floats.Shared.{shared-none, shared-some}
+
+-- ---- the three answers, by the lower end (Pl - Nl) / D and the upper one (Ph - Nh) / D
+pub record Clear (r : LineLineIntr) (Pl Nl Ph Nh D : ℕ) : Type 0 where
+  pub is : r ≡ NoIntersect
+  pub why : (Nl + D < Pl) ⊎ (Ph < Nh)
+
+pub record Touching (r : LineLineIntr) (Pl Nl Ph Nh D : ℕ) : Type 0 where
+  pub t1 : Float
+  pub t2 : Float
+  pub is : r ≡ TrueIntersect t1 t2
+  pub lower : Pl ≤ Nl + D
+  pub upper : Nh ≤ Ph
+  pub why : (Pl ≡ Nl + D) ⊎ ((Ph ≡ Nh) ⊎ (Pl + Nh ≡ Ph + Nl))
+
+pub record Sharing (r : LineLineIntr) (Pl Nl Ph Nh D : ℕ) : Type 0 where
+  pub t0 : Float
+  pub t1 : Float
+  pub is : r ≡ Overlapping t0 t1
+  pub lower : Pl < Nl + D
+  pub upper : Nh < Ph
+  pub longer : Pl + Nh < Ph + Nl
+
+abbrev pub Overlapped : LineLineIntr → ℕ → ℕ → ℕ → ℕ → ℕ → Type 0
+Overlapped r Pl Nl Ph Nh D = Clear r Pl Nl Ph Nh D ⊎ (Touching r Pl Nl Ph Nh D ⊎ Sharing r Pl Nl Ph Nh D)
+
+same-test : (a b : Bool) → (T a → T b) → (T b → T a) → a ≡ b
+same-test true true p q = refl
+same-test true false p q = absurd (p tt)
+same-test false true p q = absurd (q tt)
+same-test false false p q = refl
+
+-- they share one point: at the far end, at the near end, or all of a point
+one-point : (Pl Nl Ph Nh D : ℕ) → 0 < D → Pl ≤ Nl + D → Nh ≤ Ph → Pl + Nh ≤ Ph + Nl → Pl - Nl ≡ min (Ph - Nh) D
+    → (Pl ≡ Nl + D) ⊎ ((Ph ≡ Nh) ⊎ (Pl + Nh ≡ Ph + Nl))
+one-point Pl Nl Ph Nh D pos a b c q = go (eq-or-lt-of-le a) (eq-or-lt-of-le b)
+  where
+    go : (Pl ≡ Nl + D) ⊎ (Pl < Nl + D) → (Nh ≡ Ph) ⊎ (Nh < Ph) → (Pl ≡ Nl + D) ⊎ ((Ph ≡ Nh) ⊎ (Pl + Nh ≡ Ph + Nl))
+    go (inl x) y = inl x
+    go (inr x) (inl y) = inr (inl (sym y))
+    go (inr x) (inr y) = inr (inr (omega arith))
+
+module _ (e : Float) (num den : ℕ) (h : Eps e num den)
+    (v1 u1 u2 u : Vector2) (S : ℕ) (some : 0 < S) (g : Long u S)
+    (D : ℕ) (C : 0 < D) (few : D ≤ 2 ^ 21) (side : D * D ≤ S) where
+  abbrev len : Float
+  len = vector2.length u
+
+  wide : (P N : ℕ) → P ≤ 2 ^ 21 → P ≤ N + 2 ^ 44 * D
+  wide P N l = omega arith
+
+  -- ---- the two range tests are exact
+  end-test : (t : Float) (P N : ℕ) → Place t P N D → fuzzyLtEps (t ⊗ len) len e ≡ leb P (N + D)
+  end-test t P N a =
+      same-test (fuzzyLtEps (t ⊗ len) len e) (leb P (N + D))
+      (λ x. le→leb P (N + D) (on-axis e num den h S D side (N + D) P
+      (beyond-end e num den h u S some g t P N D (a .rounded) C (wide P N (a .P-le)) (wide N P (a .N-le)) x)))
+      (λ x. before-end e num den h u S some g t P N D (a .rounded) C (wide P N (a .P-le)) (wide N P (a .N-le)) (leb→le P (N + D) x))
+
+  start-test : (t : Float) (P N : ℕ) → Place t P N D → fuzzyGtEps (t ⊗ len) f0 e ≡ leb N P
+  start-test t P N a =
+      same-test (fuzzyGtEps (t ⊗ len) f0 e) (leb N P)
+      (λ x. le→leb N P (on-axis e num den h S D side P N
+      (before-start e num den h u S some g t P N D (a .rounded) C (wide P N (a .P-le)) (wide N P (a .N-le)) x)))
+      (λ x. after-start e num den h u S some g t P N D (a .rounded) C (wide P N (a .P-le)) (wide N P (a .N-le)) (leb→le N P x))
+
+  -- ---- the answer
+  pub overlap-says : (s : Span) (P0 N0 P1 N1 : ℕ) (r : Risen D C few s P0 N0 P1 N1)
+      → Overlapped (overlap v1 u1 u2 u s e) (r .Pl) (r .Nl) (r .Ph) (r .Nh) D
+  unfolding overlap
+  overlap-says s P0 N0 P1 N1 r =
+      go (fuzzyLtEps (s .t0 ⊗ len) len e) (fuzzyGtEps (s .t1 ⊗ len) f0 e)
+      (end-test (s .t0) Pl Nl (r .lower)) (start-test (s .t1) Ph Nh (r .upper))
+    where
+      Pl : ℕ
+      Pl = r .Pl
+
+      Nl : ℕ
+      Nl = r .Nl
+
+      Ph : ℕ
+      Ph = r .Ph
+
+      Nh : ℕ
+      Nh = r .Nh
+
+      x0 : Float
+      x0 = F64.max (s .t0) f0
+
+      x1 : Float
+      x1 = F64.min (s .t1) f1
+
+      inner : LineLineIntr
+      inner = cond (fuzzyEqZeroEps ((x1 ⊖ x0) ⊗ len) e) (TrueIntersect (touchingEnd v1 u1 u2 e) x0) (Overlapping x0 x1)
+
+      go : (a b : Bool) → a ≡ leb Pl (Nl + D) → b ≡ leb Nh Ph → Overlapped (cond (not a || not b) NoIntersect inner) Pl Nl Ph Nh D
+      go false b p q = inl (record { is = refl; why = inl (nleb→lt Pl (Nl + D) (subst (λ (z : Bool). T (not z)) p tt)) })
+      go true false p q = inl (record { is = refl; why = inr (nleb→lt Nh Ph (subst (λ (z : Bool). T (not z)) q tt)) })
+      go true true p q = inr (both (leb→le Pl (Nl + D) (subst T p tt)) (leb→le Nh Ph (subst T q tt)))
+        where
+          both : Pl ≤ Nl + D → Nh ≤ Ph → Touching inner Pl Nl Ph Nh D ⊎ Sharing inner Pl Nl Ph Nh D
+          both lo hi =
+              let rises : Pl + Nh ≤ Ph + Nl = r .rises in
+              let low : Pl - Nl ≤ min (Ph - Nh) D = omega arith in
+              let high : min (Ph - Nh) D ≤ D = omega arith in
+              at (fuzzyEqZeroEps ((x1 ⊖ x0) ⊗ len) e) (eq-or-lt-of-le low)
+              (λ q. shared-none e num den h u S g D C few side x0 x1 (Pl - Nl) (min (Ph - Nh) D) X0 X1 low high q)
+              (λ q. shared-some e num den h u S g D C few side x0 x1 (Pl - Nl) (min (Ph - Nh) D) X0 X1 low high q)
+            where
+              X0 : Sized unit x0 false (Pl - Nl) D (2 ^ 0) (2 ^ 54)
+              X0 = from-zero D C few (s .t0) Pl Nl (r .lower) lo
+
+              X1 : Sized unit x1 false (min (Ph - Nh) D) D (2 ^ 0) (2 ^ 54)
+              X1 = to-one D C few (s .t1) Ph Nh (r .upper) hi
+
+              at : (c : Bool) → (Pl - Nl ≡ min (Ph - Nh) D) ⊎ (Pl - Nl < min (Ph - Nh) D)
+                  → (Pl - Nl ≡ min (Ph - Nh) D → c ≡ true) → (Pl - Nl < min (Ph - Nh) D → c ≡ false)
+                  → Touching (cond c (TrueIntersect (touchingEnd v1 u1 u2 e) x0) (Overlapping x0 x1)) Pl Nl Ph Nh D
+                  ⊎ Sharing (cond c (TrueIntersect (touchingEnd v1 u1 u2 e) x0) (Overlapping x0 x1)) Pl Nl Ph Nh D
+              at true (inl q) y z = inl (record {
+                t1 = touchingEnd v1 u1 u2 e;
+                t2 = x0;
+                is = refl;
+                lower = lo;
+                upper = hi;
+                why = one-point Pl Nl Ph Nh D C lo hi (r .rises) q;
+              })
+              at false (inl q) y z = absurd (false≢true (y q))
+              at true (inr l) y z = absurd (true≢false (z l))
+              at false (inr l) y z = inr (record { t0 = x0; t1 = x1; is = refl; lower = omega arith; upper = omega arith; longer = omega arith })

@@ -1,0 +1,192 @@
+-- The line kernel on parallel grid segments, in whole numbers: the answers of its five ways, each under the exact condition under which
+-- it goes that way. v runs from v1 to v2, u from u1 to u2, w from u1 to v1 and w2 from u1 to v2.
+use mathlib.Core.Path.{_≡_, refl, sym, ap, _∙_, subst}
+use mathlib.Core.Logic.{_⊎_, inl, inr, _↔_}
+use Prim.Native.Nat.{ℕ, zero, suc, _+_, _-_, _*_, _^_, _≤_, _<_}
+use native.Mathlib.Nat.{zero-lt-suc, mul-le-mul}
+use native.Mathlib.Omega.{arith}
+use mathlib.Core.Bool.{Bool, true, false, not, cond, _&&_, _||_, true≢false, false≢true}
+use lib.Dec.{T, eqb, eqb→eq, not-T, lit≤}
+use lib.Ieee.{Float, binary64, lt}
+use lib.Ieee.Exact.{HasValue}
+use lib.Ieee.Bits.{is-true, is-false}
+use lib.Ieee.Fits.{eq→eqb}
+use Rattle.float_laws.specs.Rounded.{Rounded}
+use Rattle.float_laws.specs.Signed.{Diff, own-diff, Signed, signed-of, SizeOf}
+use Rattle.float_laws.specs.Order.{lt-over}
+use Rattle.floats.specs.Ops.{_⊖_, _⊘_, f0}
+use Rattle.floats.specs.F64
+use Rattle.floats.specs.Laws.Leaves.{abs-value}
+use Rattle.plane.specs.Vector2 as vector2
+use Rattle.plane.specs.declared.vector2.Vector2.{Vector2}
+use Rattle.plane.specs.Fuzzy.{fuzzyEqZeroEps}
+use Rattle.plane.specs.BaseMath.{parametricFromPoint}
+use Rattle.crossing.specs.LineLine.{parallel, bothPoints, firstPoint, secondPoint, overlap, spanOf, rising, within}
+use Rattle.crossing.specs.declared.line_line_intersect.LineLineIntr.{LineLineIntr}
+use Rattle.crossing.specs.declared.line_line_intersect.LineLineIntr.the-variants.{NoIntersect, TrueIntersect}
+use Rattle.grid.specs.Floats.Small.{Small, Vec, vec-sub, small-sub, perp}
+use Rattle.grid.specs.Floats.Zero.{Eps, near-zero, near-point}
+use Rattle.grid.specs.Floats.Length.{gap, Long, long}
+use Rattle.grid.specs.Floats.Reach.{Reaches, on-axis}
+use Rattle.grid.specs.Floats.Range.{within-yes, within-says}
+use Rattle.grid.specs.Floats.Ratio.{Ratio, ratio}
+use Rattle.grid.specs.Floats.Crossing.{square, square-is, Inside}
+use Rattle.grid.specs.Floats.Span.{Place, Risen, risen}
+use Rattle.grid.specs.Floats.Overlap.{Overlapped, overlap-says}
+
+-- ---- a vector that is a point, and one that is not
+abbrev pub IsZero : (v : Vector2) → Vec 21 v → Type 0
+IsZero v A = (A .x .p ≡ A .x .n) × (A .y .p ≡ A .y .n)
+
+level : (p n : ℕ) → gap p n ≡ 0 → p ≡ n
+level p n e = omega arith
+
+pub some-square : (v : Vector2) (A : Vec 21 v) → (IsZero v A → ⊥) → 0 < square v A
+some-square v A h = go (gap (A .x .p) (A .x .n)) (gap (A .y .p) (A .y .n)) (λ x y. h (level _ _ x, level _ _ y))
+  where
+    go : (x y : ℕ) → (x ≡ 0 → y ≡ 0 → ⊥) → 0 < x * x + y * y
+    go zero zero k = absurd (k refl refl)
+    go zero (suc y) k = omega arith
+    go (suc x) y k = omega arith
+
+gap-few : (p n : ℕ) → p ≤ 2 ^ 21 → n ≤ 2 ^ 21 → gap p n ≤ 2 ^ 21
+gap-few p n a b = omega arith
+
+-- ---- a place along an axis: (x / d), rounded, d being a side of the segment
+pub record Placed (t : Float) (xp xn dp dn : ℕ) : Type 0 where
+  pub P : ℕ
+  pub N : ℕ
+  pub place : Place t P N (gap dp dn)
+  pub some : 0 < gap dp dn
+  pub turned : ((dn ≤ dp) × (P ≡ xp) × (N ≡ xn)) ⊎ ((dp ≤ dn) × (P ≡ xn) × (N ≡ xp))
+
+placed : (x d : Float) (A : Small 21 x) (B : Small 21 d) → (B .p ≡ B .n → ⊥) → Placed (x ⊘ d) (A .p) (A .n) (B .p) (B .n)
+placed x d A B h =
+    let r = ratio 21 x d A B h in
+    record {
+      P = r .P;
+      N = r .N;
+      place = record { rounded = subst (λ (z : ℕ). Rounded binary64 (x ⊘ d) (r .P) (r .N) z) (sym (r .size)) (r .rounded); P-le = r .P-le; N-le = r .N-le };
+      some = subst (λ (z : ℕ). 0 < z) (sym (r .size)) (r .some);
+      turned = go (r .D) (r .P) (r .N) (r .turned);
+    }
+  where
+    go : (D P N : ℕ) → ((B .n + D ≡ B .p) × (P ≡ A .p) × (N ≡ A .n)) ⊎ ((B .p + D ≡ B .n) × (P ≡ A .n) × (N ≡ A .p))
+        → ((B .n ≤ B .p) × (P ≡ A .p) × (N ≡ A .n)) ⊎ ((B .p ≤ B .n) × (P ≡ A .n) × (N ≡ A .p))
+    go D P N (inl (a, b, c)) = inl (omega arith, b, c)
+    go D P N (inr (a, b, c)) = inr (omega arith, b, c)
+
+-- ---- the axis along which a segment is longer
+abs-gap : (i : ℕ) (x : Float) (A : Small i x) → Diff (F64.abs x) (gap (A .p) (A .n)) 0 1
+abs-gap i x A = let w = signed-of x (A .p) (A .n) 1 (A .is) in go (w .s) (w .size) (w .value) (w .is)
+  where
+    go : (s : Bool) (X : ℕ) → HasValue x s X 1 → SizeOf s X (A .p) (A .n) → Diff (F64.abs x) (gap (A .p) (A .n)) 0 1
+    go true X v k = let same : X ≡ gap (A .p) (A .n) = omega arith in subst (λ (z : ℕ). Diff (F64.abs x) z 0 1) same (own-diff (F64.abs x) false X 1 (abs-value x true X 1 v))
+    go false X v k = let same : X ≡ gap (A .p) (A .n) = omega arith in subst (λ (z : ℕ). Diff (F64.abs x) z 0 1) same (own-diff (F64.abs x) false X 1 (abs-value x false X 1 v))
+
+-- where c lies on the line from a to b: by x or by y
+module _ (e : Float) (a b c : Vector2) (A : Vec 20 a) (B : Vec 20 b) (C : Vec 20 c) where
+  abbrev dx : Small 21 (b .x ⊖ a .x)
+  dx = small-sub 20 (b .x) (a .x) (lit≤ tt) (B .x) (A .x)
+
+  abbrev dy : Small 21 (b .y ⊖ a .y)
+  dy = small-sub 20 (b .y) (a .y) (lit≤ tt) (B .y) (A .y)
+
+  abbrev cx : Small 21 (c .x ⊖ a .x)
+  cx = small-sub 20 (c .x) (a .x) (lit≤ tt) (C .x) (A .x)
+
+  abbrev cy : Small 21 (c .y ⊖ a .y)
+  cy = small-sub 20 (c .y) (a .y) (lit≤ tt) (C .y) (A .y)
+
+  longer : T (lt (F64.abs (b .x ⊖ a .x)) (F64.abs (b .y ⊖ a .y))) ↔ (gap (dx .p) (dx .n) + 0 < gap (dy .p) (dy .n) + 0)
+  longer =
+      lt-over (F64.abs (b .x ⊖ a .x)) (F64.abs (b .y ⊖ a .y)) (gap (dx .p) (dx .n)) 0 (gap (dy .p) (dy .n)) 0 1 (zero-lt-suc 0)
+      (abs-gap 21 (b .x ⊖ a .x) dx) (abs-gap 21 (b .y ⊖ a .y) dy)
+
+  pub along : (IsZero (vector2.sub b a) (vec-sub b a B A) → ⊥)
+      → Placed (parametricFromPoint a b c e) (cx .p) (cx .n) (dx .p) (dx .n) ⊎ Placed (parametricFromPoint a b c e) (cy .p) (cy .n) (dy .p) (dy .n)
+  unfolding parametricFromPoint
+  along h = go (lt (F64.abs (b .x ⊖ a .x)) (F64.abs (b .y ⊖ a .y))) (λ t. longer .0 t) (λ l. longer .1 l)
+    where
+      by-x : (gap (dx .p) (dx .n) + 0 < gap (dy .p) (dy .n) + 0 → ⊥) → dx .p ≡ dx .n → ⊥
+      by-x k x = h (x, level (dy .p) (dy .n) (flat (gap (dx .p) (dx .n)) (gap (dy .p) (dy .n)) (none (dx .p) (dx .n) x) k))
+        where
+          none : (p n : ℕ) → p ≡ n → gap p n ≡ 0
+          none p n e = omega arith
+
+          flat : (g k : ℕ) → g ≡ 0 → (g + 0 < k + 0 → ⊥) → k ≡ 0
+          flat g zero e f = refl
+          flat g (suc k) e f = absurd (f (omega arith))
+
+      by-y : gap (dx .p) (dx .n) + 0 < gap (dy .p) (dy .n) + 0 → dy .p ≡ dy .n → ⊥
+      by-y l y = omega arith
+
+      go : (t : Bool) → (T t → gap (dx .p) (dx .n) + 0 < gap (dy .p) (dy .n) + 0) → (gap (dx .p) (dx .n) + 0 < gap (dy .p) (dy .n) + 0 → T t)
+          → Placed (cond t ((c .y ⊖ a .y) ⊘ (b .y ⊖ a .y)) ((c .x ⊖ a .x) ⊘ (b .x ⊖ a .x))) (cx .p) (cx .n) (dx .p) (dx .n)
+          ⊎ Placed (cond t ((c .y ⊖ a .y) ⊘ (b .y ⊖ a .y)) ((c .x ⊖ a .x) ⊘ (b .x ⊖ a .x))) (cy .p) (cy .n) (dy .p) (dy .n)
+      go true l k = inr (placed (c .y ⊖ a .y) (b .y ⊖ a .y) cy dy (by-y (l tt)))
+      go false l k = inl (placed (c .x ⊖ a .x) (b .x ⊖ a .x) cx dx (by-x k))
+
+-- ---- a point and a segment: the range test is exact
+pub record PointOn (r met : LineLineIntr) (P N D : ℕ) : Type 0 where
+  pub answer : ((r ≡ met) × Inside P N D) ⊎ ((r ≡ NoIntersect) × (Inside P N D → ⊥))
+
+module _ (e : Float) (num den : ℕ) (h : Eps e num den) (u : Vector2) (A : Vec 21 u) (long-u : IsZero u A → ⊥)
+    (t : Float) (xp xn dp dn : ℕ) (a : Placed t xp xn dp dn) (side : gap dp dn * gap dp dn ≤ square u A) (met : LineLineIntr) where
+  point-on : PointOn (cond (within t u e) met NoIntersect) met (a .P) (a .N) (gap dp dn)
+  point-on = go (within t u e) (λ x. says x) (λ x. sure x)
+    where
+      D : ℕ
+      D = gap dp dn
+
+      some : 0 < square u A
+      some = some-square u A long-u
+
+      g : Long u (square u A)
+      g = long u A (square u A) (square-is u A) some
+
+      wide : (P N D : ℕ) → P ≤ 2 ^ 21 → 0 < D → P ≤ N + 2 ^ 44 * D
+      wide P N D l d = omega arith
+
+      says : within t u e ≡ true → Inside (a .P) (a .N) D
+      says x =
+          let r = within-says e num den h u (square u A) some g t (a .P) (a .N) D (a .place .rounded) (a .some)
+          (wide (a .P) (a .N) D (a .place .P-le) (a .some)) (wide (a .N) (a .P) D (a .place .N-le) (a .some)) x in
+          (on-axis e num den h (square u A) D side (a .P) (a .N) (r .start), on-axis e num den h (square u A) D side (a .N + D) (a .P) (r .end))
+
+      sure : Inside (a .P) (a .N) D → within t u e ≡ true
+      sure x =
+          within-yes e num den h u (square u A) some g t (a .P) (a .N) D (a .place .rounded) (a .some)
+          (wide (a .P) (a .N) D (a .place .P-le) (a .some)) (wide (a .N) (a .P) D (a .place .N-le) (a .some)) (x .0) (x .1)
+
+      go : (b : Bool) → (b ≡ true → Inside (a .P) (a .N) D) → (Inside (a .P) (a .N) D → b ≡ true) → PointOn (cond b met NoIntersect) met (a .P) (a .N) D
+      go true x y = record { answer = inl (refl, x refl) }
+      go false x y = record { answer = inr (refl, λ z. false≢true (y z)) }
+
+side-x : (x y : ℕ) → x * x ≤ x * x + y * y
+side-x x y = omega arith
+
+side-y : (x y : ℕ) → y * y ≤ x * x + y * y
+side-y x y = omega arith
+
+-- the place of a point c on the segment from a to b, by x or by y, and what the kernel answers
+abbrev pub PointAt : (e : Float) (a b c : Vector2) → Vec 20 a → Vec 20 b → Vec 20 c → LineLineIntr → LineLineIntr → Type 0
+PointAt e a b c A B C r met =
+    let U = vec-sub b a B A in
+    let W = vec-sub c a C A in
+    ((k : Placed (parametricFromPoint a b c e) (W .x .p) (W .x .n) (U .x .p) (U .x .n)) × PointOn r met (k .P) (k .N) (gap (U .x .p) (U .x .n)))
+    ⊎ ((k : Placed (parametricFromPoint a b c e) (W .y .p) (W .y .n) (U .y .p) (U .y .n)) × PointOn r met (k .P) (k .N) (gap (U .y .p) (U .y .n)))
+
+point-at : (e : Float) (num den : ℕ) → Eps e num den → (a b c : Vector2) (A : Vec 20 a) (B : Vec 20 b) (C : Vec 20 c)
+    → (IsZero (vector2.sub b a) (vec-sub b a B A) → ⊥) → (met : LineLineIntr)
+    → PointAt e a b c A B C (cond (within (parametricFromPoint a b c e) (vector2.sub b a) e) met NoIntersect) met
+point-at e num den h a b c A B C long-u met = go (along e a b c A B C long-u)
+  where
+    U : Vec 21 (vector2.sub b a)
+    U = vec-sub b a B A
+
+    go : Placed (parametricFromPoint a b c e) (cx e a b c A B C .p) (cx e a b c A B C .n) (dx e a b c A B C .p) (dx e a b c A B C .n)
+        ⊎ Placed (parametricFromPoint a b c e) (cy e a b c A B C .p) (cy e a b c A B C .n) (dy e a b c A B C .p) (dy e a b c A B C .n)
+        → PointAt e a b c A B C (cond (within (parametricFromPoint a b c e) (vector2.sub b a) e) met NoIntersect) met
+    go (inl k) = inl (k, point-on e num den h (vector2.sub b a) U long-u (parametricFromPoint a b c e) _ _ _ _ k (side-x _ _) met)
+    go (inr k) = inr (k, point-on e num den h (vector2.sub b a) U long-u (parametricFromPoint a b c e) _ _ _ _ k (side-y _ _) met)
