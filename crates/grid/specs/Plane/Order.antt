@@ -74,17 +74,17 @@ turned-eq (negsuc k) a s t h = sym (back s (negsuc k)) ∙ ap negℤ h ∙ neg-l
     neg-left a t = rw (← whole a, ← whole t) (simp naturals (omega arith))
 
 -- the same by cases: d is not below 0 and nothing is turned, or it is below 0 and all is
-pub record Kept (d : ℤ) : Type 0 where
+pub record Plain (d : ℤ) : Type 0 where
   pub least : pos 0 ≤ℤ d
   pub size : pos (natAbs d) ≡ d
   pub turn : (z : ℤ) → turned d z ≡ z
 
-pub record Turned (d : ℤ) : Type 0 where
+pub record Minus (d : ℤ) : Type 0 where
   pub most : d <ℤ pos 0
   pub size : pos (natAbs d) ≡ negℤ d
   pub turn : (z : ℤ) → turned d z ≡ negℤ z
 
-pub sign : (d : ℤ) → Kept d ⊎ Turned d
+pub sign : (d : ℤ) → Plain d ⊎ Minus d
 sign (pos k) = inl (record { least = pos-le 0 k .1 (omega arith); size = refl; turn = λ z. refl })
 sign (negsuc k) = inr (record { most = ltZ-yes tt; size = refl; turn = λ z. refl })
 
@@ -106,7 +106,7 @@ inside d z h = go (sign d) h
     over : (d z : ℤ) → (d ≤ℤ z) × (z ≤ℤ pos 0) → (pos 0 ≤ℤ negℤ z) × (negℤ z ≤ℤ negℤ d)
     over d z = rw (← whole d, ← whole z) (simp naturals (omega arith))
 
-    go : Kept d ⊎ Turned d → ((pos 0 ≤ℤ z) × (z ≤ℤ d)) ⊎ ((d ≤ℤ z) × (z ≤ℤ pos 0))
+    go : Plain d ⊎ Minus d → ((pos 0 ≤ℤ z) × (z ≤ℤ d)) ⊎ ((d ≤ℤ z) × (z ≤ℤ pos 0))
         → (pos 0 ≤ℤ turned d z) × (turned d z ≤ℤ pos (natAbs d))
     go (inl k) (inl h) = put z d (k .turn z) (k .size) h
     go (inl k) (inr h) = put z d (k .turn z) (k .size) (up d z (k .least) h)
@@ -126,7 +126,7 @@ cancel-any a b d n h = go (sign d)
     back : (a d : ℤ) → a *ℤ negℤ d ≡ negℤ (a *ℤ d)
     back a d = rw (← whole a, ← whole d) (simp naturals (omega arith))
 
-    go : Kept d ⊎ Turned d → a ≡ b
+    go : Plain d ⊎ Minus d → a ≡ b
     go (inl k) = cancel a b (natAbs d) (size-pos d n) (ap (λ (z : ℤ). a *ℤ z) (k .size) ∙ h ∙ ap (λ (z : ℤ). b *ℤ z) (sym (k .size)))
     go (inr k) =
         cancel a b (natAbs d) (size-pos d n)
@@ -142,7 +142,7 @@ turned-same d x y a h = go (sign d)
     minus : (x y a : ℤ) → negℤ (x -ℤ a) ≡ negℤ (y -ℤ a) → x ≡ y
     minus x y a = rw (← whole x, ← whole y, ← whole a) (simp naturals (omega arith))
 
-    go : Kept d ⊎ Turned d → x ≡ y
+    go : Plain d ⊎ Minus d → x ≡ y
     go (inl k) = plain x y a (sym (k .turn (x -ℤ a)) ∙ h ∙ k .turn (y -ℤ a))
     go (inr k) = minus x y a (sym (k .turn (x -ℤ a)) ∙ h ∙ k .turn (y -ℤ a))
 

@@ -10,7 +10,7 @@ use lib.Signed.{_≤ℤ_, _<ℤ_, clashℤ, ≤ℤ-refl, <ℤ-≤ℤ-trans}
 use Rattle.grid.specs.Promise.{Spot, Shared, Share, ShareMore}
 use Rattle.grid.specs.Plane.Whole.{whole, naturals}
 use Rattle.grid.specs.Plane.Ring.{solve, combine, combine2, equal-of-sub, var, num, neg, _⊟_, _⊠_}
-use Rattle.grid.specs.Plane.Order.{cancel, cancel-any, lt-of-le-ne, turned-same, pos-le, turned, sign, Kept, Turned, inside, size-pos, lt-or-le}
+use Rattle.grid.specs.Plane.Order.{cancel, cancel-any, lt-of-le-ne, turned-same, pos-le, turned, sign, Plain, Minus, inside, size-pos, lt-or-le}
 use Rattle.grid.specs.Plane.Sides.{way, cross, across}
 use Rattle.grid.specs.Plane.Cross.{Between}
 use Rattle.grid.specs.Plane.Points.{Collinear, line-of-v, cross-flipped}
@@ -98,7 +98,7 @@ start-inside x x2 a a2 h k = inside (x2 -ℤ x) (a -ℤ x) (go (sign (a2 -ℤ a)
     down : (x x2 a : ℤ) → negℤ (x -ℤ a) <ℤ pos 0 → pos 0 ≤ℤ negℤ (x2 -ℤ a) → ((x2 -ℤ x) ≤ℤ (a -ℤ x)) × ((a -ℤ x) ≤ℤ pos 0)
     down x x2 a = rw (← whole x, ← whole x2, ← whole a) (simp naturals (omega arith))
 
-    go : Kept (a2 -ℤ a) ⊎ Turned (a2 -ℤ a)
+    go : Plain (a2 -ℤ a) ⊎ Minus (a2 -ℤ a)
         → ((pos 0 ≤ℤ (a -ℤ x)) × ((a -ℤ x) ≤ℤ (x2 -ℤ x))) ⊎ (((x2 -ℤ x) ≤ℤ (a -ℤ x)) × ((a -ℤ x) ≤ℤ pos 0))
     go (inl e) =
         inl (up x x2 a (subst (λ (z : ℤ). z <ℤ pos 0) (e .turn (x -ℤ a)) h) (subst (λ (z : ℤ). pos 0 ≤ℤ z) (e .turn (x2 -ℤ a)) k))
@@ -124,7 +124,7 @@ end-inside x x2 a a2 h k = inside (x2 -ℤ x) (a2 -ℤ x) (go (sign (a2 -ℤ a))
     last-at : (z d : ℤ) → turned (a2 -ℤ a) (x2 -ℤ a) ≡ z → pos (natAbs (a2 -ℤ a)) ≡ d → d ≤ℤ z
     last-at z d e f = subst (λ (w : ℤ). w ≤ℤ z) f (subst (λ (w : ℤ). pos (natAbs (a2 -ℤ a)) ≤ℤ w) e k)
 
-    go : Kept (a2 -ℤ a) ⊎ Turned (a2 -ℤ a)
+    go : Plain (a2 -ℤ a) ⊎ Minus (a2 -ℤ a)
         → ((pos 0 ≤ℤ (a2 -ℤ x)) × ((a2 -ℤ x) ≤ℤ (x2 -ℤ x))) ⊎ (((x2 -ℤ x) ≤ℤ (a2 -ℤ x)) × ((a2 -ℤ x) ≤ℤ pos 0))
     go (inl e) =
         inl (up x x2 a a2 (first-at (x -ℤ a) (a2 -ℤ a) (e .turn (x -ℤ a)) (e .size)) (last-at (x2 -ℤ a) (a2 -ℤ a) (e .turn (x2 -ℤ a)) (e .size)))
@@ -247,14 +247,14 @@ mark-start u1 u2 = go (sign (u2 .x -ℤ u1 .x))
     minus-none : (a : ℤ) → negℤ (a -ℤ a) ≡ pos 0
     minus-none a = solve (a ∷ []) (neg (var 0 ⊟ var 0)) (num 0) tt
 
-    go : Kept (u2 .x -ℤ u1 .x) ⊎ Turned (u2 .x -ℤ u1 .x) → mark u1 u2 u1 ≡ pos 0
+    go : Plain (u2 .x -ℤ u1 .x) ⊎ Minus (u2 .x -ℤ u1 .x) → mark u1 u2 u1 ≡ pos 0
     go (inl e) = e .turn (u1 .x -ℤ u1 .x) ∙ none (u1 .x)
     go (inr e) = e .turn (u1 .x -ℤ u1 .x) ∙ minus-none (u1 .x)
 
 mark-end : (u1 u2 : Spot) → mark u1 u2 u2 ≡ pos (size u1 u2)
 mark-end u1 u2 = go (sign (u2 .x -ℤ u1 .x))
   where
-    go : Kept (u2 .x -ℤ u1 .x) ⊎ Turned (u2 .x -ℤ u1 .x) → mark u1 u2 u2 ≡ pos (size u1 u2)
+    go : Plain (u2 .x -ℤ u1 .x) ⊎ Minus (u2 .x -ℤ u1 .x) → mark u1 u2 u2 ≡ pos (size u1 u2)
     go (inl e) = e .turn (u2 .x -ℤ u1 .x) ∙ sym (e .size)
     go (inr e) = e .turn (u2 .x -ℤ u1 .x) ∙ sym (e .size)
 
