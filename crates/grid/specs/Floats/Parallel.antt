@@ -6,7 +6,7 @@ use Prim.Native.Nat.{ℕ, zero, suc, _+_, _-_, _*_, _^_, _≤_, _<_}
 use native.Mathlib.Nat.{zero-lt-suc, mul-le-mul}
 use native.Mathlib.Omega.{arith}
 use mathlib.Core.Bool.{Bool, true, false, not, cond, _&&_, _||_, true≢false, false≢true}
-use lib.Dec.{T, eqb, eqb→eq, not-T, lit≤}
+use lib.Dec.{T, eqb, eqb→eq, not-T, T-not, lit≤}
 use lib.Ieee.{Float, binary64, lt}
 use lib.Ieee.Exact.{HasValue}
 use lib.Ieee.Bits.{is-true, is-false}
@@ -190,3 +190,88 @@ point-at e num den h a b c A B C long-u met = go (along e a b c A B C long-u)
         → PointAt e a b c A B C (cond (within (parametricFromPoint a b c e) (vector2.sub b a) e) met NoIntersect) met
     go (inl k) = inl (k, point-on e num den h (vector2.sub b a) U long-u (parametricFromPoint a b c e) _ _ _ _ k (side-x _ _) met)
     go (inr k) = inr (k, point-on e num den h (vector2.sub b a) U long-u (parametricFromPoint a b c e) _ _ _ _ k (side-y _ _) met)
+
+-- ---- two segments on one line: the ends of the first lie at x / d and z / d of the second
+pub record Spanned (r : LineLineIntr) (xp xn zp zn dp dn : ℕ) : Type 0 where
+  pub P0 : ℕ
+  pub N0 : ℕ
+  pub P1 : ℕ
+  pub N1 : ℕ
+  pub some : 0 < gap dp dn
+  pub turned : ((dn ≤ dp) × (P0 ≡ xp) × (N0 ≡ xn) × (P1 ≡ zp) × (N1 ≡ zn)) ⊎ ((dp ≤ dn) × (P0 ≡ xn) × (N0 ≡ xp) × (P1 ≡ zn) × (N1 ≡ zp))
+  -- the lower and the upper of the two
+  pub Pl : ℕ
+  pub Nl : ℕ
+  pub Ph : ℕ
+  pub Nh : ℕ
+  pub rises : Pl + Nh ≤ Ph + Nl
+  pub which : ((Pl ≡ P0) × (Nl ≡ N0) × (Ph ≡ P1) × (Nh ≡ N1)) ⊎ ((Pl ≡ P1) × (Nl ≡ N1) × (Ph ≡ P0) × (Nh ≡ N0))
+  pub answer : Overlapped r Pl Nl Ph Nh (gap dp dn)
+
+module _ (e : Float) (num den : ℕ) (h : Eps e num den) (v1 u1 u2 w w2 u : Vector2)
+    (W : Vec 21 w) (Z : Vec 21 w2) (A : Vec 21 u) (long-u : IsZero u A → ⊥) where
+  some-u : 0 < square u A
+  some-u = some-square u A long-u
+
+  long-is : Long u (square u A)
+  long-is = long u A (square u A) (square-is u A) some-u
+
+  spanned-by : (a b : Float) (xp xn zp zn dp dn : ℕ) → Placed a xp xn dp dn → Placed b zp zn dp dn → gap dp dn ≤ 2 ^ 21
+      → gap dp dn * gap dp dn ≤ square u A → Spanned (overlap v1 u1 u2 u (rising a b) e) xp xn zp zn dp dn
+  spanned-by a b xp xn zp zn dp dn x z few side =
+      let D = gap dp dn in
+      let r = risen D (x .some) few a b (x .P) (x .N) (z .P) (z .N) (x .place) (z .place) in
+      record {
+        P0 = x .P;
+        N0 = x .N;
+        P1 = z .P;
+        N1 = z .N;
+        some = x .some;
+        turned = both (x .some) (x .turned) (z .turned);
+        Pl = r .Pl;
+        Nl = r .Nl;
+        Ph = r .Ph;
+        Nh = r .Nh;
+        rises = r .rises;
+        which = r .which;
+        answer = overlap-says e num den h v1 u1 u2 u (square u A) some-u long-is D (x .some) few side (rising a b) (x .P) (x .N) (z .P) (z .N) r;
+      }
+    where
+      both : 0 < gap dp dn
+          → ((dn ≤ dp) × (x .P ≡ xp) × (x .N ≡ xn)) ⊎ ((dp ≤ dn) × (x .P ≡ xn) × (x .N ≡ xp))
+          → ((dn ≤ dp) × (z .P ≡ zp) × (z .N ≡ zn)) ⊎ ((dp ≤ dn) × (z .P ≡ zn) × (z .N ≡ zp))
+          → ((dn ≤ dp) × (x .P ≡ xp) × (x .N ≡ xn) × (z .P ≡ zp) × (z .N ≡ zn))
+          ⊎ ((dp ≤ dn) × (x .P ≡ xn) × (x .N ≡ xp) × (z .P ≡ zn) × (z .N ≡ zp))
+      both o (inl (a, b, c)) (inl (k, l, m)) = inl (a, b, c, l, m)
+      both o (inr (a, b, c)) (inr (k, l, m)) = inr (a, b, c, l, m)
+      both o (inl (a, b, c)) (inr (k, l, m)) = absurd (never dp dn o a k)
+        where
+          never : (p n : ℕ) → 0 < gap p n → n ≤ p → p ≤ n → ⊥
+          never p n o a b = omega arith
+      both o (inr (a, b, c)) (inl (k, l, m)) = absurd (never dp dn o a k)
+        where
+          never : (p n : ℕ) → 0 < gap p n → p ≤ n → n ≤ p → ⊥
+          never p n o a b = omega arith
+
+  -- along x where the second segment has a width, else along y
+  pub overlap-spanned : Spanned (overlap v1 u1 u2 u (spanOf w w2 u e) e) (W .x .p) (W .x .n) (Z .x .p) (Z .x .n) (A .x .p) (A .x .n)
+      ⊎ Spanned (overlap v1 u1 u2 u (spanOf w w2 u e) e) (W .y .p) (W .y .n) (Z .y .p) (Z .y .n) (A .y .p) (A .y .n)
+  unfolding spanOf
+  overlap-spanned = go (fuzzyEqZeroEps (u .x) e) (near-zero e num den h 21 (u .x) (A .x))
+    where
+      go : (t : Bool) → t ≡ eqb (A .x .p) (A .x .n)
+          → Spanned (overlap v1 u1 u2 u (cond t (rising (w .y ⊘ u .y) (w2 .y ⊘ u .y)) (rising (w .x ⊘ u .x) (w2 .x ⊘ u .x))) e)
+              (W .x .p) (W .x .n) (Z .x .p) (Z .x .n) (A .x .p) (A .x .n)
+          ⊎ Spanned (overlap v1 u1 u2 u (cond t (rising (w .y ⊘ u .y) (w2 .y ⊘ u .y)) (rising (w .x ⊘ u .x) (w2 .x ⊘ u .x))) e)
+              (W .y .p) (W .y .n) (Z .y .p) (Z .y .n) (A .y .p) (A .y .n)
+      go true q =
+          let flat : A .x .p ≡ A .x .n = eqb→eq (A .x .p) (A .x .n) (subst T q tt) in
+          let tall : A .y .p ≡ A .y .n → ⊥ = λ y. long-u (flat, y) in
+          inr (spanned-by (w .y ⊘ u .y) (w2 .y ⊘ u .y) (W .y .p) (W .y .n) (Z .y .p) (Z .y .n) (A .y .p) (A .y .n)
+          (placed (w .y) (u .y) (W .y) (A .y) tall) (placed (w2 .y) (u .y) (Z .y) (A .y) tall)
+          (gap-few (A .y .p) (A .y .n) (A .y .p-le) (A .y .n-le)) (side-y _ _))
+      go false q =
+          let wide : A .x .p ≡ A .x .n → ⊥ = λ x. T-not false tt (subst T (sym q) (eq→eqb x)) in
+          inl (spanned-by (w .x ⊘ u .x) (w2 .x ⊘ u .x) (W .x .p) (W .x .n) (Z .x .p) (Z .x .n) (A .x .p) (A .x .n)
+          (placed (w .x) (u .x) (W .x) (A .x) wide) (placed (w2 .x) (u .x) (Z .x) (A .x) wide)
+          (gap-few (A .x .p) (A .x .n) (A .x .p-le) (A .x .n-le)) (side-x _ _))
