@@ -49,7 +49,7 @@ some-square v A h = go (gap (A .x .p) (A .x .n)) (gap (A .y .p) (A .y .n)) (λ x
     go zero (suc y) k = omega arith
     go (suc x) y k = omega arith
 
-gap-few : (p n : ℕ) → p ≤ 2 ^ 21 → n ≤ 2 ^ 21 → gap p n ≤ 2 ^ 21
+pub gap-few : (p n : ℕ) → p ≤ 2 ^ 21 → n ≤ 2 ^ 21 → gap p n ≤ 2 ^ 21
 gap-few p n a b = omega arith
 
 -- ---- a place along an axis: (x / d), rounded, d being a side of the segment
@@ -60,7 +60,7 @@ pub record Placed (t : Float) (xp xn dp dn : ℕ) : Type 0 where
   pub some : 0 < gap dp dn
   pub turned : ((dn ≤ dp) × (P ≡ xp) × (N ≡ xn)) ⊎ ((dp ≤ dn) × (P ≡ xn) × (N ≡ xp))
 
-placed : (x d : Float) (A : Small 21 x) (B : Small 21 d) → (B .p ≡ B .n → ⊥) → Placed (x ⊘ d) (A .p) (A .n) (B .p) (B .n)
+pub placed : (x d : Float) (A : Small 21 x) (B : Small 21 d) → (B .p ≡ B .n → ⊥) → Placed (x ⊘ d) (A .p) (A .n) (B .p) (B .n)
 placed x d A B h =
     let r = ratio 21 x d A B h in
     record {
@@ -132,41 +132,41 @@ pub record PointOn (r met : LineLineIntr) (P N D : ℕ) : Type 0 where
   pub answer : ((r ≡ met) × Inside P N D) ⊎ ((r ≡ NoIntersect) × (Inside P N D → ⊥))
 
 module _ (e : Float) (num den : ℕ) (h : Eps e num den) (u : Vector2) (A : Vec 21 u) (long-u : IsZero u A → ⊥)
-    (t : Float) (xp xn dp dn : ℕ) (a : Placed t xp xn dp dn) (side : gap dp dn * gap dp dn ≤ square u A) (met : LineLineIntr) where
-  point-on : PointOn (cond (within t u e) met NoIntersect) met (a .P) (a .N) (gap dp dn)
-  point-on = go (within t u e) (λ x. says x) (λ x. sure x)
+    (t : Float) (xp xn dp dn : ℕ) (a : Placed t xp xn dp dn) (side : gap dp dn * gap dp dn ≤ square u A) where
+  abbrev side-d : ℕ
+  side-d = gap dp dn
+
+  some-length : 0 < square u A
+  some-length = some-square u A long-u
+
+  length-is : Long u (square u A)
+  length-is = long u A (square u A) (square-is u A) some-length
+
+  wide : (P N D : ℕ) → P ≤ 2 ^ 21 → 0 < D → P ≤ N + 2 ^ 44 * D
+  wide P N D l d = omega arith
+
+  -- the range test says whether the exact place is from 0 to 1
+  pub point-test : (within t u e ≡ true) ↔ Inside (a .P) (a .N) (gap dp dn)
+  point-test = (
+    λ x. let r = within-says e num den h u (square u A) some-length length-is t (a .P) (a .N) side-d (a .place .rounded) (a .some)
+        (wide (a .P) (a .N) side-d (a .place .P-le) (a .some)) (wide (a .N) (a .P) side-d (a .place .N-le) (a .some)) x in
+        (on-axis e num den h (square u A) side-d side (a .P) (a .N) (r .start), on-axis e num den h (square u A) side-d side (a .N + side-d) (a .P) (r .end)),
+    λ x. within-yes e num den h u (square u A) some-length length-is t (a .P) (a .N) side-d (a .place .rounded) (a .some)
+        (wide (a .P) (a .N) side-d (a .place .P-le) (a .some)) (wide (a .N) (a .P) side-d (a .place .N-le) (a .some)) (x .0) (x .1),
+  )
+
+  point-on : (met : LineLineIntr) → PointOn (cond (within t u e) met NoIntersect) met (a .P) (a .N) (gap dp dn)
+  point-on met = go (within t u e) (point-test .0) (point-test .1)
     where
-      D : ℕ
-      D = gap dp dn
-
-      some : 0 < square u A
-      some = some-square u A long-u
-
-      g : Long u (square u A)
-      g = long u A (square u A) (square-is u A) some
-
-      wide : (P N D : ℕ) → P ≤ 2 ^ 21 → 0 < D → P ≤ N + 2 ^ 44 * D
-      wide P N D l d = omega arith
-
-      says : within t u e ≡ true → Inside (a .P) (a .N) D
-      says x =
-          let r = within-says e num den h u (square u A) some g t (a .P) (a .N) D (a .place .rounded) (a .some)
-          (wide (a .P) (a .N) D (a .place .P-le) (a .some)) (wide (a .N) (a .P) D (a .place .N-le) (a .some)) x in
-          (on-axis e num den h (square u A) D side (a .P) (a .N) (r .start), on-axis e num den h (square u A) D side (a .N + D) (a .P) (r .end))
-
-      sure : Inside (a .P) (a .N) D → within t u e ≡ true
-      sure x =
-          within-yes e num den h u (square u A) some g t (a .P) (a .N) D (a .place .rounded) (a .some)
-          (wide (a .P) (a .N) D (a .place .P-le) (a .some)) (wide (a .N) (a .P) D (a .place .N-le) (a .some)) (x .0) (x .1)
-
-      go : (b : Bool) → (b ≡ true → Inside (a .P) (a .N) D) → (Inside (a .P) (a .N) D → b ≡ true) → PointOn (cond b met NoIntersect) met (a .P) (a .N) D
+      go : (b : Bool) → (b ≡ true → Inside (a .P) (a .N) side-d) → (Inside (a .P) (a .N) side-d → b ≡ true)
+          → PointOn (cond b met NoIntersect) met (a .P) (a .N) side-d
       go true x y = record { answer = inl (refl, x refl) }
       go false x y = record { answer = inr (refl, λ z. false≢true (y z)) }
 
-side-x : (x y : ℕ) → x * x ≤ x * x + y * y
+pub side-x : (x y : ℕ) → x * x ≤ x * x + y * y
 side-x x y = omega arith
 
-side-y : (x y : ℕ) → y * y ≤ x * x + y * y
+pub side-y : (x y : ℕ) → y * y ≤ x * x + y * y
 side-y x y = omega arith
 
 -- the place of a point c on the segment from a to b, by x or by y, and what the kernel answers
@@ -297,10 +297,10 @@ module _ (e : Float) (num den : ℕ) (h : Eps e num den) where
   same-y a b A B = eqb (A .y .p + B .y .n) (A .y .n + B .y .p)
 
   -- grid points are near each other exactly where they are one
-  same-point : (a b : Vector2) (A : Vec 20 a) (B : Vec 20 b) → IsZero (vector2.sub a b) (vec-sub a b A B) → vector2.fuzzyEqEps a b e ≡ true
+  pub same-point : (a b : Vector2) (A : Vec 20 a) (B : Vec 20 b) → IsZero (vector2.sub a b) (vec-sub a b A B) → vector2.fuzzyEqEps a b e ≡ true
   same-point a b A B z = near-point e num den h a b A B ∙ is-true (same-x a b A B && same-y a b A B) (and-i (same-x a b A B) (same-y a b A B) (eq→eqb (z .0)) (eq→eqb (z .1)))
 
-  two-points : (a b : Vector2) (A : Vec 20 a) (B : Vec 20 b) → (IsZero (vector2.sub a b) (vec-sub a b A B) → ⊥) → vector2.fuzzyEqEps a b e ≡ false
+  pub two-points : (a b : Vector2) (A : Vec 20 a) (B : Vec 20 b) → (IsZero (vector2.sub a b) (vec-sub a b A B) → ⊥) → vector2.fuzzyEqEps a b e ≡ false
   two-points a b A B z =
       near-point e num den h a b A B
       ∙ is-false (same-x a b A B && same-y a b A B)
