@@ -12,10 +12,13 @@ use lib.Ieee.{Float, binary64}
 use lib.Ieee.Bits.{is-true, is-false}
 use lib.Ieee.Fits.{eq→eqb}
 use Rattle.float_laws.specs.Rounded.{Rounded}
+use Rattle.float_laws.specs.Roundings.{Near}
+use Rattle.float_laws.specs.Binary64.{unit}
 use Rattle.floats.specs.Ops.{_⊘_}
 use Rattle.plane.specs.Vector2 as vector2
 use Rattle.plane.specs.declared.vector2.Vector2.{Vector2}
 use Rattle.plane.specs.Fuzzy.{fuzzyEqZeroEps}
+use Rattle.plane.specs.BaseMath.{pointFromParametric}
 use Rattle.crossing.specs.LineLine.{lineLine, crossing, parallel, within}
 use Rattle.crossing.specs.declared.line_line_intersect.LineLineIntr.{LineLineIntr}
 use Rattle.crossing.specs.declared.line_line_intersect.LineLineIntr.the-variants.{TrueIntersect, FalseIntersect}
@@ -25,6 +28,7 @@ use Rattle.grid.specs.Floats.Length.{gap, gap-square, Long, long}
 use Rattle.grid.specs.Floats.Reach.{Reaches}
 use Rattle.grid.specs.Floats.Range.{within-yes, within-says}
 use Rattle.grid.specs.Floats.Ratio.{Ratio, ratio}
+use Rattle.grid.specs.Floats.Point.{point-x, point-y}
 
 -- ---- the square of a vector's length
 abbrev pub square : (v : Vector2) → Vec 21 v → ℕ
@@ -103,34 +107,39 @@ module _ (e : Float) (num den : ℕ) (h : Eps e num den) (v u w : Vector2) (A : 
   at-most : (P N D : ℕ) → P ≤ 2 ^ 44 → 0 < D → P ≤ N + 2 ^ 44 * D
   at-most P N D l d = omega arith
 
+  -- the two range tests: from 0 to 1 passes, and what passes is in reach
+  pub first-passes : Inside (first .P) (first .N) (first .D) → within t1 v e ≡ true
+  first-passes x =
+      within-yes e num den h v (square v A) (long-first v u A B apart) long-v t1 (first .P) (first .N) (first .D) (first .rounded) (first .some)
+      (at-most (first .P) (first .N) (first .D) (first .P-le) (first .some))
+      (at-most (first .N) (first .P) (first .D) (first .N-le) (first .some)) (x .0) (x .1)
+
+  pub first-reaches : within t1 v e ≡ true → Reaches (square v A) num den (first .P) (first .N) (first .D)
+  first-reaches x =
+      within-says e num den h v (square v A) (long-first v u A B apart) long-v t1 (first .P) (first .N) (first .D) (first .rounded) (first .some)
+      (at-most (first .P) (first .N) (first .D) (first .P-le) (first .some))
+      (at-most (first .N) (first .P) (first .D) (first .N-le) (first .some)) x
+
+  pub second-passes : Inside (second .P) (second .N) (second .D) → within t2 u e ≡ true
+  second-passes x =
+      within-yes e num den h u (square u B) (long-second v u A B apart) long-u t2 (second .P) (second .N) (second .D) (second .rounded) (second .some)
+      (at-most (second .P) (second .N) (second .D) (second .P-le) (second .some))
+      (at-most (second .N) (second .P) (second .D) (second .N-le) (second .some)) (x .0) (x .1)
+
+  pub second-reaches : within t2 u e ≡ true → Reaches (square u B) num den (second .P) (second .N) (second .D)
+  second-reaches x =
+      within-says e num den h u (square u B) (long-second v u A B apart) long-u t2 (second .P) (second .N) (second .D) (second .rounded) (second .some)
+      (at-most (second .P) (second .N) (second .D) (second .P-le) (second .some))
+      (at-most (second .N) (second .P) (second .D) (second .N-le) (second .some)) x
+
   pub crossing-says : Crossed (crossing v u w (vector2.perpDot v u) e) (square v A) (square u B) num den
       (first .P) (first .N) (first .D) (second .P) (second .N) (second .D) t1 t2
   unfolding crossing
   crossing-says = record {
-    answer = told (within t1 v e) (within t2 u e) (λ x. says1 x) (λ x. says2 x);
-    inside = λ x y. sure (within t1 v e) (within t2 u e) (yes1 x) (yes2 y);
+    answer = told (within t1 v e) (within t2 u e) (λ x. first-reaches x) (λ x. second-reaches x);
+    inside = λ x y. sure (within t1 v e) (within t2 u e) (first-passes x) (second-passes y);
   }
     where
-      says1 : within t1 v e ≡ true → Reaches (square v A) num den (first .P) (first .N) (first .D)
-      says1 x =
-          within-says e num den h v (square v A) (long-first v u A B apart) long-v t1 (first .P) (first .N) (first .D) (first .rounded) (first .some)
-          (at-most (first .P) (first .N) (first .D) (first .P-le) (first .some)) (at-most (first .N) (first .P) (first .D) (first .N-le) (first .some)) x
-
-      says2 : within t2 u e ≡ true → Reaches (square u B) num den (second .P) (second .N) (second .D)
-      says2 x =
-          within-says e num den h u (square u B) (long-second v u A B apart) long-u t2 (second .P) (second .N) (second .D) (second .rounded) (second .some)
-          (at-most (second .P) (second .N) (second .D) (second .P-le) (second .some)) (at-most (second .N) (second .P) (second .D) (second .N-le) (second .some)) x
-
-      yes1 : Inside (first .P) (first .N) (first .D) → within t1 v e ≡ true
-      yes1 x =
-          within-yes e num den h v (square v A) (long-first v u A B apart) long-v t1 (first .P) (first .N) (first .D) (first .rounded) (first .some)
-          (at-most (first .P) (first .N) (first .D) (first .P-le) (first .some)) (at-most (first .N) (first .P) (first .D) (first .N-le) (first .some)) (x .0) (x .1)
-
-      yes2 : Inside (second .P) (second .N) (second .D) → within t2 u e ≡ true
-      yes2 x =
-          within-yes e num den h u (square u B) (long-second v u A B apart) long-u t2 (second .P) (second .N) (second .D) (second .rounded) (second .some)
-          (at-most (second .P) (second .N) (second .D) (second .P-le) (second .some)) (at-most (second .N) (second .P) (second .D) (second .N-le) (second .some)) (x .0) (x .1)
-
       told : (a b : Bool) → (a ≡ true → Reaches (square v A) num den (first .P) (first .N) (first .D))
           → (b ≡ true → Reaches (square u B) num den (second .P) (second .N) (second .D))
           → ((cond (not a || not b) (FalseIntersect t1 t2) (TrueIntersect t1 t2) ≡ TrueIntersect t1 t2)
@@ -144,6 +153,31 @@ module _ (e : Float) (num den : ℕ) (h : Eps e num den) (v u w : Vector2) (A : 
       sure true true x y = refl
       sure true false x y = absurd (false≢true y)
       sure false b x y = absurd (false≢true x)
+
+-- the point that the kernel's first parameter gives on the first segment: each coordinate is within 1 / 2 ^ 30 of the crossing's
+module _ (e : Float) (num den : ℕ) (h : Eps e num den) (v1 v2 : Vector2) (A1 : Vec 20 v1) (A2 : Vec 20 v2) (u w : Vector2) (B : Vec 21 u) (C : Vec 21 w) where
+  abbrev way : Vec 21 (vector2.sub v2 v1)
+  way = vec-sub v2 v1 A2 A1
+
+  module _ (apart : perp (vector2.sub v2 v1) u way B .p ≡ perp (vector2.sub v2 v1) u way B .n → ⊥)
+      (passed : within (t1 e num den h (vector2.sub v2 v1) u w way B C apart) (vector2.sub v2 v1) e ≡ true) where
+    abbrev r1 : Ratio (t1 e num den h (vector2.sub v2 v1) u w way B C apart) 44
+        (perp u w B C .p) (perp u w B C .n) (perp (vector2.sub v2 v1) u way B .p) (perp (vector2.sub v2 v1) u way B .n)
+    r1 = first e num den h (vector2.sub v2 v1) u w way B C apart
+
+    pub crossing-x : Near unit (pointFromParametric v1 v2 (t1 e num den h (vector2.sub v2 v1) u w way B C apart) .x)
+        (A1 .x .p * r1 .D + (way .x .p * r1 .P + way .x .n * r1 .N)) (A1 .x .n * r1 .D + (way .x .p * r1 .N + way .x .n * r1 .P)) (r1 .D) 1 (2 ^ 30)
+    crossing-x =
+        point-x e num den h v1 v2 A1 A2 (square (vector2.sub v2 v1) way) (square-is (vector2.sub v2 v1) way)
+        (long-first (vector2.sub v2 v1) u way B apart) _ (r1 .P) (r1 .N) (r1 .D) (r1 .rounded) (r1 .some)
+        (first-reaches e num den h (vector2.sub v2 v1) u w way B C apart passed)
+
+    pub crossing-y : Near unit (pointFromParametric v1 v2 (t1 e num den h (vector2.sub v2 v1) u w way B C apart) .y)
+        (A1 .y .p * r1 .D + (way .y .p * r1 .P + way .y .n * r1 .N)) (A1 .y .n * r1 .D + (way .y .p * r1 .N + way .y .n * r1 .P)) (r1 .D) 1 (2 ^ 30)
+    crossing-y =
+        point-y e num den h v1 v2 A1 A2 (square (vector2.sub v2 v1) way) (square-is (vector2.sub v2 v1) way)
+        (long-first (vector2.sub v2 v1) u way B apart) _ (r1 .P) (r1 .N) (r1 .D) (r1 .rounded) (r1 .some)
+        (first-reaches e num den h (vector2.sub v2 v1) u w way B C apart passed)
 
 -- ---- which way the kernel goes: by the perp dot of the two segments, exactly
 module _ (e : Float) (num den : ℕ) (h : Eps e num den) (v1 v2 u1 u2 : Vector2) (A1 : Vec 20 v1) (A2 : Vec 20 v2) (B1 : Vec 20 u1) (B2 : Vec 20 u2) where

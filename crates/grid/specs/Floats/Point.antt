@@ -81,7 +81,7 @@ parts m1 m2 m3 m4 n1 n2 n3 n4 q1 q2 k1 k2 a1 b1 w x y z = omega arith
 
 module _ (a b c d P N D L tp tn qp qn cp cn : ℕ) where
   of-quotient : c * (2 ^ 54 * (tp * D + N * L)) + d * (2 ^ 54 * (P * L + tn * D))
-          ≤ c * (2 ^ 54 * (P * L + tn * D)) + d * (2 ^ 54 * (tp * D + N * L)) + 2 ^ 21 * (2 ^ 1 * (D * L))
+      ≤ c * (2 ^ 54 * (P * L + tn * D)) + d * (2 ^ 54 * (tp * D + N * L)) + 2 ^ 21 * (2 ^ 1 * (D * L))
       → 2 ^ 54 * (c * tp * D + c * N * L + d * P * L + d * tn * D) ≤ 2 ^ 54 * (c * P * L + c * tn * D + d * tp * D + d * N * L) + 2 ^ 22 * (D * L)
   of-quotient x = omega arith
 
@@ -94,7 +94,7 @@ module _ (a b c d P N D L tp tn qp qn cp cn : ℕ) where
   of-sum z = omega (arith, mul-le-mul-right D z)
 
   together : c * (2 ^ 54 * (tp * D + N * L)) + d * (2 ^ 54 * (P * L + tn * D))
-          ≤ c * (2 ^ 54 * (P * L + tn * D)) + d * (2 ^ 54 * (tp * D + N * L)) + 2 ^ 21 * (2 ^ 1 * (D * L))
+      ≤ c * (2 ^ 54 * (P * L + tn * D)) + d * (2 ^ 54 * (tp * D + N * L)) + 2 ^ 21 * (2 ^ 1 * (D * L))
       → 2 ^ 54 * (qp + (c * tn + d * tp)) ≤ 2 ^ 54 * (c * tp + d * tn + qn) + 2 ^ 22 * L
       → 2 ^ 54 * (cp + (b * L + qn)) ≤ 2 ^ 54 * (a * L + qp + cn) + 2 ^ 21 * L
       → 2 ^ 30 * (cp * D + (b * D + (c * N + d * P)) * L) ≤ 2 ^ 30 * ((a * D + (c * P + d * N)) * L + cn * D) + 1 * (D * L)
@@ -301,7 +301,7 @@ module _ (e : Float) (num den : ℕ) (h : Eps e num den) (S P N D : ℕ) (r : Re
 module _ (e : Float) (num den : ℕ) (h : Eps e num den)
     (p0 p1 : Vector2) (A0 : Vec 20 p0) (A1 : Vec 20 p1) (S : ℕ)
     (square : S + dots (vector2.sub p1 p0) (vector2.sub p1 p0) (vec-sub p1 p0 A1 A0) (vec-sub p1 p0 A1 A0) .n
-        ≡ dots (vector2.sub p1 p0) (vector2.sub p1 p0) (vec-sub p1 p0 A1 A0) (vec-sub p1 p0 A1 A0) .p)
+    ≡ dots (vector2.sub p1 p0) (vector2.sub p1 p0) (vec-sub p1 p0 A1 A0) (vec-sub p1 p0 A1 A0) .p)
     (some : 0 < S)
     (t : Float) (P N D : ℕ) (r : Rounded binary64 t P N D) (C : 0 < D) (reach : Reaches S num den P N D) where
   abbrev side : Vec 21 (vector2.sub p1 p0)

@@ -100,10 +100,24 @@ module _ (D : ℕ) (C : 0 < D) (few : D ≤ 2 ^ 21) where
       go : (c : Bool) → (T c → P1 + N0 ≤ P0 + N1) → (T (not c) → P0 + N1 ≤ P1 + N0)
           → Risen (cond c (record { t0 = b; t1 = a }) (record { t0 = a; t1 = b })) P0 N0 P1 N1
       go true u d = record {
-        Pl = P1; Nl = N1; Ph = P0; Nh = N0; lower = y; upper = x; rises = u tt; which = inr (refl, refl, refl, refl);
+        Pl = P1;
+        Nl = N1;
+        Ph = P0;
+        Nh = N0;
+        lower = y;
+        upper = x;
+        rises = u tt;
+        which = inr (refl, refl, refl, refl);
       }
       go false u d = record {
-        Pl = P0; Nl = N0; Ph = P1; Nh = N1; lower = x; upper = y; rises = d tt; which = inl (refl, refl, refl, refl);
+        Pl = P0;
+        Nl = N0;
+        Ph = P1;
+        Nh = N1;
+        lower = x;
+        upper = y;
+        rises = d tt;
+        which = inl (refl, refl, refl, refl);
       }
 
   -- ---- cut off at 0 and at 1
