@@ -3,3 +3,5 @@ pub mod Plane
 pub mod Floats
 pub mod Accepted
 pub mod Tests
+pub mod Joined
+pub mod Crossed
