@@ -5,3 +5,4 @@ pub mod Accepted
 pub mod Tests
 pub mod Joined
 pub mod Crossed
+pub mod Level

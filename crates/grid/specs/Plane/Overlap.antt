@@ -296,7 +296,7 @@ module _ (v1 v2 u1 u2 : Spot) (c : Collinear v1 v2 u1 u2) (slant : (u2 .x -ℤ u
           (subst (λ (z : ℤ). mark u1 u2 (lower .0) <ℤ z) (sym (mark-end u1 u2)) (lower .3))
 
 -- v has length, so its ends differ on u's axis
-apart-on-axis : (v1 v2 u1 u2 : Spot) → across v1 v2 u1 u2 ≡ pos 0 → ((u2 .x -ℤ u1 .x) ≡ pos 0 → ⊥) → v1 .x ≡ v2 .x → Same v1 v2
+pub apart-on-axis : (v1 v2 u1 u2 : Spot) → across v1 v2 u1 u2 ≡ pos 0 → ((u2 .x -ℤ u1 .x) ≡ pos 0 → ⊥) → v1 .x ≡ v2 .x → Same v1 v2
 apart-on-axis v1 v2 u1 u2 flat slant e =
     let X = var 0 in let Y = var 1 in let X2 = var 2 in let Y2 = var 3 in
     let A = var 4 in let B = var 5 in let A2 = var 6 in let B2 = var 7 in
