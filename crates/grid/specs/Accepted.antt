@@ -1,6 +1,6 @@
 -- A pair of grid lines is never refused: every number that the pair call looks at is fine, so it answers what was worked out.
 use mathlib.Core.Path.{_≡_, refl, sym, ap, _∙_, subst}
-use mathlib.Core.Bool.{Bool, true, false, cond}
+use mathlib.Core.Bool.{Bool, true, false, cond, _&&_}
 use mathlib.Core.List.{List, _∷_}
 use Prim.Native.Nat.{ℕ, zero, suc, _*_, _^_, _≤_, _<_}
 use native.Mathlib.Nat.{mul-pos, mul-le-mul-right, lt-of-mul-lt-mul-right}
@@ -14,6 +14,7 @@ use lib.Ieee.Order.{le-of-values}
 use Rattle.floats.specs.Ops.{_≺_}
 use Rattle.floats.specs.F64
 use Rattle.plane.specs.Fuzzy.{fuzzyEqZeroEps, fuzzyEpsilon}
+use Rattle.plane.specs.PlineVertex as vertex
 use Rattle.plane.specs.PlineVertex.{bulgeIsZero}
 use Rattle.plane.specs.declared.pline_vertex.PlineVertex.{PlineVertex}
 use Rattle.checks.specs.declared.fault.Checked.{Checked}
@@ -24,7 +25,8 @@ use Rattle.checks.specs.Edges.{powers}
 use Rattle.checks.specs.First.{AllFine, none, one, first-fine}
 use Rattle.checks.specs.Limit
 use Rattle.checks.specs.Laws.Fine.{Within, Between, epsilon-fine, coordinate-fine, bulge-fine}
-use Rattle.crossing.specs.PlineSeg.{plineSeg}
+use Rattle.crossing.specs.PlineSeg.{plineSeg, processLineLineIntr}
+use Rattle.crossing.specs.declared.pline_seg_intersect.PlineSegIntr.{PlineSegIntr}
 use Rattle.crossing.specs.PlineSegIntersect.{checks, look, plineSegIntr}
 use Rattle.crossing.specs.Settle.{settle}
 use Rattle.crossing.specs.declared.pline_seg_intersect.PlineSegAnswer.the-variants.{Refused, Met}
@@ -169,3 +171,14 @@ module _ (v1 v2 u1 u2 : PlineVertex) (p1 p2 q1 q2 : Spot) (e : Float) (num den :
       (fine _ _ (coordinate-fine (u2 .y) _ .1 (coordinate-within (u2 .y) (q2 .y) i i'))
       (fine _ _ (no-arc v1 v2 0 0 line-v)
       (fine _ _ (no-arc u1 u2 1 0 line-u) none))))))))))))))
+
+-- ---- the pair call on two lines is the kernel
+pub two-lines : (v1 v2 u1 u2 : PlineVertex) (e : Float) → T (bulgeIsZero v1) → T (bulgeIsZero u1)
+    → plineSeg v1 v2 u1 u2 e ≡ processLineLineIntr (vertex.pos v1) (vertex.pos v2) (vertex.pos u1) (vertex.pos u2) e
+unfolding plineSeg
+two-lines v1 v2 u1 u2 e h k = go (bulgeIsZero v1) (bulgeIsZero u1) _ _ _ _ h k
+  where
+    go : (i j : Bool) (x y z w : PlineSegIntr) → T i → T j → cond (i && j) x (cond i y (cond j z w)) ≡ x
+    go true true x y z w h k = refl
+    go true false x y z w h k = absurd k
+    go false j x y z w h k = absurd h

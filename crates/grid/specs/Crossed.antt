@@ -1,7 +1,7 @@
 -- Grid segments that are not parallel: the kernel's answer keeps the promise. What the kernel's floats say in naturals (Floats/Crossing)
 -- is said of the meeting (Plane/Cross).
-use mathlib.Core.Path.{_≡_, refl, sym, ap, _∙_, subst}
-use mathlib.Core.Logic.{_⊎_, inl, inr, _↔_}
+use mathlib.Core.Path.{_≡_, sym, ap, _∙_, subst}
+use mathlib.Core.Logic.{_⊎_, inl, inr}
 use Prim.Native.Nat.{ℕ, _+_, _*_, _^_, _≤_, _<_}
 use native.Mathlib.Omega.{arith}
 use lib.IntN.{ℤ, pos, natAbs, _+ℤ_, _-ℤ_, _*ℤ_}
@@ -12,7 +12,7 @@ use Rattle.floats.specs.Ops.{_⊘_}
 use Rattle.plane.specs.Vector2 as vector2
 use Rattle.plane.specs.declared.vector2.Vector2.{Vector2}
 use Rattle.plane.specs.BaseMath.{pointFromParametric}
-use Rattle.crossing.specs.LineLine.{lineLine, crossing}
+use Rattle.crossing.specs.LineLine.{crossing}
 use Rattle.crossing.specs.PlineSeg.{lineLineOf}
 use Rattle.crossing.specs.declared.line_line_intersect.LineLineIntr.{LineLineIntr}
 use Rattle.crossing.specs.declared.line_line_intersect.LineLineIntr.the-variants.{TrueIntersect, FalseIntersect}
@@ -45,7 +45,7 @@ square-long : (v : Vector2) (A : Vec 21 v) (p q : Spot) → At 21 v A (way p q) 
 square-long v A p q h =
     let x = size-gap (q .x -ℤ p .x) (A .x .p) (A .x .n) (h .at-x) in
     let y = size-gap (q .y -ℤ p .y) (A .y .p) (A .y .n) (h .at-y) in
-    sym (ap (λ (z : ℕ). z * z + natAbs (q .y -ℤ p .y) * natAbs (q .y -ℤ p .y)) x 
+    sym (ap (λ (z : ℕ). z * z + natAbs (q .y -ℤ p .y) * natAbs (q .y -ℤ p .y)) x
     ∙ ap (λ (z : ℕ). gap (A .x .p) (A .x .n) * gap (A .x .p) (A .x .n) + z * z) y)
 
 -- a place in reach

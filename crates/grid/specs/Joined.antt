@@ -1,11 +1,11 @@
 -- Floats of the grid and whole numbers: what stands at a grid point as a difference of naturals (Floats/*) is that point's whole numbers
 -- (Plane/*), its ways and products too.
-use mathlib.Core.Path.{_≡_, refl, sym, ap, _∙_, subst}
+use mathlib.Core.Path.{_≡_, sym, ap, _∙_, subst}
 use mathlib.Core.Logic.{_⊎_, inl, inr, _↔_}
 use mathlib.Core.Bool.{true, false}
-use Prim.Native.Nat.{ℕ, zero, suc, _+_, _-_, _*_, _^_, _≤_, _<_}
+use Prim.Native.Nat.{ℕ, _+_, _-_, _*_, _≤_, _<_}
 use native.Mathlib.Omega.{arith}
-use lib.IntN.{ℤ, pos, negsuc, negℤ, natAbs, _+ℤ_, _-ℤ_, _*ℤ_}
+use lib.IntN.{ℤ, pos, negsuc, natAbs, _-ℤ_, _*ℤ_}
 use lib.Ieee.{Float, nan, inf, fin}
 use Rattle.float_laws.specs.Signed.{Diff}
 use Rattle.plane.specs.Vector2 as vector2

@@ -1,11 +1,11 @@
 -- Parallel grid segments: the kernel's answer keeps the promise. What the kernel's floats say in naturals (Floats/Parallel) is said of
 -- what the segments share (Plane/Points, Plane/Overlap).
-use mathlib.Core.Path.{_≡_, refl, sym, ap, _∙_, subst}
+use mathlib.Core.Path.{_≡_, sym, ap, _∙_, subst}
 use mathlib.Core.Logic.{_⊎_, inl, inr, _↔_}
-use Prim.Native.Nat.{ℕ, _+_, _*_, _≤_, _<_}
+use Prim.Native.Nat.{ℕ, _+_, _≤_, _<_}
 use native.Mathlib.Decide.{ℕ-discrete}
 use native.Mathlib.Omega.{arith}
-use lib.IntN.{ℤ, pos, natAbs, _-ℤ_}
+use lib.IntN.{ℤ, pos, _-ℤ_}
 use lib.Signed.{_≤ℤ_, _<ℤ_}
 use lib.Ieee.{Float}
 use Rattle.floats.specs.Ops.{f0}
@@ -16,9 +16,8 @@ use Rattle.crossing.specs.LineLine.{parallel}
 use Rattle.crossing.specs.PlineSeg.{lineLineOf}
 use Rattle.crossing.specs.declared.line_line_intersect.LineLineIntr.{LineLineIntr}
 use Rattle.crossing.specs.declared.line_line_intersect.LineLineIntr.the-variants.{TrueIntersect, NoIntersect}
-use Rattle.crossing.specs.declared.pline_seg_intersect.PlineSegIntr.the-variants.{OneIntersect}
-use Rattle.grid.specs.Promise.{Spot, Parallel, Kept}
-use Rattle.grid.specs.Plane.Whole.{diff, naturals, same}
+use Rattle.grid.specs.Promise.{Spot, Kept}
+use Rattle.grid.specs.Plane.Whole.{diff, same}
 use Rattle.grid.specs.Plane.Order.{turned, turned-same}
 use Rattle.grid.specs.Plane.Sides.{way, across, first, second, across-parallel}
 use Rattle.grid.specs.Plane.Cross.{Between}
@@ -44,11 +43,11 @@ use Rattle.grid.specs.Plane.Keeps.{
 use Rattle.grid.specs.Floats.Small.{Vec, vec-sub, perp}
 use Rattle.grid.specs.Floats.Zero.{Eps}
 use Rattle.grid.specs.Floats.Length.{gap}
-use Rattle.grid.specs.Floats.Overlap.{Overlapped, Clear, Touching, Sharing}
+use Rattle.grid.specs.Floats.Overlap.{Overlapped}
 use Rattle.grid.specs.Floats.Parallel as level
 use Rattle.grid.specs.Floats.Parallel.{IsZero, PointOn, PointAt, Spanned, point-or-not}
 use Rattle.grid.specs.Joined.{At, way-at, zero-at, point-at, size-gap, place-at}
-use Rattle.grid.specs.Crossed.{v, u, w, F, G, H, v-at, u-at, w-at, across-is, first-is, second-is}
+use Rattle.grid.specs.Crossed.{across-is, first-is, second-is}
 
 -- ---- a divisor with a size is not 0
 not-zero : (z : ℤ) (p n : ℕ) → z ≡ diff p n → 0 < gap p n → z ≡ pos 0 → ⊥
@@ -173,16 +172,24 @@ module _ (a b : ℤ) (P0 N0 P1 N1 D : ℕ) (e : a ≡ diff P0 N0) (f : b ≡ dif
         none (inl k) (l, m) = let x = low-is (lows .0 l) in omega arith
         none (inr k) (l, m) = let x = high-is (highs .0 m) in omega arith
     spans-told v1 v2 u1 u2 r n (inr (inl c)) =
-        inr (inl (pointFromParametric v1 v2 (c .t1), ap (λ (z : LineLineIntr). lineLineOf z v1 v2 u1 u2) (c .is),
-        meet-of (c .lower) (c .upper), one (c .why)))
+        inr (inl (
+          pointFromParametric v1 v2 (c .t1),
+          ap (λ (z : LineLineIntr). lineLineOf z v1 v2 u1 u2) (c .is),
+          meet-of (c .lower) (c .upper),
+          one (c .why),
+        ))
       where
         one : (Pl ≡ Nl + D) ⊎ ((Ph ≡ Nh) ⊎ (Pl + Nh ≡ Ph + Nl)) → ¬ MeetMore a b D
         one (inl k) (l, m) = let x = more-low-is (more-lows .0 l) in omega arith
         one (inr (inl k)) (l, m) = let x = more-high-is (more-highs .0 m) in omega arith
         one (inr (inr k)) (l, m) = differ n k
     spans-told v1 v2 u1 u2 r n (inr (inr c)) =
-        inr (inr (pointFromParametric u1 u2 (c .t0), pointFromParametric u1 u2 (c .t1),
-        ap (λ (z : LineLineIntr). lineLineOf z v1 v2 u1 u2) (c .is), more-of (c .lower) (c .upper)))
+        inr (inr (
+          pointFromParametric u1 u2 (c .t0),
+          pointFromParametric u1 u2 (c .t1),
+          ap (λ (z : LineLineIntr). lineLineOf z v1 v2 u1 u2) (c .is),
+          more-of (c .lower) (c .upper),
+        ))
 
 -- the places of v's ends along u
 marks : (d x z : ℤ) (xp xn zp zn dp dn : ℕ) → d ≡ diff dp dn → x ≡ diff xp xn → z ≡ diff zp zn
@@ -323,8 +330,8 @@ module _ (e : Float) (num den : ℕ) (h : Eps e num den)
         (spans-told M1 M2 (s .P0) (s .N0) (s .P1) (s .N1) (gap (G' .y .p) (G' .y .n)) (m .0) (m .1)
         (s .Pl) (s .Nl) (s .Ph) (s .Nh) (s .rises) (s .which) v1 v2 u1 u2 answer
         (λ x.
-            let o = apart-on-axis (flip p1) (flip p2) (flip q1) (flip q2) (f .parallel) slant (turned-same d (p1 .y) (p2 .y) (q1 .y) x) in
-            long (o .1, o .0)) (s .answer)))
+        let o = apart-on-axis (flip p1) (flip p2) (flip q1) (flip q2) (f .parallel) slant (turned-same d (p1 .y) (p2 .y) (q1 .y) x) in
+        long (o .1, o .0)) (s .answer)))
 
   -- all five ways
   level-told : perp v' u' F' G' .p ≡ perp v' u' F' G' .n → Told p1 p2 q1 q2 (lineLineOf answer v1 v2 u1 u2)

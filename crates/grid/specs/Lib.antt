@@ -2,7 +2,7 @@ pub mod Promise
 pub mod Plane
 pub mod Floats
 pub mod Accepted
-pub mod Tests
 pub mod Joined
 pub mod Crossed
 pub mod Level
+pub mod Proved
