@@ -10,11 +10,37 @@ use lib.Signed.{_≤ℤ_, _<ℤ_, clashℤ, ≤ℤ-refl, <ℤ-≤ℤ-trans}
 use Rattle.grid.specs.Promise.{Spot, Shared, Share, ShareMore}
 use Rattle.grid.specs.Plane.Whole.{whole, naturals}
 use Rattle.grid.specs.Plane.Ring.{solve, combine, combine2, equal-of-sub, var, num, neg, _⊟_, _⊠_}
-use Rattle.grid.specs.Plane.Order.{cancel, cancel-any, lt-of-le-ne, turned-same, pos-le, turned, sign, Plain, Minus, inside, size-pos, lt-or-le}
+use Rattle.grid.specs.Plane.Order.{
+  cancel,
+  cancel-any,
+  lt-of-le-ne,
+  turned-same,
+  pos-le,
+  turned,
+  sign,
+  Plain,
+  Minus,
+  inside,
+  size-pos,
+  lt-or-le,
+}
 use Rattle.grid.specs.Plane.Sides.{way, cross, across}
 use Rattle.grid.specs.Plane.Cross.{Between}
 use Rattle.grid.specs.Plane.Points.{Collinear, line-of-v, cross-flipped}
-use Rattle.grid.specs.Plane.Spots.{spot, one-pos, start-on, end-on, Same, level-on, spot-once, flip, share-flipped, share-more-flipped, share-reversed, share-more-reversed}
+use Rattle.grid.specs.Plane.Spots.{
+  spot,
+  one-pos,
+  start-on,
+  end-on,
+  Same,
+  level-on,
+  spot-once,
+  flip,
+  share-flipped,
+  share-more-flipped,
+  share-reversed,
+  share-more-reversed,
+}
 use Rattle.grid.specs.Plane.Spans.{
   Meet,
   MeetMore,
@@ -127,9 +153,12 @@ end-inside x x2 a a2 h k = inside (x2 -ℤ x) (a2 -ℤ x) (go (sign (a2 -ℤ a))
     go : Plain (a2 -ℤ a) ⊎ Minus (a2 -ℤ a)
         → ((pos 0 ≤ℤ (a2 -ℤ x)) × ((a2 -ℤ x) ≤ℤ (x2 -ℤ x))) ⊎ (((x2 -ℤ x) ≤ℤ (a2 -ℤ x)) × ((a2 -ℤ x) ≤ℤ pos 0))
     go (inl e) =
-        inl (up x x2 a a2 (first-at (x -ℤ a) (a2 -ℤ a) (e .turn (x -ℤ a)) (e .size)) (last-at (x2 -ℤ a) (a2 -ℤ a) (e .turn (x2 -ℤ a)) (e .size)))
+        inl (up x x2 a a2
+        (first-at (x -ℤ a) (a2 -ℤ a) (e .turn (x -ℤ a)) (e .size))
+        (last-at (x2 -ℤ a) (a2 -ℤ a) (e .turn (x2 -ℤ a)) (e .size)))
     go (inr e) =
-        inr (down x x2 a a2 (first-at (negℤ (x -ℤ a)) (negℤ (a2 -ℤ a)) (e .turn (x -ℤ a)) (e .size))
+        inr (down x x2 a a2
+        (first-at (negℤ (x -ℤ a)) (negℤ (a2 -ℤ a)) (e .turn (x -ℤ a)) (e .size))
         (last-at (negℤ (x2 -ℤ a)) (negℤ (a2 -ℤ a)) (e .turn (x2 -ℤ a)) (e .size)))
 
 -- ---- spans that meet say what is shared
@@ -231,8 +260,11 @@ meet-shared v1 v2 u1 u2 c slant (lo, hi) =
     go (inl l) (inr (inr h)) lo hi =
         (spot u1, u-start v1 v2 u1 u2 c slant l (le-of-lt (pos 0) (mark u1 u2 v2) (past-zero (size u1 u2) (mark u1 u2 v2) h)))
     go (inr (inr g)) (inl m) lo hi =
-        share-reversed v1 v2 u1 u2
-        (spot u1, u-start v2 v1 u1 u2 (reversed v1 v2 u1 u2 c) slant m (le-of-lt (pos 0) (mark u1 u2 v1) (past-zero (size u1 u2) (mark u1 u2 v1) g)))
+        share-reversed v1 v2 u1 u2 (
+          spot u1,
+          u-start v2 v1 u1 u2 (reversed v1 v2 u1 u2 c) slant m
+              (le-of-lt (pos 0) (mark u1 u2 v1) (past-zero (size u1 u2) (mark u1 u2 v1) g)),
+        )
 
 -- ---- and in more than one
 pos-lt : (k : ℕ) → 0 < k → pos 0 <ℤ pos k

@@ -52,7 +52,9 @@ reverse P a b (s, t, l, h) =
     let turn : (c x y : ℤ) → c *ℤ pos t ≡ pos (P .over) *ℤ (x *ℤ pos t +ℤ (y -ℤ x) *ℤ pos s)
     → c *ℤ pos t ≡ pos (P .over) *ℤ (y *ℤ pos t +ℤ (x -ℤ y) *ℤ pos (t - s))
     = λ c x y k. other-way c x y (pos (P .over)) (pos t) (pos s) (pos (t - s)) k parts in
-    (t - s, t, omega arith, record { some = h .some; at-x = turn (P .x) (a .x) (b .x) (h .at-x); at-y = turn (P .y) (a .y) (b .y) (h .at-y) })
+    let along : Along P b a (pos (t - s)) t
+    = record { some = h .some; at-x = turn (P .x) (a .x) (b .x) (h .at-x); at-y = turn (P .y) (a .y) (b .y) (h .at-y) } in
+    (t - s, t, omega arith, along)
 
 pub share-reversed : (v1 v2 u1 u2 : Spot) → Share v2 v1 u1 u2 → Share v1 v2 u1 u2
 share-reversed v1 v2 u1 u2 (P, (p, q)) = (P, (reverse P v2 v1 p, q))
