@@ -277,13 +277,16 @@ module _ (e : Float) (num den : ℕ) (h : Eps e num den)
         first-told-by-x p1 p2 q1 q2 (lineLineOf answer v1 v2 u1 u2) c still
         (not-zero (q2 .x -ℤ q1 .x) (G' .x .p) (G' .x .n) (at-u .at-x) (k .some))
         (point-told v1 v2 u1 u2 answer s t (mark q1 q2 p1) (size q1 q2) (k .P) (k .N) (gap (G' .x .p) (G' .x .n))
-        (place-at (q2 .x -ℤ q1 .x) (p1 .x -ℤ q1 .x) (G' .x .p) (G' .x .n) (H' .x .p) (H' .x .n) (k .P) (k .N) (at-u .at-x) (at-w .at-x) (k .some) (k .turned))
+        (place-at (q2 .x -ℤ q1 .x) (p1 .x -ℤ q1 .x) (G' .x .p) (G' .x .n) (H' .x .p) (H' .x .n)
+        (k .P) (k .N) (at-u .at-x) (at-w .at-x) (k .some) (k .turned))
         (size-gap (q2 .x -ℤ q1 .x) (G' .x .p) (G' .x .n) (at-u .at-x)) on)
     first-told still s t (inr (k, on)) =
         first-told-by-y p1 p2 q1 q2 (lineLineOf answer v1 v2 u1 u2) c still
         (not-zero (q2 .y -ℤ q1 .y) (G' .y .p) (G' .y .n) (at-u .at-y) (k .some))
-        (point-told v1 v2 u1 u2 answer s t (mark (flip q1) (flip q2) (flip p1)) (size (flip q1) (flip q2)) (k .P) (k .N) (gap (G' .y .p) (G' .y .n))
-        (place-at (q2 .y -ℤ q1 .y) (p1 .y -ℤ q1 .y) (G' .y .p) (G' .y .n) (H' .y .p) (H' .y .n) (k .P) (k .N) (at-u .at-y) (at-w .at-y) (k .some) (k .turned))
+        (point-told v1 v2 u1 u2 answer s t (mark (flip q1) (flip q2) (flip p1)) (size (flip q1) (flip q2))
+        (k .P) (k .N) (gap (G' .y .p) (G' .y .n))
+        (place-at (q2 .y -ℤ q1 .y) (p1 .y -ℤ q1 .y) (G' .y .p) (G' .y .n) (H' .y .p) (H' .y .n)
+        (k .P) (k .N) (at-u .at-y) (at-w .at-y) (k .some) (k .turned))
         (size-gap (q2 .y -ℤ q1 .y) (G' .y .p) (G' .y .n) (at-u .at-y)) on)
 
     -- the second is a point
@@ -293,13 +296,16 @@ module _ (e : Float) (num den : ℕ) (h : Eps e num den)
         second-told-by-x p1 p2 q1 q2 (lineLineOf answer v1 v2 u1 u2) c still
         (not-zero (p2 .x -ℤ p1 .x) (F' .x .p) (F' .x .n) (at-v .at-x) (k .some))
         (point-told v1 v2 u1 u2 answer s t (mark p1 p2 q1) (size p1 p2) (k .P) (k .N) (gap (F' .x .p) (F' .x .n))
-        (place-at (p2 .x -ℤ p1 .x) (q1 .x -ℤ p1 .x) (F' .x .p) (F' .x .n) _ _ (k .P) (k .N) (at-v .at-x) (at-back .at-x) (k .some) (k .turned))
+        (place-at (p2 .x -ℤ p1 .x) (q1 .x -ℤ p1 .x) (F' .x .p) (F' .x .n) _ _
+        (k .P) (k .N) (at-v .at-x) (at-back .at-x) (k .some) (k .turned))
         (size-gap (p2 .x -ℤ p1 .x) (F' .x .p) (F' .x .n) (at-v .at-x)) on)
     second-told still s t (inr (k, on)) =
         second-told-by-y p1 p2 q1 q2 (lineLineOf answer v1 v2 u1 u2) c still
         (not-zero (p2 .y -ℤ p1 .y) (F' .y .p) (F' .y .n) (at-v .at-y) (k .some))
-        (point-told v1 v2 u1 u2 answer s t (mark (flip p1) (flip p2) (flip q1)) (size (flip p1) (flip p2)) (k .P) (k .N) (gap (F' .y .p) (F' .y .n))
-        (place-at (p2 .y -ℤ p1 .y) (q1 .y -ℤ p1 .y) (F' .y .p) (F' .y .n) _ _ (k .P) (k .N) (at-v .at-y) (at-back .at-y) (k .some) (k .turned))
+        (point-told v1 v2 u1 u2 answer s t (mark (flip p1) (flip p2) (flip q1)) (size (flip p1) (flip p2))
+        (k .P) (k .N) (gap (F' .y .p) (F' .y .n))
+        (place-at (p2 .y -ℤ p1 .y) (q1 .y -ℤ p1 .y) (F' .y .p) (F' .y .n) _ _
+        (k .P) (k .N) (at-v .at-y) (at-back .at-y) (k .some) (k .turned))
         (size-gap (p2 .y -ℤ p1 .y) (F' .y .p) (F' .y .n) (at-v .at-y)) on)
 
     -- neither is
@@ -310,7 +316,8 @@ module _ (e : Float) (num den : ℕ) (h : Eps e num den)
     segments-told long (inl s) =
         let d = q2 .x -ℤ q1 .x in
         let slant = not-zero d (G' .x .p) (G' .x .n) (at-u .at-x) (s .some) in
-        let m = marks d (p1 .x -ℤ q1 .x) (p2 .x -ℤ q1 .x) _ _ _ _ (G' .x .p) (G' .x .n) (at-u .at-x) (at-w .at-x) (at-w2 .at-x) answer s in
+        let m = marks d (p1 .x -ℤ q1 .x) (p2 .x -ℤ q1 .x) _ _ _ _ (G' .x .p) (G' .x .n)
+        (at-u .at-x) (at-w .at-x) (at-w2 .at-x) answer s in
         let r = lineLineOf answer v1 v2 u1 u2 in
         spans-told-by-x p1 p2 q1 q2 r c long slant
         (subst (λ (z : ℕ). ToldBySpans (mark q1 q2 p1) (mark q1 q2 p2) z r) (sym (size-gap d (G' .x .p) (G' .x .n) (at-u .at-x)))
@@ -320,7 +327,8 @@ module _ (e : Float) (num den : ℕ) (h : Eps e num den)
     segments-told long (inr s) =
         let d = q2 .y -ℤ q1 .y in
         let slant = not-zero d (G' .y .p) (G' .y .n) (at-u .at-y) (s .some) in
-        let m = marks d (p1 .y -ℤ q1 .y) (p2 .y -ℤ q1 .y) _ _ _ _ (G' .y .p) (G' .y .n) (at-u .at-y) (at-w .at-y) (at-w2 .at-y) answer s in
+        let m = marks d (p1 .y -ℤ q1 .y) (p2 .y -ℤ q1 .y) _ _ _ _ (G' .y .p) (G' .y .n)
+        (at-u .at-y) (at-w .at-y) (at-w2 .at-y) answer s in
         let r = lineLineOf answer v1 v2 u1 u2 in
         let f = collinear-flipped p1 p2 q1 q2 c in
         let M1 = mark (flip q1) (flip q2) (flip p1) in
@@ -352,7 +360,8 @@ module _ (e : Float) (num den : ℕ) (h : Eps e num den)
           zero-at (second p1 p2 q1 q2) (perp v' w' F' H' .p) (perp v' w' F' H' .n)
           (second-is e num den h v1 v2 u1 u2 A1 A2 B1 B2 p1 p2 q1 q2 a1 a2 b1 b2)
 
-      no-line : (perp v' w' F' H' .p ≡ perp v' w' F' H' .n → ⊥) ⊎ (perp u' w' G' H' .p ≡ perp u' w' G' H' .n → ⊥) → ¬ Collinear p1 p2 q1 q2
+      no-line : (perp v' w' F' H' .p ≡ perp v' w' F' H' .n → ⊥) ⊎ (perp u' w' G' H' .p ≡ perp u' w' G' H' .n → ⊥)
+      → ¬ Collinear p1 p2 q1 q2
       no-line (inl n) c = n (zero-v .0 (c .from-v))
       no-line (inr n) c = n (zero-u .0 (c .from-u))
 
@@ -393,9 +402,11 @@ module _ (e : Float) (num den : ℕ) (h : Eps e num den)
               both-told p1 p2 q1 q2 (lineLineOf answer v1 v2 u1 u2) (same-v .0 i) (same-u .0 j)
               (both (level.points e num den h v1 v2 u1 u2 A1 A2 B1 B2 x y i j))
           go c (inl i) (inr j) =
-              first-told c (same-v .0 i) f0 (parametricFromPoint u1 u2 v1 e) (level.first-point e num den h v1 v2 u1 u2 A1 A2 B1 B2 x y i j)
+              first-told c (same-v .0 i) f0 (parametricFromPoint u1 u2 v1 e)
+              (level.first-point e num den h v1 v2 u1 u2 A1 A2 B1 B2 x y i j)
           go c (inr i) (inl j) =
-              second-told c (same-u .0 j) (parametricFromPoint v1 v2 u1 e) f0 (level.second-point e num den h v1 v2 u1 u2 A1 A2 B1 B2 x y i j)
+              second-told c (same-u .0 j) (parametricFromPoint v1 v2 u1 e) f0
+              (level.second-point e num den h v1 v2 u1 u2 A1 A2 B1 B2 x y i j)
           go c (inr i) (inr j) =
               segments-told c (λ o. i (same-v .1 o)) (level.segments e num den h v1 v2 u1 u2 A1 A2 B1 B2 x y i j)
 
