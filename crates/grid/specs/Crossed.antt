@@ -72,12 +72,12 @@ coordinate c x w m k a b wp wn p n D e f g h r =
     is x w m e f g = rw (e, f, g) (simp naturals (omega arith))
 
     turn : (y z L : ℕ) → 2 ^ 30 * (y * D + (b * D + (wp * n + wn * p)) * L)
-    ≤ 2 ^ 30 * ((a * D + (wp * p + wn * n)) * L + z * D) + 1 * (D * L)
+        ≤ 2 ^ 30 * ((a * D + (wp * p + wn * n)) * L + z * D) + 1 * (D * L)
         → 1073741824 * (y * D + (b * D + (wp * n + wn * p)) * L) ≤ 1073741824 * ((a * D + (wp * p + wn * n)) * L + z * D) + L * D
     turn y z L h = omega arith
 
     turn' : (y z L : ℕ) → 2 ^ 30 * ((a * D + (wp * p + wn * n)) * L + z * D)
-    ≤ 2 ^ 30 * (y * D + (b * D + (wp * n + wn * p)) * L) + 1 * (D * L)
+        ≤ 2 ^ 30 * (y * D + (b * D + (wp * n + wn * p)) * L) + 1 * (D * L)
         → 1073741824 * ((a * D + (wp * p + wn * n)) * L + z * D) ≤ 1073741824 * (y * D + (b * D + (wp * n + wn * p)) * L) + L * D
     turn' y z L h = omega arith
 
@@ -122,15 +122,15 @@ module _ (e : Float) (num den : ℕ) (h : Eps e num den)
 
   module _ (apart : perp v u F G .p ≡ perp v u F G .n → ⊥) where
     slant : ¬ Parallel p1 p2 q1 q2
-    slant par = apart (zero-at (across p1 p2 q1 q2)
-    (perp v u F G .p) (perp v u F G .n) across-is .0 (parallel-across p1 p2 q1 q2 par))
+    slant par =
+        apart (zero-at (across p1 p2 q1 q2) (perp v u F G .p) (perp v u F G .n) across-is .0 (parallel-across p1 p2 q1 q2 par))
 
     R1 : Ratio (vector2.perpDot u w ⊘ vector2.perpDot v u) 44
-    (perp u w G H .p) (perp u w G H .n) (perp v u F G .p) (perp v u F G .n)
+        (perp u w G H .p) (perp u w G H .n) (perp v u F G .p) (perp v u F G .n)
     R1 = crossed.first e num den h v u w F G H apart
 
     R2 : Ratio (vector2.perpDot v w ⊘ vector2.perpDot v u) 44
-    (perp v w F H .p) (perp v w F H .n) (perp v u F G .p) (perp v u F G .n)
+        (perp v w F H .p) (perp v w F H .n) (perp v u F G .p) (perp v u F G .n)
     R2 = crossed.second e num den h v u w F G H apart
 
     place-v : (base p1 p2 q1 q2 ≡ R1 .D) × (steps-v p1 p2 q1 q2 ≡ diff (R1 .P) (R1 .N))

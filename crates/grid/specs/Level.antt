@@ -361,7 +361,7 @@ module _ (e : Float) (num den : ℕ) (h : Eps e num den)
           (second-is e num den h v1 v2 u1 u2 A1 A2 B1 B2 p1 p2 q1 q2 a1 a2 b1 b2)
 
       no-line : (perp v' w' F' H' .p ≡ perp v' w' F' H' .n → ⊥) ⊎ (perp u' w' G' H' .p ≡ perp u' w' G' H' .n → ⊥)
-      → ¬ Collinear p1 p2 q1 q2
+          → ¬ Collinear p1 p2 q1 q2
       no-line (inl n) c = n (zero-v .0 (c .from-v))
       no-line (inr n) c = n (zero-u .0 (c .from-u))
 
