@@ -6,7 +6,6 @@ use mathlib.Core.Path.{_≡_, refl, sym, ap, _∙_, subst}
 use Prim.Native.Nat.{ℕ, zero, suc, _+_, _-_, _*_, _^_, _≤_, _<_}
 use native.Mathlib.Nat.{
   mul-pos,
-  mul-one,
   mul-le-mul-left,
   mul-le-mul-right,
   le-of-mul-le-mul-right,
@@ -19,9 +18,9 @@ use native.Mathlib.Nat.{
   pow-succ',
 }
 use native.Mathlib.Omega.{arith}
-use mathlib.Core.Bool.{Bool, true, false, not, cond, true≢false, false≢true}
+use mathlib.Core.Bool.{Bool, true, false, not, true≢false, false≢true}
 use lib.Dec.{T, ltb, ltb→lt, nltb→le, lit≤}
-use lib.Pow.{pow-add, pow-pos, pow-mono, pow-lt}
+use lib.Pow.{pow-add, pow-pos, pow-lt}
 use lib.Ieee.{Float, nan, inf, fin, Format, prec, emax, low, round, units, odd, fits, isNan, le, binary32, binary64}
 use lib.Ieee.Digits.{back}
 use lib.Arith.{le→nltb}
@@ -29,7 +28,6 @@ use lib.Ieee.Bits.{cond-no}
 use lib.Ieee.Exact.{HasValue}
 use lib.Ieee.Back.{round-whole}
 use lib.Ieee.Fits.{round-is, round-fits}
-use lib.Ieee.Order.{drop, kept}
 use lib.Ieee.Scale.{grid, overflow, finite, round-same}
 use Rattle.float_laws.specs.Best.{Held, held-pow, grid-le, grid-ge}
 use Rattle.float_laws.specs.Count.{Counted, counted, round-count, round-real}
@@ -166,7 +164,9 @@ module _ (f : Format) (r : Float) (P N c : ℕ) (h : Rounded f r P N c) (C : 0 <
   -- what is rounded does not cross y, by signs
   under : (s t : Bool) (Z : ℕ) → Held (prec f) Z → SizeOf s exact-size P N → P * unit + downs t Z * c ≤ ups t Z * c + N * unit
       → (ups s made + downs t Z ≤ ups t Z + downs s made) × (s ≡ false → made ≤ Z)
-  under false false Z z e l = let m : made ≤ Z = grid-le f exact-size c Z C z (omega (arith, ap (λ (w : ℕ). w * unit) e)) in (omega arith, λ u. m)
+  under false false Z z e l =
+      let m : made ≤ Z = grid-le f exact-size c Z C z (omega (arith, ap (λ (w : ℕ). w * unit) e)) in
+      (omega arith, λ u. m)
   under false true Z z e l =
       let wide : (exact-size + N) * unit ≡ P * unit = ap (λ (w : ℕ). w * unit) e in
       let zero-count : Z ≡ 0 = none Z (omega arith) in
@@ -179,7 +179,9 @@ module _ (f : Format) (r : Float) (P N c : ℕ) (h : Rounded f r P N c) (C : 0 <
 
   over : (s t : Bool) (Z : ℕ) → Held (prec f) Z → SizeOf s exact-size P N → ups t Z * c + N * unit ≤ P * unit + downs t Z * c
       → (ups t Z + downs s made ≤ ups s made + downs t Z) × (s ≡ true → made ≤ Z)
-  over true true Z z e l = let m : made ≤ Z = grid-le f exact-size c Z C z (omega (arith, ap (λ (w : ℕ). w * unit) e)) in (omega arith, λ u. m)
+  over true true Z z e l =
+      let m : made ≤ Z = grid-le f exact-size c Z C z (omega (arith, ap (λ (w : ℕ). w * unit) e)) in
+      (omega arith, λ u. m)
   over true false Z z e l =
       let wide : (exact-size + P) * unit ≡ N * unit = ap (λ (w : ℕ). w * unit) e in
       let zero-count : Z ≡ 0 = none Z (omega arith) in
@@ -210,7 +212,8 @@ module _ (f : Format) (r : Float) (P N c : ℕ) (h : Rounded f r P N c) (C : 0 <
       past false m e g = absurd (not-le-of-lt (of-y .under) (le-trans g (m refl)))
 
       go : (b : Bool) → (T b → made < overflow f) → (T (not b) → overflow f ≤ made)
-          → (ups (h .s) made + downs (of-y .s) (of-y .count) ≤ ups (of-y .s) (of-y .count) + downs (h .s) made) × (h .s ≡ false → made ≤ of-y .count)
+          → (ups (h .s) made + downs (of-y .s) (of-y .count) ≤ ups (of-y .s) (of-y .count) + downs (h .s) made)
+          × (h .s ≡ false → made ≤ of-y .count)
           → T (le r y)
       go true fine end side =
           le-diff r y _ _ unit _ _ unit (pow-pos (low f)) (pow-pos (low f)) (r-is (fine tt)) y-is .1
@@ -228,7 +231,8 @@ module _ (f : Format) (r : Float) (P N c : ℕ) (h : Rounded f r P N c) (C : 0 <
       past true m e g = absurd (not-le-of-lt (of-y .under) (le-trans g (m refl)))
 
       go : (b : Bool) → (T b → made < overflow f) → (T (not b) → overflow f ≤ made)
-          → (ups (of-y .s) (of-y .count) + downs (h .s) made ≤ ups (h .s) made + downs (of-y .s) (of-y .count)) × (h .s ≡ true → made ≤ of-y .count)
+          → (ups (of-y .s) (of-y .count) + downs (h .s) made ≤ ups (h .s) made + downs (of-y .s) (of-y .count))
+          × (h .s ≡ true → made ≤ of-y .count)
           → T (le y r)
       go true fine end side =
           le-diff y r _ _ unit _ _ unit (pow-pos (low f)) (pow-pos (low f)) y-is (r-is (fine tt)) .1
@@ -333,8 +337,9 @@ pub rounded-size : (f : Format) (r : Float) (P N c : ℕ) (s : Bool) (A k : ℕ)
 rounded-size f r P N c s A k h C e l fine =
     let same : h .size ≡ A = one-size (h .s) s (h .size) A (h .exact) e in
     let m = made-near f A c k C l fine in
+    let under : grid f (h .size) c < overflow f = subst (λ (z : ℕ). grid f z c < overflow f) (sym same) (m .under) in
     let in-A : HasValue r (h .s) (grid f A c) (2 ^ low f) =
-    subst (λ (z : ℕ). HasValue r (h .s) (grid f z c) (2 ^ low f)) same (in-units f r P N c h (subst (λ (z : ℕ). grid f z c < overflow f) (sym same) (m .under))) in
+    subst (λ (z : ℕ). HasValue r (h .s) (grid f z c) (2 ^ low f)) same (in-units f r P N c h under) in
     record {
       count = grid f A c;
       is = turned (h .s) s A (h .exact) e same (own-diff r (h .s) (grid f A c) (2 ^ low f) in-A);
@@ -352,7 +357,8 @@ rounded-size f r P N c s A k h C e l fine =
     none : (A : ℕ) → A ≡ 0 → grid f A c ≡ 0
     none A e =
         let held : Held (prec f) 0 = record { y = 0; j = 0; few = pow-pos (prec f); is = refl } in
-        let most : grid f A c ≤ 0 = grid-le f A c 0 C held (le-of-eq (ap (λ (z : ℕ). z * 2 ^ low f) e ∙ zero-mul (2 ^ low f) ∙ sym (zero-mul c))) in
+        let exact : A * 2 ^ low f ≡ 0 * c = ap (λ (z : ℕ). z * 2 ^ low f) e ∙ zero-mul (2 ^ low f) ∙ sym (zero-mul c) in
+        let most : grid f A c ≤ 0 = grid-le f A c 0 C held (le-of-eq exact) in
         omega arith
 
     turned : (s t : Bool) (A : ℕ) → SizeOf s (h .size) P N → SizeOf t A P N → h .size ≡ A
@@ -381,8 +387,9 @@ rounded-relative f r P N c B h C u l fine =
     let L = 2 ^ low f in
     let G = grid f (h .size) c in
     let X-le : h .size ≤ B = size-le (h .s) (h .size) P N B (h .exact) u l in
-    let in-K : h .size * L ≤ 2 ^ (low f + emax f) * c = scale (h .size) L (2 ^ emax f) (2 ^ (low f + emax f)) (pow-add 2 (low f) (emax f)) (le-trans X-le fine) in
-    let most : G ≤ 2 ^ (low f + emax f) = grid-le f (h .size) c (2 ^ (low f + emax f)) C (held-pow f (low f + emax f)) in-K in
+    let K = low f + emax f in
+    let in-K : h .size * L ≤ 2 ^ K * c = scale (h .size) L (2 ^ emax f) (2 ^ K) (pow-add 2 (low f) (emax f)) (le-trans X-le fine) in
+    let most : G ≤ 2 ^ K = grid-le f (h .size) c (2 ^ K) C (held-pow f K) in-K in
     let end : G < overflow f = lt-of-le-of-lt most (pow-lt last) in
     let o = off.round-relative f (h .size) c C in
     let b = both (h .s) (h .size) G L (2 ^ prec f) (h .exact) X-le (o .above) (o .below) in

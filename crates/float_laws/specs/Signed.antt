@@ -3,13 +3,7 @@
 -- laws here go from one to another, and to the kit's sign and size (HasValue) and back.
 use mathlib.Core.Path.{_≡_, refl, sym, ap, _∙_, subst}
 use Prim.Native.Nat.{ℕ, _+_, _-_, _*_, _^_, _≤_, _<_}
-use native.Mathlib.Nat.{
-  add-mul,
-  eq-of-mul-eq-mul-right,
-  le-of-mul-le-mul-right,
-  mul-sub,
-  mul-comm,
-}
+use native.Mathlib.Nat.{add-mul, eq-of-mul-eq-mul-right, le-of-mul-le-mul-right, mul-sub, mul-comm}
 use native.Mathlib.Omega.{arith}
 use mathlib.Core.Bool.{Bool, true, false, cond, true≢false, false≢true}
 use lib.Dec.{T}

@@ -1,13 +1,12 @@
 -- The absolute value, minimum and maximum of finite floats, as other proofs use them: by their fractions.
-use mathlib.Core.Path.{_≡_, refl, sym, ap, _∙_, subst}
+use mathlib.Core.Path.{_≡_, refl, ap}
 use mathlib.Core.Logic.{_↔_}
 use Prim.Native.Nat.{ℕ, _+_, _*_, _<_}
 use native.Mathlib.Omega.{arith}
-use mathlib.Core.Bool.{Bool, true, false, not, cond}
+use mathlib.Core.Bool.{Bool, true, false, cond}
 use lib.Dec.{T}
-use lib.Ieee.{Float, nan, inf, fin, Format, lt, isNan}
+use lib.Ieee.{Float, nan, inf, fin, lt, isNan}
 use lib.Ieee.Exact.{HasValue}
-use lib.Ieee.Bits.{is-true, is-false}
 use Rattle.float_laws.specs.Signed.{Diff, SizeOf, signed-of, diff-of}
 use Rattle.float_laws.specs.Order.{lt-diff}
 use Rattle.floats.specs.F64

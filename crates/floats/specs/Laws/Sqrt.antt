@@ -5,7 +5,7 @@
 -- halfway to each lies beyond the exact root, and the last place is at most a 2 ^ (prec - 1) th of R.
 use mathlib.Core.Path.{_≡_, refl, sym, ap, _∙_, subst}
 use mathlib.Core.Logic.{_⊎_, inl, inr}
-use Prim.Native.Nat.{ℕ, zero, suc, _+_, _-_, _*_, _/_, _^_, _≤_, _<_}
+use Prim.Native.Nat.{ℕ, zero, suc, _+_, _-_, _*_, _^_, _≤_, _<_}
 use native.Mathlib.Nat.{
   add-comm,
   mul-pos,
@@ -18,9 +18,7 @@ use native.Mathlib.Nat.{
   mul-le-mul-right,
   mul-lt-mul-of-pos-right,
   mul-assoc,
-  mul-right-comm,
   one-mul,
-  eq-of-mul-eq-mul-right,
   eq-or-lt-of-le,
   le-trans,
   le-of-eq,
@@ -31,30 +29,22 @@ use native.Mathlib.Nat.{
   lt-of-lt-of-le,
   lt-of-not-le,
   not-le-of-lt,
-  pow-succ',
 }
 use native.Mathlib.Omega.{arith}
 use mathlib.Core.Bool.{Bool, true, false, not}
 use lib.Dec.{T, leb, leb→le, nleb→lt, lit≤}
 use lib.Pow.{pow-add, pow-pos, pow-mono, pow-lt}
-use lib.Ieee.{Float, nan, inf, fin, Format, binary32, binary64, prec, emax, low, up, down, size, fits}
+use lib.Ieee.{Float, nan, inf, fin, Format, binary32, binary64, prec, low, up, size, fits}
 use lib.Ieee.Digits.{back, size-lt, size-reaches}
 use lib.Ieee.Exact.{HasValue}
-use lib.Ieee.Fits.{two, down-pos}
+use lib.Ieee.Fits.{two}
 use Rattle.float_laws.specs.Best.{Held, held-pow}
-use Rattle.float_laws.specs.Count.{counted, held-of, same-count}
+use Rattle.float_laws.specs.Count.{counted, held-of}
 use Rattle.float_laws.specs.Signed.{own-diff, diff-same}
 use Rattle.floats.specs.F64.{rootOf}
-use Rattle.floats.specs.Laws.Isqrt.{sq-lt}
 use Rattle.floats.specs.Laws.Root.{Found, found, rootOf-fits}
 
 -- ---- a root does not cross a value of the format
-sq-le : (a b : ℕ) → a * a ≤ b * b → a ≤ b
-sq-le a b h = le-of-suc-le-suc (lt-of-not-le (λ (g : suc b ≤ a). not-le-of-lt (squares g) h))
-  where
-    squares : b < a → b * b < a * a
-    squares g = let w : (b + 1) * (b + 1) ≤ a * a = mul-le-mul {n₁ = b + 1} {m₁ = b + 1} {n₂ = a} {m₂ = a} (omega arith) (omega arith) in omega arith
-
 module _ (f : Format) (X : ℕ) (r : Float) (h : Found f X r) where
   least-at : (Y : ℕ) → Held (prec f) Y → Y * Y ≤ X * 2 ^ low f → Y ≤ h .R
   least-at Y y l = le-of-suc-le-suc (lt-of-not-le (λ (g : suc (h .R) ≤ Y). clash (h .R) (X * 2 ^ low f) l (h .above Y y g) g))
@@ -96,16 +86,25 @@ placed p R P h l = go (leb (size R) p) (leb→le (size R) p) (nleb→lt (size R)
         let j = size R - p in
         let wide : 2 ^ (p - 1 + j) ≤ R = size-reaches R (p - 1 + j) (shift (size R) g) in
         let top : R < 2 ^ (p + j) = subst (λ (z : ℕ). R < 2 ^ z) (rest (size R) g) (size-lt R) in
-        let own : R < 2 ^ (p + h .j) = lt-of-le-of-lt (le-of-eq (h .is)) (lt-of-lt-of-le (mul-lt-mul-of-pos-right (h .few) (pow-pos (h .j))) (le-of-eq (sym (pow-add 2 p (h .j))))) in
-        let far : j ≤ h .j = le-of-suc-le-suc (lt-of-not-le (λ (s : suc (h .j) ≤ j). lt-irrefl R (lt-of-lt-of-le own (le-trans (pow-mono (up-to p (h .j) j s P)) wide)))) in
+        let digits : h .y * 2 ^ h .j < 2 ^ p * 2 ^ h .j = mul-lt-mul-of-pos-right (h .few) (pow-pos (h .j)) in
+        let own : R < 2 ^ (p + h .j) =
+        lt-of-le-of-lt (le-of-eq (h .is)) (lt-of-lt-of-le digits (le-of-eq (sym (pow-add 2 p (h .j))))) in
+        let far : j ≤ h .j =
+        le-of-suc-le-suc (lt-of-not-le (λ (s : suc (h .j) ≤ j).
+        lt-irrefl R (lt-of-lt-of-le own (le-trans (pow-mono (up-to p (h .j) j s P)) wide)))) in
         let w = h .y * 2 ^ (h .j - j) in
-        let split : w * 2 ^ j ≡ R = mul-assoc (h .y) (2 ^ (h .j - j)) (2 ^ j) ∙ ap (λ (z : ℕ). h .y * z) (sym (pow-add 2 (h .j - j) j) ∙ ap (λ (z : ℕ). 2 ^ z) (back (h .j) j far)) ∙ sym (h .is) in
+        let power : 2 ^ (h .j - j) * 2 ^ j ≡ 2 ^ h .j = sym (pow-add 2 (h .j - j) j) ∙ ap (λ (z : ℕ). 2 ^ z) (back (h .j) j far) in
+        let split : w * 2 ^ j ≡ R =
+        mul-assoc (h .y) (2 ^ (h .j - j)) (2 ^ j) ∙ ap (λ (z : ℕ). h .y * z) power ∙ sym (h .is) in
+        let wide' : 2 ^ (p - 1) * 2 ^ j ≤ w * 2 ^ j =
+        le-trans (le-of-eq (sym (pow-add 2 (p - 1) j))) (le-trans wide (le-of-eq (sym split))) in
+        let top' : w * 2 ^ j < 2 ^ p * 2 ^ j = lt-of-le-of-lt (le-of-eq split) (lt-of-lt-of-le top (le-of-eq (pow-add 2 p j))) in
         record {
           w = w;
           j = j;
           is = sym split;
-          least = le-of-mul-le-mul-right {m = 2 ^ (p - 1)} {n = w} {k = 2 ^ j} (le-trans (le-of-eq (sym (pow-add 2 (p - 1) j))) (le-trans wide (le-of-eq (sym split)))) (pow-pos j);
-          few = lt-of-mul-lt-mul-right (2 ^ j) {m = w} {n = 2 ^ p} (lt-of-le-of-lt (le-of-eq split) (lt-of-lt-of-le top (le-of-eq (pow-add 2 p j))));
+          least = le-of-mul-le-mul-right wide' (pow-pos j);
+          few = lt-of-mul-lt-mul-right (2 ^ j) top';
         }
       where
         shift : (z : ℕ) → p < z → p - 1 + (z - p) < z
@@ -157,7 +156,7 @@ near-below P H R u N W e one l v h =
     let split : P * (W + u) ≡ P * R = ap (λ (z : ℕ). P * z) v in
     let sum : P * (2 * R) ≤ (W + R) * (P + 2) = omega arith in
     let squares = mul-le-mul sum sum in
-    let scaled : (W + R) * (W + R) * ((P + 2) * (P + 2)) ≤ 4 * N * ((P + 2) * (P + 2)) = mul-le-mul-right ((P + 2) * (P + 2)) (le-of-lt h) in
+    let scaled = mul-le-mul-right ((P + 2) * (P + 2)) (le-of-lt h) in
     omega arith
 
 module _ (f : Format) (X : ℕ) (some : 0 < X) (r : Float) (fit : T (fits f r)) (h : Found f X r) where
@@ -190,9 +189,11 @@ module _ (f : Format) (X : ℕ) (some : 0 < X) (r : Float) (fit : T (fits f r)) 
       let next-is : (d .w + 1) * u ≡ h .R + u = next (d .w) u (h .R) (d .is) in
       let last-is : (d .w - 1) * u + u ≡ h .R = last (d .w) u (h .R) (lt-of-lt-of-le (pow-pos (prec f - 1)) (d .least)) (d .is) in
       let place : H * u ≤ h .R = le-trans (mul-le-mul-right u (d .least)) (le-of-eq (sym (d .is))) in
-      let upper = h .above ((d .w + 1) * u) (held-next (prec f) (d .w) (d .j) (two f) (d .few)) (more ((d .w + 1) * u) u (h .R) U next-is) in
+      let upper = h .above ((d .w + 1) * u) (held-next (prec f) (d .w) (d .j) (two f) (d .few))
+      (more ((d .w + 1) * u) u (h .R) U next-is) in
       let lower = h .below ((d .w - 1) * u) (held-last (prec f) (d .w) (d .j) (d .few)) (less ((d .w - 1) * u) u (h .R) U last-is) in
-      let beyond : 4 * N < (h .R + u + h .R) * (h .R + u + h .R) = subst (λ (z : ℕ). 4 * N < (z + h .R) * (z + h .R)) next-is upper in (
+      let beyond : 4 * N < (h .R + u + h .R) * (h .R + u + h .R) =
+      subst (λ (z : ℕ). 4 * N < (z + h .R) * (z + h .R)) next-is upper in (
         near-above (2 ^ prec f) H (h .R) u N (twice f) place beyond,
         near-below (2 ^ prec f) H (h .R) u N ((d .w - 1) * u) (twice f) (pow-pos (prec f - 1)) place last-is lower,
       )
@@ -237,9 +238,15 @@ positive f (inf s) A c t P C v = absurd v
 positive f (fin s m e) A c t P C v =
     let k = counted f (fin s m e) tt t in
     let w : HasValue (fin s m e) false (k .count) (2 ^ low f) = (v .0, k .value .1) in
-    let is = diff-same (fin s m e) A 0 c (k .count) 0 (2 ^ low f) C (own-diff (fin s m e) false A c v) (own-diff (fin s m e) false (k .count) (2 ^ low f) w) in
+    let is = diff-same (fin s m e) A 0 c (k .count) 0 (2 ^ low f) C
+    (own-diff (fin s m e) false A c v) (own-diff (fin s m e) false (k .count) (2 ^ low f) w) in
     let same : A * 2 ^ low f ≡ k .count * c = plain A c (k .count) (2 ^ low f) is in
-    record { X = k .count; some = factor (k .count) (subst (λ (z : ℕ). 0 < z) same (mul-pos P (pow-pos (low f)))); value = w; is = same }
+    record {
+      X = k .count;
+      some = factor (k .count) (subst (λ (z : ℕ). 0 < z) same (mul-pos P (pow-pos (low f))));
+      value = w;
+      is = same;
+    }
   where
     plain : (A c X L : ℕ) → A * L + 0 * c ≡ X * c + 0 * L → A * L ≡ X * c
     plain A c X L e = omega arith
@@ -248,7 +255,8 @@ positive f (fin s m e) A c t P C v =
     factor zero l = omega arith
     factor (suc X) l = zero-lt-suc X
 
-pub root-of : (f : Format) (x : Float) (A c : ℕ) → T (fits f x) → 0 < A → 0 < c → HasValue x false A c → Root (prec f) (2 ^ low f) A c (rootOf f x)
+pub root-of : (f : Format) (x : Float) (A c : ℕ) → T (fits f x) → 0 < A → 0 < c → HasValue x false A c
+    → Root (prec f) (2 ^ low f) A c (rootOf f x)
 root-of f x A c t P C v =
     let k = positive f x A c t P C v in
     let L = 2 ^ low f in
@@ -262,14 +270,17 @@ root-of f x A c t P C v =
       value = h .value;
       before = λ Y y l. under ((Y + h .R) * (Y + h .R)) (A * (L * L)) (k .X * L) N (h .below Y y l);
       after = λ Y y l. beyond ((Y + h .R) * (Y + h .R)) (A * (L * L)) (k .X * L) N (h .above Y y l);
-      least = λ Y y l. least-at f (k .X) (rootOf f x) h Y y (le-of-mul-le-mul-right {m = Y * Y} {n = k .X * L} {k = c} (le-trans l (le-of-eq N)) C);
-      most = λ Y y l. most-at f (k .X) (rootOf f x) h Y y (le-of-mul-le-mul-right {m = k .X * L} {n = Y * Y} {k = c} (le-trans (le-of-eq (sym N)) l) C);
+      least = λ Y y l. least-at f (k .X) (rootOf f x) h Y y (cut (Y * Y) (k .X * L) (le-trans l (le-of-eq N)));
+      most = λ Y y l. most-at f (k .X) (rootOf f x) h Y y (cut (k .X * L) (Y * Y) (le-trans (le-of-eq (sym N)) l));
       above = up (2 ^ prec f * 2 ^ prec f) ((2 ^ prec f + 1) * (2 ^ prec f + 1)) (A * (L * L)) (k .X * L) (h .R * h .R) N (near .0);
       below = dn (2 ^ prec f * 2 ^ prec f) ((2 ^ prec f + 2) * (2 ^ prec f + 2)) (A * (L * L)) (k .X * L) (h .R * h .R) N (near .1);
     }
   where
     over : (A X L : ℕ) → A * L ≡ X * c → A * (L * L) ≡ X * L * c
     over A X L e = let w : A * L * L ≡ X * c * L = ap (λ (z : ℕ). z * L) e in omega arith
+
+    cut : (a b : ℕ) → a * c ≤ b * c → a ≤ b
+    cut a b l = le-of-mul-le-mul-right l C
 
     under : (S M N : ℕ) → M ≡ N * c → S < 4 * N → S * c < 4 * M
     under S M N e l = omega (arith, mul-lt-mul-of-pos-right l C)

@@ -1,17 +1,16 @@
 -- The line kernel on grid segments that are not parallel, in whole numbers: it answers TrueIntersect or FalseIntersect with two
 -- parameters, each one rounding of an exact quotient over the perp dot; TrueIntersect if both exact parameters lie from 0 to 1, and
 -- only if both lie less than two epsilons beyond their segment.
-use mathlib.Core.Path.{_≡_, refl, sym, ap, _∙_, subst}
+use mathlib.Core.Path.{_≡_, refl, ap, _∙_}
 use mathlib.Core.Logic.{_⊎_, inl, inr}
-use Prim.Native.Nat.{ℕ, zero, suc, _+_, _-_, _*_, _^_, _≤_, _<_}
-use native.Mathlib.Nat.{mul-pos, mul-le-mul-right, zero-lt-suc, le-trans}
+use Prim.Native.Nat.{ℕ, zero, suc, _+_, _*_, _^_, _≤_, _<_}
+use native.Mathlib.Nat.{zero-lt-suc}
 use native.Mathlib.Omega.{arith}
-use mathlib.Core.Bool.{Bool, true, false, not, cond, _&&_, _||_, true≢false, false≢true}
-use lib.Dec.{T, eqb, eqb→eq, not-T, leb, leb→le, nleb→lt}
-use lib.Ieee.{Float, binary64}
+use mathlib.Core.Bool.{Bool, true, false, not, cond, _||_, false≢true}
+use lib.Dec.{eqb, eqb→eq, not-T}
+use lib.Ieee.{Float}
 use lib.Ieee.Bits.{is-true, is-false}
 use lib.Ieee.Fits.{eq→eqb}
-use Rattle.float_laws.specs.Rounded.{Rounded}
 use Rattle.float_laws.specs.Roundings.{Near}
 use Rattle.float_laws.specs.Binary64.{unit}
 use Rattle.floats.specs.Ops.{_⊘_}

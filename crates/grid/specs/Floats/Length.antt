@@ -1,7 +1,7 @@
 -- The length of a grid vector that is no point: the correctly rounded root of its exact self dot S. It is at least every whole number
 -- whose square is at most S, at most 2 ^ 22, and its square is at least half of S.
-use mathlib.Core.Path.{_≡_, refl, sym, ap, subst}
-use Prim.Native.Nat.{ℕ, suc, _+_, _-_, _*_, _^_, _≤_, _<_}
+use mathlib.Core.Path.{_≡_, sym, ap, subst}
+use Prim.Native.Nat.{ℕ, _+_, _-_, _*_, _^_, _≤_, _<_}
 use native.Mathlib.Nat.{zero-lt-suc, mul-le-mul-left, mul-le-mul-right, le-of-mul-le-mul-left}
 use native.Mathlib.Omega.{arith}
 use mathlib.Core.Bool.{Bool, true, false, not}
@@ -11,14 +11,14 @@ use lib.Ieee.Exact.{HasValue}
 use lib.Ieee.Fits.{add-fits}
 use Rattle.float_laws.specs.Best.{Held}
 use Rattle.float_laws.specs.Signed.{Diff, own-diff, size-above}
-use Rattle.float_laws.specs.Binary64.{unit, unit-is, unit-pos}
+use Rattle.float_laws.specs.Binary64.{unit, unit-is}
 use Rattle.floats.specs.Ops.{_⊗_}
 use Rattle.floats.specs.F64
 use Rattle.floats.specs.Laws.Root.{rootOf-fits}
 use Rattle.floats.specs.Laws.Sqrt.{Root, root-of}
 use Rattle.plane.specs.Vector2 as vector2
 use Rattle.plane.specs.declared.vector2.Vector2.{Vector2}
-use Rattle.grid.specs.Floats.Small.{Small, Vec, dots}
+use Rattle.grid.specs.Floats.Small.{Vec, dots}
 
 -- ---- the self dot is the sum of two squares
 abbrev pub gap : ℕ → ℕ → ℕ

@@ -1,16 +1,16 @@
 -- Grid segments on one line, in whole numbers. The ends of the first lie at (P0 - N0) / D and (P1 - N1) / D of the second, D being a side of
 -- it. The kernel answers NoIntersect where both lie beyond 1 or both before 0, Overlapping where the segments share more than a point,
 -- and TrueIntersect where they share one.
-use mathlib.Core.Path.{_≡_, refl, sym, ap, _∙_, subst}
+use mathlib.Core.Path.{_≡_, refl, sym, _∙_, subst}
 use mathlib.Core.Logic.{_⊎_, inl, inr}
-use Prim.Native.Nat.{ℕ, suc, _+_, _-_, _*_, _^_, _≤_, _<_, min}
+use Prim.Native.Nat.{ℕ, _+_, _-_, _*_, _^_, _≤_, _<_, min}
 use native.Mathlib.Nat.{eq-or-lt-of-le, lt-irrefl}
 use native.Mathlib.Omega.{arith}
 use mathlib.Core.Bool.{Bool, true, false, not, cond, _||_}
 use lib.Arith.{lt-of-le-ne}
 use lib.Dec.{T, leb, leb→le, le→leb, nleb→lt, eqb, eqb→eq, not-T, T-not}
 use lib.Ieee.Fits.{eq→eqb}
-use lib.Ieee.{Float, binary64}
+use lib.Ieee.{Float}
 use lib.Ieee.Bits.{is-true, is-false}
 use Rattle.float_laws.specs.Roundings.{Sized}
 use Rattle.float_laws.specs.Binary64.{unit}

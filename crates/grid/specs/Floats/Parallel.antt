@@ -2,17 +2,17 @@
 -- it goes that way. v runs from v1 to v2, u from u1 to u2, w from u1 to v1 and w2 from u1 to v2.
 use mathlib.Core.Path.{_≡_, refl, sym, ap, _∙_, subst}
 use mathlib.Core.Logic.{_⊎_, inl, inr, _↔_}
-use Prim.Native.Nat.{ℕ, zero, suc, _+_, _-_, _*_, _^_, _≤_, _<_}
-use native.Mathlib.Nat.{zero-lt-suc, mul-le-mul}
+use Prim.Native.Nat.{ℕ, zero, suc, _+_, _*_, _^_, _≤_, _<_}
+use native.Mathlib.Nat.{zero-lt-suc}
 use native.Mathlib.Omega.{arith}
-use mathlib.Core.Bool.{Bool, true, false, not, cond, _&&_, _||_, true≢false, false≢true}
+use mathlib.Core.Bool.{Bool, true, false, not, cond, _&&_, _||_, false≢true}
 use lib.Dec.{T, eqb, eqb→eq, not-T, T-not, lit≤}
 use lib.Ieee.{Float, binary64, lt}
 use lib.Ieee.Exact.{HasValue}
 use lib.Ieee.Bits.{is-true, is-false}
 use lib.Ieee.Fits.{eq→eqb, and-i, and-l, and-r}
 use Rattle.float_laws.specs.Rounded.{Rounded}
-use Rattle.float_laws.specs.Signed.{Diff, own-diff, Signed, signed-of, SizeOf}
+use Rattle.float_laws.specs.Signed.{Diff, own-diff, signed-of, SizeOf}
 use Rattle.float_laws.specs.Order.{lt-over}
 use Rattle.floats.specs.Ops.{_⊖_, _⊘_, f0}
 use Rattle.floats.specs.F64
@@ -27,11 +27,11 @@ use Rattle.crossing.specs.declared.line_line_intersect.LineLineIntr.the-variant
 use Rattle.grid.specs.Floats.Small.{Small, Vec, vec-sub, small-sub, perp}
 use Rattle.grid.specs.Floats.Zero.{Eps, near-zero, near-point}
 use Rattle.grid.specs.Floats.Length.{gap, Long, long}
-use Rattle.grid.specs.Floats.Reach.{Reaches, on-axis}
+use Rattle.grid.specs.Floats.Reach.{on-axis}
 use Rattle.grid.specs.Floats.Range.{within-yes, within-says}
-use Rattle.grid.specs.Floats.Ratio.{Ratio, ratio}
+use Rattle.grid.specs.Floats.Ratio.{ratio}
 use Rattle.grid.specs.Floats.Crossing.{square, square-is, Inside}
-use Rattle.grid.specs.Floats.Span.{Place, Risen, risen}
+use Rattle.grid.specs.Floats.Span.{Place, risen}
 use Rattle.grid.specs.Floats.Overlap.{Overlapped, overlap-says}
 
 -- ---- a vector that is a point, and one that is not

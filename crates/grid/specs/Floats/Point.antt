@@ -2,23 +2,13 @@
 -- parameter that is one rounding of (P - N) / D and lies less than two epsilons beyond the segment.
 -- The argument: the quotient is off by 2 ^ -53, times a difference of at most 2 ^ 21; the product by 2 ^ -32; the sum, which is at most
 -- 2 ^ 21 in size, by 2 ^ -33. Together that is five eighths of 2 ^ -30.
-use mathlib.Core.Path.{_≡_, refl, sym, ap, _∙_, subst}
-use mathlib.Core.Logic.{_⊎_, inl, inr}
-use Prim.Native.Nat.{ℕ, suc, _+_, _-_, _*_, _^_, _≤_, _<_}
-use native.Mathlib.Nat.{
-  mul-le-mul,
-  mul-le-mul-left,
-  mul-le-mul-right,
-  mul-pos,
-  le-of-mul-le-mul-right,
-  le-of-lt,
-  zero-lt-suc,
-}
+use mathlib.Core.Path.{_≡_, ap}
+use Prim.Native.Nat.{ℕ, _+_, _-_, _*_, _^_, _≤_, _<_}
+use native.Mathlib.Nat.{mul-le-mul, mul-le-mul-right, le-of-mul-le-mul-right, le-of-lt, zero-lt-suc}
 use native.Mathlib.Omega.{arith}
 use mathlib.Core.Bool.{Bool, true, false, not}
 use lib.Dec.{T, leb, leb→le, nleb→lt, lit≤}
 use lib.Ieee.{Float, binary64}
-use lib.Ieee.Digits.{back}
 use Rattle.float_laws.specs.Signed.{Diff, diff-at}
 use Rattle.float_laws.specs.Rounded.{Rounded, add-over, mul-rounded}
 use Rattle.float_laws.specs.Roundings.{Near}

@@ -3,9 +3,8 @@
 -- two epsilons beyond the segment's end, by squares: (P - N - D)^2 * S / D^2 < 4 * num^2 / den^2, and so before its start.
 -- The argument for the second: what is not rounded across is exact. t * length is below the float length + epsilon only if the exact
 -- product of the two floats is; and the quotient t, the length and the sum are off by some 2 ^ -31 at most, epsilon being 2 ^ -10.
-use mathlib.Core.Path.{_≡_, refl, sym, ap, _∙_, subst}
-use mathlib.Core.Logic.{_⊎_, inl, inr}
-use Prim.Native.Nat.{ℕ, zero, suc, _+_, _-_, _*_, _^_, _≤_, _<_}
+use mathlib.Core.Path.{_≡_, sym, ap, subst}
+use Prim.Native.Nat.{ℕ, _+_, _-_, _*_, _^_, _≤_, _<_}
 use native.Mathlib.Nat.{
   mul-pos,
   mul-le-mul,
@@ -14,14 +13,12 @@ use native.Mathlib.Nat.{
   mul-lt-mul-of-pos-right,
   le-of-mul-le-mul-right,
   lt-of-mul-lt-mul-right,
-  eq-of-mul-eq-mul-right,
   lt-of-not-le,
-  zero-lt-suc,
 }
 use native.Mathlib.Omega.{arith}
 use mathlib.Core.Bool.{Bool, true, false, not, _&&_}
 use lib.Dec.{T, leb, leb→le, nleb→lt, lit≤}
-use lib.Ieee.{Float, binary64, ofBits, fits, neg, lt, le}
+use lib.Ieee.{Float, binary64, ofBits, fits, neg}
 use lib.Ieee.Bits.{is-true, ofBits-fits}
 use lib.Ieee.Digits.{back}
 use lib.Ieee.Fits.{add-fits, neg-fits, and-i, and-l, and-r}

@@ -2,25 +2,16 @@
 -- the length is near zero exactly where m0 is m1, for m0 at most m1 at most D.
 -- The argument: where they differ, they differ by 1 / D at least, and the length is D at least; where they do not, what is left is
 -- below 2 ^ -29.
-use mathlib.Core.Path.{_≡_, refl, sym, ap, _∙_, subst}
+use mathlib.Core.Path.{_≡_, ap, subst}
 use mathlib.Core.Logic.{_↔_}
-use Prim.Native.Nat.{ℕ, suc, _+_, _-_, _*_, _^_, _≤_, _<_}
-use native.Mathlib.Nat.{
-  mul-le-mul,
-  mul-le-mul-left,
-  mul-le-mul-right,
-  mul-pos,
-  le-of-mul-le-mul-right,
-  lt-of-mul-lt-mul-right,
-  le-trans,
-}
+use Prim.Native.Nat.{ℕ, _+_, _-_, _*_, _^_, _≤_, _<_}
+use native.Mathlib.Nat.{mul-le-mul-left, mul-le-mul-right, mul-pos, le-of-mul-le-mul-right, le-trans}
 use native.Mathlib.Omega.{arith}
-use mathlib.Core.Bool.{Bool, true, false, not}
+use mathlib.Core.Bool.{true, false}
 use lib.Dec.{T, not-T, lit≤}
 use lib.Ieee.{Float, binary64, lt}
 use lib.Ieee.Bits.{is-true, is-false}
 use lib.Ieee.Digits.{back}
-use Rattle.float_laws.specs.Signed.{Diff}
 use Rattle.float_laws.specs.Rounded.{Rounded, sub-over, mul-rounded}
 use Rattle.float_laws.specs.Roundings.{Near, Sized}
 use Rattle.float_laws.specs.Whole.{most-whole, least-whole}

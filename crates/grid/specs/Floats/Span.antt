@@ -1,12 +1,12 @@
 -- Parameters of a whole number over a side D, as the overlap case uses them: floats are in the order of their exact values; the greater
 -- of one and 0, and the lesser of one and 1, are near the exact ones cut off.
-use mathlib.Core.Path.{_≡_, refl, sym, ap, _∙_, subst}
+use mathlib.Core.Path.{_≡_, refl, sym, subst}
 use mathlib.Core.Logic.{_⊎_, inl, inr}
-use Prim.Native.Nat.{ℕ, suc, _+_, _-_, _*_, _^_, _≤_, _<_, min}
-use native.Mathlib.Nat.{mul-le-mul-left, mul-le-mul-right, le-of-mul-le-mul-right, lt-of-mul-lt-mul-right}
+use Prim.Native.Nat.{ℕ, _+_, _-_, _*_, _^_, _≤_, _<_, min}
+use native.Mathlib.Nat.{mul-le-mul-right, lt-of-mul-lt-mul-right}
 use native.Mathlib.Omega.{arith}
 use mathlib.Core.Bool.{Bool, true, false, not, cond}
-use lib.Dec.{T, leb, leb→le, nleb→lt, ltb, ltb→lt, nltb→le, not-T, T-not, lit≤}
+use lib.Dec.{T, leb, leb→le, nleb→lt, not-T, T-not, lit≤}
 use lib.Ieee.{Float, binary64, ofBits, lt}
 use lib.Ieee.Bits.{is-true, is-false}
 use Rattle.float_laws.specs.Signed.{Diff}
