@@ -56,8 +56,10 @@ product-le i a b h k = le-trans (mul-le-mul h k) (le-of-eq (sym (pow-add 2 i i))
 
 abbrev pub small-mul : (i : ℕ) (x y : Float) → suc (i + i) ≤ 53 → Small i x → Small i y → Small (suc (i + i)) (x ⊗ y)
 small-mul i x y h A B =
-    let u = sum-le (i + i) (A .p * B .p) (A .n * B .n) (product-le i (A .p) (B .p) (A .p-le) (B .p-le)) (product-le i (A .n) (B .n) (A .n-le) (B .n-le)) in
-    let l = sum-le (i + i) (A .p * B .n) (A .n * B .p) (product-le i (A .p) (B .n) (A .p-le) (B .n-le)) (product-le i (A .n) (B .p) (A .n-le) (B .p-le)) in
+    let u = sum-le (i + i) (A .p * B .p) (A .n * B .n) (product-le i (A .p) (B .p) (A .p-le) (B .p-le))
+    (product-le i (A .n) (B .n) (A .n-le) (B .n-le)) in
+    let l = sum-le (i + i) (A .p * B .n) (A .n * B .p) (product-le i (A .p) (B .n) (A .p-le) (B .n-le))
+    (product-le i (A .n) (B .p) (A .n-le) (B .p-le)) in
     record {
       p = A .p * B .p + A .n * B .n;
       n = A .p * B .n + A .n * B .p;

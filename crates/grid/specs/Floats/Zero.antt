@@ -8,6 +8,7 @@ use lib.Dec.{T, eqb, eqb→eq}
 use lib.Ieee.{Float, binary64, fits, lt}
 use lib.Ieee.Fits.{eq→eqb}
 use Rattle.float_laws.specs.Signed.{Diff}
+use Rattle.float_laws.specs.Order.{same-test}
 use Rattle.floats.specs.Ops.{_⊖_}
 use Rattle.floats.specs.F64
 use Rattle.floats.specs.Laws.Leaves.{abs-lt}
@@ -23,12 +24,6 @@ pub record Eps (e : Float) (num den : ℕ) : Type 0 where
   pub some : 0 < den
   pub least : den ≤ 1024 * num
   pub most : 2 * num ≤ den
-
-same-test : (a b : Bool) → (T a → T b) → (T b → T a) → a ≡ b
-same-test true true p q = refl
-same-test true false p q = absurd (p tt)
-same-test false true p q = absurd (q tt)
-same-test false false p q = refl
 
 module _ (e : Float) (num den : ℕ) (E : Eps e num den) where
   -- a whole number below the epsilon in size is zero
