@@ -5,15 +5,15 @@ use mathlib.Core.Path.{_≡_, sym, ap, _∙_}
 use Prim.Native.Nat.{ℕ, suc, _+_, _*_, _^_, _≤_, _<_}
 use native.Mathlib.Nat.{mul-pos, mul-le-mul, mul-le-mul-right, le-trans, le-of-eq, zero-lt-suc, pow-succ'}
 use native.Mathlib.Omega.{arith}
-use mathlib.Core.Bool.{Bool, true, false}
+use mathlib.Core.Bool.{Bool, true, false, not}
 use lib.Dec.{T}
 use lib.IntN.{pos}
 use lib.Pow.{pow-add, pow-pos, pow-mono}
-use lib.Ieee.{Float, nan, inf, fin, Format, emax, low, add, sub, mul, div, le, fits}
+use lib.Ieee.{Float, nan, inf, fin, Format, emax, low, neg, add, sub, mul, div, le, fits}
 use lib.Ieee.Exact.{HasValue}
 use lib.Ieee.Scale.{finite}
 use Rattle.float_laws.specs.Count.{counted}
-use Rattle.float_laws.specs.Signed.{Diff, ups, downs, own-diff}
+use Rattle.float_laws.specs.Signed.{Diff, ups, downs, own-diff, neg-value, diff-finite}
 use Rattle.float_laws.specs.Order.{le-diff}
 use Rattle.float_laws.specs.Rounded.{add-rounded, sub-rounded, mul-rounded, div-rounded, signed-by}
 use Rattle.float_laws.specs.Roundings.{Within, rounded-within}
@@ -21,9 +21,17 @@ use Rattle.float_laws.specs.Roundings.{Within, rounded-within}
 in-diff : (f : Format) (K : ℕ) (x : Float) (w : Within f K x) → Diff x (ups (w .s) (w .count)) (downs (w .s) (w .count)) (2 ^ low f)
 in-diff f K x w = own-diff x (w .s) (w .count) (2 ^ low f) (w .value)
 
+pub within-finite : (f : Format) (K : ℕ) (x : Float) → Within f K x → T (finite x)
+within-finite f K x w = diff-finite x _ _ (2 ^ low f) (in-diff f K x w)
+
 -- a wider bound
 pub within-up : (f : Format) (i j : ℕ) (x : Float) → i ≤ j → Within f i x → Within f j x
 within-up f i j x l w = record { s = w .s; count = w .count; value = w .value; le = le-trans (w .le) (pow-mono l) }
+
+-- without a change, but for the sign
+pub neg-within : (f : Format) (K : ℕ) (x : Float) → Within f K x → Within f K (neg x)
+neg-within f K x w =
+    record { s = not (w .s); count = w .count; value = neg-value x (w .s) (w .count) (2 ^ low f) (w .value); le = w .le }
 
 -- ---- sums: 2 ^ k and 2 ^ k make 2 ^ (k + 1)
 sum-in : (s t : Bool) (X Y B K L : ℕ) → K ≡ 2 * B → X ≤ B → Y ≤ B

@@ -1,6 +1,6 @@
 -- What is known of a value r that is (P - N) / c, rounded once, and so of every result of + - * / (Rounded.antt). It is a value of
 -- its format and no NaN. It does not cross a float: if the exact value is at most a float y, so is r. It is exact where the exact
--- value is a whole number that the format counts without a gap. It is finite below the format's end, and then it is off by at most
+-- value is a value of the format, and so where it is a whole number that the format counts without a gap. It is finite below the format's end, and then it is off by at most
 -- half the last place of the power of two that bounds the exact value, and by a 2 ^ prec th of the exact value and half a unit.
 use mathlib.Core.Path.{_≡_, refl, sym, ap, _∙_, subst}
 use Prim.Native.Nat.{ℕ, zero, suc, _+_, _-_, _*_, _^_, _≤_, _<_}
@@ -13,6 +13,7 @@ use native.Mathlib.Nat.{
   zero-mul,
   le-trans,
   le-of-eq,
+  le-antisymm,
   lt-of-le-of-lt,
   not-le-of-lt,
   pow-succ',
@@ -31,7 +32,7 @@ use lib.Ieee.Fits.{round-is, round-fits}
 use lib.Ieee.Scale.{grid, overflow, finite, round-same}
 use Rattle.float_laws.specs.Best.{Held, held-pow, grid-le, grid-ge}
 use Rattle.float_laws.specs.Count.{Counted, counted, round-count, round-real}
-use Rattle.float_laws.specs.Signed.{Diff, SizeOf, ups, downs, diff-of, own-diff, diff-same, diff-finite}
+use Rattle.float_laws.specs.Signed.{Diff, SizeOf, ups, downs, diff-of, own-diff, diff-same, diff-at, diff-finite, units-of}
 use Rattle.float_laws.specs.Order.{le-diff}
 use Rattle.float_laws.specs.Near as off
 use Rattle.float_laws.specs.Rounded.{Rounded}
@@ -238,6 +239,28 @@ module _ (f : Format) (r : Float) (P N c : ℕ) (h : Rounded f r P N c) (C : 0 <
           le-diff y r _ _ unit _ _ unit (pow-pos (low f)) (pow-pos (low f)) y-is (r-is (fine tt)) .1
           (wide (ups (of-y .s) (of-y .count)) (downs (h .s) made) (ups (h .s) made) (downs (of-y .s) (of-y .count)) unit (side .0))
       go false fine end side = past (h .s) (side .1) (r-past (end tt)) (end tt)
+
+-- ---- a value of the format is exact
+between : (r y : Float) → T (finite y) → T (le r y) → T (le y r) → T (finite r)
+unfolding le
+between nan y t a b = absurd a
+between (inf s) nan t a b = absurd t
+between (inf s) (inf u) t a b = absurd t
+between (inf true) (fin u m e) t a b = absurd b
+between (inf false) (fin u m e) t a b = absurd a
+between (fin s m e) y t a b = tt
+
+-- if the exact value is that of a float y, so is r's
+pub rounded-value : (f : Format) (r : Float) (P N c : ℕ) → Rounded f r P N c → 0 < c → (y : Float) (q k d : ℕ) → 0 < d → T (fits f y)
+    → Diff y q k d → P * d + k * c ≡ q * c + N * d → Diff r q k d
+rounded-value f r P N c h C y q k d D fit v e =
+    let least = rounded-le f r P N c h C y q k d D fit v (le-of-eq e) in
+    let most = rounded-ge f r P N c h C y q k d D fit v (le-of-eq (sym e)) in
+    let u = units-of f r (between r y (diff-finite y q k d v) least most) (rounded-fits f r P N c h) in
+    let L = pow-pos (low f) in
+    let up = le-diff r y (u .p) (u .n) (2 ^ low f) q k d L D (u .is) v .0 least in
+    let dn = le-diff y r q k d (u .p) (u .n) (2 ^ low f) D L v (u .is) .0 most in
+    diff-at r (u .p) (u .n) (2 ^ low f) q k d L (u .is) (le-antisymm up dn)
 
 -- ---- whole numbers are exact
 

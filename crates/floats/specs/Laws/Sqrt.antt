@@ -34,14 +34,15 @@ use native.Mathlib.Omega.{arith}
 use mathlib.Core.Bool.{Bool, true, false, not}
 use lib.Dec.{T, leb, leb→le, nleb→lt, lit≤}
 use lib.Pow.{pow-add, pow-pos, pow-mono, pow-lt}
-use lib.Ieee.{Float, nan, inf, fin, Format, binary32, binary64, prec, low, up, size, fits}
+use lib.Ieee.{Float, nan, inf, fin, Format, binary32, binary64, prec, low, up, down, size, fits}
 use lib.Ieee.Digits.{back, size-lt, size-reaches}
 use lib.Ieee.Exact.{HasValue}
-use lib.Ieee.Fits.{two}
+use lib.Ieee.Fits.{two, up-pos}
 use Rattle.float_laws.specs.Best.{Held, held-pow}
 use Rattle.float_laws.specs.Count.{counted, held-of}
 use Rattle.float_laws.specs.Signed.{own-diff, diff-same}
-use Rattle.floats.specs.F64.{rootOf}
+use Rattle.float_laws.specs.Roundings.{Within}
+use Rattle.floats.specs.F64.{rootOf, sqrt}
 use Rattle.floats.specs.Laws.Root.{Found, found, rootOf-fits}
 
 -- ---- a root does not cross a value of the format
@@ -294,6 +295,24 @@ root-of f x A c t P C v =
     dn : (P Q M N R : ℕ) → M ≡ N * c → P * R ≤ N * Q → P * (R * c) ≤ M * Q
     dn P Q M N R e l = omega (arith, mul-le-mul-right c l, ap (λ (z : ℕ). z * Q) e)
 
+-- ---- f64's root is this one, and the root of a zero is that zero
+pub sqrt-is : (x : Float) → sqrt x ≡ rootOf binary64 x
+unfolding sqrt
+sqrt-is x = refl
+
+pub root-zero : (f : Format) (x : Float) (s : Bool) (c d : ℕ) → 0 < c → HasValue x s 0 c → HasValue (rootOf f x) s 0 d
+unfolding rootOf
+root-zero f nan s c d C h = absurd h
+root-zero f (inf t) s c d C h = absurd h
+root-zero f (fin t zero e) s c d C h = (h .0, none (up e) (down e))
+  where
+    none : (u w : ℕ) → 0 * u * d ≡ 0 * w
+    none u w = omega arith
+root-zero f (fin t (suc m) e) s c d C h = absurd (never (suc m * up e * c) (down e) (mul-pos (mul-pos (zero-lt-suc m) (up-pos e)) C) (h .1))
+  where
+    never : (a w : ℕ) → 0 < a → a ≡ 0 * w → ⊥
+    never a w l e = omega arith
+
 -- ---- greater numbers have no lesser roots
 pub root-mono : (f : Format) (x y : Float) (A B c d : ℕ) → T (fits f x) → T (fits f y)
     → (a : Root (prec f) (2 ^ low f) A c x) (b : Root (prec f) (2 ^ low f) B d y)
@@ -313,3 +332,29 @@ root-mono f x y A B c d s t a b C D l = le-of-suc-le-suc (lt-of-not-le clash)
         let w = b .after (a .R) (held-root A c x s a) g in
         never ((b .R + a .R) * (b .R + a .R)) (2 ^ low f * 2 ^ low f) A B u
         (subst (λ (z : ℕ). 4 * (B * (2 ^ low f * 2 ^ low f)) < z * z * d) (add-comm (a .R) (b .R)) w) l
+
+-- ---- magnitudes: a number of at most 2 ^ K units has a root of at most 2 ^ J, where K + low is at most twice J
+pub root-within : (f : Format) (x : Float) (X K J : ℕ) → T (fits f x) → HasValue x false X (2 ^ low f) → X ≤ 2 ^ K → K + low f ≤ J + J
+    → Within f J (rootOf f x)
+root-within f x X K J t v l m = go X v l
+  where
+    go : (X : ℕ) → HasValue x false X (2 ^ low f) → X ≤ 2 ^ K → Within f J (rootOf f x)
+    go zero v l = record {
+      s = false;
+      count = 0;
+      value = root-zero f x false (2 ^ low f) (2 ^ low f) (pow-pos (low f)) v;
+      le = le-of-lt (pow-pos J);
+    }
+    go (suc X) v l =
+        let r = root-of f x (suc X) (2 ^ low f) t (zero-lt-suc X) (pow-pos (low f)) v in
+        let powers : 2 ^ K * 2 ^ low f ≤ 2 ^ J * 2 ^ J =
+        le-trans (le-of-eq (sym (pow-add 2 K (low f)))) (le-trans (pow-mono m) (le-of-eq (pow-add 2 J J))) in
+        record {
+          s = false;
+          count = r .R;
+          value = r .value;
+          le = r .most (2 ^ J) (held-pow f J) (over (suc X) (2 ^ low f) (2 ^ K) (2 ^ J) l powers);
+        }
+      where
+        over : (X L k j : ℕ) → X ≤ k → k * L ≤ j * j → X * (L * L) ≤ j * j * L
+        over X L k j a b = omega (arith, mul-le-mul-right (L * L) a, mul-le-mul-right L b)
