@@ -16,8 +16,11 @@ use report::Report;
 
 /// Judges the answers to `count` pairs, as many of each kind. Answers how many broke a sentence.
 pub fn run(count: u64, seed: u64) -> u64 {
+    judge_all(&callers(), count, seed)
+}
+
+fn judge_all(callers: &[Caller], count: u64, seed: u64) -> u64 {
     let mut rng = Rng::new(seed);
-    let callers = callers();
     let mut reports: Vec<Report> = callers.iter().map(|(name, _)| Report::new(name)).collect();
     for turn in 0..count {
         let kind = turn as usize % KINDS.len();
@@ -70,4 +73,49 @@ fn numbers(pair: &Pair, rng: &mut Rng) -> [f64; 13] {
     [
         a.0, a.1, v, b.0, b.1, unread, c.0, c.1, u, d.0, d.1, unread, e,
     ]
+}
+
+#[cfg(test)]
+mod tests {
+    use super::judge::{LINES, NONE, ONE};
+    use super::*;
+
+    fn broken(call: fn([f64; 13]) -> Told) -> u64 {
+        judge_all(&[("a wrong library", call)], 9000, 3)
+    }
+
+    fn changed(numbers: [f64; 13], change: impl Fn(&mut Told)) -> Told {
+        let mut told = ours(numbers);
+        change(&mut told);
+        told
+    }
+
+    #[test]
+    fn the_library_keeps_it() {
+        assert_eq!(broken(ours), 0);
+    }
+
+    #[test]
+    fn a_fixed_answer_is_found_out() {
+        for class in [NONE, ONE, LINES, 258] {
+            let answer: fn([f64; 13]) -> Told = match class {
+                NONE => |n| changed(n, |told| told.class = NONE),
+                ONE => |n| changed(n, |told| told.class = ONE),
+                LINES => |n| changed(n, |told| told.class = LINES),
+                _ => |n| changed(n, |told| told.class = 258),
+            };
+            assert!(broken(answer) > 1000, "{class}");
+        }
+    }
+
+    #[test]
+    fn a_moved_point_is_found_out() {
+        assert!(broken(|n| changed(n, |told| told.values[0] += 1e-8)) > 1000);
+        assert!(broken(|n| changed(n, |told| told.values.swap(0, 1))) > 1000);
+    }
+
+    #[test]
+    fn a_larger_epsilon_is_found_out() {
+        assert!(broken(|n| ours([&n[..12], &[0.5]].concat().try_into().unwrap())) > 10);
+    }
 }

@@ -2,13 +2,13 @@
 -- nothing is left of the difference of two, they are equal whatever the numbers are. `solve` is used as
 -- `solve (a ∷ b ∷ []) (x0 ⊠ x1) (x1 ⊠ x0) refl`.
 use mathlib.Core.Path.{_≡_, refl, sym, ap, _∙_}
-use mathlib.Core.Bool.{Bool, true, false, not, cond, _&&_}
+use mathlib.Core.Bool.{Bool, true, false, cond, _&&_}
 use mathlib.Core.List.{List, [], _∷_}
-use Prim.Native.Nat.{ℕ, zero, suc, _+_, _*_}
+use Prim.Native.Nat.{ℕ, zero, suc}
 use native.Mathlib.Omega.{arith}
 use lib.Dec.{T, leb, ltb, eqb, eqb→eq}
 use lib.IntN.{ℤ, pos, negsuc, negℤ, _+ℤ_, _-ℤ_, _*ℤ_}
-use Rattle.grid.specs.Plane.Whole.{whole, naturals, gain, loss}
+use Rattle.grid.specs.Plane.Whole.{whole, naturals}
 
 -- ---- the laws that it rests on
 pub mul-assoc : (a b c : ℤ) → a *ℤ b *ℤ c ≡ a *ℤ (b *ℤ c)
@@ -65,6 +65,7 @@ infixl 7 _⊠_
 pub data Expr : Type 0 where
   var : ℕ → Expr
   num : ℕ → Expr
+  neg : Expr → Expr
   _⊞_ : Expr → Expr → Expr
   _⊟_ : Expr → Expr → Expr
   _⊠_ : Expr → Expr → Expr
@@ -77,6 +78,7 @@ look (x ∷ xs) (suc i) = look xs i
 abbrev pub value : List ℤ → Expr → ℤ
 value ρ (var i) = look ρ i
 value ρ (num k) = pos k
+value ρ (neg e) = negℤ (value ρ e)
 value ρ (e ⊞ f) = value ρ e +ℤ value ρ f
 value ρ (e ⊟ f) = value ρ e -ℤ value ρ f
 value ρ (e ⊠ f) = value ρ e *ℤ value ρ f
@@ -129,6 +131,7 @@ opposite (term c m p) = term (negℤ c) m (opposite p)
 abbrev norm : Expr → Poly
 norm (var i) = term (pos 1) (i ∷ []) none
 norm (num k) = term (pos k) [] none
+norm (neg e) = opposite (norm e)
 norm (e ⊞ f) = plus (norm e) (norm f)
 norm (e ⊟ f) = plus (norm e) (opposite (norm f))
 norm (e ⊠ f) = mult (norm e) (norm f)
@@ -238,6 +241,7 @@ module _ (ρ : List ℤ) where
     where
       single : (a : ℤ) → a *ℤ pos 1 +ℤ pos 0 ≡ a
       single a = rw (← whole a) (simp naturals (omega arith))
+  worth-norm (neg e) = worth-opposite (norm e) ∙ ap negℤ (worth-norm e)
   worth-norm (e ⊞ f) =
       worth-plus (norm e) (norm f)
       ∙ ap (λ (x : ℤ). x +ℤ worth (norm f)) (worth-norm e)
@@ -259,7 +263,33 @@ module _ (ρ : List ℤ) where
   worth-gone (term (pos (suc c)) m p) t = absurd t
   worth-gone (term (negsuc c) m p) t = absurd t
 
--- two expressions whose difference has no term left are equal
+-- ---- an expression of which nothing is left is 0 whatever the numbers are, and two of which the difference is 0 are equal
+vanishes : (ρ : List ℤ) (e : Expr) → T (gone (norm e)) → value ρ e ≡ pos 0
+vanishes ρ e t = sym (worth-norm ρ e) ∙ worth-gone ρ (norm e) t
+
 pub solve : (ρ : List ℤ) (e f : Expr) → T (gone (norm (e ⊟ f))) → value ρ e ≡ value ρ f
-solve ρ e f t =
-    equal-of-sub (value ρ e) (value ρ f) (sym (worth-norm ρ (e ⊟ f)) ∙ worth-gone ρ (norm (e ⊟ f)) t)
+solve ρ e f t = equal-of-sub (value ρ e) (value ρ f) (vanishes ρ (e ⊟ f) t)
+
+pub sub-of-equal : (a b : ℤ) → a ≡ b → a -ℤ b ≡ pos 0
+sub-of-equal a b h = ap (λ (z : ℤ). z -ℤ b) h ∙ solve (b ∷ []) (var 0 ⊟ var 0) (num 0) tt
+
+-- ---- the same with what is known: e ≡ f follows from l ≡ r if e - f is c * (l - r), and from two such if it is the sum of both
+multiple : (ρ : List ℤ) (c l r : Expr) → value ρ l ≡ value ρ r → value ρ (c ⊠ (l ⊟ r)) ≡ pos 0
+multiple ρ c l r h =
+    ap (λ (z : ℤ). value ρ c *ℤ z) (sub-of-equal (value ρ l) (value ρ r) h) ∙ mul-zero (value ρ c)
+
+pub combine : (ρ : List ℤ) (e f c l r : Expr) → value ρ l ≡ value ρ r → T (gone (norm (e ⊟ f ⊟ c ⊠ (l ⊟ r)))) → value ρ e ≡ value ρ f
+combine ρ e f c l r h t =
+    let known = c ⊠ (l ⊟ r) in
+    let rest = equal-of-sub (value ρ (e ⊟ f)) (value ρ known) (vanishes ρ (e ⊟ f ⊟ known) t) in
+    equal-of-sub (value ρ e) (value ρ f) (rest ∙ multiple ρ c l r h)
+
+pub combine2 : (ρ : List ℤ) (e f c l r d m n : Expr) → value ρ l ≡ value ρ r → value ρ m ≡ value ρ n
+    → T (gone (norm (e ⊟ f ⊟ c ⊠ (l ⊟ r) ⊟ d ⊠ (m ⊟ n))))
+    → value ρ e ≡ value ρ f
+combine2 ρ e f c l r d m n h k t =
+    let known = c ⊠ (l ⊟ r) in
+    let more = d ⊠ (m ⊟ n) in
+    let rest = equal-of-sub (value ρ (e ⊟ f ⊟ known)) (value ρ more) (vanishes ρ (e ⊟ f ⊟ known ⊟ more) t) in
+    let less = equal-of-sub (value ρ (e ⊟ f)) (value ρ known) (rest ∙ multiple ρ d m n k) in
+    equal-of-sub (value ρ e) (value ρ f) (less ∙ multiple ρ c l r h)

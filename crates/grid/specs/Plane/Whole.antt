@@ -1,13 +1,13 @@
 -- Whole numbers with a sign, for proofs: each is a difference of two naturals, `diff p n` is p - n, and sums, products and the order
 -- of differences are those of naturals. So an equation or an order of whole numbers is one of naturals, which `omega` works out.
-use mathlib.Core.Path.{_≡_, refl, sym, ap, _∙_, subst}
+use mathlib.Core.Path.{_≡_, refl, ap}
 use mathlib.Core.Logic.{_↔_}
 use mathlib.Core.Bool.{Bool, true, false, not, cond}
 use Prim.Native.Nat.{ℕ, zero, suc, _+_, _-_, _*_, _≤_, _<_}
 use native.Mathlib.Omega.{arith}
-use lib.Dec.{T, leb, ltb, leb→le, le→leb, ltb→lt, lt→ltb, nltb→le}
-use lib.IntN.{ℤ, pos, negsuc, negℤ, subℕ, _+ℤ_, _-ℤ_, _*ℤ_}
-use lib.Signed.{leZ, ltZ, _≤ℤ_, _<ℤ_}
+use lib.Dec.{T, ltb, leb→le, le→leb, ltb→lt, lt→ltb, nltb→le}
+use lib.IntN.{ℤ, pos, negsuc, negℤ, subℕ, _+ℤ_, _*ℤ_}
+use lib.Signed.{_≤ℤ_, _<ℤ_}
 
 -- ---- the two parts: z is gain z - loss z
 abbrev pub gain : ℤ → ℕ
@@ -81,7 +81,7 @@ lt-diff p n q m =
     (λ h. let l = k .0 h in omega arith, λ h. k .1 (omega arith))
 
 -- ---- sums and products
-gain-add : (a b : ℤ) → gain (a +ℤ b) + (loss a + loss b) ≡ loss (a +ℤ b) + (gain a + gain b)
+pub gain-add : (a b : ℤ) → gain (a +ℤ b) + (loss a + loss b) ≡ loss (a +ℤ b) + (gain a + gain b)
 gain-add (pos a) (pos b) = omega arith
 gain-add (pos a) (negsuc b) = let h = parts-sub a (suc b) in omega arith
 gain-add (negsuc a) (pos b) = let h = parts-sub b (suc a) in omega arith
@@ -95,7 +95,7 @@ diff-add p n q m =
     let h = gain-add (diff p n) (diff q m) in
     equal (diff p n +ℤ diff q m) (diff (p + q) (n + m)) (omega arith)
 
-gain-neg : (a : ℤ) → (gain (negℤ a) ≡ loss a) × (loss (negℤ a) ≡ gain a)
+pub gain-neg : (a : ℤ) → (gain (negℤ a) ≡ loss a) × (loss (negℤ a) ≡ gain a)
 gain-neg (pos zero) = (refl, refl)
 gain-neg (pos (suc k)) = (refl, refl)
 gain-neg (negsuc k) = (refl, refl)
