@@ -279,7 +279,7 @@ rounded-whole f r P N c q k h C e u l =
 pub record Near (L : ℕ) (r : Float) (P N c e g : ℕ) : Type 0 where
   pub p : ℕ
   pub n : ℕ
-  pub is : Diff r p n (L)
+  pub is : Diff r p n L
   pub most : g * (p * c + N * L) ≤ g * (P * L + n * c) + e * (c * L)
   pub least : g * (P * L + n * c) ≤ g * (p * c + N * L) + e * (c * L)
 
@@ -351,7 +351,7 @@ rounded-near f r P N c k h C u l fine =
 -- the same by sign and size: the exact value has the sign s and the size A / c
 pub record Sized (L : ℕ) (r : Float) (s : Bool) (A c e g : ℕ) : Type 0 where
   pub count : ℕ
-  pub is : Diff r (ups s count) (downs s count) (L)
+  pub is : Diff r (ups s count) (downs s count) L
   pub most : g * (count * c) ≤ g * (A * L) + e * (c * L)
   pub least : g * (A * L) ≤ g * (count * c) + e * (c * L)
 
@@ -397,12 +397,12 @@ rounded-size f r P N c s A k h C e l fine =
         subst (λ (g : ℕ). Diff r 0 g (2 ^ low f)) (sym z) (subst (λ (g : ℕ). Diff r g 0 (2 ^ low f)) z d)
 
 -- for any size up to B / c below the format's end: within B / c / 2 ^ prec and half a unit
-pub record NearBy (p-digits L : ℕ) (r : Float) (P N c B : ℕ) : Type 0 where
+pub record NearBy (digits L : ℕ) (r : Float) (P N c B : ℕ) : Type 0 where
   pub p : ℕ
   pub n : ℕ
-  pub is : Diff r p n (L)
-  pub most : 2 ^ p-digits * (2 * (p * c + N * L)) ≤ 2 ^ p-digits * (2 * (P * L + n * c)) + 2 * (B * L) + 2 ^ p-digits * c
-  pub least : 2 ^ p-digits * (2 * (P * L + n * c)) ≤ 2 ^ p-digits * (2 * (p * c + N * L)) + 2 * (B * L) + 2 ^ p-digits * c
+  pub is : Diff r p n L
+  pub most : 2 ^ digits * (2 * (p * c + N * L)) ≤ 2 ^ digits * (2 * (P * L + n * c)) + 2 * (B * L) + 2 ^ digits * c
+  pub least : 2 ^ digits * (2 * (P * L + n * c)) ≤ 2 ^ digits * (2 * (p * c + N * L)) + 2 * (B * L) + 2 ^ digits * c
 
 pub rounded-relative : (f : Format) (r : Float) (P N c B : ℕ) → Rounded f r P N c → 0 < c → P ≤ N + B → N ≤ P + B
     → B ≤ 2 ^ emax f * c → NearBy (prec f) (2 ^ low f) r P N c B

@@ -215,7 +215,7 @@ module _ (f : Format) (X : ℕ) (some : 0 < X) (r : Float) (fit : T (fits f r)) 
 -- ---- together: r is the root of A / c, rounded, in units
 pub record Root (p L A c : ℕ) (r : Float) : Type 0 where
   pub R : ℕ
-  pub value : HasValue r false R (L)
+  pub value : HasValue r false R L
   -- the point halfway to another value of the format lies beyond the exact root
   pub before : (Y : ℕ) → Held p Y → Y < R → (Y + R) * (Y + R) * c < 4 * (A * (L * L))
   pub after : (Y : ℕ) → Held p Y → R < Y → 4 * (A * (L * L)) < (Y + R) * (Y + R) * c
