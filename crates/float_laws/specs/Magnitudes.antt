@@ -1,29 +1,37 @@
 -- Magnitudes that survive rounding: if |x| ≤ 2 ^ i and |y| ≤ 2 ^ j units, then the rounded x * y, x + y, x - y and x / y are finite
 -- and obey the bound of the exact result, since a rounding does not cross a power of two. Within f K x counts in units of the
 -- format's smallest value: a bound of 2 ^ a itself is Within f (a + low f).
-use mathlib.Core.Path.{_≡_, sym, ap, _∙_, subst}
+use mathlib.Core.Path.{_≡_, sym, ap, _∙_}
 use Prim.Native.Nat.{ℕ, suc, _+_, _*_, _^_, _≤_, _<_}
 use native.Mathlib.Nat.{mul-pos, mul-le-mul, mul-le-mul-right, le-trans, le-of-eq, zero-lt-suc, pow-succ'}
 use native.Mathlib.Omega.{arith}
-use mathlib.Core.Bool.{Bool, true, false}
+use mathlib.Core.Bool.{Bool, true, false, not}
 use lib.Dec.{T}
-use lib.IntN.{ℤ, pos}
+use lib.IntN.{pos}
 use lib.Pow.{pow-add, pow-pos, pow-mono}
-use lib.Ieee.{Float, nan, inf, fin, Format, emax, low, add, sub, mul, div, le, fits}
+use lib.Ieee.{Float, nan, inf, fin, Format, emax, low, neg, add, sub, mul, div, le, fits}
 use lib.Ieee.Exact.{HasValue}
 use lib.Ieee.Scale.{finite}
 use Rattle.float_laws.specs.Count.{counted}
-use Rattle.float_laws.specs.Signed.{Diff, ups, downs, own-diff}
+use Rattle.float_laws.specs.Signed.{Diff, ups, downs, own-diff, neg-value, diff-finite}
 use Rattle.float_laws.specs.Order.{le-diff}
-use Rattle.float_laws.specs.Rounded.{Rounded, add-rounded, sub-rounded, mul-rounded, div-rounded, signed-by}
+use Rattle.float_laws.specs.Rounded.{add-rounded, sub-rounded, mul-rounded, div-rounded, signed-by}
 use Rattle.float_laws.specs.Roundings.{Within, rounded-within}
 
 in-diff : (f : Format) (K : ℕ) (x : Float) (w : Within f K x) → Diff x (ups (w .s) (w .count)) (downs (w .s) (w .count)) (2 ^ low f)
 in-diff f K x w = own-diff x (w .s) (w .count) (2 ^ low f) (w .value)
 
+pub within-finite : (f : Format) (K : ℕ) (x : Float) → Within f K x → T (finite x)
+within-finite f K x w = diff-finite x _ _ (2 ^ low f) (in-diff f K x w)
+
 -- a wider bound
 pub within-up : (f : Format) (i j : ℕ) (x : Float) → i ≤ j → Within f i x → Within f j x
 within-up f i j x l w = record { s = w .s; count = w .count; value = w .value; le = le-trans (w .le) (pow-mono l) }
+
+-- without a change, but for the sign
+pub neg-within : (f : Format) (K : ℕ) (x : Float) → Within f K x → Within f K (neg x)
+neg-within f K x w =
+    record { s = not (w .s); count = w .count; value = neg-value x (w .s) (w .count) (2 ^ low f) (w .value); le = w .le }
 
 -- ---- sums: 2 ^ k and 2 ^ k make 2 ^ (k + 1)
 sum-in : (s t : Bool) (X Y B K L : ℕ) → K ≡ 2 * B → X ≤ B → Y ≤ B
@@ -99,7 +107,8 @@ div-within f x y t Y i j k A v l e fine =
     let some : 0 < Y = le-trans (pow-pos j) l in
     let r = div-rounded f x y _ _ L t Y L P P some (in-diff f i x A) v in
     let powers : 2 ^ i * L ≡ 2 ^ j * 2 ^ k = sym (pow-add 2 i (low f)) ∙ ap (λ (z : ℕ). 2 ^ z) e ∙ pow-add 2 j k in
-    let top : A .count * L ≤ Y * 2 ^ k = le-trans (mul-le-mul-right L (A .le)) (le-trans (le-of-eq powers) (mul-le-mul-right (2 ^ k) l)) in
+    let top : A .count * L ≤ Y * 2 ^ k =
+    le-trans (mul-le-mul-right L (A .le)) (le-trans (le-of-eq powers) (mul-le-mul-right (2 ^ k) l)) in
     let m = quotient-in (A .s) t (A .count) Y L (2 ^ k) top in
     rounded-within f (div f x y) _ _ (Y * L) k r (mul-pos some P) (m .0) (m .1) fine
 
@@ -128,6 +137,7 @@ within-of-le f x a t h k =
       le = le-trans (size (c .s) (c .count) L (2 ^ a) least most) (le-of-eq (sym (pow-add 2 a (low f))));
     }
   where
-    size : (s : Bool) (X L A : ℕ) → 0 * L + downs s X * 1 ≤ ups s X * 1 + A * L → ups s X * 1 + 0 * L ≤ A * L + downs s X * 1 → X ≤ A * L
+    size : (s : Bool) (X L A : ℕ) → 0 * L + downs s X * 1 ≤ ups s X * 1 + A * L → ups s X * 1 + 0 * L ≤ A * L + downs s X * 1
+        → X ≤ A * L
     size true X L A u w = omega arith
     size false X L A u w = omega arith

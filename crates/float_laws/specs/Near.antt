@@ -1,16 +1,13 @@
 -- How far `round` is from its fraction. Counted in units of the format's smallest value, the fraction is n / den and the rounded
 -- number G. It is off by at most half of the last place kept; so by at most a 2 ^ prec th of the fraction, or half a unit where no
 -- digit was dropped; and by at most half the last place of any power of two that the fraction does not exceed.
-use mathlib.Core.Path.{_≡_, refl, sym, ap, _∙_, subst}
+use mathlib.Core.Path.{_≡_, refl, sym, ap}
 use mathlib.Core.Logic.{_⊎_, inl, inr}
 use Prim.Native.Nat.{ℕ, zero, suc, _+_, _-_, _*_, _/_, _^_, _≤_, _<_}
 use native.Mathlib.Nat.{
   mul-pos,
-  mul-one,
-  mul-assoc,
   mul-le-mul-left,
   mul-le-mul-right,
-  zero-lt-suc,
   le-trans,
   le-of-eq,
   le-antisymm,
@@ -35,7 +32,8 @@ pub record Off (n den G e : ℕ) : Type 0 where
 
 -- ---- half of the last place kept
 half-place : (p n den : ℕ) → 0 < den → Off n den (kept p n den * 2 ^ drop p n den) (2 ^ drop p n den)
-half-place p n den D = go (kept p n den) (2 ^ drop p n den) (closest-half n (den * 2 ^ drop p n den) (mul-pos D (pow-pos (drop p n den))))
+half-place p n den D =
+    go (kept p n den) (2 ^ drop p n den) (closest-half n (den * 2 ^ drop p n den) (mul-pos D (pow-pos (drop p n den))))
   where
     go : (c u : ℕ) → Half n (den * u) c → Off n den (c * u) u
     go c u h = record { above = omega (arith, h .above); below = omega (arith, h .below) }
@@ -76,7 +74,8 @@ round-relative f num den D =
     place : (k : ℕ) → drop (prec f) (num * 2 ^ low f) den ≡ k → P * (2 ^ k * den) ≤ 2 * (num * 2 ^ low f) + P * den
     place zero e = omega arith
     place (suc k) e =
-        go (2 ^ (prec f - 1)) (2 ^ prec f) (2 ^ suc k) (num * 2 ^ low f) (twice f) (reached (prec f) (num * 2 ^ low f) den k (two f) D e)
+        go (2 ^ (prec f - 1)) (2 ^ prec f) (2 ^ suc k) (num * 2 ^ low f) (twice f)
+        (reached (prec f) (num * 2 ^ low f) den k (two f) D e)
       where
         go : (h p u n : ℕ) → p ≡ 2 * h → h * u * den ≤ n → p * (u * den) ≤ 2 * n + p * den
         go h p u n e l = let x : p * (u * den) ≡ 2 * h * (u * den) = ap (λ (z : ℕ). z * (u * den)) e in omega arith
@@ -109,8 +108,10 @@ round-absolute f num den K D P h = go (eq-or-lt-of-le h)
     go : (num * 2 ^ low f ≡ 2 ^ K * den) ⊎ (num * 2 ^ low f < 2 ^ K * den)
         → Off (num * 2 ^ low f) den (grid f num den) (2 ^ (K - prec f))
     go (inl e) =
-        let is = le-antisymm (grid-le f num den (2 ^ K) D (held-pow f K) (le-of-eq e)) (grid-ge f num den (2 ^ K) D (held-pow f K) (le-of-eq (sym e))) in
-        exact (num * 2 ^ low f) (grid f num den) (2 ^ K) (2 ^ (K - prec f)) e is
+        let most = grid-le f num den (2 ^ K) D (held-pow f K) (le-of-eq e) in
+        let least = grid-ge f num den (2 ^ K) D (held-pow f K) (le-of-eq (sym e)) in
+        exact (num * 2 ^ low f) (grid f num den) (2 ^ K) (2 ^ (K - prec f)) e (le-antisymm most least)
     go (inr l) =
         let digits : size (num * 2 ^ low f / den) ≤ K = size-le (num * 2 ^ low f / den) K (div-lt-iff-lt-mul D .1 l) in
-        wider (num * 2 ^ low f) (grid f num den) _ _ (pow-mono (less (size (num * 2 ^ low f / den)) (prec f) digits)) (round-half f num den D)
+        let place = pow-mono (less (size (num * 2 ^ low f / den)) (prec f) digits) in
+        wider (num * 2 ^ low f) (grid f num den) _ _ place (round-half f num den D)

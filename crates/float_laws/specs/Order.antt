@@ -5,7 +5,6 @@ use Prim.Native.Nat.{ℕ, _+_, _*_, _≤_, _<_}
 use native.Mathlib.Nat.{
   mul-pos,
   zero-mul,
-  add-mul,
   mul-assoc,
   mul-right-comm,
   mul-comm,
@@ -17,20 +16,21 @@ use native.Mathlib.Nat.{
   eq-or-lt-of-le,
 }
 use native.Mathlib.Omega.{arith}
-use mathlib.Core.Bool.{Bool, true, false, not, _&&_, _||_, Bool·beq}
+use mathlib.Core.Bool.{Bool, true, false, _&&_, _||_, Bool·beq}
 use lib.Dec.{T, ltb, eqb, ltb→lt, lt→ltb, eqb→eq}
 use lib.Ieee.{Float, nan, inf, fin, up, down, lt, le, eq, below, level}
 use lib.Ieee.Exact.{HasValue}
 use lib.Ieee.Fits.{down-pos, and-i, and-l, and-r, eq→eqb}
 use Rattle.float_laws.specs.Signed.{Diff, SizeOf, signed-of, diff-mul}
 
--- ---- tests on natural numbers, over another denominator
-same-test : (a b : Bool) → (T a → T b) → (T b → T a) → a ≡ b
+-- ---- tests that agree are equal
+pub same-test : (a b : Bool) → (T a → T b) → (T b → T a) → a ≡ b
 same-test true true p q = refl
 same-test true false p q = absurd (p tt)
 same-test false true p q = absurd (q tt)
 same-test false false p q = refl
 
+-- tests on natural numbers, over another denominator
 scaled-lt : (a b c a' b' c' : ℕ) → 0 < c' → a * c' ≡ a' * c → b * c' ≡ b' * c → a < b → a' < b'
 scaled-lt a b c a' b' c' C' p q h =
     let wide : a * c' < b * c' = mul-lt-mul-of-pos-right h C' in

@@ -2,20 +2,13 @@
 -- rounded once. What is known of a rounding (Roundings.antt) is then known of all four operations, by their exact results.
 use mathlib.Core.Path.{_≡_, refl, sym, ap, _∙_, subst}
 use Prim.Native.Nat.{ℕ, zero, suc, _+_, _-_, _*_, _≤_, _<_}
-use native.Mathlib.Nat.{
-  mul-pos,
-  mul-comm,
-  mul-assoc,
-  mul-right-comm,
-  mul-mul-mul-comm,
-  zero-lt-suc,
-}
+use native.Mathlib.Nat.{mul-pos, mul-comm, mul-assoc, mul-right-comm, mul-mul-mul-comm, zero-lt-suc}
 use native.Mathlib.Omega.{arith}
 use mathlib.Core.Bool.{Bool, true, false, not, cond, _&&_, Bool·beq}
 use lib.Dec.{T, ltb, eqb, ltb→lt, nltb→le, eqb→eq, not-T}
 use lib.Ieee.{Float, nan, inf, fin, Format, up, down, unlike, round, sum, add, sub, mul, div, neg}
 use lib.Ieee.Exact.{HasValue}
-use lib.Ieee.Fits.{up-pos, down-pos}
+use lib.Ieee.Fits.{down-pos}
 use lib.Ieee.Bits.{cond-no}
 use lib.Ieee.Scale.{round-same}
 use Rattle.float_laws.specs.Signed.{Diff, SizeOf, signed-of, diff-mul, minus-mul, neg-diff}
@@ -35,14 +28,17 @@ sum-same f s t a b c a' b' c' C C' p q =
     let both = round-same f s (a + b) c (a' + b') c' C C' (omega arith) in
     let right = round-same f t (b - a) c (b' - a') c' C C' (less b a b' a' q p) in
     let left = round-same f (s && ltb b a) (a - b) c (a' - b') c' C C' (less a b a' b' p q) in
-    ap (λ (v : Float). cond (Bool·beq s t) v (cond (ltb a b) (round f t (b - a) c) (round f (s && ltb b a) (a - b) c))) both
-    ∙ ap (λ (v : Float). cond (Bool·beq s t) (round f s (a' + b') c') (cond (ltb a b) v (round f (s && ltb b a) (a - b) c))) right
-    ∙ ap (λ (v : Float). cond (Bool·beq s t) (round f s (a' + b') c') (cond (ltb a b) (round f t (b' - a') c') v)) left
-    ∙ ap (λ (u : Bool). cond (Bool·beq s t) (round f s (a' + b') c') (cond u (round f t (b' - a') c') (round f (s && ltb b a) (a' - b') c')))
-    (same-ltb a b c a' b' c' C C' p q)
-    ∙ ap (λ (u : Bool). cond (Bool·beq s t) (round f s (a' + b') c') (cond (ltb a' b') (round f t (b' - a') c') (round f (s && u) (a' - b') c')))
-    (same-ltb b a c b' a' c' C C' q p)
+    let tests = same-ltb a b c a' b' c' C C' p q in
+    let tests' = same-ltb b a c b' a' c' C C' q p in
+    ap (λ (v : Float). pick v (ltb a b) (round f t (b - a) c) (round f (s && ltb b a) (a - b) c)) both
+    ∙ ap (λ (v : Float). pick (round f s (a' + b') c') (ltb a b) v (round f (s && ltb b a) (a - b) c)) right
+    ∙ ap (λ (v : Float). pick (round f s (a' + b') c') (ltb a b) (round f t (b' - a') c') v) left
+    ∙ ap (λ (u : Bool). pick (round f s (a' + b') c') u (round f t (b' - a') c') (round f (s && ltb b a) (a' - b') c')) tests
+    ∙ ap (λ (u : Bool). pick (round f s (a' + b') c') (ltb a' b') (round f t (b' - a') c') (round f (s && u) (a' - b') c')) tests'
   where
+    pick : Float → Bool → Float → Float → Float
+    pick x u y z = cond (Bool·beq s t) x (cond u y z)
+
     less : (b a b' a' : ℕ) → b * c' ≡ b' * c → a * c' ≡ a' * c → (b - a) * c' ≡ (b' - a') * c
     less b a b' a' q p =
         minus-mul b a c' ∙ ap (λ (z : ℕ). z - a * c') q ∙ ap (λ (z : ℕ). b' * c - z) p ∙ sym (minus-mul b' a' c)
@@ -163,7 +159,8 @@ product-size false false X Y p n q k a b =
     omega (arith, e1, ap (λ (z : ℕ). z * k) p-is, ap (λ (z : ℕ). n * z) q-is)
 
 -- ---- the four operations, by fractions: sums over one denominator, and over any two
-pub add-over : (f : Format) (x y : Float) (p n q k c : ℕ) → 0 < c → Diff x p n c → Diff y q k c → Rounded f (add f x y) (p + q) (n + k) c
+pub add-over : (f : Format) (x y : Float) (p n q k c : ℕ) → 0 < c → Diff x p n c → Diff y q k c
+    → Rounded f (add f x y) (p + q) (n + k) c
 add-over f x y p n q k c C a b =
     let A = signed-of x p n c a in
     let B = signed-of y q k c b in
@@ -172,7 +169,8 @@ add-over f x y p n q k c C a b =
     (sum-rounded f (A .s) (B .s) (A .size) (B .size) c p n q k (A .is) (B .is))
 
 -- x - y is x + (- y)
-pub sub-over : (f : Format) (x y : Float) (p n q k c : ℕ) → 0 < c → Diff x p n c → Diff y q k c → Rounded f (sub f x y) (p + k) (n + q) c
+pub sub-over : (f : Format) (x y : Float) (p n q k c : ℕ) → 0 < c → Diff x p n c → Diff y q k c
+    → Rounded f (sub f x y) (p + k) (n + q) c
 unfolding sub
 sub-over f x y p n q k c C a b = add-over f x (neg y) p n k q c C a (neg-diff y q k c b)
 

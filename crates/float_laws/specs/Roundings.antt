@@ -1,12 +1,11 @@
 -- What is known of a value r that is (P - N) / c, rounded once, and so of every result of + - * / (Rounded.antt). It is a value of
 -- its format and no NaN. It does not cross a float: if the exact value is at most a float y, so is r. It is exact where the exact
--- value is a whole number that the format counts without a gap. It is finite below the format's end, and then it is off by at most
+-- value is a value of the format, and so where it is a whole number that the format counts without a gap. It is finite below the format's end, and then it is off by at most
 -- half the last place of the power of two that bounds the exact value, and by a 2 ^ prec th of the exact value and half a unit.
 use mathlib.Core.Path.{_≡_, refl, sym, ap, _∙_, subst}
 use Prim.Native.Nat.{ℕ, zero, suc, _+_, _-_, _*_, _^_, _≤_, _<_}
 use native.Mathlib.Nat.{
   mul-pos,
-  mul-one,
   mul-le-mul-left,
   mul-le-mul-right,
   le-of-mul-le-mul-right,
@@ -14,14 +13,15 @@ use native.Mathlib.Nat.{
   zero-mul,
   le-trans,
   le-of-eq,
+  le-antisymm,
   lt-of-le-of-lt,
   not-le-of-lt,
   pow-succ',
 }
 use native.Mathlib.Omega.{arith}
-use mathlib.Core.Bool.{Bool, true, false, not, cond, true≢false, false≢true}
+use mathlib.Core.Bool.{Bool, true, false, not, true≢false, false≢true}
 use lib.Dec.{T, ltb, ltb→lt, nltb→le, lit≤}
-use lib.Pow.{pow-add, pow-pos, pow-mono, pow-lt}
+use lib.Pow.{pow-add, pow-pos, pow-lt}
 use lib.Ieee.{Float, nan, inf, fin, Format, prec, emax, low, round, units, odd, fits, isNan, le, binary32, binary64}
 use lib.Ieee.Digits.{back}
 use lib.Arith.{le→nltb}
@@ -29,11 +29,10 @@ use lib.Ieee.Bits.{cond-no}
 use lib.Ieee.Exact.{HasValue}
 use lib.Ieee.Back.{round-whole}
 use lib.Ieee.Fits.{round-is, round-fits}
-use lib.Ieee.Order.{drop, kept}
 use lib.Ieee.Scale.{grid, overflow, finite, round-same}
 use Rattle.float_laws.specs.Best.{Held, held-pow, grid-le, grid-ge}
 use Rattle.float_laws.specs.Count.{Counted, counted, round-count, round-real}
-use Rattle.float_laws.specs.Signed.{Diff, SizeOf, ups, downs, diff-of, own-diff, diff-same, diff-finite}
+use Rattle.float_laws.specs.Signed.{Diff, SizeOf, ups, downs, diff-of, own-diff, diff-same, diff-at, diff-finite, units-of}
 use Rattle.float_laws.specs.Order.{le-diff}
 use Rattle.float_laws.specs.Near as off
 use Rattle.float_laws.specs.Rounded.{Rounded}
@@ -166,7 +165,9 @@ module _ (f : Format) (r : Float) (P N c : ℕ) (h : Rounded f r P N c) (C : 0 <
   -- what is rounded does not cross y, by signs
   under : (s t : Bool) (Z : ℕ) → Held (prec f) Z → SizeOf s exact-size P N → P * unit + downs t Z * c ≤ ups t Z * c + N * unit
       → (ups s made + downs t Z ≤ ups t Z + downs s made) × (s ≡ false → made ≤ Z)
-  under false false Z z e l = let m : made ≤ Z = grid-le f exact-size c Z C z (omega (arith, ap (λ (w : ℕ). w * unit) e)) in (omega arith, λ u. m)
+  under false false Z z e l =
+      let m : made ≤ Z = grid-le f exact-size c Z C z (omega (arith, ap (λ (w : ℕ). w * unit) e)) in
+      (omega arith, λ u. m)
   under false true Z z e l =
       let wide : (exact-size + N) * unit ≡ P * unit = ap (λ (w : ℕ). w * unit) e in
       let zero-count : Z ≡ 0 = none Z (omega arith) in
@@ -179,7 +180,9 @@ module _ (f : Format) (r : Float) (P N c : ℕ) (h : Rounded f r P N c) (C : 0 <
 
   over : (s t : Bool) (Z : ℕ) → Held (prec f) Z → SizeOf s exact-size P N → ups t Z * c + N * unit ≤ P * unit + downs t Z * c
       → (ups t Z + downs s made ≤ ups s made + downs t Z) × (s ≡ true → made ≤ Z)
-  over true true Z z e l = let m : made ≤ Z = grid-le f exact-size c Z C z (omega (arith, ap (λ (w : ℕ). w * unit) e)) in (omega arith, λ u. m)
+  over true true Z z e l =
+      let m : made ≤ Z = grid-le f exact-size c Z C z (omega (arith, ap (λ (w : ℕ). w * unit) e)) in
+      (omega arith, λ u. m)
   over true false Z z e l =
       let wide : (exact-size + P) * unit ≡ N * unit = ap (λ (w : ℕ). w * unit) e in
       let zero-count : Z ≡ 0 = none Z (omega arith) in
@@ -210,7 +213,8 @@ module _ (f : Format) (r : Float) (P N c : ℕ) (h : Rounded f r P N c) (C : 0 <
       past false m e g = absurd (not-le-of-lt (of-y .under) (le-trans g (m refl)))
 
       go : (b : Bool) → (T b → made < overflow f) → (T (not b) → overflow f ≤ made)
-          → (ups (h .s) made + downs (of-y .s) (of-y .count) ≤ ups (of-y .s) (of-y .count) + downs (h .s) made) × (h .s ≡ false → made ≤ of-y .count)
+          → (ups (h .s) made + downs (of-y .s) (of-y .count) ≤ ups (of-y .s) (of-y .count) + downs (h .s) made)
+          × (h .s ≡ false → made ≤ of-y .count)
           → T (le r y)
       go true fine end side =
           le-diff r y _ _ unit _ _ unit (pow-pos (low f)) (pow-pos (low f)) (r-is (fine tt)) y-is .1
@@ -228,12 +232,35 @@ module _ (f : Format) (r : Float) (P N c : ℕ) (h : Rounded f r P N c) (C : 0 <
       past true m e g = absurd (not-le-of-lt (of-y .under) (le-trans g (m refl)))
 
       go : (b : Bool) → (T b → made < overflow f) → (T (not b) → overflow f ≤ made)
-          → (ups (of-y .s) (of-y .count) + downs (h .s) made ≤ ups (h .s) made + downs (of-y .s) (of-y .count)) × (h .s ≡ true → made ≤ of-y .count)
+          → (ups (of-y .s) (of-y .count) + downs (h .s) made ≤ ups (h .s) made + downs (of-y .s) (of-y .count))
+          × (h .s ≡ true → made ≤ of-y .count)
           → T (le y r)
       go true fine end side =
           le-diff y r _ _ unit _ _ unit (pow-pos (low f)) (pow-pos (low f)) y-is (r-is (fine tt)) .1
           (wide (ups (of-y .s) (of-y .count)) (downs (h .s) made) (ups (h .s) made) (downs (of-y .s) (of-y .count)) unit (side .0))
       go false fine end side = past (h .s) (side .1) (r-past (end tt)) (end tt)
+
+-- ---- a value of the format is exact
+between : (r y : Float) → T (finite y) → T (le r y) → T (le y r) → T (finite r)
+unfolding le
+between nan y t a b = absurd a
+between (inf s) nan t a b = absurd t
+between (inf s) (inf u) t a b = absurd t
+between (inf true) (fin u m e) t a b = absurd b
+between (inf false) (fin u m e) t a b = absurd a
+between (fin s m e) y t a b = tt
+
+-- if the exact value is that of a float y, so is r's
+pub rounded-value : (f : Format) (r : Float) (P N c : ℕ) → Rounded f r P N c → 0 < c → (y : Float) (q k d : ℕ) → 0 < d → T (fits f y)
+    → Diff y q k d → P * d + k * c ≡ q * c + N * d → Diff r q k d
+rounded-value f r P N c h C y q k d D fit v e =
+    let least = rounded-le f r P N c h C y q k d D fit v (le-of-eq e) in
+    let most = rounded-ge f r P N c h C y q k d D fit v (le-of-eq (sym e)) in
+    let u = units-of f r (between r y (diff-finite y q k d v) least most) (rounded-fits f r P N c h) in
+    let L = pow-pos (low f) in
+    let up = le-diff r y (u .p) (u .n) (2 ^ low f) q k d L D (u .is) v .0 least in
+    let dn = le-diff y r q k d (u .p) (u .n) (2 ^ low f) D L v (u .is) .0 most in
+    diff-at r (u .p) (u .n) (2 ^ low f) q k d L (u .is) (le-antisymm up dn)
 
 -- ---- whole numbers are exact
 
@@ -252,7 +279,7 @@ rounded-whole f r P N c q k h C e u l =
 pub record Near (L : ℕ) (r : Float) (P N c e g : ℕ) : Type 0 where
   pub p : ℕ
   pub n : ℕ
-  pub is : Diff r p n (L)
+  pub is : Diff r p n L
   pub most : g * (p * c + N * L) ≤ g * (P * L + n * c) + e * (c * L)
   pub least : g * (P * L + n * c) ≤ g * (p * c + N * L) + e * (c * L)
 
@@ -324,7 +351,7 @@ rounded-near f r P N c k h C u l fine =
 -- the same by sign and size: the exact value has the sign s and the size A / c
 pub record Sized (L : ℕ) (r : Float) (s : Bool) (A c e g : ℕ) : Type 0 where
   pub count : ℕ
-  pub is : Diff r (ups s count) (downs s count) (L)
+  pub is : Diff r (ups s count) (downs s count) L
   pub most : g * (count * c) ≤ g * (A * L) + e * (c * L)
   pub least : g * (A * L) ≤ g * (count * c) + e * (c * L)
 
@@ -333,8 +360,9 @@ pub rounded-size : (f : Format) (r : Float) (P N c : ℕ) (s : Bool) (A k : ℕ)
 rounded-size f r P N c s A k h C e l fine =
     let same : h .size ≡ A = one-size (h .s) s (h .size) A (h .exact) e in
     let m = made-near f A c k C l fine in
+    let under : grid f (h .size) c < overflow f = subst (λ (z : ℕ). grid f z c < overflow f) (sym same) (m .under) in
     let in-A : HasValue r (h .s) (grid f A c) (2 ^ low f) =
-    subst (λ (z : ℕ). HasValue r (h .s) (grid f z c) (2 ^ low f)) same (in-units f r P N c h (subst (λ (z : ℕ). grid f z c < overflow f) (sym same) (m .under))) in
+    subst (λ (z : ℕ). HasValue r (h .s) (grid f z c) (2 ^ low f)) same (in-units f r P N c h under) in
     record {
       count = grid f A c;
       is = turned (h .s) s A (h .exact) e same (own-diff r (h .s) (grid f A c) (2 ^ low f) in-A);
@@ -352,7 +380,8 @@ rounded-size f r P N c s A k h C e l fine =
     none : (A : ℕ) → A ≡ 0 → grid f A c ≡ 0
     none A e =
         let held : Held (prec f) 0 = record { y = 0; j = 0; few = pow-pos (prec f); is = refl } in
-        let most : grid f A c ≤ 0 = grid-le f A c 0 C held (le-of-eq (ap (λ (z : ℕ). z * 2 ^ low f) e ∙ zero-mul (2 ^ low f) ∙ sym (zero-mul c))) in
+        let exact : A * 2 ^ low f ≡ 0 * c = ap (λ (z : ℕ). z * 2 ^ low f) e ∙ zero-mul (2 ^ low f) ∙ sym (zero-mul c) in
+        let most : grid f A c ≤ 0 = grid-le f A c 0 C held (le-of-eq exact) in
         omega arith
 
     turned : (s t : Bool) (A : ℕ) → SizeOf s (h .size) P N → SizeOf t A P N → h .size ≡ A
@@ -368,12 +397,12 @@ rounded-size f r P N c s A k h C e l fine =
         subst (λ (g : ℕ). Diff r 0 g (2 ^ low f)) (sym z) (subst (λ (g : ℕ). Diff r g 0 (2 ^ low f)) z d)
 
 -- for any size up to B / c below the format's end: within B / c / 2 ^ prec and half a unit
-pub record NearBy (p-digits L : ℕ) (r : Float) (P N c B : ℕ) : Type 0 where
+pub record NearBy (digits L : ℕ) (r : Float) (P N c B : ℕ) : Type 0 where
   pub p : ℕ
   pub n : ℕ
-  pub is : Diff r p n (L)
-  pub most : 2 ^ p-digits * (2 * (p * c + N * L)) ≤ 2 ^ p-digits * (2 * (P * L + n * c)) + 2 * (B * L) + 2 ^ p-digits * c
-  pub least : 2 ^ p-digits * (2 * (P * L + n * c)) ≤ 2 ^ p-digits * (2 * (p * c + N * L)) + 2 * (B * L) + 2 ^ p-digits * c
+  pub is : Diff r p n L
+  pub most : 2 ^ digits * (2 * (p * c + N * L)) ≤ 2 ^ digits * (2 * (P * L + n * c)) + 2 * (B * L) + 2 ^ digits * c
+  pub least : 2 ^ digits * (2 * (P * L + n * c)) ≤ 2 ^ digits * (2 * (p * c + N * L)) + 2 * (B * L) + 2 ^ digits * c
 
 pub rounded-relative : (f : Format) (r : Float) (P N c B : ℕ) → Rounded f r P N c → 0 < c → P ≤ N + B → N ≤ P + B
     → B ≤ 2 ^ emax f * c → NearBy (prec f) (2 ^ low f) r P N c B
@@ -381,8 +410,9 @@ rounded-relative f r P N c B h C u l fine =
     let L = 2 ^ low f in
     let G = grid f (h .size) c in
     let X-le : h .size ≤ B = size-le (h .s) (h .size) P N B (h .exact) u l in
-    let in-K : h .size * L ≤ 2 ^ (low f + emax f) * c = scale (h .size) L (2 ^ emax f) (2 ^ (low f + emax f)) (pow-add 2 (low f) (emax f)) (le-trans X-le fine) in
-    let most : G ≤ 2 ^ (low f + emax f) = grid-le f (h .size) c (2 ^ (low f + emax f)) C (held-pow f (low f + emax f)) in-K in
+    let K = low f + emax f in
+    let in-K : h .size * L ≤ 2 ^ K * c = scale (h .size) L (2 ^ emax f) (2 ^ K) (pow-add 2 (low f) (emax f)) (le-trans X-le fine) in
+    let most : G ≤ 2 ^ K = grid-le f (h .size) c (2 ^ K) C (held-pow f K) in-K in
     let end : G < overflow f = lt-of-le-of-lt most (pow-lt last) in
     let o = off.round-relative f (h .size) c C in
     let b = both (h .s) (h .size) G L (2 ^ prec f) (h .exact) X-le (o .above) (o .below) in

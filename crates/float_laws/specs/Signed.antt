@@ -3,15 +3,9 @@
 -- laws here go from one to another, and to the kit's sign and size (HasValue) and back.
 use mathlib.Core.Path.{_≡_, refl, sym, ap, _∙_, subst}
 use Prim.Native.Nat.{ℕ, _+_, _-_, _*_, _^_, _≤_, _<_}
-use native.Mathlib.Nat.{
-  add-mul,
-  eq-of-mul-eq-mul-right,
-  le-of-mul-le-mul-right,
-  mul-sub,
-  mul-comm,
-}
+use native.Mathlib.Nat.{add-mul, eq-of-mul-eq-mul-right, le-of-mul-le-mul-right, mul-sub, mul-comm}
 use native.Mathlib.Omega.{arith}
-use mathlib.Core.Bool.{Bool, true, false, cond, true≢false, false≢true}
+use mathlib.Core.Bool.{Bool, true, false, not, cond, true≢false, false≢true}
 use lib.Dec.{T}
 use lib.Ieee.{Float, nan, inf, fin, Format, low, up, down, neg, fits}
 use lib.Ieee.Exact.{HasValue}
@@ -167,3 +161,9 @@ neg-diff nan p n c h = absurd h
 neg-diff (inf s) p n c h = absurd h
 neg-diff (fin true m e) p n c h = h
 neg-diff (fin false m e) p n c h = h
+
+pub neg-value : (x : Float) (s : Bool) (X c : ℕ) → HasValue x s X c → HasValue (neg x) (not s) X c
+unfolding neg
+neg-value nan s X c h = absurd h
+neg-value (inf t) s X c h = absurd h
+neg-value (fin t m e) s X c h = (ap not (h .0), h .1)

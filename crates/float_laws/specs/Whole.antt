@@ -1,12 +1,11 @@
 -- Whole numbers in floats: + - * of whole numbers are exact where the result's size is at most 2 ^ prec, and a rounding of any
 -- fraction does not cross such a whole number. A whole number is a difference of natural numbers: Diff x p n 1.
-use mathlib.Core.Path.{_≡_, refl}
 use Prim.Native.Nat.{ℕ, _+_, _-_, _*_, _^_, _≤_, _<_}
 use native.Mathlib.Nat.{zero-lt-suc}
 use native.Mathlib.Omega.{arith}
-use mathlib.Core.Bool.{Bool, true, false, not, cond}
+use mathlib.Core.Bool.{Bool, true, false, not}
 use lib.Dec.{T, leb, leb→le, nleb→lt}
-use lib.Ieee.{Float, Format, prec, round, add, sub, mul, fits, le}
+use lib.Ieee.{Float, Format, prec, round, add, sub, mul, fits}
 use lib.Ieee.Back.{round-whole}
 use lib.Ieee.Fits.{round-fits}
 use Rattle.float_laws.specs.Signed.{Diff, diff-of}

@@ -1,15 +1,15 @@
 -- The absolute value, minimum and maximum of finite floats, as other proofs use them: by their fractions.
-use mathlib.Core.Path.{_≡_, refl, sym, ap, _∙_, subst}
+use mathlib.Core.Path.{_≡_, refl, ap}
 use mathlib.Core.Logic.{_↔_}
-use Prim.Native.Nat.{ℕ, _+_, _*_, _<_}
+use Prim.Native.Nat.{ℕ, _+_, _*_, _^_, _<_}
 use native.Mathlib.Omega.{arith}
-use mathlib.Core.Bool.{Bool, true, false, not, cond}
+use mathlib.Core.Bool.{Bool, true, false, cond}
 use lib.Dec.{T}
-use lib.Ieee.{Float, nan, inf, fin, Format, lt, isNan}
+use lib.Ieee.{Float, nan, inf, fin, Format, low, lt, isNan}
 use lib.Ieee.Exact.{HasValue}
-use lib.Ieee.Bits.{is-true, is-false}
 use Rattle.float_laws.specs.Signed.{Diff, SizeOf, signed-of, diff-of}
 use Rattle.float_laws.specs.Order.{lt-diff}
+use Rattle.float_laws.specs.Roundings.{Within}
 use Rattle.floats.specs.F64
 
 -- ---- the absolute value has the size, without the sign
@@ -18,6 +18,10 @@ unfolding F64.abs
 abs-value nan s X c h = absurd h
 abs-value (inf t) s X c h = absurd h
 abs-value (fin t m e) s X c h = (refl, h .1)
+
+pub abs-within : (f : Format) (K : ℕ) (x : Float) → Within f K x → Within f K (F64.abs x)
+abs-within f K x w =
+    record { s = false; count = w .count; value = abs-value x (w .s) (w .count) (2 ^ low f) (w .value); le = w .le }
 
 -- it is below y where x is below y and above -y: x is (p - n) / c and y is (q - k) / d
 pub abs-lt : (x y : Float) (p n c q k d : ℕ) → 0 < c → 0 < d → Diff x p n c → Diff y q k d

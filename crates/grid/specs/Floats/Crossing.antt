@@ -1,17 +1,16 @@
 -- The line kernel on grid segments that are not parallel, in whole numbers: it answers TrueIntersect or FalseIntersect with two
 -- parameters, each one rounding of an exact quotient over the perp dot; TrueIntersect if both exact parameters lie from 0 to 1, and
 -- only if both lie less than two epsilons beyond their segment.
-use mathlib.Core.Path.{_≡_, refl, sym, ap, _∙_, subst}
+use mathlib.Core.Path.{_≡_, refl, ap, _∙_}
 use mathlib.Core.Logic.{_⊎_, inl, inr}
-use Prim.Native.Nat.{ℕ, zero, suc, _+_, _-_, _*_, _^_, _≤_, _<_}
-use native.Mathlib.Nat.{mul-pos, mul-le-mul-right, zero-lt-suc, le-trans}
+use Prim.Native.Nat.{ℕ, zero, suc, _+_, _*_, _^_, _≤_, _<_}
+use native.Mathlib.Nat.{zero-lt-suc}
 use native.Mathlib.Omega.{arith}
-use mathlib.Core.Bool.{Bool, true, false, not, cond, _&&_, _||_, true≢false, false≢true}
-use lib.Dec.{T, eqb, eqb→eq, not-T, leb, leb→le, nleb→lt}
-use lib.Ieee.{Float, binary64}
+use mathlib.Core.Bool.{Bool, true, false, not, cond, _||_, false≢true}
+use lib.Dec.{eqb, eqb→eq, not-T}
+use lib.Ieee.{Float}
 use lib.Ieee.Bits.{is-true, is-false}
 use lib.Ieee.Fits.{eq→eqb}
-use Rattle.float_laws.specs.Rounded.{Rounded}
 use Rattle.float_laws.specs.Roundings.{Near}
 use Rattle.float_laws.specs.Binary64.{unit}
 use Rattle.floats.specs.Ops.{_⊘_}
@@ -110,25 +109,29 @@ module _ (e : Float) (num den : ℕ) (h : Eps e num den) (v u w : Vector2) (A : 
   -- the two range tests: from 0 to 1 passes, and what passes is in reach
   pub first-passes : Inside (first .P) (first .N) (first .D) → within t1 v e ≡ true
   first-passes x =
-      within-yes e num den h v (square v A) (long-first v u A B apart) long-v t1 (first .P) (first .N) (first .D) (first .rounded) (first .some)
+      within-yes e num den h v (square v A) (long-first v u A B apart) long-v t1 (first .P) (first .N) (first .D) (first .rounded)
+      (first .some)
       (at-most (first .P) (first .N) (first .D) (first .P-le) (first .some))
       (at-most (first .N) (first .P) (first .D) (first .N-le) (first .some)) (x .0) (x .1)
 
   pub first-reaches : within t1 v e ≡ true → Reaches (square v A) num den (first .P) (first .N) (first .D)
   first-reaches x =
-      within-says e num den h v (square v A) (long-first v u A B apart) long-v t1 (first .P) (first .N) (first .D) (first .rounded) (first .some)
+      within-says e num den h v (square v A) (long-first v u A B apart) long-v t1 (first .P) (first .N) (first .D)
+      (first .rounded) (first .some)
       (at-most (first .P) (first .N) (first .D) (first .P-le) (first .some))
       (at-most (first .N) (first .P) (first .D) (first .N-le) (first .some)) x
 
   pub second-passes : Inside (second .P) (second .N) (second .D) → within t2 u e ≡ true
   second-passes x =
-      within-yes e num den h u (square u B) (long-second v u A B apart) long-u t2 (second .P) (second .N) (second .D) (second .rounded) (second .some)
+      within-yes e num den h u (square u B) (long-second v u A B apart) long-u t2 (second .P) (second .N) (second .D)
+      (second .rounded) (second .some)
       (at-most (second .P) (second .N) (second .D) (second .P-le) (second .some))
       (at-most (second .N) (second .P) (second .D) (second .N-le) (second .some)) (x .0) (x .1)
 
   pub second-reaches : within t2 u e ≡ true → Reaches (square u B) num den (second .P) (second .N) (second .D)
   second-reaches x =
-      within-says e num den h u (square u B) (long-second v u A B apart) long-u t2 (second .P) (second .N) (second .D) (second .rounded) (second .some)
+      within-says e num den h u (square u B) (long-second v u A B apart) long-u t2 (second .P) (second .N) (second .D)
+      (second .rounded) (second .some)
       (at-most (second .P) (second .N) (second .D) (second .P-le) (second .some))
       (at-most (second .N) (second .P) (second .D) (second .N-le) (second .some)) x
 
@@ -143,19 +146,22 @@ module _ (e : Float) (num den : ℕ) (h : Eps e num den) (v u w : Vector2) (A : 
       told : (a b : Bool) → (a ≡ true → Reaches (square v A) num den (first .P) (first .N) (first .D))
           → (b ≡ true → Reaches (square u B) num den (second .P) (second .N) (second .D))
           → ((cond (not a || not b) (FalseIntersect t1 t2) (TrueIntersect t1 t2) ≡ TrueIntersect t1 t2)
-          × Reaches (square v A) num den (first .P) (first .N) (first .D) × Reaches (square u B) num den (second .P) (second .N) (second .D))
+          × Reaches (square v A) num den (first .P) (first .N) (first .D)
+          × Reaches (square u B) num den (second .P) (second .N) (second .D))
           ⊎ (cond (not a || not b) (FalseIntersect t1 t2) (TrueIntersect t1 t2) ≡ FalseIntersect t1 t2)
       told true true x y = inl (refl, x refl, y refl)
       told true false x y = inr refl
       told false b x y = inr refl
 
-      sure : (a b : Bool) → a ≡ true → b ≡ true → cond (not a || not b) (FalseIntersect t1 t2) (TrueIntersect t1 t2) ≡ TrueIntersect t1 t2
+      sure : (a b : Bool) → a ≡ true → b ≡ true
+          → cond (not a || not b) (FalseIntersect t1 t2) (TrueIntersect t1 t2) ≡ TrueIntersect t1 t2
       sure true true x y = refl
       sure true false x y = absurd (false≢true y)
       sure false b x y = absurd (false≢true x)
 
 -- the point that the kernel's first parameter gives on the first segment: each coordinate is within 1 / 2 ^ 30 of the crossing's
-module _ (e : Float) (num den : ℕ) (h : Eps e num den) (v1 v2 : Vector2) (A1 : Vec 20 v1) (A2 : Vec 20 v2) (u w : Vector2) (B : Vec 21 u) (C : Vec 21 w) where
+module _ (e : Float) (num den : ℕ) (h : Eps e num den) (v1 v2 : Vector2) (A1 : Vec 20 v1) (A2 : Vec 20 v2) (u w : Vector2)
+    (B : Vec 21 u) (C : Vec 21 w) where
   abbrev way : Vec 21 (vector2.sub v2 v1)
   way = vec-sub v2 v1 A2 A1
 
@@ -166,21 +172,24 @@ module _ (e : Float) (num den : ℕ) (h : Eps e num den) (v1 v2 : Vector2) (A1 :
     r1 = first e num den h (vector2.sub v2 v1) u w way B C apart
 
     pub crossing-x : Near unit (pointFromParametric v1 v2 (t1 e num den h (vector2.sub v2 v1) u w way B C apart) .x)
-        (A1 .x .p * r1 .D + (way .x .p * r1 .P + way .x .n * r1 .N)) (A1 .x .n * r1 .D + (way .x .p * r1 .N + way .x .n * r1 .P)) (r1 .D) 1 (2 ^ 30)
+        (A1 .x .p * r1 .D + (way .x .p * r1 .P + way .x .n * r1 .N)) (A1 .x .n * r1 .D + (way .x .p * r1 .N + way .x .n * r1 .P))
+        (r1 .D) 1 (2 ^ 30)
     crossing-x =
         point-x e num den h v1 v2 A1 A2 (square (vector2.sub v2 v1) way) (square-is (vector2.sub v2 v1) way)
         (long-first (vector2.sub v2 v1) u way B apart) _ (r1 .P) (r1 .N) (r1 .D) (r1 .rounded) (r1 .some)
         (first-reaches e num den h (vector2.sub v2 v1) u w way B C apart passed)
 
     pub crossing-y : Near unit (pointFromParametric v1 v2 (t1 e num den h (vector2.sub v2 v1) u w way B C apart) .y)
-        (A1 .y .p * r1 .D + (way .y .p * r1 .P + way .y .n * r1 .N)) (A1 .y .n * r1 .D + (way .y .p * r1 .N + way .y .n * r1 .P)) (r1 .D) 1 (2 ^ 30)
+        (A1 .y .p * r1 .D + (way .y .p * r1 .P + way .y .n * r1 .N)) (A1 .y .n * r1 .D + (way .y .p * r1 .N + way .y .n * r1 .P))
+        (r1 .D) 1 (2 ^ 30)
     crossing-y =
         point-y e num den h v1 v2 A1 A2 (square (vector2.sub v2 v1) way) (square-is (vector2.sub v2 v1) way)
         (long-first (vector2.sub v2 v1) u way B apart) _ (r1 .P) (r1 .N) (r1 .D) (r1 .rounded) (r1 .some)
         (first-reaches e num den h (vector2.sub v2 v1) u w way B C apart passed)
 
 -- ---- which way the kernel goes: by the perp dot of the two segments, exactly
-module _ (e : Float) (num den : ℕ) (h : Eps e num den) (v1 v2 u1 u2 : Vector2) (A1 : Vec 20 v1) (A2 : Vec 20 v2) (B1 : Vec 20 u1) (B2 : Vec 20 u2) where
+module _ (e : Float) (num den : ℕ) (h : Eps e num den) (v1 v2 u1 u2 : Vector2) (A1 : Vec 20 v1) (A2 : Vec 20 v2) (B1 : Vec 20 u1)
+    (B2 : Vec 20 u2) where
   abbrev v : Vector2
   v = vector2.sub v2 v1
 

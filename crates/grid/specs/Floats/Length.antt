@@ -1,7 +1,7 @@
--- The length of a grid vector that is no point: the correctly rounded root of its exact self dot S. It is at least every whole number
--- whose square is at most S, at most 2 ^ 22, and its square is at least half of S.
-use mathlib.Core.Path.{_≡_, refl, sym, ap, subst}
-use Prim.Native.Nat.{ℕ, suc, _+_, _-_, _*_, _^_, _≤_, _<_}
+-- The length of a grid vector that is no point: the correctly rounded root of its exact self dot S. It is at least every whole
+-- number whose square is at most S, at most 2 ^ 22, and its square is at least half of S.
+use mathlib.Core.Path.{_≡_, sym, ap, subst}
+use Prim.Native.Nat.{ℕ, _+_, _-_, _*_, _^_, _≤_, _<_}
 use native.Mathlib.Nat.{zero-lt-suc, mul-le-mul-left, mul-le-mul-right, le-of-mul-le-mul-left}
 use native.Mathlib.Omega.{arith}
 use mathlib.Core.Bool.{Bool, true, false, not}
@@ -11,14 +11,14 @@ use lib.Ieee.Exact.{HasValue}
 use lib.Ieee.Fits.{add-fits}
 use Rattle.float_laws.specs.Best.{Held}
 use Rattle.float_laws.specs.Signed.{Diff, own-diff, size-above}
-use Rattle.float_laws.specs.Binary64.{unit, unit-is, unit-pos}
+use Rattle.float_laws.specs.Binary64.{unit, unit-is}
 use Rattle.floats.specs.Ops.{_⊗_}
 use Rattle.floats.specs.F64
 use Rattle.floats.specs.Laws.Root.{rootOf-fits}
 use Rattle.floats.specs.Laws.Sqrt.{Root, root-of}
 use Rattle.plane.specs.Vector2 as vector2
 use Rattle.plane.specs.declared.vector2.Vector2.{Vector2}
-use Rattle.grid.specs.Floats.Small.{Small, Vec, dots}
+use Rattle.grid.specs.Floats.Small.{Vec, dots}
 
 -- ---- the self dot is the sum of two squares
 abbrev pub gap : ℕ → ℕ → ℕ
@@ -61,7 +61,8 @@ held-whole D l = record { y = D; j = low binary64; few = omega arith; is = ap (�
 
 -- the root of the self dot, in units
 root-at : (x : Float) (S : ℕ) → T (fits binary64 x) → 0 < S → HasValue x false S 1 → Root 53 unit S 1 (F64.rootOf binary64 x)
-root-at x S t P v = subst (λ (L : ℕ). Root 53 L S 1 (F64.rootOf binary64 x)) (sym unit-is) (root-of binary64 x S 1 t P (zero-lt-suc 0) v)
+root-at x S t P v =
+    subst (λ (L : ℕ). Root 53 L S 1 (F64.rootOf binary64 x)) (sym unit-is) (root-of binary64 x S 1 t P (zero-lt-suc 0) v)
 
 top : (S L : ℕ) → S ≤ 2 ^ 44 → S * (L * L) ≤ 2 ^ 22 * L * (2 ^ 22 * L) * 1
 top S L l = omega (arith, mul-le-mul-right (L * L) l)

@@ -1,17 +1,18 @@
--- Grid segments on one line, in whole numbers. The ends of the first lie at (P0 - N0) / D and (P1 - N1) / D of the second, D being a side of
--- it. The kernel answers NoIntersect where both lie beyond 1 or both before 0, Overlapping where the segments share more than a point,
--- and TrueIntersect where they share one.
-use mathlib.Core.Path.{_≡_, refl, sym, ap, _∙_, subst}
+-- Grid segments on one line, in whole numbers. The ends of the first lie at (P0 - N0) / D and (P1 - N1) / D of the second, D being
+-- a side of it. The kernel answers NoIntersect where both lie beyond 1 or both before 0, Overlapping where the segments share more
+-- than a point, and TrueIntersect where they share one.
+use mathlib.Core.Path.{_≡_, refl, sym, _∙_, subst}
 use mathlib.Core.Logic.{_⊎_, inl, inr}
-use Prim.Native.Nat.{ℕ, suc, _+_, _-_, _*_, _^_, _≤_, _<_, min}
+use Prim.Native.Nat.{ℕ, _+_, _-_, _*_, _^_, _≤_, _<_, min}
 use native.Mathlib.Nat.{eq-or-lt-of-le, lt-irrefl}
 use native.Mathlib.Omega.{arith}
 use mathlib.Core.Bool.{Bool, true, false, not, cond, _||_}
 use lib.Arith.{lt-of-le-ne}
 use lib.Dec.{T, leb, leb→le, le→leb, nleb→lt, eqb, eqb→eq, not-T, T-not}
 use lib.Ieee.Fits.{eq→eqb}
-use lib.Ieee.{Float, binary64}
+use lib.Ieee.{Float}
 use lib.Ieee.Bits.{is-true, is-false}
+use Rattle.float_laws.specs.Order.{same-test}
 use Rattle.float_laws.specs.Roundings.{Sized}
 use Rattle.float_laws.specs.Binary64.{unit}
 use Rattle.floats.specs.Ops.{_⊖_, _⊗_, f0, f1}
@@ -53,12 +54,6 @@ pub record Sharing (r : LineLineIntr) (Pl Nl Ph Nh D : ℕ) : Type 0 where
 
 abbrev pub Overlapped : LineLineIntr → ℕ → ℕ → ℕ → ℕ → ℕ → Type 0
 Overlapped r Pl Nl Ph Nh D = Clear r Pl Nl Ph Nh D ⊎ (Touching r Pl Nl Ph Nh D ⊎ Sharing r Pl Nl Ph Nh D)
-
-same-test : (a b : Bool) → (T a → T b) → (T b → T a) → a ≡ b
-same-test true true p q = refl
-same-test true false p q = absurd (p tt)
-same-test false true p q = absurd (q tt)
-same-test false false p q = refl
 
 -- they share one point: at the far end, at the near end, or all of a point
 one-point : (Pl Nl Ph Nh D : ℕ) → 0 < D → Pl ≤ Nl + D → Nh ≤ Ph → Pl + Nh ≤ Ph + Nl → Pl - Nl ≡ min (Ph - Nh) D
@@ -189,5 +184,6 @@ module _ (e : Float) (num den : ℕ) (h : Eps e num den)
                 why = one-point Pl Nl Ph Nh D C lo hi (r .rises) (eqb→eq (Pl - Nl) (min (Ph - Nh) D) (subst T q tt));
               })
               at false q =
-                  let k = more-points Pl Nl Ph Nh D C lo hi (r .rises) (λ x. T-not (eqb (Pl - Nl) (min (Ph - Nh) D)) (subst (λ (z : Bool). T (not z)) q tt) (eq→eqb x)) in
+                  let k = more-points Pl Nl Ph Nh D C lo hi (r .rises)
+                  (λ x. T-not (eqb (Pl - Nl) (min (Ph - Nh) D)) (subst (λ (z : Bool). T (not z)) q tt) (eq→eqb x)) in
                   inr (record { t0 = x0; t1 = x1; is = refl; lower = k .0; upper = k .1; longer = k .2 })

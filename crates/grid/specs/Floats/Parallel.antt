@@ -1,18 +1,18 @@
--- The line kernel on parallel grid segments, in whole numbers: the answers of its five ways, each under the exact condition under which
--- it goes that way. v runs from v1 to v2, u from u1 to u2, w from u1 to v1 and w2 from u1 to v2.
+-- The line kernel on parallel grid segments, in whole numbers: the answers of its five ways, each under the exact condition under
+-- which it goes that way. v runs from v1 to v2, u from u1 to u2, w from u1 to v1 and w2 from u1 to v2.
 use mathlib.Core.Path.{_≡_, refl, sym, ap, _∙_, subst}
 use mathlib.Core.Logic.{_⊎_, inl, inr, _↔_}
-use Prim.Native.Nat.{ℕ, zero, suc, _+_, _-_, _*_, _^_, _≤_, _<_}
-use native.Mathlib.Nat.{zero-lt-suc, mul-le-mul}
+use Prim.Native.Nat.{ℕ, zero, suc, _+_, _*_, _^_, _≤_, _<_}
+use native.Mathlib.Nat.{zero-lt-suc}
 use native.Mathlib.Omega.{arith}
-use mathlib.Core.Bool.{Bool, true, false, not, cond, _&&_, _||_, true≢false, false≢true}
+use mathlib.Core.Bool.{Bool, true, false, not, cond, _&&_, _||_, false≢true}
 use lib.Dec.{T, eqb, eqb→eq, not-T, T-not, lit≤}
 use lib.Ieee.{Float, binary64, lt}
 use lib.Ieee.Exact.{HasValue}
 use lib.Ieee.Bits.{is-true, is-false}
 use lib.Ieee.Fits.{eq→eqb, and-i, and-l, and-r}
 use Rattle.float_laws.specs.Rounded.{Rounded}
-use Rattle.float_laws.specs.Signed.{Diff, own-diff, Signed, signed-of, SizeOf}
+use Rattle.float_laws.specs.Signed.{Diff, own-diff, signed-of, SizeOf}
 use Rattle.float_laws.specs.Order.{lt-over}
 use Rattle.floats.specs.Ops.{_⊖_, _⊘_, f0}
 use Rattle.floats.specs.F64
@@ -27,11 +27,11 @@ use Rattle.crossing.specs.declared.line_line_intersect.LineLineIntr.the-variant
 use Rattle.grid.specs.Floats.Small.{Small, Vec, vec-sub, small-sub, perp}
 use Rattle.grid.specs.Floats.Zero.{Eps, near-zero, near-point}
 use Rattle.grid.specs.Floats.Length.{gap, Long, long}
-use Rattle.grid.specs.Floats.Reach.{Reaches, on-axis}
+use Rattle.grid.specs.Floats.Reach.{on-axis}
 use Rattle.grid.specs.Floats.Range.{within-yes, within-says}
-use Rattle.grid.specs.Floats.Ratio.{Ratio, ratio}
+use Rattle.grid.specs.Floats.Ratio.{ratio}
 use Rattle.grid.specs.Floats.Crossing.{square, square-is, Inside}
-use Rattle.grid.specs.Floats.Span.{Place, Risen, risen}
+use Rattle.grid.specs.Floats.Span.{Place, risen}
 use Rattle.grid.specs.Floats.Overlap.{Overlapped, overlap-says}
 
 -- ---- a vector that is a point, and one that is not
@@ -66,7 +66,11 @@ placed x d A B h =
     record {
       P = r .P;
       N = r .N;
-      place = record { rounded = subst (λ (z : ℕ). Rounded binary64 (x ⊘ d) (r .P) (r .N) z) (sym (r .size)) (r .rounded); P-le = r .P-le; N-le = r .N-le };
+      place = record {
+        rounded = subst (λ (z : ℕ). Rounded binary64 (x ⊘ d) (r .P) (r .N) z) (sym (r .size)) (r .rounded);
+        P-le = r .P-le;
+        N-le = r .N-le;
+      };
       some = subst (λ (z : ℕ). 0 < z) (sym (r .size)) (r .some);
       turned = go (r .D) (r .P) (r .N) (r .turned);
     }
@@ -81,8 +85,12 @@ abs-gap : (i : ℕ) (x : Float) (A : Small i x) → Diff (F64.abs x) (gap (A .p)
 abs-gap i x A = let w = signed-of x (A .p) (A .n) 1 (A .is) in go (w .s) (w .size) (w .value) (w .is)
   where
     go : (s : Bool) (X : ℕ) → HasValue x s X 1 → SizeOf s X (A .p) (A .n) → Diff (F64.abs x) (gap (A .p) (A .n)) 0 1
-    go true X v k = let same : X ≡ gap (A .p) (A .n) = omega arith in subst (λ (z : ℕ). Diff (F64.abs x) z 0 1) same (own-diff (F64.abs x) false X 1 (abs-value x true X 1 v))
-    go false X v k = let same : X ≡ gap (A .p) (A .n) = omega arith in subst (λ (z : ℕ). Diff (F64.abs x) z 0 1) same (own-diff (F64.abs x) false X 1 (abs-value x false X 1 v))
+    go true X v k =
+        let same : X ≡ gap (A .p) (A .n) = omega arith in subst (λ (z : ℕ). Diff (F64.abs x) z 0 1) same
+        (own-diff (F64.abs x) false X 1 (abs-value x true X 1 v))
+    go false X v k =
+        let same : X ≡ gap (A .p) (A .n) = omega arith in subst (λ (z : ℕ). Diff (F64.abs x) z 0 1) same
+        (own-diff (F64.abs x) false X 1 (abs-value x false X 1 v))
 
 -- where c lies on the line from a to b: by x or by y
 module _ (e : Float) (a b c : Vector2) (A : Vec 20 a) (B : Vec 20 b) (C : Vec 20 c) where
@@ -104,7 +112,8 @@ module _ (e : Float) (a b c : Vector2) (A : Vec 20 a) (B : Vec 20 b) (C : Vec 20
       (abs-gap 21 (b .x ⊖ a .x) dx) (abs-gap 21 (b .y ⊖ a .y) dy)
 
   pub along : (IsZero (vector2.sub b a) (vec-sub b a B A) → ⊥)
-      → Placed (parametricFromPoint a b c e) (cx .p) (cx .n) (dx .p) (dx .n) ⊎ Placed (parametricFromPoint a b c e) (cy .p) (cy .n) (dy .p) (dy .n)
+      → Placed (parametricFromPoint a b c e) (cx .p) (cx .n) (dx .p) (dx .n)
+      ⊎ Placed (parametricFromPoint a b c e) (cy .p) (cy .n) (dy .p) (dy .n)
   unfolding parametricFromPoint
   along h = go (lt (F64.abs (b .x ⊖ a .x)) (F64.abs (b .y ⊖ a .y))) (λ t. longer .0 t) (λ l. longer .1 l)
     where
@@ -121,7 +130,8 @@ module _ (e : Float) (a b c : Vector2) (A : Vec 20 a) (B : Vec 20 b) (C : Vec 20
       by-y : gap (dx .p) (dx .n) + 0 < gap (dy .p) (dy .n) + 0 → dy .p ≡ dy .n → ⊥
       by-y l y = omega arith
 
-      go : (t : Bool) → (T t → gap (dx .p) (dx .n) + 0 < gap (dy .p) (dy .n) + 0) → (gap (dx .p) (dx .n) + 0 < gap (dy .p) (dy .n) + 0 → T t)
+      go : (t : Bool) → (T t → gap (dx .p) (dx .n) + 0 < gap (dy .p) (dy .n) + 0)
+          → (gap (dx .p) (dx .n) + 0 < gap (dy .p) (dy .n) + 0 → T t)
           → Placed (cond t ((c .y ⊖ a .y) ⊘ (b .y ⊖ a .y)) ((c .x ⊖ a .x) ⊘ (b .x ⊖ a .x))) (cx .p) (cx .n) (dx .p) (dx .n)
           ⊎ Placed (cond t ((c .y ⊖ a .y) ⊘ (b .y ⊖ a .y)) ((c .x ⊖ a .x) ⊘ (b .x ⊖ a .x))) (cy .p) (cy .n) (dy .p) (dy .n)
       go true l k = inr (placed (c .y ⊖ a .y) (b .y ⊖ a .y) cy dy (by-y (l tt)))
@@ -149,8 +159,11 @@ module _ (e : Float) (num den : ℕ) (h : Eps e num den) (u : Vector2) (A : Vec 
   pub point-test : (within t u e ≡ true) ↔ Inside (a .P) (a .N) (gap dp dn)
   point-test = (
     λ x. let r = within-says e num den h u (square u A) some-length length-is t (a .P) (a .N) side-d (a .place .rounded) (a .some)
-        (wide (a .P) (a .N) side-d (a .place .P-le) (a .some)) (wide (a .N) (a .P) side-d (a .place .N-le) (a .some)) x in
-        (on-axis e num den h (square u A) side-d side (a .P) (a .N) (r .start), on-axis e num den h (square u A) side-d side (a .N + side-d) (a .P) (r .end)),
+        (wide (a .P) (a .N) side-d (a .place .P-le) (a .some)) (wide (a .N) (a .P) side-d (a .place .N-le) (a .some)) x in (
+          on-axis e num den h (square u A) side-d side (a .P) (a .N) (r .start),
+          on-axis e num den h (square u A) side-d side
+              (a .N + side-d) (a .P) (r .end),
+        ),
     λ x. within-yes e num den h u (square u A) some-length length-is t (a .P) (a .N) side-d (a .place .rounded) (a .some)
         (wide (a .P) (a .N) side-d (a .place .P-le) (a .some)) (wide (a .N) (a .P) side-d (a .place .N-le) (a .some)) (x .0) (x .1),
   )
@@ -174,8 +187,10 @@ abbrev pub PointAt : (e : Float) (a b c : Vector2) → Vec 20 a → Vec 20 b →
 PointAt e a b c A B C r met =
     let U = vec-sub b a B A in
     let W = vec-sub c a C A in
-    ((k : Placed (parametricFromPoint a b c e) (W .x .p) (W .x .n) (U .x .p) (U .x .n)) × PointOn r met (k .P) (k .N) (gap (U .x .p) (U .x .n)))
-    ⊎ ((k : Placed (parametricFromPoint a b c e) (W .y .p) (W .y .n) (U .y .p) (U .y .n)) × PointOn r met (k .P) (k .N) (gap (U .y .p) (U .y .n)))
+    ((k : Placed (parametricFromPoint a b c e) (W .x .p) (W .x .n) (U .x .p) (U .x .n))
+    × PointOn r met (k .P) (k .N) (gap (U .x .p) (U .x .n)))
+    ⊎ ((k : Placed (parametricFromPoint a b c e) (W .y .p) (W .y .n) (U .y .p) (U .y .n))
+    × PointOn r met (k .P) (k .N) (gap (U .y .p) (U .y .n)))
 
 point-at : (e : Float) (num den : ℕ) → Eps e num den → (a b c : Vector2) (A : Vec 20 a) (B : Vec 20 b) (C : Vec 20 c)
     → (IsZero (vector2.sub b a) (vec-sub b a B A) → ⊥) → (met : LineLineIntr)
@@ -198,7 +213,8 @@ pub record Spanned (r : LineLineIntr) (xp xn zp zn dp dn : ℕ) : Type 0 where
   pub P1 : ℕ
   pub N1 : ℕ
   pub some : 0 < gap dp dn
-  pub turned : ((dn ≤ dp) × (P0 ≡ xp) × (N0 ≡ xn) × (P1 ≡ zp) × (N1 ≡ zn)) ⊎ ((dp ≤ dn) × (P0 ≡ xn) × (N0 ≡ xp) × (P1 ≡ zn) × (N1 ≡ zp))
+  pub turned : ((dn ≤ dp) × (P0 ≡ xp) × (N0 ≡ xn) × (P1 ≡ zp) × (N1 ≡ zn))
+      ⊎ ((dp ≤ dn) × (P0 ≡ xn) × (N0 ≡ xp) × (P1 ≡ zn) × (N1 ≡ zp))
   -- the lower and the upper of the two
   pub Pl : ℕ
   pub Nl : ℕ
@@ -234,7 +250,8 @@ module _ (e : Float) (num den : ℕ) (h : Eps e num den) (v1 u1 u2 w w2 u : Vect
         Nh = r .Nh;
         rises = r .rises;
         which = r .which;
-        answer = overlap-says e num den h v1 u1 u2 u (square u A) some-u long-is D (x .some) few side (rising a b) (x .P) (x .N) (z .P) (z .N) r;
+        answer = overlap-says e num den h v1 u1 u2 u (square u A) some-u long-is D (x .some) few side (rising a b) (x .P) (x .N)
+            (z .P) (z .N) r;
       }
     where
       both : 0 < gap dp dn
@@ -280,7 +297,8 @@ module _ (e : Float) (num den : ℕ) (h : Eps e num den) (v1 u1 u2 w w2 u : Vect
 decided : (p n q k : ℕ) → ((p ≡ n) × (q ≡ k)) ⊎ ((p ≡ n) × (q ≡ k) → ⊥)
 decided p n q k = go (eqb p n) (eqb q k) (eqb→eq p n) (eqb→eq q k) (λ e. eq→eqb e) (λ e. eq→eqb e)
   where
-    go : (a b : Bool) → (T a → p ≡ n) → (T b → q ≡ k) → (p ≡ n → T a) → (q ≡ k → T b) → ((p ≡ n) × (q ≡ k)) ⊎ ((p ≡ n) × (q ≡ k) → ⊥)
+    go : (a b : Bool) → (T a → p ≡ n) → (T b → q ≡ k) → (p ≡ n → T a) → (q ≡ k → T b)
+        → ((p ≡ n) × (q ≡ k)) ⊎ ((p ≡ n) × (q ≡ k) → ⊥)
     go true true x y x' y' = inl (x tt, y tt)
     go true false x y x' y' = inr (λ z. y' (z .1))
     go false b x y x' y' = inr (λ z. x' (z .0))
@@ -297,16 +315,22 @@ module _ (e : Float) (num den : ℕ) (h : Eps e num den) where
   same-y a b A B = eqb (A .y .p + B .y .n) (A .y .n + B .y .p)
 
   -- grid points are near each other exactly where they are one
-  pub same-point : (a b : Vector2) (A : Vec 20 a) (B : Vec 20 b) → IsZero (vector2.sub a b) (vec-sub a b A B) → vector2.fuzzyEqEps a b e ≡ true
-  same-point a b A B z = near-point e num den h a b A B ∙ is-true (same-x a b A B && same-y a b A B) (and-i (same-x a b A B) (same-y a b A B) (eq→eqb (z .0)) (eq→eqb (z .1)))
+  pub same-point : (a b : Vector2) (A : Vec 20 a) (B : Vec 20 b) → IsZero (vector2.sub a b) (vec-sub a b A B)
+      → vector2.fuzzyEqEps a b e ≡ true
+  same-point a b A B z =
+      near-point e num den h a b A B ∙ is-true (same-x a b A B && same-y a b A B)
+      (and-i (same-x a b A B) (same-y a b A B) (eq→eqb (z .0)) (eq→eqb (z .1)))
 
-  pub two-points : (a b : Vector2) (A : Vec 20 a) (B : Vec 20 b) → (IsZero (vector2.sub a b) (vec-sub a b A B) → ⊥) → vector2.fuzzyEqEps a b e ≡ false
+  pub two-points : (a b : Vector2) (A : Vec 20 a) (B : Vec 20 b) → (IsZero (vector2.sub a b) (vec-sub a b A B) → ⊥)
+      → vector2.fuzzyEqEps a b e ≡ false
   two-points a b A B z =
       near-point e num den h a b A B
       ∙ is-false (same-x a b A B && same-y a b A B)
-      (not-T (same-x a b A B && same-y a b A B) (λ t. z (eqb→eq _ _ (and-l (same-x a b A B) (same-y a b A B) t), eqb→eq _ _ (and-r (same-x a b A B) (same-y a b A B) t))))
+      (not-T (same-x a b A B && same-y a b A B)
+      (λ t. z (eqb→eq _ _ (and-l (same-x a b A B) (same-y a b A B) t), eqb→eq _ _ (and-r (same-x a b A B) (same-y a b A B) t))))
 
-  turn : (a b : Vector2) (A : Vec 20 a) (B : Vec 20 b) → IsZero (vector2.sub b a) (vec-sub b a B A) → IsZero (vector2.sub a b) (vec-sub a b A B)
+  turn : (a b : Vector2) (A : Vec 20 a) (B : Vec 20 b) → IsZero (vector2.sub b a) (vec-sub b a B A)
+      → IsZero (vector2.sub a b) (vec-sub a b A B)
   turn a b A B z = (omega (arith, z .0), omega (arith, z .1))
 
   module _ (v1 v2 u1 u2 : Vector2) (A1 : Vec 20 v1) (A2 : Vec 20 v2) (B1 : Vec 20 u1) (B2 : Vec 20 u2) where
@@ -354,7 +378,8 @@ module _ (e : Float) (num den : ℕ) (h : Eps e num den) where
         → vector2.fuzzyEqEps v1 v2 e ≡ c → vector2.fuzzyEqEps u1 u2 e ≡ d → parallel v1 v2 u1 u2 v u w e ≡ ways a b c d
     unfolding parallel
     goes a b c d p q r s =
-        ap (λ (z : Bool). ways z (fuzzyEqZeroEps (vector2.perpDot u w) e) (vector2.fuzzyEqEps v1 v2 e) (vector2.fuzzyEqEps u1 u2 e)) p
+        ap (λ (z : Bool). ways z (fuzzyEqZeroEps (vector2.perpDot u w) e) (vector2.fuzzyEqEps v1 v2 e)
+        (vector2.fuzzyEqEps u1 u2 e)) p
         ∙ ap (λ (z : Bool). ways a z (vector2.fuzzyEqEps v1 v2 e) (vector2.fuzzyEqEps u1 u2 e)) q
         ∙ ap (λ (z : Bool). ways a b z (vector2.fuzzyEqEps u1 u2 e)) r
         ∙ ap (λ (z : Bool). ways a b c z) s
@@ -374,7 +399,8 @@ module _ (e : Float) (num den : ℕ) (h : Eps e num den) where
     -- not on one line
     pub beside : (off-v .p ≡ off-v .n → ⊥) ⊎ (off-u .p ≡ off-u .n → ⊥) → parallel v1 v2 u1 u2 v u w e ≡ NoIntersect
     beside (inl x) = goes false _ _ _ (off (off-v .p) (off-v .n) _ zero-v x) refl refl refl
-    beside (inr x) = goes _ false _ _ refl (off (off-u .p) (off-u .n) _ zero-u x) refl refl ∙ either (fuzzyEqZeroEps (vector2.perpDot v w) e)
+    beside (inr x) =
+        goes _ false _ _ refl (off (off-u .p) (off-u .n) _ zero-u x) refl refl ∙ either (fuzzyEqZeroEps (vector2.perpDot v w) e)
       where
         either : (a : Bool) → ways a false (vector2.fuzzyEqEps v1 v2 e) (vector2.fuzzyEqEps u1 u2 e) ≡ NoIntersect
         either true = refl
@@ -382,12 +408,14 @@ module _ (e : Float) (num den : ℕ) (h : Eps e num den) where
 
     -- on one line
     module _ (x : off-v .p ≡ off-v .n) (y : off-u .p ≡ off-u .n) where
-      at : (c d : Bool) → vector2.fuzzyEqEps v1 v2 e ≡ c → vector2.fuzzyEqEps u1 u2 e ≡ d → parallel v1 v2 u1 u2 v u w e ≡ ways true true c d
+      at : (c d : Bool) → vector2.fuzzyEqEps v1 v2 e ≡ c → vector2.fuzzyEqEps u1 u2 e ≡ d
+          → parallel v1 v2 u1 u2 v u w e ≡ ways true true c d
       at c d = goes true true c d (on zero-v x) (on zero-u y)
 
       -- both are points
       pub points : IsZero v V1 → IsZero u U1
-          → ((parallel v1 v2 u1 u2 v u w e ≡ TrueIntersect f0 f0) × IsZero w W1) ⊎ ((parallel v1 v2 u1 u2 v u w e ≡ NoIntersect) × (IsZero w W1 → ⊥))
+          → ((parallel v1 v2 u1 u2 v u w e ≡ TrueIntersect f0 f0) × IsZero w W1)
+          ⊎ ((parallel v1 v2 u1 u2 v u w e ≡ NoIntersect) × (IsZero w W1 → ⊥))
       unfolding bothPoints
       points a b = go (point-or-not w W1)
         where
@@ -395,11 +423,13 @@ module _ (e : Float) (num den : ℕ) (h : Eps e num den) where
           both = at true true (same-point v1 v2 A1 A2 (turn v1 v2 A1 A2 a)) (same-point u1 u2 B1 B2 (turn u1 u2 B1 B2 b))
 
           go : IsZero w W1 ⊎ (IsZero w W1 → ⊥)
-              → ((parallel v1 v2 u1 u2 v u w e ≡ TrueIntersect f0 f0) × IsZero w W1) ⊎ ((parallel v1 v2 u1 u2 v u w e ≡ NoIntersect) × (IsZero w W1 → ⊥))
+              → ((parallel v1 v2 u1 u2 v u w e ≡ TrueIntersect f0 f0) × IsZero w W1)
+              ⊎ ((parallel v1 v2 u1 u2 v u w e ≡ NoIntersect) × (IsZero w W1 → ⊥))
           go (inl z) = inl (both ∙ ap (λ (t : Bool). cond t (TrueIntersect f0 f0) NoIntersect) (same-point v1 u1 A1 B1 z), z)
           go (inr z) = inr (both ∙ ap (λ (t : Bool). cond t (TrueIntersect f0 f0) NoIntersect) (two-points v1 u1 A1 B1 z), z)
 
-      other : (a b : Vector2) (A : Vec 20 a) (B : Vec 20 b) → (IsZero (vector2.sub b a) (vec-sub b a B A) → ⊥) → vector2.fuzzyEqEps a b e ≡ false
+      other : (a b : Vector2) (A : Vec 20 a) (B : Vec 20 b) → (IsZero (vector2.sub b a) (vec-sub b a B A) → ⊥)
+          → vector2.fuzzyEqEps a b e ≡ false
       other a b A B z = two-points a b A B (λ k. z (turn b a B A k))
 
       -- the first is a point, the second is not

@@ -1,24 +1,14 @@
 -- The point at a parameter on a grid segment: each coordinate is within 1 / 2 ^ 30 of the exact x0 + (x1 - x0) * (P - N) / D, for a
 -- parameter that is one rounding of (P - N) / D and lies less than two epsilons beyond the segment.
--- The argument: the quotient is off by 2 ^ -53, times a difference of at most 2 ^ 21; the product by 2 ^ -32; the sum, which is at most
--- 2 ^ 21 in size, by 2 ^ -33. Together that is five eighths of 2 ^ -30.
-use mathlib.Core.Path.{_≡_, refl, sym, ap, _∙_, subst}
-use mathlib.Core.Logic.{_⊎_, inl, inr}
-use Prim.Native.Nat.{ℕ, suc, _+_, _-_, _*_, _^_, _≤_, _<_}
-use native.Mathlib.Nat.{
-  mul-le-mul,
-  mul-le-mul-left,
-  mul-le-mul-right,
-  mul-pos,
-  le-of-mul-le-mul-right,
-  le-of-lt,
-  zero-lt-suc,
-}
+-- The argument: the quotient is off by 2 ^ -53, times a difference of at most 2 ^ 21; the product by 2 ^ -32; the sum, which is at
+-- most 2 ^ 21 in size, by 2 ^ -33. Together that is five eighths of 2 ^ -30.
+use mathlib.Core.Path.{_≡_, ap}
+use Prim.Native.Nat.{ℕ, _+_, _-_, _*_, _^_, _≤_, _<_}
+use native.Mathlib.Nat.{mul-le-mul, mul-le-mul-right, le-of-mul-le-mul-right, le-of-lt, zero-lt-suc}
 use native.Mathlib.Omega.{arith}
 use mathlib.Core.Bool.{Bool, true, false, not}
 use lib.Dec.{T, leb, leb→le, nleb→lt, lit≤}
 use lib.Ieee.{Float, binary64}
-use lib.Ieee.Digits.{back}
 use Rattle.float_laws.specs.Signed.{Diff, diff-at}
 use Rattle.float_laws.specs.Rounded.{Rounded, add-over, mul-rounded}
 use Rattle.float_laws.specs.Roundings.{Near}
@@ -70,7 +60,8 @@ spread p n q k A B a b c d =
         let w = core n p k q (n - p) (k - q) (omega arith) (omega arith) (omega arith) (omega arith) in
         (omega arith, omega arith)
 
--- ---- arithmetic. t is (tp - tn) / L, the product (qp - qn) / L, the sum (cp - cn) / L; x0 is a - b and x1 - x0 is c - d. The three
+-- ---- arithmetic. t is (tp - tn) / L, the product (qp - qn) / L, the sum (cp - cn) / L; x0 is a - b and x1 - x0 is c - d. The
+-- three
 -- errors, multiplied out and added up.
 parts : (m1 m2 m3 m4 n1 n2 n3 n4 q1 q2 k1 k2 a1 b1 w : ℕ)
     → 2 ^ 54 * (m1 + n1 + n2 + m2) ≤ 2 ^ 54 * (n3 + m3 + m4 + n4) + 2 ^ 22 * w
@@ -82,7 +73,8 @@ parts m1 m2 m3 m4 n1 n2 n3 n4 q1 q2 k1 k2 a1 b1 w x y z = omega arith
 module _ (a b c d P N D L tp tn qp qn cp cn : ℕ) where
   of-quotient : c * (2 ^ 54 * (tp * D + N * L)) + d * (2 ^ 54 * (P * L + tn * D))
       ≤ c * (2 ^ 54 * (P * L + tn * D)) + d * (2 ^ 54 * (tp * D + N * L)) + 2 ^ 21 * (2 ^ 1 * (D * L))
-      → 2 ^ 54 * (c * tp * D + c * N * L + d * P * L + d * tn * D) ≤ 2 ^ 54 * (c * P * L + c * tn * D + d * tp * D + d * N * L) + 2 ^ 22 * (D * L)
+      → 2 ^ 54 * (c * tp * D + c * N * L + d * P * L + d * tn * D)
+      ≤ 2 ^ 54 * (c * P * L + c * tn * D + d * tp * D + d * N * L) + 2 ^ 22 * (D * L)
   of-quotient x = omega arith
 
   of-product : 2 ^ 54 * (qp + (c * tn + d * tp)) ≤ 2 ^ 54 * (c * tp + d * tn + qn) + 2 ^ 22 * L
@@ -159,11 +151,14 @@ coordinate x0 dx t A B P N D r C u l hi lo =
     let tn = T .n in
     let t-up = most-whole binary64 t P N D r C tp tn L unit-pos (T .is) 2 0 (lit≤ tt) (lit≤ tt) (turn P N D u) in
     let t-dn = least-whole binary64 t P N D r C tp tn L unit-pos (T .is) 0 2 (lit≤ tt) (lit≤ tt) (turn' P N D l) in
-    let off-t = spread c d (2 ^ 54 * (tp * D + N * L)) (2 ^ 54 * (P * L + tn * D)) (2 ^ 21) (2 ^ 1 * (D * L)) (wide c d (B .p-le)) (wide d c (B .n-le)) (T .most) (T .least) in
+    let off-t = spread c d (2 ^ 54 * (tp * D + N * L)) (2 ^ 54 * (P * L + tn * D)) (2 ^ 21) (2 ^ 1 * (D * L)) (wide c d (B .p-le))
+    (wide d c (B .n-le)) (T .most) (T .least) in
     let off-t' = swapped c d (tp * D) (N * L) (P * L) (tn * D) (2 ^ 21 * (2 ^ 1 * (D * L))) (off-t .1) in
     let product = mul-rounded binary64 dx t c d tp tn 1 L (zero-lt-suc 0) unit-pos (B .is) (T .is) in
-    let p-size = spread c d tp tn (2 ^ 21) (2 * L) (wide c d (B .p-le)) (wide d c (B .n-le)) (plain tp tn L t-up) (plain' tp tn L t-dn) in
-    let Q = near64 (dx ⊗ t) _ _ (1 * L) 22 product (one-unit L unit-pos) (as-unit _ _ L (p-size .0)) (as-unit _ _ L (p-size .1)) (lit≤ tt) in
+    let p-size = spread c d tp tn (2 ^ 21) (2 * L) (wide c d (B .p-le)) (wide d c (B .n-le)) (plain tp tn L t-up)
+    (plain' tp tn L t-dn) in
+    let Q = near64 (dx ⊗ t) _ _ (1 * L) 22 product (one-unit L unit-pos) (as-unit _ _ L (p-size .0)) (as-unit _ _ L (p-size .1))
+    (lit≤ tt) in
     let q-most = cut (Q .p) (Q .n) (c * tp + d * tn) (c * tn + d * tp) L unit-pos (Q .most) in
     let q-least = cut' (Q .p) (Q .n) (c * tp + d * tn) (c * tn + d * tp) L unit-pos (Q .least) in
     let q-is : Diff (dx ⊗ t) (Q .p) (Q .n) L = Q .is in
@@ -207,7 +202,8 @@ coordinate x0 dx t A B P N D r C u l hi lo =
     over : (a b L : ℕ) → a * L + b * L * 1 ≡ a * L * 1 + b * L
     over a b L = omega arith
 
-    swapped : (c d x y z w B : ℕ) → c * (2 ^ 54 * (z + w)) + d * (2 ^ 54 * (x + y)) ≤ c * (2 ^ 54 * (x + y)) + d * (2 ^ 54 * (z + w)) + B
+    swapped : (c d x y z w B : ℕ) → c * (2 ^ 54 * (z + w)) + d * (2 ^ 54 * (x + y))
+        ≤ c * (2 ^ 54 * (x + y)) + d * (2 ^ 54 * (z + w)) + B
         → c * (2 ^ 54 * (w + z)) + d * (2 ^ 54 * (y + x)) ≤ c * (2 ^ 54 * (y + x)) + d * (2 ^ 54 * (w + z)) + B
     swapped c d x y z w B h = omega arith
 
@@ -217,7 +213,8 @@ coordinate x0 dx t A B P N D r C u l hi lo =
 
     cut-sum' : (x y X Y L : ℕ) → 0 < L → 2 ^ 54 * (X * L + y * L) ≤ 2 ^ 54 * (x * L + Y * L) + 2 ^ 21 * (L * L)
         → 2 ^ 54 * (y + X) ≤ 2 ^ 54 * (Y + x) + 2 ^ 21 * L
-    cut-sum' x y X Y L Q h = le-of-mul-le-mul-right {m = 2 ^ 54 * (y + X)} {n = 2 ^ 54 * (Y + x) + 2 ^ 21 * L} {k = L} (omega arith) Q
+    cut-sum' x y X Y L Q h =
+        le-of-mul-le-mul-right {m = 2 ^ 54 * (y + X)} {n = 2 ^ 54 * (Y + x) + 2 ^ 21 * L} {k = L} (omega arith) Q
 
     turned : (x y X Y L B : ℕ) → 2 ^ 30 * (y + X * L) ≤ 2 ^ 30 * (Y * L + x) + B → 2 ^ 30 * (X * L + y) ≤ 2 ^ 30 * (x + Y * L) + B
     turned x y X Y L B h = omega arith
@@ -314,8 +311,10 @@ module _ (e : Float) (num den : ℕ) (h : Eps e num den)
       let hi = near-by e num den h S D some (N + D) P (reach .end) in
       let lo = near-by e num den h S D some P N (reach .start) in
       let k = of-size e num den h S P N D reach (A0 .x .p) (A0 .x .n) (A1 .x .p) (A1 .x .n) (gap (side .x .p) (side .x .n))
-      (A0 .x .p-le) (A0 .x .n-le) (A1 .x .p-le) (A1 .x .n-le) (omega arith) (omega arith) (first S _ _ (squares-are (vector2.sub p1 p0) side S square)) in
-      coordinate (p0 .x) (p1 .x ⊖ p0 .x) t (A0 .x) (small-sub 20 (p1 .x) (p0 .x) (lit≤ tt) (A1 .x) (A0 .x)) P N D r C (omega arith) (omega arith) (k .0) (k .1)
+      (A0 .x .p-le) (A0 .x .n-le) (A1 .x .p-le) (A1 .x .n-le) (omega arith) (omega arith)
+      (first S _ _ (squares-are (vector2.sub p1 p0) side S square)) in
+      coordinate (p0 .x) (p1 .x ⊖ p0 .x) t (A0 .x) (small-sub 20 (p1 .x) (p0 .x) (lit≤ tt) (A1 .x) (A0 .x)) P N D r C
+      (omega arith) (omega arith) (k .0) (k .1)
     where
       first : (S g h : ℕ) → S ≡ g * g + h * h → g * g ≤ S
       first S g h e = omega arith
@@ -327,8 +326,10 @@ module _ (e : Float) (num den : ℕ) (h : Eps e num den)
       let hi = near-by e num den h S D some (N + D) P (reach .end) in
       let lo = near-by e num den h S D some P N (reach .start) in
       let k = of-size e num den h S P N D reach (A0 .y .p) (A0 .y .n) (A1 .y .p) (A1 .y .n) (gap (side .y .p) (side .y .n))
-      (A0 .y .p-le) (A0 .y .n-le) (A1 .y .p-le) (A1 .y .n-le) (omega arith) (omega arith) (second S _ _ (squares-are (vector2.sub p1 p0) side S square)) in
-      coordinate (p0 .y) (p1 .y ⊖ p0 .y) t (A0 .y) (small-sub 20 (p1 .y) (p0 .y) (lit≤ tt) (A1 .y) (A0 .y)) P N D r C (omega arith) (omega arith) (k .0) (k .1)
+      (A0 .y .p-le) (A0 .y .n-le) (A1 .y .p-le) (A1 .y .n-le) (omega arith) (omega arith)
+      (second S _ _ (squares-are (vector2.sub p1 p0) side S square)) in
+      coordinate (p0 .y) (p1 .y ⊖ p0 .y) t (A0 .y) (small-sub 20 (p1 .y) (p0 .y) (lit≤ tt) (A1 .y) (A0 .y)) P N D r C
+      (omega arith) (omega arith) (k .0) (k .1)
     where
       second : (S g h : ℕ) → S ≡ g * g + h * h → h * h ≤ S
       second S g h e = omega arith

@@ -1,11 +1,11 @@
 -- The range test of the line kernel: a parameter t, one rounding of (P - N) / D, on a grid vector v with the self dot S, by an
--- epsilon num / den. If the exact parameter lies from 0 to 1 the test says yes. If the test says yes, the exact point lies less than
--- two epsilons beyond the segment's end, by squares: (P - N - D)^2 * S / D^2 < 4 * num^2 / den^2, and so before its start.
--- The argument for the second: what is not rounded across is exact. t * length is below the float length + epsilon only if the exact
--- product of the two floats is; and the quotient t, the length and the sum are off by some 2 ^ -31 at most, epsilon being 2 ^ -10.
-use mathlib.Core.Path.{_≡_, refl, sym, ap, _∙_, subst}
-use mathlib.Core.Logic.{_⊎_, inl, inr}
-use Prim.Native.Nat.{ℕ, zero, suc, _+_, _-_, _*_, _^_, _≤_, _<_}
+-- epsilon num / den. If the exact parameter lies from 0 to 1 the test says yes. If the test says yes, the exact point lies less
+-- than two epsilons beyond the segment's end, by squares: (P - N - D)^2 * S / D^2 < 4 * num^2 / den^2, and so before its start.
+-- The argument for the second: what is not rounded across is exact. t * length is below the float length + epsilon only if the
+-- exact product of the two floats is; and the quotient t, the length and the sum are off by some 2 ^ -31 at most, epsilon being
+-- 2 ^ -10.
+use mathlib.Core.Path.{_≡_, sym, ap, subst}
+use Prim.Native.Nat.{ℕ, _+_, _-_, _*_, _^_, _≤_, _<_}
 use native.Mathlib.Nat.{
   mul-pos,
   mul-le-mul,
@@ -14,14 +14,12 @@ use native.Mathlib.Nat.{
   mul-lt-mul-of-pos-right,
   le-of-mul-le-mul-right,
   lt-of-mul-lt-mul-right,
-  eq-of-mul-eq-mul-right,
   lt-of-not-le,
-  zero-lt-suc,
 }
 use native.Mathlib.Omega.{arith}
 use mathlib.Core.Bool.{Bool, true, false, not, _&&_}
 use lib.Dec.{T, leb, leb→le, nleb→lt, lit≤}
-use lib.Ieee.{Float, binary64, ofBits, fits, neg, lt, le}
+use lib.Ieee.{Float, binary64, ofBits, fits, neg}
 use lib.Ieee.Bits.{is-true, ofBits-fits}
 use lib.Ieee.Digits.{back}
 use lib.Ieee.Fits.{add-fits, neg-fits, and-i, and-l, and-r}
@@ -207,7 +205,8 @@ module _ (e : Float) (num den : ℕ) (h : Eps e num den)
       let d = t-near .is in
       let m = m-near p n d in
       let one = most-whole binary64 t P N D r C p n unit unit-pos d 1 0 (lit≤ tt) (lit≤ tt) (turn P N D x) in
-      let most = rounded-le binary64 (t ⊗ len) _ _ (unit * unit) (product p n d) (mul-pos unit-pos unit-pos) len (g .R) 0 unit unit-pos (g .fit) (g .is)
+      let most = rounded-le binary64 (t ⊗ len) _ _ (unit * unit) (product p n d) (mul-pos unit-pos unit-pos) len (g .R) 0 unit
+      unit-pos (g .fit) (g .is)
       (scaled p n (g .R) unit one) in
       let below = le-over (t ⊗ len) len (m .p) (m .n) (g .R) 0 unit unit-pos (m .is) (g .is) .0 most in
       lt-over (t ⊗ len) (len ⊕ e) (m .p) (m .n) (w-size .count) 0 unit unit-pos (m .is) (w-size .is) .1
@@ -239,7 +238,8 @@ module _ (e : Float) (num den : ℕ) (h : Eps e num den)
           clash : w-size .count * unit ≤ T * g .R → ⊥
           clash y =
               let m = m-near T 0 d in
-              let least = rounded-ge binary64 (t ⊗ len) _ _ (unit * unit) (product T 0 d) (mul-pos unit-pos unit-pos) (len ⊕ e) (w-size .count) 0 unit unit-pos w-fits (w-size .is)
+              let least = rounded-ge binary64 (t ⊗ len) _ _ (unit * unit) (product T 0 d) (mul-pos unit-pos unit-pos) (len ⊕ e)
+              (w-size .count) 0 unit unit-pos w-fits (w-size .is)
               (scaled T (g .R) (w-size .count) unit y) in
               never (m .p) (m .n) (w-size .count)
               (lt-over (t ⊗ len) (len ⊕ e) (m .p) (m .n) (w-size .count) 0 unit unit-pos (m .is) (w-size .is) .0 x)
@@ -252,8 +252,10 @@ module _ (e : Float) (num den : ℕ) (h : Eps e num den)
       large : 2 * D < a + D → a * a * S * (den * den) < 4 * (num * num * (D * D))
       large y =
           let s = sized64 t P N D false (a + D) 44 r C (size a D N P q) (up a D N P q u) (lit≤ tt) in
-          let two = least-whole binary64 t P N D r C (s .count) 0 unit unit-pos (s .is) 2 0 (lit≤ tt) (lit≤ tt) (more a D N P q y) in
-          absurd (never (s .count) (g .R) (w-size .count) (eu .E) unit unit-pos two (under (s .count) (s .is)) w-most long-enough (eu .most))
+          let two = least-whole binary64 t P N D r C (s .count) 0 unit unit-pos (s .is) 2 0 (lit≤ tt) (lit≤ tt)
+          (more a D N P q y) in
+          absurd (never (s .count) (g .R) (w-size .count) (eu .E) unit unit-pos two (under (s .count) (s .is)) w-most long-enough
+          (eu .most))
         where
           up : (a D N P : ℕ) → a + (N + D) ≡ P → P ≤ N + 2 ^ 44 * D → a + D ≤ 2 ^ 44 * D
           up a D N P e x = omega arith
@@ -261,7 +263,8 @@ module _ (e : Float) (num den : ℕ) (h : Eps e num den)
           more : (a D N P : ℕ) → a + (N + D) ≡ P → 2 * D < a + D → 2 * D + N ≤ P + 0 * D
           more a D N P e x = omega arith
 
-          never : (T R W E L : ℕ) → 0 < L → 2 * L + 0 ≤ T + 0 * L → T * R < W * L → 2 ^ 54 * W ≤ 2 ^ 54 * (R + E) + 2 ^ 23 * L → L ≤ R → 2 * E ≤ L → ⊥
+          never : (T R W E L : ℕ) → 0 < L → 2 * L + 0 ≤ T + 0 * L → T * R < W * L → 2 ^ 54 * W ≤ 2 ^ 54 * (R + E) + 2 ^ 23 * L
+              → L ≤ R → 2 * E ≤ L → ⊥
           never T R W E L Q two h w long small =
               let x = mul-le-mul-right R two in
               let y : 2 * R * L < W * L = omega arith in
@@ -272,7 +275,8 @@ module _ (e : Float) (num den : ℕ) (h : Eps e num den)
       near y =
           let s = sized64 t P N D false (a + D) 1 r C (size a D N P q) y (lit≤ tt) in
           beyond (a + D) D a 1 unit (g .R) (eu .E) (s .count) S num den C unit-pos (h .some) (one a D) (s .least)
-          (together (s .count) (g .R) (w-size .count) (eu .E) unit unit-pos (under (s .count) (s .is)) w-most) (g .most) (eu .least) (g .near) (eu .same)
+          (together (s .count) (g .R) (w-size .count) (eu .E) unit unit-pos (under (s .count) (s .is)) w-most) (g .most)
+          (eu .least) (g .near) (eu .same)
         where
           one : (a D : ℕ) → a + D ≡ a + 1 * D
           one a D = omega arith
@@ -297,11 +301,14 @@ module _ (e : Float) (num den : ℕ) (h : Eps e num den)
         let b = t-most p n d in
         let Q = mul-pos unit-pos unit-pos in
         near64 (t ⊗ len ⊕ e) _ _ unit 68 sum unit-pos
-        (over (m .p) (m .n) (p * g .R + n * 0) (p * 0 + n * g .R) unit (unit * unit) (eu .E) Q (m .most) (size p n unit (g .R) (b .0) (g .most)) (eu .most))
-        (under (m .p) (m .n) (p * g .R + n * 0) (p * 0 + n * g .R) unit (unit * unit) (eu .E) Q (m .least) (size' p n unit (g .R) (b .1) (g .most)))
+        (over (m .p) (m .n) (p * g .R + n * 0) (p * 0 + n * g .R) unit (unit * unit) (eu .E) Q (m .most)
+        (size p n unit (g .R) (b .0) (g .most)) (eu .most))
+        (under (m .p) (m .n) (p * g .R + n * 0) (p * 0 + n * g .R) unit (unit * unit) (eu .E) Q (m .least)
+        (size' p n unit (g .R) (b .1) (g .most)))
         (lit≤ tt)
       where
-        over : (x y X Y L c E : ℕ) → 0 < c → 2 ^ 54 * (x * c + Y * L) ≤ 2 ^ 54 * (X * L + y * c) + 2 ^ 66 * (c * L) → X ≤ Y + 2 ^ 66 * c → 2 * E ≤ L
+        over : (x y X Y L c E : ℕ) → 0 < c → 2 ^ 54 * (x * c + Y * L) ≤ 2 ^ 54 * (X * L + y * c) + 2 ^ 66 * (c * L)
+            → X ≤ Y + 2 ^ 66 * c → 2 * E ≤ L
             → x + E ≤ y + 0 + 2 ^ 68 * L
         over x y X Y L c E Q k z b =
             let w = mul-le-mul-right L z in
@@ -309,7 +316,8 @@ module _ (e : Float) (num den : ℕ) (h : Eps e num den)
             let o = le-of-mul-le-mul-right m Q in
             omega arith
 
-        under : (x y X Y L c E : ℕ) → 0 < c → 2 ^ 54 * (X * L + y * c) ≤ 2 ^ 54 * (x * c + Y * L) + 2 ^ 66 * (c * L) → Y ≤ X + 2 ^ 66 * c
+        under : (x y X Y L c E : ℕ) → 0 < c → 2 ^ 54 * (X * L + y * c) ≤ 2 ^ 54 * (x * c + Y * L) + 2 ^ 66 * (c * L)
+            → Y ≤ X + 2 ^ 66 * c
             → y + 0 ≤ x + E + 2 ^ 68 * L
         under x y X Y L c E Q k z =
             let w = mul-le-mul-right L z in
@@ -326,13 +334,15 @@ module _ (e : Float) (num den : ℕ) (h : Eps e num den)
       let m = m-near p n d in
       let s = sum-near p n d in
       let zero-le = least-whole binary64 t P N D r C p n unit unit-pos d 0 0 (lit≤ tt) (lit≤ tt) (turn P N D x) in
-      let least = rounded-ge binary64 (t ⊗ len) _ _ (unit * unit) (product p n d) (mul-pos unit-pos unit-pos) f0 0 0 unit unit-pos (ofBits-fits binary64 0) zero-is
+      let least = rounded-ge binary64 (t ⊗ len) _ _ (unit * unit) (product p n d) (mul-pos unit-pos unit-pos) f0 0 0 unit unit-pos
+      (ofBits-fits binary64 0) zero-is
       (scaled p n (g .R) unit zero-le) in
       let above = le-over f0 (t ⊗ len) 0 0 (m .p) (m .n) unit unit-pos zero-is (m .is) .0 least in
       let more = rounded-ge binary64 (t ⊗ len ⊕ e) _ _ unit (sum p n d) unit-pos e (eu .E) 0 unit unit-pos (h .fit) (eu .is)
       (added (m .p) (m .n) (eu .E) unit above) in
       let past = le-over e (t ⊗ len ⊕ e) (eu .E) 0 (s .p) (s .n) unit unit-pos (eu .is) (s .is) .0 more in
-      lt-over f0 (t ⊗ len ⊕ e) 0 0 (s .p) (s .n) unit unit-pos zero-is (s .is) .1 (less (s .p) (s .n) (eu .E) unit unit-pos past (eu .least))
+      lt-over f0 (t ⊗ len ⊕ e) 0 0 (s .p) (s .n) unit unit-pos zero-is (s .is) .1
+      (less (s .p) (s .n) (eu .E) unit unit-pos past (eu .least))
     where
       turn : (P N D : ℕ) → N ≤ P → 0 * D + N ≤ P + 0 * D
       turn P N D x = omega arith
@@ -368,10 +378,12 @@ module _ (e : Float) (num den : ℕ) (h : Eps e num den)
               let m = m-near 0 T d in
               let s = sum-near 0 T d in
               let minus = neg-diff e (eu .E) 0 unit (eu .is) in
-              let most = rounded-le binary64 (t ⊗ len) _ _ (unit * unit) (product 0 T d) (mul-pos unit-pos unit-pos) (neg e) 0 (eu .E) unit unit-pos (neg-fits binary64 e (h .fit)) minus
+              let most = rounded-le binary64 (t ⊗ len) _ _ (unit * unit) (product 0 T d) (mul-pos unit-pos unit-pos) (neg e) 0
+              (eu .E) unit unit-pos (neg-fits binary64 e (h .fit)) minus
               (scaled T (g .R) (eu .E) unit y) in
               let below = le-over (t ⊗ len) (neg e) (m .p) (m .n) 0 (eu .E) unit unit-pos (m .is) minus .0 most in
-              let none = rounded-le binary64 (t ⊗ len ⊕ e) _ _ unit (sum 0 T d) unit-pos f0 0 0 unit unit-pos (ofBits-fits binary64 0) zero-is
+              let none = rounded-le binary64 (t ⊗ len ⊕ e) _ _ unit (sum 0 T d) unit-pos f0 0 0 unit unit-pos
+              (ofBits-fits binary64 0) zero-is
               (added (m .p) (m .n) (eu .E) unit below) in
               never (s .p) (s .n)
               (lt-over f0 (t ⊗ len ⊕ e) 0 0 (s .p) (s .n) unit unit-pos zero-is (s .is) .0 x)

@@ -1,10 +1,9 @@
--- A quotient of two whole numbers of the grid, as one rounding of (P - N) / D with D above zero: D is the divisor's size, and where the
--- divisor is below zero the numerator's sign is turned.
+-- A quotient of two whole numbers of the grid, as one rounding of (P - N) / D with D above zero: D is the divisor's size, and where
+-- the divisor is below zero the numerator's sign is turned.
 use mathlib.Core.Path.{_≡_, refl}
 use mathlib.Core.Logic.{_⊎_, inl, inr}
-use Prim.Native.Nat.{ℕ, _+_, _-_, _*_, _^_, _≤_, _<_}
+use Prim.Native.Nat.{ℕ, _+_, _-_, _^_, _≤_, _<_}
 use native.Mathlib.Omega.{arith}
-use native.Mathlib.Nat.{le-antisymm}
 use mathlib.Core.Bool.{Bool, true, false, not}
 use lib.Dec.{T, leb, leb→le, nleb→lt}
 use lib.Arith.{lt-of-le-ne}

@@ -1,5 +1,5 @@
--- A parameter in reach of a segment: (P - N) / D lies less than two epsilons beyond the end or before the start, by squares. It is then
--- less than 1 away along each side, and by whole numbers on the segment where D is a side of it.
+-- A parameter in reach of a segment: (P - N) / D lies less than two epsilons beyond the end or before the start, by squares. It is
+-- then less than 1 away along each side, and by whole numbers on the segment where D is a side of it.
 use mathlib.Core.Path.{_≡_}
 use Prim.Native.Nat.{ℕ, _+_, _-_, _*_, _≤_, _<_}
 use native.Mathlib.Nat.{mul-le-mul, mul-le-mul-left, mul-le-mul-right, lt-of-mul-lt-mul-right}

@@ -1,26 +1,17 @@
--- How long two parameters leave a segment to share: x0 and x1, near m0 / D and m1 / D, on a vector with a side D. Their difference times
--- the length is near zero exactly where m0 is m1, for m0 at most m1 at most D.
+-- How long two parameters leave a segment to share: x0 and x1, near m0 / D and m1 / D, on a vector with a side D. Their difference
+-- times the length is near zero exactly where m0 is m1, for m0 at most m1 at most D.
 -- The argument: where they differ, they differ by 1 / D at least, and the length is D at least; where they do not, what is left is
 -- below 2 ^ -29.
-use mathlib.Core.Path.{_≡_, refl, sym, ap, _∙_, subst}
+use mathlib.Core.Path.{_≡_, ap, subst}
 use mathlib.Core.Logic.{_↔_}
-use Prim.Native.Nat.{ℕ, suc, _+_, _-_, _*_, _^_, _≤_, _<_}
-use native.Mathlib.Nat.{
-  mul-le-mul,
-  mul-le-mul-left,
-  mul-le-mul-right,
-  mul-pos,
-  le-of-mul-le-mul-right,
-  lt-of-mul-lt-mul-right,
-  le-trans,
-}
+use Prim.Native.Nat.{ℕ, _+_, _-_, _*_, _^_, _≤_, _<_}
+use native.Mathlib.Nat.{mul-le-mul-left, mul-le-mul-right, mul-pos, le-of-mul-le-mul-right, le-trans}
 use native.Mathlib.Omega.{arith}
-use mathlib.Core.Bool.{Bool, true, false, not}
+use mathlib.Core.Bool.{true, false}
 use lib.Dec.{T, not-T, lit≤}
 use lib.Ieee.{Float, binary64, lt}
 use lib.Ieee.Bits.{is-true, is-false}
 use lib.Ieee.Digits.{back}
-use Rattle.float_laws.specs.Signed.{Diff}
 use Rattle.float_laws.specs.Rounded.{Rounded, sub-over, mul-rounded}
 use Rattle.float_laws.specs.Roundings.{Near, Sized}
 use Rattle.float_laws.specs.Whole.{most-whole, least-whole}
@@ -38,7 +29,8 @@ use Rattle.grid.specs.Floats.Range.{EpsUnits, eps-units}
 -- ---- arithmetic. The parameters are s0 / L and s1 / L, their difference (dp - dn) / L, its product with the length (qp - qn) / L.
 module _ (D L R E s0 s1 dp dn qp qn : ℕ) (C : 0 < D) (P : 0 < L) where
   -- both near the same m / D
-  same-near : (s0 s1 m : ℕ) → 2 ^ 54 * (s1 * D) ≤ 2 ^ 54 * (m * L) + 1 * (D * L) → 2 ^ 54 * (m * L) ≤ 2 ^ 54 * (s0 * D) + 1 * (D * L)
+  same-near : (s0 s1 m : ℕ) → 2 ^ 54 * (s1 * D) ≤ 2 ^ 54 * (m * L) + 1 * (D * L)
+      → 2 ^ 54 * (m * L) ≤ 2 ^ 54 * (s0 * D) + 1 * (D * L)
       → 2 ^ 54 * s1 ≤ 2 ^ 54 * s0 + 2 * L
   same-near s0 s1 m x y = le-of-mul-le-mul-right {m = 2 ^ 54 * s1} {n = 2 ^ 54 * s0 + 2 * L} {k = D} (omega arith) C
 
@@ -129,10 +121,13 @@ module _ (e : Float) (num den : ℕ) (h : Eps e num den) (u : Vector2) (S : ℕ)
   product : Rounded binary64 ((x1 ⊖ x0) ⊗ len) (d-near .p * g .R + d-near .n * 0) (d-near .p * 0 + d-near .n * g .R) (unit * unit)
   product = mul-rounded binary64 (x1 ⊖ x0) len (d-near .p) (d-near .n) (g .R) 0 unit unit unit-pos unit-pos (d-near .is) (g .is)
 
-  q-near : Near unit ((x1 ⊖ x0) ⊗ len) (d-near .p * g .R + d-near .n * 0) (d-near .p * 0 + d-near .n * g .R) (unit * unit) (2 ^ 23) (2 ^ 54)
+  q-near : Near unit ((x1 ⊖ x0) ⊗ len) (d-near .p * g .R + d-near .n * 0) (d-near .p * 0 + d-near .n * g .R) (unit * unit)
+      (2 ^ 23) (2 ^ 54)
   q-near =
-      let up = most-whole binary64 (x1 ⊖ x0) _ _ unit difference unit-pos (d-near .p) (d-near .n) unit unit-pos (d-near .is) 2 0 (lit≤ tt) (lit≤ tt) (turn (X1 .count) (X0 .count) unit d-up) in
-      let dn = least-whole binary64 (x1 ⊖ x0) _ _ unit difference unit-pos (d-near .p) (d-near .n) unit unit-pos (d-near .is) 0 2 (lit≤ tt) (lit≤ tt) (turn' (X1 .count) (X0 .count) unit d-dn) in
+      let up = most-whole binary64 (x1 ⊖ x0) _ _ unit difference unit-pos (d-near .p) (d-near .n) unit unit-pos (d-near .is) 2 0
+      (lit≤ tt) (lit≤ tt) (turn (X1 .count) (X0 .count) unit d-up) in
+      let dn = least-whole binary64 (x1 ⊖ x0) _ _ unit difference unit-pos (d-near .p) (d-near .n) unit unit-pos (d-near .is) 0 2
+      (lit≤ tt) (lit≤ tt) (turn' (X1 .count) (X0 .count) unit d-dn) in
       near64 ((x1 ⊖ x0) ⊗ len) _ _ (unit * unit) 23 product (mul-pos unit-pos unit-pos)
       (size (d-near .p) (d-near .n) unit (g .R) up (g .most)) (size' (d-near .p) (d-near .n) unit (g .R) dn (g .most)) (lit≤ tt)
     where
@@ -151,37 +146,50 @@ module _ (e : Float) (num den : ℕ) (h : Eps e num den) (u : Vector2) (S : ℕ)
   q-most : 2 ^ 54 * (q-near .p * unit + d-near .n * g .R) ≤ 2 ^ 54 * (d-near .p * g .R + q-near .n * unit) + 2 ^ 23 * (unit * unit)
   q-most = cut (q-near .p) (q-near .n) (d-near .p) (d-near .n) (g .R) unit unit-pos (q-near .most)
     where
-      cut : (p n a b R L : ℕ) → 0 < L → 2 ^ 54 * (p * (L * L) + (a * 0 + b * R) * L) ≤ 2 ^ 54 * ((a * R + b * 0) * L + n * (L * L)) + 2 ^ 23 * (L * L * L)
+      cut : (p n a b R L : ℕ) → 0 < L
+          → 2 ^ 54 * (p * (L * L) + (a * 0 + b * R) * L) ≤ 2 ^ 54 * ((a * R + b * 0) * L + n * (L * L)) + 2 ^ 23 * (L * L * L)
           → 2 ^ 54 * (p * L + b * R) ≤ 2 ^ 54 * (a * R + n * L) + 2 ^ 23 * (L * L)
-      cut p n a b R L P x = le-of-mul-le-mul-right {m = 2 ^ 54 * (p * L + b * R)} {n = 2 ^ 54 * (a * R + n * L) + 2 ^ 23 * (L * L)} {k = L} (omega arith) P
+      cut p n a b R L P x =
+          le-of-mul-le-mul-right {m = 2 ^ 54 * (p * L + b * R)} {n = 2 ^ 54 * (a * R + n * L) + 2 ^ 23 * (L * L)} {k = L}
+          (omega arith) P
 
   q-least : 2 ^ 54 * (d-near .p * g .R + q-near .n * unit) ≤ 2 ^ 54 * (q-near .p * unit + d-near .n * g .R) + 2 ^ 23 * (unit * unit)
   q-least = cut (q-near .p) (q-near .n) (d-near .p) (d-near .n) (g .R) unit unit-pos (q-near .least)
     where
-      cut : (p n a b R L : ℕ) → 0 < L → 2 ^ 54 * ((a * R + b * 0) * L + n * (L * L)) ≤ 2 ^ 54 * (p * (L * L) + (a * 0 + b * R) * L) + 2 ^ 23 * (L * L * L)
+      cut : (p n a b R L : ℕ) → 0 < L
+          → 2 ^ 54 * ((a * R + b * 0) * L + n * (L * L)) ≤ 2 ^ 54 * (p * (L * L) + (a * 0 + b * R) * L) + 2 ^ 23 * (L * L * L)
           → 2 ^ 54 * (a * R + n * L) ≤ 2 ^ 54 * (p * L + b * R) + 2 ^ 23 * (L * L)
-      cut p n a b R L P x = le-of-mul-le-mul-right {m = 2 ^ 54 * (a * R + n * L)} {n = 2 ^ 54 * (p * L + b * R) + 2 ^ 23 * (L * L)} {k = L} (omega arith) P
+      cut p n a b R L P x =
+          le-of-mul-le-mul-right {m = 2 ^ 54 * (a * R + n * L)} {n = 2 ^ 54 * (p * L + b * R) + 2 ^ 23 * (L * L)} {k = L}
+          (omega arith) P
 
   near-test : T (lt (F64.abs ((x1 ⊖ x0) ⊗ len)) e)
-      ↔ ((q-near .p * unit + 0 * unit < eu .E * unit + q-near .n * unit) × (q-near .n * unit + 0 * unit < eu .E * unit + q-near .p * unit))
+      ↔ ((q-near .p * unit + 0 * unit < eu .E * unit + q-near .n * unit)
+      × (q-near .n * unit + 0 * unit < eu .E * unit + q-near .p * unit))
   near-test = abs-lt ((x1 ⊖ x0) ⊗ len) e (q-near .p) (q-near .n) unit (eu .E) 0 unit unit-pos unit-pos (q-near .is) (eu .is)
 
   pub shared-none : m0 ≡ m1 → fuzzyEqZeroEps ((x1 ⊖ x0) ⊗ len) e ≡ true
   unfolding fuzzyEqZeroEps
   shared-none q =
-      let up = same-near D unit 0 0 0 0 0 0 0 0 C unit-pos (X0 .count) (X1 .count) m1 (X1 .most) (from m0 m1 unit (X0 .count) q (X0 .least)) in
-      let dn = same-near D unit 0 0 0 0 0 0 0 0 C unit-pos (X1 .count) (X0 .count) m1 (to m0 m1 unit (X0 .count) q (X0 .most)) (X1 .least) in
+      let up = same-near D unit 0 0 0 0 0 0 0 0 C unit-pos (X0 .count) (X1 .count) m1 (X1 .most)
+      (from m0 m1 unit (X0 .count) q (X0 .least)) in
+      let dn = same-near D unit 0 0 0 0 0 0 0 0 C unit-pos (X1 .count) (X0 .count) m1 (to m0 m1 unit (X0 .count) q (X0 .most))
+      (X1 .least) in
       is-true _ (near-test .1 (
-        nothing D unit (g .R) (eu .E) (X0 .count) (X1 .count) (d-near .p) (d-near .n) (q-near .p) (q-near .n) C unit-pos up d-most q-most (g .most) (eu .least),
+        nothing D unit (g .R) (eu .E) (X0 .count) (X1 .count) (d-near .p) (d-near .n) (q-near .p) (q-near .n) C unit-pos up d-most
+            q-most (g .most) (eu .least),
         nothing D unit (g .R) (eu .E) (X1 .count) (X0 .count) (d-near .n) (d-near .p) (q-near .n) (q-near .p) C unit-pos dn
             (swap (X1 .count) (X0 .count) (d-near .p) (d-near .n) (2 * unit) d-least)
-            (swap (d-near .p * g .R) (d-near .n * g .R) (q-near .p * unit) (q-near .n * unit) (2 ^ 23 * (unit * unit)) q-least) (g .most) (eu .least),
+            (swap (d-near .p * g .R) (d-near .n * g .R) (q-near .p * unit) (q-near .n * unit) (2 ^ 23 * (unit * unit)) q-least)
+            (g .most) (eu .least),
       ))
     where
-      from : (m0 m1 L s : ℕ) → m0 ≡ m1 → 2 ^ 54 * (m0 * L) ≤ 2 ^ 54 * (s * D) + 2 ^ 0 * (D * L) → 2 ^ 54 * (m1 * L) ≤ 2 ^ 54 * (s * D) + 1 * (D * L)
+      from : (m0 m1 L s : ℕ) → m0 ≡ m1 → 2 ^ 54 * (m0 * L) ≤ 2 ^ 54 * (s * D) + 2 ^ 0 * (D * L)
+          → 2 ^ 54 * (m1 * L) ≤ 2 ^ 54 * (s * D) + 1 * (D * L)
       from m0 m1 L s q x = subst (λ (z : ℕ). 2 ^ 54 * (z * L) ≤ 2 ^ 54 * (s * D) + 1 * (D * L)) q x
 
-      to : (m0 m1 L s : ℕ) → m0 ≡ m1 → 2 ^ 54 * (s * D) ≤ 2 ^ 54 * (m0 * L) + 2 ^ 0 * (D * L) → 2 ^ 54 * (s * D) ≤ 2 ^ 54 * (m1 * L) + 1 * (D * L)
+      to : (m0 m1 L s : ℕ) → m0 ≡ m1 → 2 ^ 54 * (s * D) ≤ 2 ^ 54 * (m0 * L) + 2 ^ 0 * (D * L)
+          → 2 ^ 54 * (s * D) ≤ 2 ^ 54 * (m1 * L) + 1 * (D * L)
       to m0 m1 L s q x = subst (λ (z : ℕ). 2 ^ 54 * (s * D) ≤ 2 ^ 54 * (z * L) + 1 * (D * L)) q x
 
       swap : (a b p n B : ℕ) → 2 ^ 54 * (a + n) ≤ 2 ^ 54 * (p + b) + B → 2 ^ 54 * (n + a) ≤ 2 ^ 54 * (b + p) + B
@@ -190,9 +198,12 @@ module _ (e : Float) (num den : ℕ) (h : Eps e num den) (u : Vector2) (S : ℕ)
   pub shared-some : m0 < m1 → fuzzyEqZeroEps ((x1 ⊖ x0) ⊗ len) e ≡ false
   unfolding fuzzyEqZeroEps
   shared-some l =
-      let part = some-part D unit 0 0 (X0 .count) (X1 .count) (d-near .p) (d-near .n) 0 0 C unit-pos m0 m1 l few (X1 .least) (X0 .most) d-least in
-      let over = something D unit (g .R) (eu .E) 0 0 (d-near .p) (d-near .n) (q-near .p) (q-near .n) C unit-pos part q-least (g .least D (wide D few) side) (eu .most) in
-      is-false _ (not-T (lt (F64.abs ((x1 ⊖ x0) ⊗ len)) e) (λ t. clash (q-near .p * unit) (q-near .n * unit) (eu .E * unit) (0 * unit) (near-test .0 t .0) over))
+      let part = some-part D unit 0 0 (X0 .count) (X1 .count) (d-near .p) (d-near .n) 0 0 C unit-pos m0 m1 l few (X1 .least)
+      (X0 .most) d-least in
+      let over = something D unit (g .R) (eu .E) 0 0 (d-near .p) (d-near .n) (q-near .p) (q-near .n) C unit-pos part q-least
+      (g .least D (wide D few) side) (eu .most) in
+      is-false _ (not-T (lt (F64.abs ((x1 ⊖ x0) ⊗ len)) e)
+      (λ t. clash (q-near .p * unit) (q-near .n * unit) (eu .E * unit) (0 * unit) (near-test .0 t .0) over))
     where
       wide : (D : ℕ) → D ≤ 2 ^ 21 → D ≤ 2 ^ 22
       wide D x = omega arith

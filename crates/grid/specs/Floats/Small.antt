@@ -1,7 +1,7 @@
 -- Whole numbers of the grid in floats: the vectors between grid points, their dot and their perp dot are exact. A coordinate is at
 -- most 2 ^ 20 in size, a vector's 2 ^ 21, a dot or perp dot 2 ^ 44: all far below 2 ^ 53.
-use mathlib.Core.Path.{_≡_, sym, subst}
-use Prim.Native.Nat.{ℕ, suc, _+_, _*_, _^_, _≤_, _<_}
+use mathlib.Core.Path.{sym}
+use Prim.Native.Nat.{ℕ, suc, _+_, _*_, _^_, _≤_}
 use native.Mathlib.Nat.{mul-le-mul, le-trans, le-of-eq, pow-succ'}
 use native.Mathlib.Omega.{arith}
 use lib.Pow.{pow-add, pow-mono}
@@ -56,8 +56,10 @@ product-le i a b h k = le-trans (mul-le-mul h k) (le-of-eq (sym (pow-add 2 i i))
 
 abbrev pub small-mul : (i : ℕ) (x y : Float) → suc (i + i) ≤ 53 → Small i x → Small i y → Small (suc (i + i)) (x ⊗ y)
 small-mul i x y h A B =
-    let u = sum-le (i + i) (A .p * B .p) (A .n * B .n) (product-le i (A .p) (B .p) (A .p-le) (B .p-le)) (product-le i (A .n) (B .n) (A .n-le) (B .n-le)) in
-    let l = sum-le (i + i) (A .p * B .n) (A .n * B .p) (product-le i (A .p) (B .n) (A .p-le) (B .n-le)) (product-le i (A .n) (B .p) (A .n-le) (B .p-le)) in
+    let u = sum-le (i + i) (A .p * B .p) (A .n * B .n) (product-le i (A .p) (B .p) (A .p-le) (B .p-le))
+    (product-le i (A .n) (B .n) (A .n-le) (B .n-le)) in
+    let l = sum-le (i + i) (A .p * B .n) (A .n * B .p) (product-le i (A .p) (B .n) (A .p-le) (B .n-le))
+    (product-le i (A .n) (B .p) (A .n-le) (B .p-le)) in
     record {
       p = A .p * B .p + A .n * B .n;
       n = A .p * B .n + A .n * B .p;

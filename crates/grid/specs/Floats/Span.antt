@@ -1,12 +1,12 @@
--- Parameters of a whole number over a side D, as the overlap case uses them: floats are in the order of their exact values; the greater
--- of one and 0, and the lesser of one and 1, are near the exact ones cut off.
-use mathlib.Core.Path.{_≡_, refl, sym, ap, _∙_, subst}
+-- Parameters of a whole number over a side D, as the overlap case uses them: floats are in the order of their exact values; the
+-- greater of one and 0, and the lesser of one and 1, are near the exact ones cut off.
+use mathlib.Core.Path.{_≡_, refl, sym, subst}
 use mathlib.Core.Logic.{_⊎_, inl, inr}
-use Prim.Native.Nat.{ℕ, suc, _+_, _-_, _*_, _^_, _≤_, _<_, min}
-use native.Mathlib.Nat.{mul-le-mul-left, mul-le-mul-right, le-of-mul-le-mul-right, lt-of-mul-lt-mul-right}
+use Prim.Native.Nat.{ℕ, _+_, _-_, _*_, _^_, _≤_, _<_, min}
+use native.Mathlib.Nat.{mul-le-mul-right, lt-of-mul-lt-mul-right}
 use native.Mathlib.Omega.{arith}
 use mathlib.Core.Bool.{Bool, true, false, not, cond}
-use lib.Dec.{T, leb, leb→le, nleb→lt, ltb, ltb→lt, nltb→le, not-T, T-not, lit≤}
+use lib.Dec.{T, leb, leb→le, nleb→lt, not-T, T-not, lit≤}
 use lib.Ieee.{Float, binary64, ofBits, lt}
 use lib.Ieee.Bits.{is-true, is-false}
 use Rattle.float_laws.specs.Signed.{Diff}
@@ -45,7 +45,8 @@ module _ (D : ℕ) (C : 0 < D) (few : D ≤ 2 ^ 21) where
       let x = place-near s P N a in
       let y = place-near t Q K b in
       lt-over s t (x .p) (x .n) (y .p) (y .n) unit unit-pos (x .is) (y .is) .1
-      (lt-of-mul-lt-mul-right D {m = x .p + y .n} {n = y .p + x .n} (go (x .p) (x .n) (y .p) (y .n) unit unit-pos (x .most) (y .least)))
+      (lt-of-mul-lt-mul-right D {m = x .p + y .n} {n = y .p + x .n}
+      (go (x .p) (x .n) (y .p) (y .n) unit unit-pos (x .most) (y .least)))
     where
       go : (p n q k L : ℕ) → 0 < L
           → 2 ^ 54 * (p * D + N * L) ≤ 2 ^ 54 * (P * L + n * D) + 2 ^ 21 * (D * L)
@@ -132,21 +133,25 @@ module _ (D : ℕ) (C : 0 < D) (few : D ≤ 2 ^ 21) where
 
   pub from-zero : (t : Float) (P N : ℕ) → Place t P N D → P ≤ N + D → Sized unit (F64.max t f0) false (P - N) D (2 ^ 0) (2 ^ 54)
   from-zero t P N a l =
-      subst (λ (z : Float). Sized unit z false (P - N) D (2 ^ 0) (2 ^ 54)) (sym (max-is t f0 (x .p) (x .n) unit 0 0 unit (x .is) zero-is))
+      subst (λ (z : Float). Sized unit z false (P - N) D (2 ^ 0) (2 ^ 54))
+      (sym (max-is t f0 (x .p) (x .n) unit 0 0 unit (x .is) zero-is))
       (go (leb P N) (leb→le P N) (nleb→lt P N))
     where
       x : Near unit t P N D (2 ^ 21) (2 ^ 54)
       x = place-near t P N a
 
-      pick : (A : ℕ) (b c : Bool) → b ≡ c → Sized unit (cond c t f0) false A D (2 ^ 0) (2 ^ 54) → Sized unit (cond b t f0) false A D (2 ^ 0) (2 ^ 54)
+      pick : (A : ℕ) (b c : Bool) → b ≡ c → Sized unit (cond c t f0) false A D (2 ^ 0) (2 ^ 54)
+          → Sized unit (cond b t f0) false A D (2 ^ 0) (2 ^ 54)
       pick A b c e y = subst (λ (z : Bool). Sized unit (cond z t f0) false A D (2 ^ 0) (2 ^ 54)) (sym e) y
 
       go : (c : Bool) → (T c → P ≤ N) → (T (not c) → N < P) → Sized unit (cond (lt f0 t) t f0) false (P - N) D (2 ^ 0) (2 ^ 54)
       go true lo hi =
           let w = lo tt in
           let none : 0 ≡ P - N = omega arith in
-          let most = most-whole binary64 t P N D (a .rounded) C (x .p) (x .n) unit unit-pos (x .is) 0 0 (lit≤ tt) (lit≤ tt) (omega arith) in
-          let below = is-false (lt f0 t) (not-T (lt f0 t) (λ y. never (x .p) (x .n) unit most (lt-over f0 t 0 0 (x .p) (x .n) unit unit-pos zero-is (x .is) .0 y))) in
+          let most = most-whole binary64 t P N D (a .rounded) C (x .p) (x .n) unit unit-pos (x .is) 0 0 (lit≤ tt) (lit≤ tt)
+          (omega arith) in
+          let below = is-false (lt f0 t) (not-T (lt f0 t)
+          (λ y. never (x .p) (x .n) unit most (lt-over f0 t 0 0 (x .p) (x .n) unit unit-pos zero-is (x .is) .0 y))) in
           pick (P - N) (lt f0 t) false below (subst (λ (z : ℕ). Sized unit f0 false z D (2 ^ 0) (2 ^ 54)) none zero-sized)
         where
           never : (p n L : ℕ) → p + 0 * L ≤ 0 * L + n → 0 + n < p + 0 → ⊥
@@ -154,7 +159,8 @@ module _ (D : ℕ) (C : 0 < D) (few : D ≤ 2 ^ 21) where
       go false lo hi =
           let w = hi tt in
           let k = exact t P N a (omega arith) l in
-          let above = is-true (lt f0 t) (lt-over f0 t 0 0 (k .count) 0 unit unit-pos zero-is (k .is) .1 (some (k .count) unit (P - N) unit-pos (omega arith) (k .least))) in
+          let above = is-true (lt f0 t) (lt-over f0 t 0 0 (k .count) 0 unit unit-pos zero-is (k .is) .1
+          (some (k .count) unit (P - N) unit-pos (omega arith) (k .least))) in
           pick (P - N) (lt f0 t) true above k
         where
           some : (c L A : ℕ) → 0 < L → 0 < A → 2 ^ 54 * (A * L) ≤ 2 ^ 54 * (c * D) + 2 ^ 0 * (D * L) → 0 + 0 < c + 0
@@ -167,21 +173,26 @@ module _ (D : ℕ) (C : 0 < D) (few : D ≤ 2 ^ 21) where
 
   pub to-one : (t : Float) (P N : ℕ) → Place t P N D → N ≤ P → Sized unit (F64.min t f1) false (min (P - N) D) D (2 ^ 0) (2 ^ 54)
   to-one t P N a l =
-      subst (λ (z : Float). Sized unit z false (min (P - N) D) D (2 ^ 0) (2 ^ 54)) (sym (min-is t f1 (x .p) (x .n) unit unit 0 unit (x .is) one-is))
+      subst (λ (z : Float). Sized unit z false (min (P - N) D) D (2 ^ 0) (2 ^ 54))
+      (sym (min-is t f1 (x .p) (x .n) unit unit 0 unit (x .is) one-is))
       (go (leb (N + D) P) (leb→le (N + D) P) (nleb→lt (N + D) P))
     where
       x : Near unit t P N D (2 ^ 21) (2 ^ 54)
       x = place-near t P N a
 
-      pick : (A : ℕ) (b c : Bool) → b ≡ c → Sized unit (cond c t f1) false A D (2 ^ 0) (2 ^ 54) → Sized unit (cond b t f1) false A D (2 ^ 0) (2 ^ 54)
+      pick : (A : ℕ) (b c : Bool) → b ≡ c → Sized unit (cond c t f1) false A D (2 ^ 0) (2 ^ 54)
+          → Sized unit (cond b t f1) false A D (2 ^ 0) (2 ^ 54)
       pick A b c e y = subst (λ (z : Bool). Sized unit (cond z t f1) false A D (2 ^ 0) (2 ^ 54)) (sym e) y
 
-      go : (c : Bool) → (T c → N + D ≤ P) → (T (not c) → P < N + D) → Sized unit (cond (lt t f1) t f1) false (min (P - N) D) D (2 ^ 0) (2 ^ 54)
+      go : (c : Bool) → (T c → N + D ≤ P) → (T (not c) → P < N + D)
+          → Sized unit (cond (lt t f1) t f1) false (min (P - N) D) D (2 ^ 0) (2 ^ 54)
       go true lo hi =
           let w = lo tt in
           let whole : D ≡ min (P - N) D = omega arith in
-          let least = least-whole binary64 t P N D (a .rounded) C (x .p) (x .n) unit unit-pos (x .is) 1 0 (lit≤ tt) (lit≤ tt) (omega arith) in
-          let above = is-false (lt t f1) (not-T (lt t f1) (λ y. never (x .p) (x .n) unit least (lt-over t f1 (x .p) (x .n) unit 0 unit unit-pos (x .is) one-is .0 y))) in
+          let least = least-whole binary64 t P N D (a .rounded) C (x .p) (x .n) unit unit-pos (x .is) 1 0 (lit≤ tt) (lit≤ tt)
+          (omega arith) in
+          let above = is-false (lt t f1) (not-T (lt t f1)
+          (λ y. never (x .p) (x .n) unit least (lt-over t f1 (x .p) (x .n) unit 0 unit unit-pos (x .is) one-is .0 y))) in
           pick (min (P - N) D) (lt t f1) false above (subst (λ (z : ℕ). Sized unit f1 false z D (2 ^ 0) (2 ^ 54)) whole one-sized)
         where
           never : (p n L : ℕ) → 1 * L + n ≤ p + 0 * L → p + 0 < L + n → ⊥
@@ -190,7 +201,8 @@ module _ (D : ℕ) (C : 0 < D) (few : D ≤ 2 ^ 21) where
           let w = hi tt in
           let k = exact t P N a l (omega arith) in
           let cut : P - N ≡ min (P - N) D = omega arith in
-          let below = is-true (lt t f1) (lt-over t f1 (k .count) 0 unit 0 unit unit-pos (k .is) one-is .1 (less (k .count) unit (P - N) unit-pos (omega arith) (k .most))) in
+          let below = is-true (lt t f1) (lt-over t f1 (k .count) 0 unit 0 unit unit-pos (k .is) one-is .1
+          (less (k .count) unit (P - N) unit-pos (omega arith) (k .most))) in
           pick (min (P - N) D) (lt t f1) true below (subst (λ (z : ℕ). Sized unit t false z D (2 ^ 0) (2 ^ 54)) cut k)
         where
           less : (c L A : ℕ) → 0 < L → A < D → 2 ^ 54 * (c * D) ≤ 2 ^ 54 * (A * L) + 2 ^ 0 * (D * L) → c + 0 < L + 0

@@ -1,14 +1,14 @@
 -- Tests against an epsilon from 1/1024 to 1/2 on whole numbers: near zero is zero, near equal is equal.
-use mathlib.Core.Path.{_≡_, refl, sym, ap, _∙_, subst}
-use mathlib.Core.Logic.{_↔_}
-use Prim.Native.Nat.{ℕ, suc, _+_, _*_, _^_, _≤_, _<_}
+use mathlib.Core.Path.{_≡_, refl, sym, ap, _∙_}
+use Prim.Native.Nat.{ℕ, suc, _+_, _*_, _≤_, _<_}
 use native.Mathlib.Nat.{mul-le-mul-right, zero-lt-suc, le-of-suc-le-suc, lt-of-not-le, le-antisymm}
 use native.Mathlib.Omega.{arith}
-use mathlib.Core.Bool.{Bool, true, false, not, _&&_}
+use mathlib.Core.Bool.{Bool, true, false, _&&_}
 use lib.Dec.{T, eqb, eqb→eq}
 use lib.Ieee.{Float, binary64, fits, lt}
 use lib.Ieee.Fits.{eq→eqb}
 use Rattle.float_laws.specs.Signed.{Diff}
+use Rattle.float_laws.specs.Order.{same-test}
 use Rattle.floats.specs.Ops.{_⊖_}
 use Rattle.floats.specs.F64
 use Rattle.floats.specs.Laws.Leaves.{abs-lt}
@@ -24,12 +24,6 @@ pub record Eps (e : Float) (num den : ℕ) : Type 0 where
   pub some : 0 < den
   pub least : den ≤ 1024 * num
   pub most : 2 * num ≤ den
-
-same-test : (a b : Bool) → (T a → T b) → (T b → T a) → a ≡ b
-same-test true true p q = refl
-same-test true false p q = absurd (p tt)
-same-test false true p q = absurd (q tt)
-same-test false false p q = refl
 
 module _ (e : Float) (num den : ℕ) (E : Eps e num den) where
   -- a whole number below the epsilon in size is zero
