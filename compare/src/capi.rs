@@ -15,7 +15,7 @@ unsafe extern "C" {
 }
 
 // A lent slice goes in as its start and its length. The call writes nothing beyond these and keeps nothing.
-#[cfg(feature = "rust-text")]
+#[cfg_attr(not(feature = "rust-text"), allow(dead_code))]
 mod raw {
     unsafe extern "C" {
         pub fn vj_line_line_intr(
@@ -128,7 +128,6 @@ pub fn vj_circle_circle_intr(n: [f64; 7], out: &mut [f64]) -> u64 {
 }
 
 /// Four vertices, each x, y and bulge, and an epsilon.
-#[cfg(feature = "rust-text")]
 pub fn vj_pair(n: [f64; 13], out: &mut [f64]) -> u64 {
     let [a, b, c, d, e, f, g, h, i, j, k, l, epsilon] = n;
     let (start, room) = (out.as_mut_ptr(), out.len());

@@ -25,6 +25,7 @@ mod plane;
 mod probe;
 mod record;
 mod rng;
+mod search;
 mod tally;
 #[cfg(feature = "rust-text")]
 mod text;
@@ -39,10 +40,13 @@ usage: compare check [COUNT [SEED]]  compare each float function on COUNT random
                                      patterns, and some beside the limits; each kernel and the pair call until twice
                                      as many were answered, and on some that are refused; listings of whole paths
                                      until as many pairs were looked at, and on chosen ones
+       compare search [COUNT [SEED]] try to break what is promised of lines on the grid, on COUNT pairs (default 25165824,
+                                     seed 1)
        compare record FILE           write the recorded list for the program replay
        compare bench                 nanoseconds a call, ours beside the machine's own and the Rust's";
 
 const COUNT: u64 = 10 << 20;
+const SEARCHED: u64 = 24 << 20;
 const SEED: u64 = 1;
 
 fn main() -> ExitCode {
@@ -50,6 +54,7 @@ fn main() -> ExitCode {
     let words: Vec<&str> = words.iter().map(String::as_str).collect();
     let done = match words[..] {
         ["check", ref numbers @ ..] => check(numbers),
+        ["search", ref numbers @ ..] => search(numbers),
         ["record", file] => record(file),
         ["bench"] => {
             bench::run();
@@ -72,6 +77,23 @@ fn main() -> ExitCode {
 }
 
 fn check(numbers: &[&str]) -> Result<(), String> {
+    let (count, seed) = count_and_seed(numbers, COUNT)?;
+    let differences = floats::check(count, seed) + check_text(count, seed);
+    match differences {
+        0 => Ok(()),
+        _ => Err(format!("{differences} differences")),
+    }
+}
+
+fn search(numbers: &[&str]) -> Result<(), String> {
+    let (count, seed) = count_and_seed(numbers, SEARCHED)?;
+    match search::run(count, seed) {
+        0 => Ok(()),
+        broken => Err(format!("{broken} answers break the promise")),
+    }
+}
+
+fn count_and_seed(numbers: &[&str], count: u64) -> Result<(u64, u64), String> {
     let number = |at: usize, default: u64| match numbers.get(at) {
         Some(word) => word
             .parse()
@@ -81,12 +103,7 @@ fn check(numbers: &[&str]) -> Result<(), String> {
     if numbers.len() > 2 {
         return Err(USAGE.to_string());
     }
-    let (count, seed) = (number(0, COUNT)?, number(1, SEED)?);
-    let differences = floats::check(count, seed) + check_text(count, seed);
-    match differences {
-        0 => Ok(()),
-        _ => Err(format!("{differences} differences")),
-    }
+    Ok((number(0, count)?, number(1, SEED)?))
 }
 
 #[cfg(feature = "rust-text")]

@@ -159,3 +159,10 @@ grid-le f a c B C h l = le-of-suc-le-suc (lt-of-not-le (λ (g : suc B ≤ grid f
   where
     clash : (R : ℕ) → (B + R) * c ≤ 2 * (a * 2 ^ low f) → B < R → ⊥
     clash R x y = let z : B * c < R * c = mul-lt-mul-of-pos-right y C in omega arith
+
+pub grid-ge : (f : Format) (a c B : ℕ) → 0 < c → Held (prec f) B → B * c ≤ a * 2 ^ low f → B ≤ grid f a c
+grid-ge f a c B C h l =
+    le-of-suc-le-suc (lt-of-not-le (λ (g : suc (grid f a c) ≤ B). clash (grid f a c) (round-best f a c C .above B h g) g))
+  where
+    clash : (R : ℕ) → 2 * (a * 2 ^ low f) ≤ (B + R) * c → R < B → ⊥
+    clash R x y = let z : R * c < B * c = mul-lt-mul-of-pos-right y C in omega arith

@@ -4,7 +4,6 @@ use mathlib.Core.Path.{_≡_, refl, sym, ap, _∙_, subst}
 use mathlib.Core.Logic.{_⊎_, inl, inr}
 use Prim.Native.Nat.{ℕ, zero, suc, _+_, _-_, _*_, _/_, _%_, _^_, _≤_, _<_}
 use native.Mathlib.Nat.{
-  mul-pos,
   mul-one,
   mul-assoc,
   mul-comm,
@@ -13,25 +12,22 @@ use native.Mathlib.Nat.{
   mul-lt-mul-of-pos-right,
   lt-of-mul-lt-mul-right,
   zero-mul,
-  zero-lt-suc,
   lt-irrefl,
   le-suc,
-  lt-suc-self,
   le-trans,
   le-of-eq,
   lt-of-lt-of-le,
-  lt-of-le-of-lt,
   eq-or-lt-of-le,
   eq-of-mul-eq-mul-right,
   mod-eq-of-lt,
   pow-succ',
 }
 use native.Mathlib.Omega.{arith}
-use mathlib.Core.Bool.{Bool, true, false, not, cond, _&&_}
+use mathlib.Core.Bool.{Bool, true, false, cond, _&&_}
 use lib.IntN.{ℤ, pos, negsuc}
 use lib.Dec.{T, leb, ltb, eqb, eqb→eq, leb→le, ltb→lt, not-T}
 use lib.Arith.{digits-lt, digits-div, digits-mod, lt→nleb}
-use lib.Pow.{pow-add, pow-pos, pow-lt}
+use lib.Pow.{pow-add, pow-pos}
 use lib.Ieee.{
   Float,
   nan,
@@ -58,7 +54,7 @@ use lib.Ieee.{
 }
 use lib.Ieee.Digits.{back}
 use lib.Ieee.Exact.{HasValue, odd-sign, units-val}
-use lib.Ieee.Fits.{two, up-pos, down-pos, and-l, and-r, round-is}
+use lib.Ieee.Fits.{two, down-pos, and-l, and-r, round-is}
 use lib.Ieee.Bits.{ofBits-toBits, is-false, cond-no}
 use lib.Ieee.Order.{drop, kept}
 use lib.Ieee.Scale.{grid, overflow, finite}

@@ -1,5 +1,16 @@
+-- Floor by floor: powers and rounding of whole numbers; a float as a count of its format's units; as a signed fraction, with its order;
+-- each operation as one rounding, and what is known of a rounding; whole numbers, quotients and magnitudes; all this at binary64.
 pub mod Powers
 pub mod Half
 pub mod Best
+pub mod Near
 pub mod Count
 pub mod Patterns
+pub mod Signed
+pub mod Order
+pub mod Rounded
+pub mod Roundings
+pub mod Whole
+pub mod Quotients
+pub mod Magnitudes
+pub mod Binary64

@@ -1,9 +1,9 @@
 -- Bit patterns: what the sign's bit does, and which patterns are NaNs.
-use mathlib.Core.Path.{_≡_, refl, sym, ap, _∙_, subst}
-use Prim.Native.Nat.{ℕ, zero, suc, _+_, _*_, _/_, _%_, _^_, _≤_, _<_}
+use mathlib.Core.Path.{_≡_, refl, sym, ap, _∙_}
+use Prim.Native.Nat.{ℕ, zero, suc, _+_, _*_, _/_, _%_, _≤_, _<_}
 use native.Mathlib.Nat.{add-mod-left, mul-add-mod-self-left, le-add-right}
-use mathlib.Core.Bool.{Bool, true, false, not, cond, false≢true}
-use lib.Dec.{T, leb, ltb, eqb, le→leb, lt→ltb}
+use mathlib.Core.Bool.{Bool, true, false, cond, false≢true}
+use lib.Dec.{leb, eqb, le→leb, lt→ltb}
 use lib.Arith.{lt→nleb, le→nltb}
 use lib.Ieee.{Float, nan, inf, fin, Format, prec, low, neg, odd, hid, ones, top, ofFields, ofBits, nanBits, isNan}
 use lib.Ieee.Bits.{is-true, is-false, nanBits-above}

@@ -1,14 +1,7 @@
 -- Powers of two and the number of binary digits: small facts that the other files cite.
 use mathlib.Core.Path.{_≡_}
 use Prim.Native.Nat.{ℕ, suc, _^_, _≤_, _<_}
-use native.Mathlib.Nat.{
-  le-antisymm,
-  le-of-suc-le-suc,
-  lt-irrefl,
-  lt-of-lt-of-le,
-  lt-of-not-le,
-  not-le-of-lt,
-}
+use native.Mathlib.Nat.{le-antisymm, le-of-suc-le-suc, lt-irrefl, lt-of-lt-of-le, lt-of-not-le, not-le-of-lt}
 use lib.Pow.{pow-mono, pow-lt}
 use lib.Ieee.{size}
 use lib.Ieee.Digits.{size-lt, size-le}

@@ -4,3 +4,5 @@ pub mod Turns
 pub mod RootAt
 pub mod Root
 pub mod Picked
+pub mod Sqrt
+pub mod Leaves

@@ -1,0 +1,440 @@
+-- The range test of the line kernel: a parameter t, one rounding of (P - N) / D, on a grid vector v with the self dot S, by an
+-- epsilon num / den. If the exact parameter lies from 0 to 1 the test says yes. If the test says yes, the exact point lies less
+-- than two epsilons beyond the segment's end, by squares: (P - N - D)^2 * S / D^2 < 4 * num^2 / den^2, and so before its start.
+-- The argument for the second: what is not rounded across is exact. t * length is below the float length + epsilon only if the
+-- exact product of the two floats is; and the quotient t, the length and the sum are off by some 2 ^ -31 at most, epsilon being
+-- 2 ^ -10.
+use mathlib.Core.Path.{_≡_, sym, ap, subst}
+use Prim.Native.Nat.{ℕ, _+_, _-_, _*_, _^_, _≤_, _<_}
+use native.Mathlib.Nat.{
+  mul-pos,
+  mul-le-mul,
+  mul-le-mul-left,
+  mul-le-mul-right,
+  mul-lt-mul-of-pos-right,
+  le-of-mul-le-mul-right,
+  lt-of-mul-lt-mul-right,
+  lt-of-not-le,
+}
+use native.Mathlib.Omega.{arith}
+use mathlib.Core.Bool.{Bool, true, false, not, _&&_}
+use lib.Dec.{T, leb, leb→le, nleb→lt, lit≤}
+use lib.Ieee.{Float, binary64, ofBits, fits, neg}
+use lib.Ieee.Bits.{is-true, ofBits-fits}
+use lib.Ieee.Digits.{back}
+use lib.Ieee.Fits.{add-fits, neg-fits, and-i, and-l, and-r}
+use Rattle.float_laws.specs.Signed.{Diff, diff-same, diff-at, diff-finite, neg-diff}
+use Rattle.float_laws.specs.Order.{lt-over, le-over}
+use Rattle.float_laws.specs.Rounded.{Rounded, add-over, mul-rounded}
+use Rattle.float_laws.specs.Roundings.{Near, Sized, rounded-le, rounded-ge}
+use Rattle.float_laws.specs.Whole.{most-whole, least-whole}
+use Rattle.float_laws.specs.Binary64.{unit, unit-pos, units64, near64, sized64}
+use Rattle.floats.specs.Ops.{_⊕_, _⊗_, f0}
+use Rattle.plane.specs.Vector2 as vector2
+use Rattle.plane.specs.declared.vector2.Vector2.{Vector2}
+use Rattle.plane.specs.Fuzzy.{fuzzyInRangeEps, fuzzyGtEps, fuzzyLtEps}
+use Rattle.crossing.specs.LineLine.{within}
+use Rattle.grid.specs.Floats.Zero.{Eps}
+use Rattle.grid.specs.Floats.Length.{Long}
+use Rattle.grid.specs.Floats.Reach.{Reaches}
+
+-- ---- the epsilon in units
+pub record EpsUnits (e : Float) (num den : ℕ) : Type 0 where
+  pub E : ℕ
+  pub is : Diff e E 0 unit
+  pub same : E * den ≡ num * unit
+  pub least : unit ≤ 1024 * E
+  pub most : 2 * E ≤ unit
+
+pub eps-units : (e : Float) (num den : ℕ) → Eps e num den → EpsUnits e num den
+eps-units e num den h =
+    let u = units64 e (diff-finite e num 0 den (h .is)) (h .fit) in
+    let s = diff-same e num 0 den (u .p) (u .n) unit (h .some) (h .is) (u .is) in
+    let k = sizes num den (u .p) (u .n) unit (h .some) s in
+    record {
+      E = u .p - u .n;
+      is = diff-at e num 0 den (u .p - u .n) 0 unit (h .some) (h .is) (k .1);
+      same = k .0;
+      least = under num den (u .p - u .n) unit (h .some) (k .0) (h .least);
+      most = over num den (u .p - u .n) unit (h .some) (k .0) (h .most);
+    }
+  where
+    sizes : (num den p n L : ℕ) → 0 < den → num * L + n * den ≡ p * den + 0 * L
+        → ((p - n) * den ≡ num * L) × (num * L + 0 * den ≡ (p - n) * den + 0 * L)
+    sizes num den p n L D e =
+        let wide : n * den ≤ p * den = omega arith in
+        let l : n ≤ p = le-of-mul-le-mul-right wide D in
+        let split : (p - n + n) * den ≡ p * den = ap (λ (z : ℕ). z * den) (back p n l) in
+        (omega arith, omega arith)
+
+    under : (num den E L : ℕ) → 0 < den → E * den ≡ num * L → den ≤ 1024 * num → L ≤ 1024 * E
+    under num den E L D e l = le-of-mul-le-mul-right {m = L} {n = 1024 * E} {k = den} (omega (arith, mul-le-mul-right L l)) D
+
+    over : (num den E L : ℕ) → 0 < den → E * den ≡ num * L → 2 * num ≤ den → 2 * E ≤ L
+    over num den E L D e l = le-of-mul-le-mul-right {m = 2 * E} {n = L} {k = den} (omega (arith, mul-le-mul-right L l)) D
+
+pub zero-is : Diff f0 0 0 unit
+unfolding ofBits
+zero-is = omega arith
+
+-- ---- arithmetic. T is t in units, R the length, E the epsilon; the exact t is A / D, and a / D what it is more than b.
+far : (A D a b L R E T : ℕ) → 0 < D → A ≡ a + b * D
+    → 2 ^ 54 * (A * L) ≤ 2 ^ 54 * (T * D) + 2 ^ 1 * (D * L)
+    → 2 ^ 54 * (T * R) < 2 ^ 54 * ((b * R + E) * L) + 2 ^ 23 * (L * L)
+    → R ≤ 2 ^ 22 * L → L ≤ 1024 * E → 5 * (a * R) < 7 * (E * D)
+far A D a b L R E T P e h k most least =
+    let x = mul-le-mul-right R h in
+    let y = mul-lt-mul-of-pos-right k P in
+    let z : A * L * R ≡ (a + b * D) * L * R = ap (λ (w : ℕ). w * L * R) e in
+    let r = mul-le-mul-right (D * L) most in
+    let l = mul-le-mul-right (L * D) least in
+    lt-of-mul-lt-mul-right L {m = 5 * (a * R)} {n = 7 * (E * D)} (omega arith)
+
+squares : (a R E D S L : ℕ) → 5 * (a * R) < 7 * (E * D) → S * (L * L) ≤ 2 * (R * R)
+    → a * a * (S * (L * L)) < 4 * (E * E * (D * D))
+squares a R E D S L h k =
+    let next : 5 * (a * R) + 1 ≤ 7 * (E * D) = omega arith in
+    let sq = mul-le-mul next next in
+    let m = mul-le-mul-left (a * a) k in
+    omega arith
+
+by-epsilon : (a S L E D num den : ℕ) → 0 < L → 0 < den → E * den ≡ num * L → a * a * (S * (L * L)) < 4 * (E * E * (D * D))
+    → a * a * S * (den * den) < 4 * (num * num * (D * D))
+by-epsilon a S L E D num den P Q e h =
+    let w = mul-lt-mul-of-pos-right h (mul-pos Q Q) in
+    let z : E * den * (E * den) * (D * D) ≡ num * L * (num * L) * (D * D) = ap (λ (x : ℕ). x * x * (D * D)) e in
+    lt-of-mul-lt-mul-right (L * L) {m = a * a * S * (den * den)} {n = 4 * (num * num * (D * D))} (omega arith)
+
+beyond : (A D a b L R E T S num den : ℕ) → 0 < D → 0 < L → 0 < den → A ≡ a + b * D
+    → 2 ^ 54 * (A * L) ≤ 2 ^ 54 * (T * D) + 2 ^ 1 * (D * L)
+    → 2 ^ 54 * (T * R) < 2 ^ 54 * ((b * R + E) * L) + 2 ^ 23 * (L * L)
+    → R ≤ 2 ^ 22 * L → L ≤ 1024 * E → S * (L * L) ≤ 2 * (R * R) → E * den ≡ num * L
+    → a * a * S * (den * den) < 4 * (num * num * (D * D))
+beyond A D a b L R E T S num den P Q Z e h k most least near same =
+    by-epsilon a S L E D num den Q Z same (squares a R E D S L (far A D a b L R E T P e h k most least) near)
+
+-- a product of at most 2 ^ 44 and 2 ^ 22
+size : (p n L R : ℕ) → p ≤ n + 2 ^ 44 * L → R ≤ 2 ^ 22 * L → p * R + n * 0 ≤ p * 0 + n * R + 2 ^ 66 * (L * L)
+size p n L R x y = omega (arith, mul-le-mul-right R x, mul-le-mul-left L y)
+
+size' : (p n L R : ℕ) → n ≤ p + 2 ^ 44 * L → R ≤ 2 ^ 22 * L → p * 0 + n * R ≤ p * R + n * 0 + 2 ^ 66 * (L * L)
+size' p n L R x y = omega (arith, mul-le-mul-right R x, mul-le-mul-left L y)
+
+-- ---- the test on the floats
+module _ (e : Float) (num den : ℕ) (h : Eps e num den)
+    (v : Vector2) (S : ℕ) (some : 0 < S) (g : Long v S)
+    (t : Float) (P N D : ℕ) (r : Rounded binary64 t P N D) (C : 0 < D)
+    (u : P ≤ N + 2 ^ 44 * D) (l : N ≤ P + 2 ^ 44 * D) where
+  abbrev len : Float
+  len = vector2.length v
+
+  eu : EpsUnits e num den
+  eu = eps-units e num den h
+
+  -- t is finite, and at most 2 ^ 44
+  t-near : Near unit t P N D (2 ^ 44) (2 ^ 54)
+  t-near = near64 t P N D 44 r C u l (lit≤ tt)
+
+  t-most : (p n : ℕ) → Diff t p n unit → (p ≤ n + 2 ^ 44 * unit) × (n ≤ p + 2 ^ 44 * unit)
+  t-most p n d =
+      let up = most-whole binary64 t P N D r C p n unit unit-pos d (2 ^ 44) 0 (lit≤ tt) (lit≤ tt) (turn P N D u) in
+      let dn = least-whole binary64 t P N D r C p n unit unit-pos d 0 (2 ^ 44) (lit≤ tt) (lit≤ tt) (turn' P N D l) in
+      (plain p n unit up, plain' p n unit dn)
+    where
+      turn : (P N D : ℕ) → P ≤ N + 2 ^ 44 * D → P + 0 * D ≤ 2 ^ 44 * D + N
+      turn P N D x = omega arith
+
+      turn' : (P N D : ℕ) → N ≤ P + 2 ^ 44 * D → 0 * D + N ≤ P + 2 ^ 44 * D
+      turn' P N D x = omega arith
+
+      plain : (p n L : ℕ) → p + 0 * L ≤ 2 ^ 44 * L + n → p ≤ n + 2 ^ 44 * L
+      plain p n L x = omega arith
+
+      plain' : (p n L : ℕ) → 0 * L + n ≤ p + 2 ^ 44 * L → n ≤ p + 2 ^ 44 * L
+      plain' p n L x = omega arith
+
+  -- t * length, and t * length + epsilon: one rounding each, both finite
+  module _ (p n : ℕ) (d : Diff t p n unit) where
+    product : Rounded binary64 (t ⊗ len) (p * g .R + n * 0) (p * 0 + n * g .R) (unit * unit)
+    product = mul-rounded binary64 t len p n (g .R) 0 unit unit unit-pos unit-pos d (g .is)
+
+    m-near : Near unit (t ⊗ len) (p * g .R + n * 0) (p * 0 + n * g .R) (unit * unit) (2 ^ 66) (2 ^ 54)
+    m-near =
+        let b = t-most p n d in
+        near64 (t ⊗ len) _ _ (unit * unit) 66 product (mul-pos unit-pos unit-pos)
+        (size p n unit (g .R) (b .0) (g .most)) (size' p n unit (g .R) (b .1) (g .most)) (lit≤ tt)
+
+  -- length + epsilon, in units: the sum, off by at most 2 ^ -31
+  w-size : Sized unit (len ⊕ e) false (g .R + eu .E) unit (2 ^ 23) (2 ^ 54)
+  w-size =
+      sized64 (len ⊕ e) (g .R + eu .E) (0 + 0) unit false (g .R + eu .E) 23
+      (add-over binary64 len e (g .R) 0 (eu .E) 0 unit unit-pos (g .is) (eu .is)) unit-pos (omega arith)
+      (size (g .R) (eu .E) unit (g .most) (eu .most)) (lit≤ tt)
+    where
+      size : (R E L : ℕ) → R ≤ 2 ^ 22 * L → 2 * E ≤ L → R + E ≤ 2 ^ 23 * L
+      size R E L x y = omega arith
+
+  w-least : 2 ^ 54 * (g .R + eu .E) ≤ 2 ^ 54 * w-size .count + 2 ^ 23 * unit
+  w-least = cut (g .R + eu .E) (w-size .count) unit unit-pos (w-size .least)
+    where
+      cut : (A W L : ℕ) → 0 < L → 2 ^ 54 * (A * L) ≤ 2 ^ 54 * (W * L) + 2 ^ 23 * (L * L) → 2 ^ 54 * A ≤ 2 ^ 54 * W + 2 ^ 23 * L
+      cut A W L Q x = le-of-mul-le-mul-right {m = 2 ^ 54 * A} {n = 2 ^ 54 * W + 2 ^ 23 * L} {k = L} (omega arith) Q
+
+  w-most : 2 ^ 54 * w-size .count ≤ 2 ^ 54 * (g .R + eu .E) + 2 ^ 23 * unit
+  w-most = cut (w-size .count) (g .R + eu .E) unit unit-pos (w-size .most)
+    where
+      cut : (W A L : ℕ) → 0 < L → 2 ^ 54 * (W * L) ≤ 2 ^ 54 * (A * L) + 2 ^ 23 * (L * L) → 2 ^ 54 * W ≤ 2 ^ 54 * A + 2 ^ 23 * L
+      cut W A L Q x = le-of-mul-le-mul-right {m = 2 ^ 54 * W} {n = 2 ^ 54 * A + 2 ^ 23 * L} {k = L} (omega arith) Q
+
+  w-fits : T (fits binary64 (len ⊕ e))
+  w-fits = add-fits binary64 len e
+
+  -- the length is at least 1
+  long-enough : unit ≤ g .R
+  long-enough = plain unit (g .R) (g .least 1 (lit≤ tt) some)
+    where
+      plain : (L R : ℕ) → 1 * L ≤ R → L ≤ R
+      plain L R x = omega arith
+
+  -- ---- not beyond the end
+  -- the exact parameter is at most 1
+  pub before-end : P ≤ N + D → T (fuzzyLtEps (t ⊗ len) len e)
+  before-end x =
+      let p = t-near .p in
+      let n = t-near .n in
+      let d = t-near .is in
+      let m = m-near p n d in
+      let one = most-whole binary64 t P N D r C p n unit unit-pos d 1 0 (lit≤ tt) (lit≤ tt) (turn P N D x) in
+      let most = rounded-le binary64 (t ⊗ len) _ _ (unit * unit) (product p n d) (mul-pos unit-pos unit-pos) len (g .R) 0 unit
+      unit-pos (g .fit) (g .is)
+      (scaled p n (g .R) unit one) in
+      let below = le-over (t ⊗ len) len (m .p) (m .n) (g .R) 0 unit unit-pos (m .is) (g .is) .0 most in
+      lt-over (t ⊗ len) (len ⊕ e) (m .p) (m .n) (w-size .count) 0 unit unit-pos (m .is) (w-size .is) .1
+      (less (m .p) (m .n) (g .R) (w-size .count) (eu .E) unit unit-pos below w-least (eu .least))
+    where
+      turn : (P N D : ℕ) → P ≤ N + D → P + 0 * D ≤ 1 * D + N
+      turn P N D x = omega arith
+
+      scaled : (p n R L : ℕ) → p + 0 * L ≤ 1 * L + n → (p * R + n * 0) * L + 0 * (L * L) ≤ R * (L * L) + (p * 0 + n * R) * L
+      scaled p n R L x = omega (arith, mul-le-mul-right (R * L) x)
+
+      less : (p n R W E L : ℕ) → 0 < L → p + 0 ≤ R + n → 2 ^ 54 * (R + E) ≤ 2 ^ 54 * W + 2 ^ 23 * L → L ≤ 1024 * E → p + 0 < W + n
+      less p n R W E L Q x y z = omega arith
+
+  -- where it is a / D more than 1, the point lies less than two epsilons beyond the end
+  pub beyond-end : T (fuzzyLtEps (t ⊗ len) len e) → (a : ℕ) → a + (N + D) ≡ P → a * a * S * (den * den) < 4 * (num * num * (D * D))
+  beyond-end x a q = go (leb (a + D) (2 * D)) (leb→le (a + D) (2 * D)) (nleb→lt (a + D) (2 * D))
+    where
+      -- the exact product of the floats t and length is below the float length + epsilon
+      under : (T : ℕ) → Diff t T 0 unit → T * g .R < w-size .count * unit
+      under T d = lt-of-not-le (λ (y : w-size .count * unit ≤ T * g .R). clash y)
+        where
+          scaled : (T R W L : ℕ) → W * L ≤ T * R → W * (L * L) + (T * 0 + 0 * R) * L ≤ (T * R + 0 * 0) * L + 0 * (L * L)
+          scaled T R W L y = omega (arith, mul-le-mul-right L y)
+
+          never : (p n W : ℕ) → p + 0 < W + n → W + n ≤ p + 0 → ⊥
+          never p n W a b = omega arith
+
+          clash : w-size .count * unit ≤ T * g .R → ⊥
+          clash y =
+              let m = m-near T 0 d in
+              let least = rounded-ge binary64 (t ⊗ len) _ _ (unit * unit) (product T 0 d) (mul-pos unit-pos unit-pos) (len ⊕ e)
+              (w-size .count) 0 unit unit-pos w-fits (w-size .is)
+              (scaled T (g .R) (w-size .count) unit y) in
+              never (m .p) (m .n) (w-size .count)
+              (lt-over (t ⊗ len) (len ⊕ e) (m .p) (m .n) (w-size .count) 0 unit unit-pos (m .is) (w-size .is) .0 x)
+              (le-over (len ⊕ e) (t ⊗ len) (w-size .count) 0 (m .p) (m .n) unit unit-pos (w-size .is) (m .is) .0 least)
+
+      size : (a D N P : ℕ) → a + (N + D) ≡ P → a + D + N ≡ P
+      size a D N P e = omega arith
+
+      -- a parameter above 2 is too far
+      large : 2 * D < a + D → a * a * S * (den * den) < 4 * (num * num * (D * D))
+      large y =
+          let s = sized64 t P N D false (a + D) 44 r C (size a D N P q) (up a D N P q u) (lit≤ tt) in
+          let two = least-whole binary64 t P N D r C (s .count) 0 unit unit-pos (s .is) 2 0 (lit≤ tt) (lit≤ tt)
+          (more a D N P q y) in
+          absurd (never (s .count) (g .R) (w-size .count) (eu .E) unit unit-pos two (under (s .count) (s .is)) w-most long-enough
+          (eu .most))
+        where
+          up : (a D N P : ℕ) → a + (N + D) ≡ P → P ≤ N + 2 ^ 44 * D → a + D ≤ 2 ^ 44 * D
+          up a D N P e x = omega arith
+
+          more : (a D N P : ℕ) → a + (N + D) ≡ P → 2 * D < a + D → 2 * D + N ≤ P + 0 * D
+          more a D N P e x = omega arith
+
+          never : (T R W E L : ℕ) → 0 < L → 2 * L + 0 ≤ T + 0 * L → T * R < W * L → 2 ^ 54 * W ≤ 2 ^ 54 * (R + E) + 2 ^ 23 * L
+              → L ≤ R → 2 * E ≤ L → ⊥
+          never T R W E L Q two h w long small =
+              let x = mul-le-mul-right R two in
+              let y : 2 * R * L < W * L = omega arith in
+              let z : 2 * R < W = lt-of-mul-lt-mul-right L y in
+              omega arith
+
+      near : a + D ≤ 2 * D → a * a * S * (den * den) < 4 * (num * num * (D * D))
+      near y =
+          let s = sized64 t P N D false (a + D) 1 r C (size a D N P q) y (lit≤ tt) in
+          beyond (a + D) D a 1 unit (g .R) (eu .E) (s .count) S num den C unit-pos (h .some) (one a D) (s .least)
+          (together (s .count) (g .R) (w-size .count) (eu .E) unit unit-pos (under (s .count) (s .is)) w-most) (g .most)
+          (eu .least) (g .near) (eu .same)
+        where
+          one : (a D : ℕ) → a + D ≡ a + 1 * D
+          one a D = omega arith
+
+          together : (T R W E L : ℕ) → 0 < L → T * R < W * L → 2 ^ 54 * W ≤ 2 ^ 54 * (R + E) + 2 ^ 23 * L
+              → 2 ^ 54 * (T * R) < 2 ^ 54 * ((1 * R + E) * L) + 2 ^ 23 * (L * L)
+          together T R W E L Q x y = omega (arith, mul-le-mul-right L y)
+
+      go : (b : Bool) → (T b → a + D ≤ 2 * D) → (T (not b) → 2 * D < a + D) → a * a * S * (den * den) < 4 * (num * num * (D * D))
+      go true lo hi = near (lo tt)
+      go false lo hi = large (hi tt)
+
+  -- ---- not before the start
+  -- t * length + epsilon: finite too
+  module _ (p n : ℕ) (d : Diff t p n unit) where
+    sum : Rounded binary64 (t ⊗ len ⊕ e) (m-near p n d .p + eu .E) (m-near p n d .n + 0) unit
+    sum = add-over binary64 (t ⊗ len) e (m-near p n d .p) (m-near p n d .n) (eu .E) 0 unit unit-pos (m-near p n d .is) (eu .is)
+
+    sum-near : Near unit (t ⊗ len ⊕ e) (m-near p n d .p + eu .E) (m-near p n d .n + 0) unit (2 ^ 68) (2 ^ 54)
+    sum-near =
+        let m = m-near p n d in
+        let b = t-most p n d in
+        let Q = mul-pos unit-pos unit-pos in
+        near64 (t ⊗ len ⊕ e) _ _ unit 68 sum unit-pos
+        (over (m .p) (m .n) (p * g .R + n * 0) (p * 0 + n * g .R) unit (unit * unit) (eu .E) Q (m .most)
+        (size p n unit (g .R) (b .0) (g .most)) (eu .most))
+        (under (m .p) (m .n) (p * g .R + n * 0) (p * 0 + n * g .R) unit (unit * unit) (eu .E) Q (m .least)
+        (size' p n unit (g .R) (b .1) (g .most)))
+        (lit≤ tt)
+      where
+        over : (x y X Y L c E : ℕ) → 0 < c → 2 ^ 54 * (x * c + Y * L) ≤ 2 ^ 54 * (X * L + y * c) + 2 ^ 66 * (c * L)
+            → X ≤ Y + 2 ^ 66 * c → 2 * E ≤ L
+            → x + E ≤ y + 0 + 2 ^ 68 * L
+        over x y X Y L c E Q k z b =
+            let w = mul-le-mul-right L z in
+            let m : x * c ≤ (y + 2 ^ 67 * L) * c = omega arith in
+            let o = le-of-mul-le-mul-right m Q in
+            omega arith
+
+        under : (x y X Y L c E : ℕ) → 0 < c → 2 ^ 54 * (X * L + y * c) ≤ 2 ^ 54 * (x * c + Y * L) + 2 ^ 66 * (c * L)
+            → Y ≤ X + 2 ^ 66 * c
+            → y + 0 ≤ x + E + 2 ^ 68 * L
+        under x y X Y L c E Q k z =
+            let w = mul-le-mul-right L z in
+            let m : y * c ≤ (x + 2 ^ 67 * L) * c = omega arith in
+            let o = le-of-mul-le-mul-right m Q in
+            omega arith
+
+  -- the exact parameter is at least 0
+  pub after-start : N ≤ P → T (fuzzyGtEps (t ⊗ len) f0 e)
+  after-start x =
+      let p = t-near .p in
+      let n = t-near .n in
+      let d = t-near .is in
+      let m = m-near p n d in
+      let s = sum-near p n d in
+      let zero-le = least-whole binary64 t P N D r C p n unit unit-pos d 0 0 (lit≤ tt) (lit≤ tt) (turn P N D x) in
+      let least = rounded-ge binary64 (t ⊗ len) _ _ (unit * unit) (product p n d) (mul-pos unit-pos unit-pos) f0 0 0 unit unit-pos
+      (ofBits-fits binary64 0) zero-is
+      (scaled p n (g .R) unit zero-le) in
+      let above = le-over f0 (t ⊗ len) 0 0 (m .p) (m .n) unit unit-pos zero-is (m .is) .0 least in
+      let more = rounded-ge binary64 (t ⊗ len ⊕ e) _ _ unit (sum p n d) unit-pos e (eu .E) 0 unit unit-pos (h .fit) (eu .is)
+      (added (m .p) (m .n) (eu .E) unit above) in
+      let past = le-over e (t ⊗ len ⊕ e) (eu .E) 0 (s .p) (s .n) unit unit-pos (eu .is) (s .is) .0 more in
+      lt-over f0 (t ⊗ len ⊕ e) 0 0 (s .p) (s .n) unit unit-pos zero-is (s .is) .1
+      (less (s .p) (s .n) (eu .E) unit unit-pos past (eu .least))
+    where
+      turn : (P N D : ℕ) → N ≤ P → 0 * D + N ≤ P + 0 * D
+      turn P N D x = omega arith
+
+      scaled : (p n R L : ℕ) → 0 * L + n ≤ p + 0 * L → 0 * (L * L) + (p * 0 + n * R) * L ≤ (p * R + n * 0) * L + 0 * (L * L)
+      scaled p n R L x = omega (arith, mul-le-mul-right (R * L) x)
+
+      added : (p n E L : ℕ) → 0 + n ≤ p + 0 → E * L + (n + 0) * L ≤ (p + E) * L + 0 * L
+      added p n E L x = omega (arith, mul-le-mul-right L x)
+
+      less : (p n E L : ℕ) → 0 < L → E + n ≤ p + 0 → L ≤ 1024 * E → 0 + n < p + 0
+      less p n E L Q x y = omega arith
+
+  -- where it is a / D below 0, the point lies less than two epsilons before the start
+  pub before-start : T (fuzzyGtEps (t ⊗ len) f0 e) → (a : ℕ) → a + P ≡ N → a * a * S * (den * den) < 4 * (num * num * (D * D))
+  before-start x a q = go (leb a (2 * D)) (leb→le a (2 * D)) (nleb→lt a (2 * D))
+    where
+      -- the exact product of the floats -t and length is below epsilon
+      under : (T : ℕ) → Diff t 0 T unit → T * g .R < eu .E * unit
+      under T d = lt-of-not-le (λ (y : eu .E * unit ≤ T * g .R). clash y)
+        where
+          scaled : (T R E L : ℕ) → E * L ≤ T * R → (0 * R + T * 0) * L + E * (L * L) ≤ 0 * (L * L) + (0 * 0 + T * R) * L
+          scaled T R E L y = omega (arith, mul-le-mul-right L y)
+
+          added : (p n E L : ℕ) → p + E ≤ 0 + n → (p + E) * L + 0 * L ≤ 0 * L + (n + 0) * L
+          added p n E L y = omega (arith, mul-le-mul-right L y)
+
+          never : (p n : ℕ) → 0 + n < p + 0 → p + 0 ≤ 0 + n → ⊥
+          never p n a b = omega arith
+
+          clash : eu .E * unit ≤ T * g .R → ⊥
+          clash y =
+              let m = m-near 0 T d in
+              let s = sum-near 0 T d in
+              let minus = neg-diff e (eu .E) 0 unit (eu .is) in
+              let most = rounded-le binary64 (t ⊗ len) _ _ (unit * unit) (product 0 T d) (mul-pos unit-pos unit-pos) (neg e) 0
+              (eu .E) unit unit-pos (neg-fits binary64 e (h .fit)) minus
+              (scaled T (g .R) (eu .E) unit y) in
+              let below = le-over (t ⊗ len) (neg e) (m .p) (m .n) 0 (eu .E) unit unit-pos (m .is) minus .0 most in
+              let none = rounded-le binary64 (t ⊗ len ⊕ e) _ _ unit (sum 0 T d) unit-pos f0 0 0 unit unit-pos
+              (ofBits-fits binary64 0) zero-is
+              (added (m .p) (m .n) (eu .E) unit below) in
+              never (s .p) (s .n)
+              (lt-over f0 (t ⊗ len ⊕ e) 0 0 (s .p) (s .n) unit unit-pos zero-is (s .is) .0 x)
+              (le-over (t ⊗ len ⊕ e) f0 (s .p) (s .n) 0 0 unit unit-pos (s .is) zero-is .0 none)
+
+      large : 2 * D < a → a * a * S * (den * den) < 4 * (num * num * (D * D))
+      large y =
+          let s = sized64 t P N D true a 44 r C q (up a D N P q l) (lit≤ tt) in
+          let two = most-whole binary64 t P N D r C 0 (s .count) unit unit-pos (s .is) 0 2 (lit≤ tt) (lit≤ tt) (more a D N P q y) in
+          absurd (never (s .count) (g .R) (eu .E) unit unit-pos two (under (s .count) (s .is)) long-enough (eu .most))
+        where
+          up : (a D N P : ℕ) → a + P ≡ N → N ≤ P + 2 ^ 44 * D → a ≤ 2 ^ 44 * D
+          up a D N P e x = omega arith
+
+          more : (a D N P : ℕ) → a + P ≡ N → 2 * D < a → P + 2 * D ≤ 0 * D + N
+          more a D N P e x = omega arith
+
+          never : (T R E L : ℕ) → 0 < L → 0 + 2 * L ≤ 0 * L + T → T * R < E * L → L ≤ R → 2 * E ≤ L → ⊥
+          never T R E L Q two h long small =
+              let x = mul-le-mul-right R two in
+              let y : 2 * R * L < E * L = omega arith in
+              let z : 2 * R < E = lt-of-mul-lt-mul-right L y in
+              omega arith
+
+      near : a ≤ 2 * D → a * a * S * (den * den) < 4 * (num * num * (D * D))
+      near y =
+          let s = sized64 t P N D true a 1 r C q y (lit≤ tt) in
+          beyond a D a 0 unit (g .R) (eu .E) (s .count) S num den C unit-pos (h .some) (one a D) (s .least)
+          (together (s .count) (g .R) (eu .E) unit unit-pos (under (s .count) (s .is))) (g .most) (eu .least) (g .near) (eu .same)
+        where
+          one : (a D : ℕ) → a ≡ a + 0 * D
+          one a D = omega arith
+
+          together : (T R E L : ℕ) → 0 < L → T * R < E * L → 2 ^ 54 * (T * R) < 2 ^ 54 * ((0 * R + E) * L) + 2 ^ 23 * (L * L)
+          together T R E L Q x = omega arith
+
+      go : (b : Bool) → (T b → a ≤ 2 * D) → (T (not b) → 2 * D < a) → a * a * S * (den * den) < 4 * (num * num * (D * D))
+      go true lo hi = near (lo tt)
+      go false lo hi = large (hi tt)
+
+  -- ---- both
+  pub within-yes : N ≤ P → P ≤ N + D → within t v e ≡ true
+  unfolding within fuzzyInRangeEps
+  within-yes x y = is-true _ (and-i (fuzzyGtEps (t ⊗ len) f0 e) (fuzzyLtEps (t ⊗ len) len e) (after-start x) (before-end y))
+
+  -- a yes is right but for less than two epsilons
+  pub within-says : within t v e ≡ true → Reaches S num den P N D
+  unfolding within fuzzyInRangeEps
+  within-says x =
+      let w : T (fuzzyGtEps (t ⊗ len) f0 e && fuzzyLtEps (t ⊗ len) len e) = subst T (sym x) tt in
+      record {
+        end = beyond-end (and-r (fuzzyGtEps (t ⊗ len) f0 e) (fuzzyLtEps (t ⊗ len) len e) w);
+        start = before-start (and-l (fuzzyGtEps (t ⊗ len) f0 e) (fuzzyLtEps (t ⊗ len) len e) w);
+      }

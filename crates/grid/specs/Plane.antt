@@ -1,0 +1,12 @@
+pub mod Whole
+pub mod Ring
+pub mod Order
+pub mod Sides
+pub mod Cross
+pub mod Beyond
+pub mod Spots
+pub mod Points
+pub mod Spans
+pub mod Overlap
+pub mod Parts
+pub mod Keeps

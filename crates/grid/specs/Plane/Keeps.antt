@@ -1,0 +1,214 @@
+-- What an answer must show so that the promise is kept: with lines that cross, by the meeting; with parallel ones, by what is shared.
+-- What is left after this is about the floats that the answer was worked out with.
+use mathlib.Core.Path.{_≡_, refl, subst}
+use mathlib.Core.Logic.{_⊎_, inl, inr, _↔_}
+use Prim.Native.Nat.{ℕ}
+use native.Mathlib.Omega.{arith}
+use lib.IntN.{ℤ, pos, _-ℤ_}
+use Rattle.plane.specs.declared.vector2.Vector2.{Vector2}
+use Rattle.crossing.specs.declared.pline_seg_intersect.PlineSegIntr.{PlineSegIntr}
+use Rattle.crossing.specs.declared.pline_seg_intersect.PlineSegIntr.the-variants.{NoIntersect, OneIntersect, OverlappingLines}
+use Rattle.grid.specs.Promise.{Spot, Parallel, Share, ShareMore, Reached, Within, Kept}
+use Rattle.grid.specs.Plane.Cross.{
+  Between,
+  base,
+  steps-v,
+  steps-u,
+  meeting,
+  meeting-crosses,
+  shared-between,
+  share-once,
+}
+use Rattle.grid.specs.Plane.Sides.{way, cross}
+use Rattle.grid.specs.Plane.Points.{
+  Collinear,
+  share-collinear,
+  both-points,
+  first-point-by-x,
+  first-point-by-y,
+  first-point-once,
+  second-point-by-x,
+  second-point-by-y,
+  second-point-once,
+  line-of-v,
+  cross-flipped,
+}
+use Rattle.grid.specs.Plane.Spots.{Same, Level, flip}
+use Rattle.grid.specs.Plane.Spans.{Meet, MeetMore, size, mark}
+use Rattle.grid.specs.Plane.Overlap.{overlap-by-x, overlap-more-by-x, overlap-by-y, overlap-more-by-y}
+
+-- ---- answers are told apart
+none-or-one : (r : PlineSegIntr) (p q o : Vector2) → (r ≡ NoIntersect) ⊎ (r ≡ OneIntersect o) → r ≡ OverlappingLines p q → ⊥
+none-or-one r p q o (inl e) f = let z : _≡_ {A = ℕ} 0 1 = cc in omega arith
+none-or-one r p q o (inr e) f = let z : _≡_ {A = ℕ} 0 1 = cc in omega arith
+
+not-one : (r : PlineSegIntr) (p : Vector2) → r ≡ NoIntersect → r ≡ OneIntersect p → ⊥
+not-one r p e f = let z : _≡_ {A = ℕ} 0 1 = cc in omega arith
+
+same-one : (o p : Vector2) → OneIntersect o ≡ OneIntersect p → o ≡ p
+same-one o p e = cc
+
+-- ---- lines that cross: none where a place is not from 0 to 1, or one near to the meeting, which is near to both
+module _ (v1 v2 u1 u2 : Spot) (slant : ¬ Parallel v1 v2 u1 u2) (num den : ℕ) where
+  pub slanted-none : (Between (steps-v v1 v2 u1 u2) (base v1 v2 u1 u2) → Between (steps-u v1 v2 u1 u2) (base v1 v2 u1 u2) → ⊥)
+      → Kept v1 v2 u1 u2 num den NoIntersect
+  slanted-none n =
+      record {
+        none-missed = λ e s. let both = shared-between v1 v2 u1 u2 slant s in n (both .0) (both .1);
+        overlap = (
+          λ o. absurd (none-or-one NoIntersect (o .0) (o .1) (o .0) (inl refl) (o .2)),
+          λ s. absurd (share-once v1 v2 u1 u2 slant s),
+        );
+        beyond = λ p e s. absurd (not-one NoIntersect p refl e);
+        exact = λ p e s. absurd (not-one NoIntersect p refl e);
+      }
+
+  pub slanted-one : (o : Vector2)
+      → Reached (meeting v1 v2 u1 u2 slant) v1 v2 num den
+      → Reached (meeting v1 v2 u1 u2 slant) u1 u2 num den
+      → Within (o .x) (meeting v1 v2 u1 u2 slant .x) (base v1 v2 u1 u2)
+      → Within (o .y) (meeting v1 v2 u1 u2 slant .y) (base v1 v2 u1 u2)
+      → Kept v1 v2 u1 u2 num den (OneIntersect o)
+  slanted-one o near-v near-u near-x near-y =
+      let P = meeting v1 v2 u1 u2 slant in
+      record {
+        none-missed = λ e s. not-one (OneIntersect o) o e refl;
+        overlap = (
+          λ p. absurd (none-or-one (OneIntersect o) (p .0) (p .1) o (inr refl) (p .2)),
+          λ s. absurd (share-once v1 v2 u1 u2 slant s),
+        );
+        beyond = λ p e s. (slant, P, meeting-crosses v1 v2 u1 u2 slant, near-v, near-u);
+        exact = λ p e s. (
+          P,
+          meeting-crosses v1 v2 u1 u2 slant,
+          subst (λ (z : Vector2). Within (z .x) (P .x) (P .over)) (same-one o p e) near-x,
+          subst (λ (z : Vector2). Within (z .y) (P .y) (P .over)) (same-one o p e) near-y,
+        );
+      }
+
+-- ---- parallel lines: none where nothing is shared, one where one point is, lines where more are
+abbrev pub Told : Spot → Spot → Spot → Spot → PlineSegIntr → Type 0
+Told v1 v2 u1 u2 r =
+    ((r ≡ NoIntersect) × (¬ Share v1 v2 u1 u2))
+    ⊎ ((p : Vector2) × (r ≡ OneIntersect p) × Share v1 v2 u1 u2 × (¬ ShareMore v1 v2 u1 u2))
+    ⊎ ((p : Vector2) × (q : Vector2) × (r ≡ OverlappingLines p q) × ShareMore v1 v2 u1 u2)
+
+share-of-more : (v1 v2 u1 u2 : Spot) → ShareMore v1 v2 u1 u2 → Share v1 v2 u1 u2
+share-of-more v1 v2 u1 u2 s = (s .0, s .3)
+
+pub parallel-kept : (v1 v2 u1 u2 : Spot) (num den : ℕ) (r : PlineSegIntr) → Parallel v1 v2 u1 u2 → Told v1 v2 u1 u2 r
+    → Kept v1 v2 u1 u2 num den r
+parallel-kept v1 v2 u1 u2 num den r par (inl (e, n)) =
+    record {
+      none-missed = λ f. n;
+      overlap = (
+        λ o. absurd (none-or-one r (o .0) (o .1) (o .0) (inl e) (o .2)),
+        λ s. absurd (n (share-of-more v1 v2 u1 u2 s)),
+      );
+      beyond = λ p f s. let z : _≡_ {A = ℕ} 0 1 = cc in absurd (omega arith);
+      exact = λ p f s. absurd (s par);
+    }
+parallel-kept v1 v2 u1 u2 num den r par (inr (inl (p, e, s, n))) =
+    record {
+      none-missed = λ f. let z : _≡_ {A = ℕ} 0 1 = cc in absurd (omega arith);
+      overlap = (λ o. absurd (none-or-one r (o .0) (o .1) p (inr e) (o .2)), λ m. absurd (n m));
+      beyond = λ q f not. absurd (not s);
+      exact = λ q f slant. absurd (slant par);
+    }
+parallel-kept v1 v2 u1 u2 num den r par (inr (inr (p, q, e, s))) =
+    record {
+      none-missed = λ f. let z : _≡_ {A = ℕ} 0 1 = cc in absurd (omega arith);
+      overlap = (λ o. s, λ m. (p, q, e));
+      beyond = λ o f not. absurd (not (share-of-more v1 v2 u1 u2 s));
+      exact = λ o f slant. absurd (slant par);
+    }
+
+-- ---- parallel lines that are not one
+pub apart-told : (v1 v2 u1 u2 : Spot) (r : PlineSegIntr) → Parallel v1 v2 u1 u2 → ¬ Collinear v1 v2 u1 u2 → r ≡ NoIntersect
+    → Told v1 v2 u1 u2 r
+apart-told v1 v2 u1 u2 r par n e = inl (e, λ s. n (share-collinear v1 v2 u1 u2 par s))
+
+-- ---- on one line, both with length: by the spans along x, or along y
+abbrev pub ToldBySpans : ℤ → ℤ → ℕ → PlineSegIntr → Type 0
+ToldBySpans a b k r =
+    ((r ≡ NoIntersect) × (¬ Meet a b k))
+    ⊎ ((p : Vector2) × (r ≡ OneIntersect p) × Meet a b k × (¬ MeetMore a b k))
+    ⊎ ((p : Vector2) × (q : Vector2) × (r ≡ OverlappingLines p q) × MeetMore a b k)
+
+module _ (v1 v2 u1 u2 : Spot) (a b : ℤ) (k : ℕ) (r : PlineSegIntr)
+    (meets : Share v1 v2 u1 u2 ↔ Meet a b k)
+    (more : ShareMore v1 v2 u1 u2 ↔ MeetMore a b k) where
+  told-of : ToldBySpans a b k r → Told v1 v2 u1 u2 r
+  told-of (inl (e, n)) = inl (e, λ s. n (meets .0 s))
+  told-of (inr (inl (p, e, m, n))) = inr (inl (p, e, meets .1 m, λ s. n (more .0 s)))
+  told-of (inr (inr (p, q, e, m))) = inr (inr (p, q, e, more .1 m))
+
+pub spans-told-by-x : (v1 v2 u1 u2 : Spot) (r : PlineSegIntr) → Collinear v1 v2 u1 u2 → ¬ Same v1 v2
+    → ((u2 .x -ℤ u1 .x) ≡ pos 0 → ⊥)
+    → ToldBySpans (mark u1 u2 v1) (mark u1 u2 v2) (size u1 u2) r
+    → Told v1 v2 u1 u2 r
+spans-told-by-x v1 v2 u1 u2 r c long slant =
+    told-of v1 v2 u1 u2 (mark u1 u2 v1) (mark u1 u2 v2) (size u1 u2) r
+    (overlap-by-x v1 v2 u1 u2 c slant) (overlap-more-by-x v1 v2 u1 u2 c slant long)
+
+pub spans-told-by-y : (v1 v2 u1 u2 : Spot) (r : PlineSegIntr) → Collinear v1 v2 u1 u2 → ¬ Same v1 v2
+    → ((u2 .y -ℤ u1 .y) ≡ pos 0 → ⊥)
+    → ToldBySpans (mark (flip u1) (flip u2) (flip v1)) (mark (flip u1) (flip u2) (flip v2)) (size (flip u1) (flip u2)) r
+    → Told v1 v2 u1 u2 r
+spans-told-by-y v1 v2 u1 u2 r c long slant =
+    told-of v1 v2 u1 u2 (mark (flip u1) (flip u2) (flip v1)) (mark (flip u1) (flip u2) (flip v2)) (size (flip u1) (flip u2)) r
+    (overlap-by-y v1 v2 u1 u2 c slant) (overlap-more-by-y v1 v2 u1 u2 c slant long)
+
+-- ---- on one line, one without length or both: one exactly if the point lies on the other
+abbrev pub ToldIf : Type 0 → PlineSegIntr → Type 0
+ToldIf A r = ((r ≡ NoIntersect) × (¬ A)) ⊎ ((p : Vector2) × (r ≡ OneIntersect p) × A)
+
+pub told-if : (v1 v2 u1 u2 : Spot) (A : Type 0) (r : PlineSegIntr) → Share v1 v2 u1 u2 ↔ A → ¬ ShareMore v1 v2 u1 u2 → ToldIf A r
+    → Told v1 v2 u1 u2 r
+told-if v1 v2 u1 u2 A r meets once (inl (e, n)) = inl (e, λ s. n (meets .0 s))
+told-if v1 v2 u1 u2 A r meets once (inr (p, e, h)) = inr (inl (p, e, meets .1 h, once))
+
+pub both-told : (v1 v2 u1 u2 : Spot) (r : PlineSegIntr) → Same v1 v2 → Same u1 u2 → ToldIf (Same v1 u1) r → Told v1 v2 u1 u2 r
+both-told v1 v2 u1 u2 r sv su =
+    told-if v1 v2 u1 u2 (Same v1 u1) r (both-points v1 v2 u1 u2 sv su) (first-point-once v1 v2 u1 u2 sv)
+
+-- a grid point on a line, by its place along x alone
+level-between : (a b p : Spot) → cross (way a b) (way a p) ≡ pos 0 → Level a b p ↔ Between (mark a b p) (size a b)
+level-between a b p l = (λ h. h .on-axis, λ h. record { on-line = l; on-axis = h })
+
+both-ways : {A B C : Type 0} → A ↔ B → B ↔ C → A ↔ C
+both-ways f g = (λ h. g .0 (f .0 h), λ h. f .1 (g .1 h))
+
+module _ (v1 v2 u1 u2 : Spot) (r : PlineSegIntr) (c : Collinear v1 v2 u1 u2) where
+  pub first-told-by-x : Same v1 v2 → ((u2 .x -ℤ u1 .x) ≡ pos 0 → ⊥) → ToldIf (Between (mark u1 u2 v1) (size u1 u2)) r
+      → Told v1 v2 u1 u2 r
+  first-told-by-x still slant =
+      told-if v1 v2 u1 u2 (Between (mark u1 u2 v1) (size u1 u2)) r
+      (both-ways (first-point-by-x v1 v2 u1 u2 still slant) (level-between u1 u2 v1 (c .from-u)))
+      (first-point-once v1 v2 u1 u2 still)
+
+  pub first-told-by-y : Same v1 v2 → ((u2 .y -ℤ u1 .y) ≡ pos 0 → ⊥)
+      → ToldIf (Between (mark (flip u1) (flip u2) (flip v1)) (size (flip u1) (flip u2))) r
+      → Told v1 v2 u1 u2 r
+  first-told-by-y still slant =
+      told-if v1 v2 u1 u2 (Between (mark (flip u1) (flip u2) (flip v1)) (size (flip u1) (flip u2))) r
+      (both-ways (first-point-by-y v1 v2 u1 u2 still slant)
+      (level-between (flip u1) (flip u2) (flip v1) (cross-flipped (way u1 u2) (way u1 v1) (c .from-u))))
+      (first-point-once v1 v2 u1 u2 still)
+
+  pub second-told-by-x : Same u1 u2 → ((v2 .x -ℤ v1 .x) ≡ pos 0 → ⊥) → ToldIf (Between (mark v1 v2 u1) (size v1 v2)) r
+      → Told v1 v2 u1 u2 r
+  second-told-by-x still slant =
+      told-if v1 v2 u1 u2 (Between (mark v1 v2 u1) (size v1 v2)) r
+      (both-ways (second-point-by-x v1 v2 u1 u2 still slant) (level-between v1 v2 u1 (line-of-v v1 v2 u1 u2 (c .from-v))))
+      (second-point-once v1 v2 u1 u2 still)
+
+  pub second-told-by-y : Same u1 u2 → ((v2 .y -ℤ v1 .y) ≡ pos 0 → ⊥)
+      → ToldIf (Between (mark (flip v1) (flip v2) (flip u1)) (size (flip v1) (flip v2))) r
+      → Told v1 v2 u1 u2 r
+  second-told-by-y still slant =
+      told-if v1 v2 u1 u2 (Between (mark (flip v1) (flip v2) (flip u1)) (size (flip v1) (flip v2))) r
+      (both-ways (second-point-by-y v1 v2 u1 u2 still slant)
+      (level-between (flip v1) (flip v2) (flip u1)
+      (cross-flipped (way v1 v2) (way v1 u1) (line-of-v v1 v2 u1 u2 (c .from-v)))))
+      (second-point-once v1 v2 u1 u2 still)

@@ -1,0 +1,412 @@
+-- Two segments on one line, measured on u along the x axis, or along the y axis where u is upright: they share a point exactly if the
+-- spans meet, and more than one exactly if the spans meet in more than one. What they share is found at their ends.
+use mathlib.Core.Path.{_≡_, sym, ap, _∙_, subst}
+use mathlib.Core.Logic.{_⊎_, inl, inr, _↔_}
+use mathlib.Core.List.{[], _∷_}
+use Prim.Native.Nat.{ℕ, _<_}
+use native.Mathlib.Omega.{arith}
+use lib.IntN.{ℤ, pos, negℤ, natAbs, _-ℤ_, _*ℤ_}
+use lib.Signed.{_≤ℤ_, _<ℤ_, clashℤ, ≤ℤ-refl, <ℤ-≤ℤ-trans}
+use Rattle.grid.specs.Promise.{Spot, Shared, Share, ShareMore}
+use Rattle.grid.specs.Plane.Whole.{whole, naturals}
+use Rattle.grid.specs.Plane.Ring.{solve, combine, combine2, equal-of-sub, var, num, neg, _⊟_, _⊠_}
+use Rattle.grid.specs.Plane.Order.{
+  cancel,
+  cancel-any,
+  lt-of-le-ne,
+  turned-same,
+  pos-le,
+  turned,
+  sign,
+  Plain,
+  Minus,
+  inside,
+  size-pos,
+  lt-or-le,
+}
+use Rattle.grid.specs.Plane.Sides.{way, cross, across}
+use Rattle.grid.specs.Plane.Cross.{Between}
+use Rattle.grid.specs.Plane.Points.{Collinear, line-of-v, cross-flipped}
+use Rattle.grid.specs.Plane.Spots.{
+  spot,
+  one-pos,
+  start-on,
+  end-on,
+  Same,
+  level-on,
+  spot-once,
+  flip,
+  share-flipped,
+  share-more-flipped,
+  share-reversed,
+  share-more-reversed,
+}
+use Rattle.grid.specs.Plane.Spans.{
+  Meet,
+  MeetMore,
+  size,
+  mark,
+  seen,
+  not-past,
+  not-before,
+  past-end,
+  before-start,
+}
+
+-- ---- what is shared says that the spans meet
+pub shared-meet : (v1 v2 u1 u2 : Spot) → Share v1 v2 u1 u2 → Meet (mark u1 u2 v1) (mark u1 u2 v2) (size u1 u2)
+shared-meet v1 v2 u1 u2 (P, (p, q)) =
+    let h = seen v1 v2 u1 u2 P p q in (
+      not-past u1 u2 P (mark u1 u2 v1) (mark u1 u2 v2) (size u1 u2) h,
+      not-before u1 u2 P (mark u1 u2 v1) (mark u1 u2 v2) (size u1 u2) h,
+    )
+
+pub shared-more-meet : (v1 v2 u1 u2 : Spot) → 0 < size u1 u2 → ShareMore v1 v2 u1 u2
+    → MeetMore (mark u1 u2 v1) (mark u1 u2 v2) (size u1 u2)
+shared-more-meet v1 v2 u1 u2 K (P, Q, apart, (p, p'), (q, q')) = (
+  past (lt-or-le a (pos k)) (lt-or-le b (pos k)),
+  before (lt-or-le (pos 0) a) (lt-or-le (pos 0) b),
+)
+  where
+    a : ℤ
+    a = mark u1 u2 v1
+
+    b : ℤ
+    b = mark u1 u2 v2
+
+    k : ℕ
+    k = size u1 u2
+
+    past : (a <ℤ pos k) ⊎ (pos k ≤ℤ a) → (b <ℤ pos k) ⊎ (pos k ≤ℤ b) → (a <ℤ pos k) ⊎ (b <ℤ pos k)
+    past (inl l) m = inl l
+    past (inr l) (inl m) = inr m
+    past (inr l) (inr m) =
+        absurd (spot-once P Q u2
+        (past-end u1 u2 P a b k (seen v1 v2 u1 u2 P p p') K l m)
+        (past-end u1 u2 Q a b k (seen v1 v2 u1 u2 Q q q') K l m) apart)
+
+    before : (pos 0 <ℤ a) ⊎ (a ≤ℤ pos 0) → (pos 0 <ℤ b) ⊎ (b ≤ℤ pos 0) → (pos 0 <ℤ a) ⊎ (pos 0 <ℤ b)
+    before (inl l) m = inl l
+    before (inr l) (inl m) = inr m
+    before (inr l) (inr m) =
+        absurd (spot-once P Q u1
+        (before-start u1 u2 P a b k (seen v1 v2 u1 u2 P p p') K l m)
+        (before-start u1 u2 Q a b k (seen v1 v2 u1 u2 Q q q') K l m) apart)
+
+-- ---- the ends of each lie on the other's line
+second-on-u : (v1 v2 u1 u2 : Spot) → Collinear v1 v2 u1 u2 → cross (way u1 u2) (way u1 v2) ≡ pos 0
+second-on-u v1 v2 u1 u2 c =
+    let X = var 0 in let Y = var 1 in let X2 = var 2 in let Y2 = var 3 in
+    let A = var 4 in let B = var 5 in let A2 = var 6 in let B2 = var 7 in
+    combine2 (v1 .x ∷ v1 .y ∷ v2 .x ∷ v2 .y ∷ u1 .x ∷ u1 .y ∷ u2 .x ∷ u2 .y ∷ [])
+    ((A2 ⊟ A) ⊠ (Y2 ⊟ B) ⊟ (B2 ⊟ B) ⊠ (X2 ⊟ A)) (num 0)
+    (num 1) ((A2 ⊟ A) ⊠ (Y ⊟ B) ⊟ (B2 ⊟ B) ⊠ (X ⊟ A)) (num 0)
+    (neg (num 1)) ((X2 ⊟ X) ⊠ (B2 ⊟ B) ⊟ (Y2 ⊟ Y) ⊠ (A2 ⊟ A)) (num 0) (c .from-u) (c .parallel) tt
+
+second-on-v : (v1 v2 u1 u2 : Spot) → Collinear v1 v2 u1 u2 → cross (way v1 v2) (way v1 u2) ≡ pos 0
+second-on-v v1 v2 u1 u2 c =
+    let X = var 0 in let Y = var 1 in let X2 = var 2 in let Y2 = var 3 in
+    let A = var 4 in let B = var 5 in let A2 = var 6 in let B2 = var 7 in
+    combine2 (v1 .x ∷ v1 .y ∷ v2 .x ∷ v2 .y ∷ u1 .x ∷ u1 .y ∷ u2 .x ∷ u2 .y ∷ [])
+    ((X2 ⊟ X) ⊠ (B2 ⊟ Y) ⊟ (Y2 ⊟ Y) ⊠ (A2 ⊟ X)) (num 0)
+    (neg (num 1)) ((X2 ⊟ X) ⊠ (Y ⊟ B) ⊟ (Y2 ⊟ Y) ⊠ (X ⊟ A)) (num 0)
+    (num 1) ((X2 ⊟ X) ⊠ (B2 ⊟ B) ⊟ (Y2 ⊟ Y) ⊠ (A2 ⊟ A)) (num 0) (c .from-v) (c .parallel) tt
+
+-- ---- an end of u inside v, on the x axis
+-- v begins before u's start, and does not end before it
+start-inside : (x x2 a a2 : ℤ) → turned (a2 -ℤ a) (x -ℤ a) <ℤ pos 0 → pos 0 ≤ℤ turned (a2 -ℤ a) (x2 -ℤ a)
+    → Between (turned (x2 -ℤ x) (a -ℤ x)) (natAbs (x2 -ℤ x))
+start-inside x x2 a a2 h k = inside (x2 -ℤ x) (a -ℤ x) (go (sign (a2 -ℤ a)))
+  where
+    up : (x x2 a : ℤ) → (x -ℤ a) <ℤ pos 0 → pos 0 ≤ℤ (x2 -ℤ a) → (pos 0 ≤ℤ (a -ℤ x)) × ((a -ℤ x) ≤ℤ (x2 -ℤ x))
+    up x x2 a = rw (← whole x, ← whole x2, ← whole a) (simp naturals (omega arith))
+
+    down : (x x2 a : ℤ) → negℤ (x -ℤ a) <ℤ pos 0 → pos 0 ≤ℤ negℤ (x2 -ℤ a) → ((x2 -ℤ x) ≤ℤ (a -ℤ x)) × ((a -ℤ x) ≤ℤ pos 0)
+    down x x2 a = rw (← whole x, ← whole x2, ← whole a) (simp naturals (omega arith))
+
+    go : Plain (a2 -ℤ a) ⊎ Minus (a2 -ℤ a)
+        → ((pos 0 ≤ℤ (a -ℤ x)) × ((a -ℤ x) ≤ℤ (x2 -ℤ x))) ⊎ (((x2 -ℤ x) ≤ℤ (a -ℤ x)) × ((a -ℤ x) ≤ℤ pos 0))
+    go (inl e) =
+        inl (up x x2 a (subst (λ (z : ℤ). z <ℤ pos 0) (e .turn (x -ℤ a)) h) (subst (λ (z : ℤ). pos 0 ≤ℤ z) (e .turn (x2 -ℤ a)) k))
+    go (inr e) =
+        inr (down x x2 a (subst (λ (z : ℤ). z <ℤ pos 0) (e .turn (x -ℤ a)) h) (subst (λ (z : ℤ). pos 0 ≤ℤ z) (e .turn (x2 -ℤ a)) k))
+
+-- v begins before u's end, and does not end before it
+end-inside : (x x2 a a2 : ℤ) → turned (a2 -ℤ a) (x -ℤ a) <ℤ pos (natAbs (a2 -ℤ a))
+    → pos (natAbs (a2 -ℤ a)) ≤ℤ turned (a2 -ℤ a) (x2 -ℤ a)
+    → Between (turned (x2 -ℤ x) (a2 -ℤ x)) (natAbs (x2 -ℤ x))
+end-inside x x2 a a2 h k = inside (x2 -ℤ x) (a2 -ℤ x) (go (sign (a2 -ℤ a)))
+  where
+    up : (x x2 a a2 : ℤ) → (x -ℤ a) <ℤ (a2 -ℤ a) → (a2 -ℤ a) ≤ℤ (x2 -ℤ a) → (pos 0 ≤ℤ (a2 -ℤ x)) × ((a2 -ℤ x) ≤ℤ (x2 -ℤ x))
+    up x x2 a a2 = rw (← whole x, ← whole x2, ← whole a, ← whole a2) (simp naturals (omega arith))
+
+    down : (x x2 a a2 : ℤ) → negℤ (x -ℤ a) <ℤ negℤ (a2 -ℤ a) → negℤ (a2 -ℤ a) ≤ℤ negℤ (x2 -ℤ a)
+        → ((x2 -ℤ x) ≤ℤ (a2 -ℤ x)) × ((a2 -ℤ x) ≤ℤ pos 0)
+    down x x2 a a2 = rw (← whole x, ← whole x2, ← whole a, ← whole a2) (simp naturals (omega arith))
+
+    first-at : (z d : ℤ) → turned (a2 -ℤ a) (x -ℤ a) ≡ z → pos (natAbs (a2 -ℤ a)) ≡ d → z <ℤ d
+    first-at z d e f = subst (λ (w : ℤ). z <ℤ w) f (subst (λ (w : ℤ). w <ℤ pos (natAbs (a2 -ℤ a))) e h)
+
+    last-at : (z d : ℤ) → turned (a2 -ℤ a) (x2 -ℤ a) ≡ z → pos (natAbs (a2 -ℤ a)) ≡ d → d ≤ℤ z
+    last-at z d e f = subst (λ (w : ℤ). w ≤ℤ z) f (subst (λ (w : ℤ). pos (natAbs (a2 -ℤ a)) ≤ℤ w) e k)
+
+    go : Plain (a2 -ℤ a) ⊎ Minus (a2 -ℤ a)
+        → ((pos 0 ≤ℤ (a2 -ℤ x)) × ((a2 -ℤ x) ≤ℤ (x2 -ℤ x))) ⊎ (((x2 -ℤ x) ≤ℤ (a2 -ℤ x)) × ((a2 -ℤ x) ≤ℤ pos 0))
+    go (inl e) =
+        inl (up x x2 a a2
+        (first-at (x -ℤ a) (a2 -ℤ a) (e .turn (x -ℤ a)) (e .size))
+        (last-at (x2 -ℤ a) (a2 -ℤ a) (e .turn (x2 -ℤ a)) (e .size)))
+    go (inr e) =
+        inr (down x x2 a a2
+        (first-at (negℤ (x -ℤ a)) (negℤ (a2 -ℤ a)) (e .turn (x -ℤ a)) (e .size))
+        (last-at (negℤ (x2 -ℤ a)) (negℤ (a2 -ℤ a)) (e .turn (x2 -ℤ a)) (e .size)))
+
+-- ---- spans that meet say what is shared
+-- before 0, from 0 to k, or past k
+abbrev Where : ℤ → ℕ → Type 0
+Where m k = (m <ℤ pos 0) ⊎ Between m k ⊎ (pos k <ℤ m)
+
+where-is : (m : ℤ) (k : ℕ) → Where m k
+where-is m k = go (lt-or-le m (pos 0)) (lt-or-le (pos k) m)
+  where
+    go : (m <ℤ pos 0) ⊎ (pos 0 ≤ℤ m) → (pos k <ℤ m) ⊎ (m ≤ℤ pos k) → Where m k
+    go (inl l) h = inl l
+    go (inr l) (inl h) = inr (inr h)
+    go (inr l) (inr h) = inr (inl (l, h))
+
+le-of-lt : (a b : ℤ) → a <ℤ b → a ≤ℤ b
+le-of-lt a b = rw (← whole a, ← whole b) (simp naturals (omega arith))
+
+lt-trans-le : (a b c : ℤ) → a ≤ℤ b → b <ℤ c → a <ℤ c
+lt-trans-le a b c = rw (← whole a, ← whole b, ← whole c) (simp naturals (omega arith))
+
+lt-le : (a b c : ℤ) → a <ℤ b → b ≤ℤ c → a <ℤ c
+lt-le a b c h k = <ℤ-≤ℤ-trans h k
+
+past-zero : (k : ℕ) (m : ℤ) → pos k <ℤ m → pos 0 <ℤ m
+past-zero k m h = lt-trans-le (pos 0) (pos k) m (pos-le 0 k .1 (omega arith)) h
+
+lt-trans : (a b c : ℤ) → a <ℤ b → b <ℤ c → a <ℤ c
+lt-trans a b c = rw (← whole a, ← whole b, ← whole c) (simp naturals (omega arith))
+
+-- two grid points with places in this order differ on the axis
+pub marks-differ : (u1 u2 p q : Spot) → mark u1 u2 p <ℤ mark u1 u2 q → p .x ≡ q .x → ⊥
+marks-differ u1 u2 p q l e =
+    clashℤ l (le-of-eq (ap (λ (z : ℤ). turned (u2 .x -ℤ u1 .x) (z -ℤ u1 .x)) e))
+  where
+    le-of-eq : {a b : ℤ} → a ≡ b → b ≤ℤ a
+    le-of-eq {a} {b} e = subst (λ (z : ℤ). z ≤ℤ a) e (≤ℤ-refl a)
+
+not-zero : (x y : ℤ) → (x ≡ y → ⊥) → (y -ℤ x) ≡ pos 0 → ⊥
+not-zero x y n h = n (sym (equal-of-sub y x h))
+
+module _ (v1 v2 u1 u2 : Spot) (c : Collinear v1 v2 u1 u2) (slant : (u2 .x -ℤ u1 .x) ≡ pos 0 → ⊥) where
+  -- an end of v on u
+  first-end : Between (mark u1 u2 v1) (size u1 u2) → Shared v1 v2 u1 u2 (spot v1)
+  first-end h = (start-on v1 v2, level-on u1 u2 v1 slant (record { on-line = c .from-u; on-axis = h }))
+
+  last-end : Between (mark u1 u2 v2) (size u1 u2) → Shared v1 v2 u1 u2 (spot v2)
+  last-end h =
+      (end-on v1 v2, level-on u1 u2 v2 slant (record { on-line = second-on-u v1 v2 u1 u2 c; on-axis = h }))
+
+  -- an end of u on v
+  u-start : mark u1 u2 v1 <ℤ pos 0 → pos 0 ≤ℤ mark u1 u2 v2 → Shared v1 v2 u1 u2 (spot u1)
+  u-start l h = (
+    level-on v1 v2 u1 (not-zero (v1 .x) (v2 .x) (marks-differ u1 u2 v1 v2 (lt-le (mark u1 u2 v1) (pos 0) (mark u1 u2 v2) l h)))
+        (record { on-line = line-of-v v1 v2 u1 u2 (c .from-v); on-axis = start-inside (v1 .x) (v2 .x) (u1 .x) (u2 .x) l h }),
+    start-on u1 u2,
+  )
+
+  u-end : mark u1 u2 v1 <ℤ pos (size u1 u2) → pos (size u1 u2) ≤ℤ mark u1 u2 v2 → Shared v1 v2 u1 u2 (spot u2)
+  u-end l h = (
+    level-on v1 v2 u2
+        (not-zero (v1 .x) (v2 .x) (marks-differ u1 u2 v1 v2 (lt-le (mark u1 u2 v1) (pos (size u1 u2)) (mark u1 u2 v2) l h)))
+        (record { on-line = second-on-v v1 v2 u1 u2 c; on-axis = end-inside (v1 .x) (v2 .x) (u1 .x) (u2 .x) l h }),
+    end-on u1 u2,
+  )
+
+-- the same with v's ends in the other order
+reversed : (v1 v2 u1 u2 : Spot) → Collinear v1 v2 u1 u2 → Collinear v2 v1 u1 u2
+reversed v1 v2 u1 u2 c =
+    let X = var 0 in let Y = var 1 in let X2 = var 2 in let Y2 = var 3 in
+    let A = var 4 in let B = var 5 in let A2 = var 6 in let B2 = var 7 in
+    let all = v1 .x ∷ v1 .y ∷ v2 .x ∷ v2 .y ∷ u1 .x ∷ u1 .y ∷ u2 .x ∷ u2 .y ∷ [] in
+    record {
+      parallel = combine all ((X ⊟ X2) ⊠ (B2 ⊟ B) ⊟ (Y ⊟ Y2) ⊠ (A2 ⊟ A)) (num 0)
+          (neg (num 1)) ((X2 ⊟ X) ⊠ (B2 ⊟ B) ⊟ (Y2 ⊟ Y) ⊠ (A2 ⊟ A)) (num 0) (c .parallel) tt;
+      from-u = second-on-u v1 v2 u1 u2 c;
+      from-v = combine all ((X ⊟ X2) ⊠ (Y2 ⊟ B) ⊟ (Y ⊟ Y2) ⊠ (X2 ⊟ A)) (num 0)
+          (neg (num 1)) ((X2 ⊟ X) ⊠ (Y ⊟ B) ⊟ (Y2 ⊟ Y) ⊠ (X ⊟ A)) (num 0) (c .from-v) tt;
+    }
+
+pub meet-shared : (v1 v2 u1 u2 : Spot) → Collinear v1 v2 u1 u2 → ((u2 .x -ℤ u1 .x) ≡ pos 0 → ⊥)
+    → Meet (mark u1 u2 v1) (mark u1 u2 v2) (size u1 u2)
+    → Share v1 v2 u1 u2
+meet-shared v1 v2 u1 u2 c slant (lo, hi) =
+    go (where-is (mark u1 u2 v1) (size u1 u2)) (where-is (mark u1 u2 v2) (size u1 u2)) lo hi
+  where
+    go : Where (mark u1 u2 v1) (size u1 u2)
+        → Where (mark u1 u2 v2) (size u1 u2)
+        → (mark u1 u2 v1 ≤ℤ pos (size u1 u2)) ⊎ (mark u1 u2 v2 ≤ℤ pos (size u1 u2))
+        → (pos 0 ≤ℤ mark u1 u2 v1) ⊎ (pos 0 ≤ℤ mark u1 u2 v2)
+        → Share v1 v2 u1 u2
+    go (inr (inl h)) w lo hi = (spot v1, first-end v1 v2 u1 u2 c slant h)
+    go (inl l) (inr (inl h)) lo hi = (spot v2, last-end v1 v2 u1 u2 c slant h)
+    go (inr (inr g)) (inr (inl h)) lo hi = (spot v2, last-end v1 v2 u1 u2 c slant h)
+    go (inl l) (inl m) lo (inl h) = clashℤ l h
+    go (inl l) (inl m) lo (inr h) = clashℤ m h
+    go (inr (inr g)) (inr (inr h)) (inl k) hi = clashℤ g k
+    go (inr (inr g)) (inr (inr h)) (inr k) hi = clashℤ h k
+    go (inl l) (inr (inr h)) lo hi =
+        (spot u1, u-start v1 v2 u1 u2 c slant l (le-of-lt (pos 0) (mark u1 u2 v2) (past-zero (size u1 u2) (mark u1 u2 v2) h)))
+    go (inr (inr g)) (inl m) lo hi =
+        share-reversed v1 v2 u1 u2 (
+          spot u1,
+          u-start v2 v1 u1 u2 (reversed v1 v2 u1 u2 c) slant m
+              (le-of-lt (pos 0) (mark u1 u2 v1) (past-zero (size u1 u2) (mark u1 u2 v1) g)),
+        )
+
+-- ---- and in more than one
+pos-lt : (k : ℕ) → 0 < k → pos 0 <ℤ pos k
+pos-lt k h = simp naturals (omega arith)
+
+mark-start : (u1 u2 : Spot) → mark u1 u2 u1 ≡ pos 0
+mark-start u1 u2 = go (sign (u2 .x -ℤ u1 .x))
+  where
+    none : (a : ℤ) → a -ℤ a ≡ pos 0
+    none a = solve (a ∷ []) (var 0 ⊟ var 0) (num 0) tt
+
+    minus-none : (a : ℤ) → negℤ (a -ℤ a) ≡ pos 0
+    minus-none a = solve (a ∷ []) (neg (var 0 ⊟ var 0)) (num 0) tt
+
+    go : Plain (u2 .x -ℤ u1 .x) ⊎ Minus (u2 .x -ℤ u1 .x) → mark u1 u2 u1 ≡ pos 0
+    go (inl e) = e .turn (u1 .x -ℤ u1 .x) ∙ none (u1 .x)
+    go (inr e) = e .turn (u1 .x -ℤ u1 .x) ∙ minus-none (u1 .x)
+
+mark-end : (u1 u2 : Spot) → mark u1 u2 u2 ≡ pos (size u1 u2)
+mark-end u1 u2 = go (sign (u2 .x -ℤ u1 .x))
+  where
+    go : Plain (u2 .x -ℤ u1 .x) ⊎ Minus (u2 .x -ℤ u1 .x) → mark u1 u2 u2 ≡ pos (size u1 u2)
+    go (inl e) = e .turn (u2 .x -ℤ u1 .x) ∙ sym (e .size)
+    go (inr e) = e .turn (u2 .x -ℤ u1 .x) ∙ sym (e .size)
+
+-- two shared grid points in this order on the axis are two
+two-shared : (v1 v2 u1 u2 p q : Spot) → Shared v1 v2 u1 u2 (spot p) → Shared v1 v2 u1 u2 (spot q)
+    → mark u1 u2 p <ℤ mark u1 u2 q
+    → ShareMore v1 v2 u1 u2
+two-shared v1 v2 u1 u2 p q h k l =
+    (spot p, spot q, inl (λ e. marks-differ u1 u2 p q l (cancel (p .x) (q .x) 1 one-pos e)), h, k)
+
+module _ (v1 v2 u1 u2 : Spot) (c : Collinear v1 v2 u1 u2) (slant : (u2 .x -ℤ u1 .x) ≡ pos 0 → ⊥)
+    (rising : mark u1 u2 v1 <ℤ mark u1 u2 v2)
+    (early : mark u1 u2 v1 <ℤ pos (size u1 u2))
+    (late : pos 0 <ℤ mark u1 u2 v2) where
+  -- the first that is shared: v's start, or u's where v begins before it; it comes before v's end and before u's
+  lower : (p : Spot) × Shared v1 v2 u1 u2 (spot p) × (mark u1 u2 p <ℤ mark u1 u2 v2) × (mark u1 u2 p <ℤ pos (size u1 u2))
+  lower = go (lt-or-le (mark u1 u2 v1) (pos 0))
+    where
+      go : (mark u1 u2 v1 <ℤ pos 0) ⊎ (pos 0 ≤ℤ mark u1 u2 v1)
+          → (p : Spot) × Shared v1 v2 u1 u2 (spot p) × (mark u1 u2 p <ℤ mark u1 u2 v2) × (mark u1 u2 p <ℤ pos (size u1 u2))
+      go (inr h) = (v1, first-end v1 v2 u1 u2 c slant (h, le-of-lt (mark u1 u2 v1) (pos (size u1 u2)) early), rising, early)
+      go (inl h) = (
+        u1,
+        u-start v1 v2 u1 u2 c slant h (le-of-lt (pos 0) (mark u1 u2 v2) late),
+        subst (λ (z : ℤ). z <ℤ mark u1 u2 v2) (sym (mark-start u1 u2)) late,
+        subst (λ (z : ℤ). z <ℤ pos (size u1 u2)) (sym (mark-start u1 u2)) (pos-lt (size u1 u2) (size-pos (u2 .x -ℤ u1 .x) slant)),
+      )
+
+  ordered : ShareMore v1 v2 u1 u2
+  ordered = go (lt-or-le (pos (size u1 u2)) (mark u1 u2 v2))
+    where
+      go : (pos (size u1 u2) <ℤ mark u1 u2 v2) ⊎ (mark u1 u2 v2 ≤ℤ pos (size u1 u2)) → ShareMore v1 v2 u1 u2
+      go (inr h) =
+          two-shared v1 v2 u1 u2 (lower .0) v2 (lower .1)
+          (last-end v1 v2 u1 u2 c slant (le-of-lt (pos 0) (mark u1 u2 v2) late, h)) (lower .2)
+      go (inl h) =
+          two-shared v1 v2 u1 u2 (lower .0) u2 (lower .1)
+          (u-end v1 v2 u1 u2 c slant early (le-of-lt (pos (size u1 u2)) (mark u1 u2 v2) h))
+          (subst (λ (z : ℤ). mark u1 u2 (lower .0) <ℤ z) (sym (mark-end u1 u2)) (lower .3))
+
+-- v has length, so its ends differ on u's axis
+pub apart-on-axis : (v1 v2 u1 u2 : Spot) → across v1 v2 u1 u2 ≡ pos 0 → ((u2 .x -ℤ u1 .x) ≡ pos 0 → ⊥) → v1 .x ≡ v2 .x → Same v1 v2
+apart-on-axis v1 v2 u1 u2 flat slant e =
+    let X = var 0 in let Y = var 1 in let X2 = var 2 in let Y2 = var 3 in
+    let A = var 4 in let B = var 5 in let A2 = var 6 in let B2 = var 7 in
+    let none : (v1 .y -ℤ v2 .y) *ℤ (u2 .x -ℤ u1 .x) ≡ pos 0 *ℤ (u2 .x -ℤ u1 .x)
+    = combine2 (v1 .x ∷ v1 .y ∷ v2 .x ∷ v2 .y ∷ u1 .x ∷ u1 .y ∷ u2 .x ∷ u2 .y ∷ [])
+    ((Y ⊟ Y2) ⊠ (A2 ⊟ A)) (num 0 ⊠ (A2 ⊟ A))
+    (num 1) ((X2 ⊟ X) ⊠ (B2 ⊟ B) ⊟ (Y2 ⊟ Y) ⊠ (A2 ⊟ A)) (num 0) (B2 ⊟ B) X X2 flat e tt in
+    (e, equal-of-sub (v1 .y) (v2 .y) (cancel-any (v1 .y -ℤ v2 .y) (pos 0) (u2 .x -ℤ u1 .x) slant none))
+
+-- one of two that is below k, or above 0
+least-below : (a b k : ℤ) → a <ℤ b → (a <ℤ k) ⊎ (b <ℤ k) → a <ℤ k
+least-below a b k l (inl m) = m
+least-below a b k l (inr m) = lt-trans a b k l m
+
+most-above : (a b k : ℤ) → a <ℤ b → (k <ℤ a) ⊎ (k <ℤ b) → k <ℤ b
+most-above a b k l (inl m) = lt-trans k a b m l
+most-above a b k l (inr m) = m
+
+other : {A B : Type 0} → A ⊎ B → B ⊎ A
+other (inl h) = inr h
+other (inr h) = inl h
+
+pub meet-shared-more : (v1 v2 u1 u2 : Spot) → Collinear v1 v2 u1 u2 → ((u2 .x -ℤ u1 .x) ≡ pos 0 → ⊥) → ¬ Same v1 v2
+    → MeetMore (mark u1 u2 v1) (mark u1 u2 v2) (size u1 u2)
+    → ShareMore v1 v2 u1 u2
+meet-shared-more v1 v2 u1 u2 c slant long (lo, hi) =
+    go (lt-or-le a b) lo hi
+  where
+    a : ℤ
+    a = mark u1 u2 v1
+
+    b : ℤ
+    b = mark u1 u2 v2
+
+    k : ℤ
+    k = pos (size u1 u2)
+
+    same : a ≡ b → ⊥
+    same e = long (apart-on-axis v1 v2 u1 u2 (c .parallel) slant (turned-same (u2 .x -ℤ u1 .x) (v1 .x) (v2 .x) (u1 .x) e))
+
+    go : (a <ℤ b) ⊎ (b ≤ℤ a) → (a <ℤ k) ⊎ (b <ℤ k) → (pos 0 <ℤ a) ⊎ (pos 0 <ℤ b) → ShareMore v1 v2 u1 u2
+    go (inl l) m n = ordered v1 v2 u1 u2 c slant l (least-below a b k l m) (most-above a b (pos 0) l n)
+    go (inr l) m n =
+        let l' = lt-of-le-ne b a l (λ e. same (sym e)) in
+        share-more-reversed v1 v2 u1 u2
+        (ordered v2 v1 u1 u2 (reversed v1 v2 u1 u2 c) slant l' (least-below b a k l' (other m)) (most-above b a (pos 0) l' (other n)))
+
+-- ---- both directions, by the axis that the kernel takes
+module _ (v1 v2 u1 u2 : Spot) (c : Collinear v1 v2 u1 u2) (slant : (u2 .x -ℤ u1 .x) ≡ pos 0 → ⊥) where
+  pub overlap-by-x : Share v1 v2 u1 u2 ↔ Meet (mark u1 u2 v1) (mark u1 u2 v2) (size u1 u2)
+  overlap-by-x = (shared-meet v1 v2 u1 u2, meet-shared v1 v2 u1 u2 c slant)
+
+  pub overlap-more-by-x : ¬ Same v1 v2 → ShareMore v1 v2 u1 u2 ↔ MeetMore (mark u1 u2 v1) (mark u1 u2 v2) (size u1 u2)
+  overlap-more-by-x long =
+      (shared-more-meet v1 v2 u1 u2 (size-pos (u2 .x -ℤ u1 .x) slant), meet-shared-more v1 v2 u1 u2 c slant long)
+
+pub collinear-flipped : (v1 v2 u1 u2 : Spot) → Collinear v1 v2 u1 u2 → Collinear (flip v1) (flip v2) (flip u1) (flip u2)
+collinear-flipped v1 v2 u1 u2 c =
+    record {
+      parallel = cross-flipped (way v1 v2) (way u1 u2) (c .parallel);
+      from-u = cross-flipped (way u1 u2) (way u1 v1) (c .from-u);
+      from-v = cross-flipped (way v1 v2) (way u1 v1) (c .from-v);
+    }
+
+module _ (v1 v2 u1 u2 : Spot) (c : Collinear v1 v2 u1 u2) (slant : (u2 .y -ℤ u1 .y) ≡ pos 0 → ⊥) where
+  pub overlap-by-y : Share v1 v2 u1 u2
+      ↔ Meet (mark (flip u1) (flip u2) (flip v1)) (mark (flip u1) (flip u2) (flip v2)) (size (flip u1) (flip u2))
+  overlap-by-y =
+      let by-x = overlap-by-x (flip v1) (flip v2) (flip u1) (flip u2) (collinear-flipped v1 v2 u1 u2 c) slant in (
+        λ h. by-x .0 (share-flipped v1 v2 u1 u2 h),
+        λ h. share-flipped (flip v1) (flip v2) (flip u1) (flip u2) (by-x .1 h),
+      )
+
+  pub overlap-more-by-y : ¬ Same v1 v2 → ShareMore v1 v2 u1 u2
+      ↔ MeetMore (mark (flip u1) (flip u2) (flip v1)) (mark (flip u1) (flip u2) (flip v2)) (size (flip u1) (flip u2))
+  overlap-more-by-y long =
+      let by-x = overlap-more-by-x (flip v1) (flip v2) (flip u1) (flip u2) (collinear-flipped v1 v2 u1 u2 c) slant
+      (λ h. long (h .1, h .0)) in (
+        λ h. by-x .0 (share-more-flipped v1 v2 u1 u2 h),
+        λ h. share-more-flipped (flip v1) (flip v2) (flip u1) (flip u2) (by-x .1 h),
+      )

@@ -1,0 +1,132 @@
+-- Parallel segments that share a point lie on one line; and where one of them has no length, or both, sharing is that one grid point
+-- lies on the other. Then they never share more than that point.
+use mathlib.Core.Path.{_≡_, sym, _∙_}
+use mathlib.Core.Logic.{_↔_}
+use mathlib.Core.List.{[], _∷_}
+use Prim.Native.Nat.{ℕ, _<_}
+use lib.IntN.{ℤ, pos, _-ℤ_, _*ℤ_}
+use Rattle.grid.specs.Promise.{Spot, OnSegment, Parallel, Share, ShareMore}
+use Rattle.grid.specs.Plane.Ring.{solve, combine, combine2, var, num, neg, _⊟_, _⊠_}
+use Rattle.grid.specs.Plane.Order.{cancel}
+use Rattle.grid.specs.Plane.Sides.{way, cross, across, first, second, parallel-across, place-v, place-u}
+use Rattle.grid.specs.Plane.Spots.{
+  spot,
+  start-on,
+  Same,
+  IsSpot,
+  only-spot,
+  spot-lies,
+  spot-once,
+  Level,
+  level-on,
+  on-level,
+  flip,
+  share-flipped,
+}
+
+-- ---- on one line
+pub record Collinear (v1 v2 u1 u2 : Spot) : Type 0 where
+  pub parallel : across v1 v2 u1 u2 ≡ pos 0
+  pub from-u : first v1 v2 u1 u2 ≡ pos 0
+  pub from-v : second v1 v2 u1 u2 ≡ pos 0
+
+-- s * 0 is n * t
+none-left : (s d n : ℤ) (t : ℕ) → 0 < t → s *ℤ d ≡ n *ℤ pos t → d ≡ pos 0 → n ≡ pos 0
+none-left s d n t H h e =
+    let S = var 0 in let D = var 1 in let N = var 2 in let R = var 3 in
+    cancel n (pos 0) t H
+    (combine2 (s ∷ d ∷ n ∷ pos t ∷ []) (N ⊠ R) (num 0 ⊠ R) (neg (num 1)) (S ⊠ D) (N ⊠ R) S D (num 0) h e tt)
+
+pub share-collinear : (v1 v2 u1 u2 : Spot) → Parallel v1 v2 u1 u2 → Share v1 v2 u1 u2 → Collinear v1 v2 u1 u2
+share-collinear v1 v2 u1 u2 par (P, ((s, t, l, on-v), (s', t', l', on-u))) =
+    let flat = parallel-across v1 v2 u1 u2 par in
+    record {
+      parallel = flat;
+      from-u = none-left (pos s) (across v1 v2 u1 u2) (first v1 v2 u1 u2) t (on-v .some)
+          (place-v v1 v2 u1 u2 P (pos s) (pos s') t t' on-v on-u) flat;
+      from-v = none-left (pos s') (across v1 v2 u1 u2) (second v1 v2 u1 u2) t' (on-u .some)
+          (place-u v1 v2 u1 u2 P (pos s) (pos s') t t' on-v on-u) flat;
+    }
+
+-- ---- v has no length
+module _ (v1 v2 u1 u2 : Spot) (still : Same v1 v2) where
+  pub first-point : Share v1 v2 u1 u2 ↔ OnSegment (spot v1) u1 u2
+  first-point = (
+    λ h. spot-lies (h .0) v1 u1 u2 (only-spot (h .0) v1 v2 still (h .1 .0)) (h .1 .1),
+    λ h. (spot v1, (start-on v1 v2, h)),
+  )
+
+  pub first-point-once : ¬ ShareMore v1 v2 u1 u2
+  first-point-once (P, Q, apart, (p, p'), (q, q')) =
+      spot-once P Q v1 (only-spot P v1 v2 still p) (only-spot Q v1 v2 still q) apart
+
+  -- by x where u is not upright, else by y
+  pub first-point-by-x : ((u2 .x -ℤ u1 .x) ≡ pos 0 → ⊥) → Share v1 v2 u1 u2 ↔ Level u1 u2 v1
+  first-point-by-x n = (
+    λ h. on-level u1 u2 v1 (first-point .0 h),
+    λ h. first-point .1 (level-on u1 u2 v1 n h),
+  )
+
+pub first-point-by-y : (v1 v2 u1 u2 : Spot) → Same v1 v2 → ((u2 .y -ℤ u1 .y) ≡ pos 0 → ⊥)
+    → Share v1 v2 u1 u2 ↔ Level (flip u1) (flip u2) (flip v1)
+first-point-by-y v1 v2 u1 u2 still n =
+    let by-x = first-point-by-x (flip v1) (flip v2) (flip u1) (flip u2) (still .1, still .0) n in (
+      λ h. by-x .0 (share-flipped v1 v2 u1 u2 h),
+      λ h. share-flipped (flip v1) (flip v2) (flip u1) (flip u2) (by-x .1 h),
+    )
+
+-- ---- u has no length
+module _ (v1 v2 u1 u2 : Spot) (still : Same u1 u2) where
+  pub second-point : Share v1 v2 u1 u2 ↔ OnSegment (spot u1) v1 v2
+  second-point = (
+    λ h. spot-lies (h .0) u1 v1 v2 (only-spot (h .0) u1 u2 still (h .1 .1)) (h .1 .0),
+    λ h. (spot u1, (h, start-on u1 u2)),
+  )
+
+  pub second-point-once : ¬ ShareMore v1 v2 u1 u2
+  second-point-once (P, Q, apart, (p, p'), (q, q')) =
+      spot-once P Q u1 (only-spot P u1 u2 still p') (only-spot Q u1 u2 still q') apart
+
+  pub second-point-by-x : ((v2 .x -ℤ v1 .x) ≡ pos 0 → ⊥) → Share v1 v2 u1 u2 ↔ Level v1 v2 u1
+  second-point-by-x n = (
+    λ h. on-level v1 v2 u1 (second-point .0 h),
+    λ h. second-point .1 (level-on v1 v2 u1 n h),
+  )
+
+pub second-point-by-y : (v1 v2 u1 u2 : Spot) → Same u1 u2 → ((v2 .y -ℤ v1 .y) ≡ pos 0 → ⊥)
+    → Share v1 v2 u1 u2 ↔ Level (flip v1) (flip v2) (flip u1)
+second-point-by-y v1 v2 u1 u2 still n =
+    let by-x = second-point-by-x (flip v1) (flip v2) (flip u1) (flip u2) (still .1, still .0) n in (
+      λ h. by-x .0 (share-flipped v1 v2 u1 u2 h),
+      λ h. share-flipped (flip v1) (flip v2) (flip u1) (flip u2) (by-x .1 h),
+    )
+
+-- ---- neither has length: one and the same grid point
+pub both-points : (v1 v2 u1 u2 : Spot) → Same v1 v2 → Same u1 u2 → Share v1 v2 u1 u2 ↔ Same v1 u1
+both-points v1 v2 u1 u2 sv su = (meet, λ e. (spot v1, (start-on v1 v2, spot-lies (spot u1) v1 u1 u2 (is e) (start-on u1 u2))))
+  where
+    one : (a : ℤ) → a ≡ a *ℤ pos 1
+    one a = solve (a ∷ []) (var 0) (var 0 ⊠ num 1) tt
+
+    is : Same v1 u1 → IsSpot (spot u1) v1
+    is (ex, ey) = (sym ex ∙ one (v1 .x), sym ey ∙ one (v1 .y))
+
+    meet : Share v1 v2 u1 u2 → Same v1 u1
+    meet (P, (p, q)) =
+        let v = only-spot P v1 v2 sv p in
+        let u = only-spot P u1 u2 su q in (
+          cancel (v1 .x) (u1 .x) (P .over) (P .positive) (sym (v .0) ∙ u .0),
+          cancel (v1 .y) (u1 .y) (P .over) (P .positive) (sym (v .1) ∙ u .1),
+        )
+
+-- ---- the kernel's products say on which line a grid point lies
+pub line-of-v : (v1 v2 u1 u2 : Spot) → second v1 v2 u1 u2 ≡ pos 0 → cross (way v1 v2) (way v1 u1) ≡ pos 0
+line-of-v v1 v2 u1 u2 h =
+    let A = var 0 in let B = var 1 in let C = var 2 in let D = var 3 in let E = var 4 in let F = var 5 in
+    combine (v1 .x ∷ v1 .y ∷ v2 .x ∷ v2 .y ∷ u1 .x ∷ u1 .y ∷ [])
+    ((C ⊟ A) ⊠ (F ⊟ B) ⊟ (D ⊟ B) ⊠ (E ⊟ A)) (num 0) (neg (num 1)) ((C ⊟ A) ⊠ (B ⊟ F) ⊟ (D ⊟ B) ⊠ (A ⊟ E)) (num 0) h tt
+
+pub cross-flipped : (p q : Spot) → cross p q ≡ pos 0 → cross (flip p) (flip q) ≡ pos 0
+cross-flipped p q h =
+    let A = var 0 in let B = var 1 in let C = var 2 in let D = var 3 in
+    combine (p .x ∷ p .y ∷ q .x ∷ q .y ∷ []) (B ⊠ C ⊟ A ⊠ D) (num 0) (neg (num 1)) (A ⊠ D ⊟ B ⊠ C) (num 0) h tt

@@ -1,0 +1,112 @@
+-- What is promised on the plant's grid: no touching pair of lines is missed. Said over whole numbers, and proved elsewhere.
+use Prim.Native.Nat.{ℕ, _*_, _≤_, _<_}
+use mathlib.Core.Path.{_≡_}
+use mathlib.Core.Logic.{_≢_, _⊎_, _↔_}
+use mathlib.Core.Bool.{Bool, true, false}
+use lib.Dec.{T}
+use lib.IntN.{ℤ, pos, negℤ, natAbs, _+ℤ_, _-ℤ_, _*ℤ_}
+use lib.Signed.{_<ℤ_}
+use lib.Ieee.{Float, nan, inf, fin, binary64, up, down, fits}
+use Rattle.plane.specs.PlineVertex.{bulgeIsZero}
+use Rattle.plane.specs.declared.vector2.Vector2.{Vector2}
+use Rattle.plane.specs.declared.pline_vertex.PlineVertex.{PlineVertex}
+use Rattle.crossing.specs.PlineSegIntersect.{plineSegIntr}
+use Rattle.crossing.specs.declared.pline_seg_intersect.PlineSegIntr.{PlineSegIntr}
+use Rattle.crossing.specs.declared.pline_seg_intersect.PlineSegIntr.the-variants.{NoIntersect, OneIntersect, OverlappingLines}
+use Rattle.crossing.specs.declared.pline_seg_intersect.PlineSegAnswer.the-variants.{Met}
+
+-- ---- numbers. ℤ has the whole numbers with a sign: `pos n` is n, `natAbs` the size. The float x is a / c: a finite float is
+-- m * 2 ^ e, with a minus where s is true, and 2 ^ e is up e / down e.
+abbrev pub signed : Bool → ℕ → ℤ
+signed false n = pos n
+signed true n = negℤ (pos n)
+
+abbrev pub Is : Float → ℤ → ℕ → Type 0
+Is nan a c = ⊥
+Is (inf s) a c = ⊥
+Is (fin s m e) a c = signed s (m * up e) *ℤ pos c ≡ a *ℤ pos (down e)
+
+-- an epsilon: the f64 that is num / den, from 1/1024 to 1/2
+pub record Epsilon (e : Float) (num den : ℕ) : Type 0 where
+  pub some-f64 : T (fits binary64 e)
+  pub value : Is e (pos num) den
+  pub range : (0 < den) × (den ≤ 1024 * num) × (2 * num ≤ den)
+
+-- ---- points. Of the grid: whole coordinates. Any other: (x / over, y / over). The vertex v stands on the grid at p.
+pub record Spot : Type 0 where
+  pub x : ℤ
+  pub y : ℤ
+
+pub record Point : Type 0 where
+  pub x : ℤ
+  pub y : ℤ
+  pub over : ℕ
+  pub positive : 0 < over
+
+abbrev pub On : PlineVertex → Spot → Type 0
+On v p = Is (v .x) (p .x) 1 × (natAbs (p .x) ≤ 1048576) × Is (v .y) (p .y) 1 × (natAbs (p .y) ≤ 1048576)
+
+-- ---- lines. P lies s / t of the way from a to b; it is on the segment from a to b if s goes from 0 to t.
+pub record Along (P : Point) (a b : Spot) (s : ℤ) (t : ℕ) : Type 0 where
+  pub some : 0 < t
+  pub at-x : P .x *ℤ pos t ≡ pos (P .over) *ℤ (a .x *ℤ pos t +ℤ (b .x -ℤ a .x) *ℤ s)
+  pub at-y : P .y *ℤ pos t ≡ pos (P .over) *ℤ (a .y *ℤ pos t +ℤ (b .y -ℤ a .y) *ℤ s)
+
+abbrev pub OnLine : Point → Spot → Spot → Type 0
+OnLine P a b = (s : ℤ) × (t : ℕ) × Along P a b s t
+
+abbrev pub OnSegment : Point → Spot → Spot → Type 0
+OnSegment P a b = (s : ℕ) × (t : ℕ) × (s ≤ t) × Along P a b (pos s) t
+
+-- two points that differ; P is less than 2 * num / den from a, by squares; P is on the segment, or so near to one of its ends
+abbrev pub Apart : Point → Point → Type 0
+Apart P Q = (P .x *ℤ pos (Q .over) ≢ Q .x *ℤ pos (P .over)) ⊎ (P .y *ℤ pos (Q .over) ≢ Q .y *ℤ pos (P .over))
+
+abbrev pub Close : Point → Spot → ℕ → ℕ → Type 0
+Close P a num den =
+    let dx = P .x -ℤ a .x *ℤ pos (P .over) in
+    let dy = P .y -ℤ a .y *ℤ pos (P .over) in
+    ((dx *ℤ dx +ℤ dy *ℤ dy) *ℤ pos (den * den)) <ℤ pos (2 * num * P .over * (2 * num * P .over))
+
+abbrev pub Reached : Point → Spot → Spot → ℕ → ℕ → Type 0
+Reached P a b num den = OnSegment P a b ⊎ Close P a num den ⊎ Close P b num den
+
+-- the float c is a number, and within 1 / 1,073,741,824 of x / over
+pub record Within (c : Float) (x : ℤ) (over : ℕ) : Type 0 where
+  pub a : ℤ
+  pub d : ℕ
+  pub positive : 0 < d
+  pub value : Is c a d
+  pub near : natAbs (a *ℤ pos over -ℤ x *ℤ pos d) * 1073741824 ≤ d * over
+
+-- ---- two segments, v1 to v2 and u1 to u2. One without length is parallel to every other. Their lines cross at P.
+module _ (v1 v2 u1 u2 : Spot) where
+  abbrev pub Shared : Point → Type 0
+  Shared P = OnSegment P v1 v2 × OnSegment P u1 u2
+
+  abbrev pub Share : Type 0
+  Share = (P : Point) × Shared P
+
+  abbrev pub ShareMore : Type 0
+  ShareMore = (P : Point) × (Q : Point) × Apart P Q × Shared P × Shared Q
+
+  abbrev pub Parallel : Type 0
+  Parallel = (v2 .x -ℤ v1 .x) *ℤ (u2 .y -ℤ u1 .y) ≡ (v2 .y -ℤ v1 .y) *ℤ (u2 .x -ℤ u1 .x)
+
+  abbrev pub Crossing : Point → Type 0
+  Crossing P = OnLine P v1 v2 × OnLine P u1 u2
+
+  -- what is promised of an answer r, in four sentences
+  pub record Kept (num den : ℕ) (r : PlineSegIntr) : Type 0 where
+    pub none-missed : r ≡ NoIntersect → ¬ Share
+    pub overlap : ((p : Vector2) × (q : Vector2) × (r ≡ OverlappingLines p q)) ↔ ShareMore
+    pub beyond : (p : Vector2) → r ≡ OneIntersect p → ¬ Share
+        → (¬ Parallel) × (P : Point) × Crossing P × Reached P v1 v2 num den × Reached P u1 u2 num den
+    pub exact : (p : Vector2) → r ≡ OneIntersect p → ¬ Parallel
+        → (P : Point) × Crossing P × Within (p .x) (P .x) (P .over) × Within (p .y) (P .y) (P .over)
+
+-- ---- the promise: no pair of grid lines is refused, and what the pair call answers keeps the four
+abbrev pub Promise : Type 0
+Promise = (v1 v2 u1 u2 : PlineVertex) (p1 p2 q1 q2 : Spot) (e : Float) (num den : ℕ)
+    → On v1 p1 → On v2 p2 → On u1 q1 → On u2 q2 → T (bulgeIsZero v1) → T (bulgeIsZero u1) → Epsilon e num den
+    → (r : PlineSegIntr) × (plineSegIntr v1 v2 u1 u2 e ≡ Met r) × Kept p1 p2 q1 q2 num den r

@@ -1,0 +1,55 @@
+-- The promise holds.
+use mathlib.Core.Path.{_≡_, sym, subst}
+use Prim.Native.Nat.{ℕ}
+use native.Mathlib.Decide.{ℕ-discrete}
+use lib.Ieee.{Float}
+use Rattle.plane.specs.Vector2 as vector2
+use Rattle.plane.specs.PlineVertex as vertex
+use Rattle.plane.specs.declared.vector2.Vector2.{Vector2}
+use Rattle.crossing.specs.LineLine.{lineLine}
+use Rattle.crossing.specs.PlineSeg.{plineSeg, lineLineOf, processLineLineIntr}
+use Rattle.crossing.specs.declared.line_line_intersect.LineLineIntr.{LineLineIntr}
+use Rattle.crossing.specs.declared.pline_seg_intersect.PlineSegIntr.{PlineSegIntr}
+use Rattle.grid.specs.Promise.{Spot, Kept, Promise}
+use Rattle.grid.specs.Accepted.{accepted, two-lines}
+use Rattle.grid.specs.Joined.{At, vec, vec-at, eps}
+use Rattle.grid.specs.Crossed.{crossed-kept}
+use Rattle.grid.specs.Level.{level-kept}
+use Rattle.grid.specs.Floats.Small.{Vec, vec-sub, perp}
+use Rattle.grid.specs.Floats.Zero.{Eps}
+use Rattle.grid.specs.Floats.Crossing.{goes-crossing, goes-parallel}
+
+-- the kernel, by whether the lines are parallel
+module _ (e : Float) (num den : ℕ) (h : Eps e num den)
+    (v1 v2 u1 u2 : Vector2) (A1 : Vec 20 v1) (A2 : Vec 20 v2) (B1 : Vec 20 u1) (B2 : Vec 20 u2)
+    (p1 p2 q1 q2 : Spot) (a1 : At 20 v1 A1 p1) (a2 : At 20 v2 A2 p2) (b1 : At 20 u1 B1 q1) (b2 : At 20 u2 B2 q2) where
+  abbrev turn : (n : ℕ) × ℕ
+  turn =
+      let s = perp (vector2.sub v2 v1) (vector2.sub u2 u1) (vec-sub v2 v1 A2 A1) (vec-sub u2 u1 B2 B1) in
+      (s .p, s .n)
+
+  kernel-kept : Kept p1 p2 q1 q2 num den (processLineLineIntr v1 v2 u1 u2 e)
+  unfolding processLineLineIntr
+  kernel-kept = go (ℕ-discrete (turn .0) (turn .1))
+    where
+      put : (r : LineLineIntr) → lineLine v1 v2 u1 u2 e ≡ r → Kept p1 p2 q1 q2 num den (lineLineOf r v1 v2 u1 u2)
+          → Kept p1 p2 q1 q2 num den (lineLineOf (lineLine v1 v2 u1 u2 e) v1 v2 u1 u2)
+      put r x k = subst (λ (z : LineLineIntr). Kept p1 p2 q1 q2 num den (lineLineOf z v1 v2 u1 u2)) (sym x) k
+
+      go : Dec (turn .0 ≡ turn .1) → Kept p1 p2 q1 q2 num den (lineLineOf (lineLine v1 v2 u1 u2 e) v1 v2 u1 u2)
+      go (no n) =
+          put _ (goes-crossing e num den h v1 v2 u1 u2 A1 A2 B1 B2 n)
+          (crossed-kept e num den h v1 v2 u1 u2 A1 A2 B1 B2 p1 p2 q1 q2 a1 a2 b1 b2 n)
+      go (yes s) =
+          put _ (goes-parallel e num den h v1 v2 u1 u2 A1 A2 B1 B2 s)
+          (level-kept e num den h v1 v2 u1 u2 A1 A2 B1 B2 p1 p2 q1 q2 a1 a2 b1 b2 s)
+
+pub promise : Promise
+promise v1 v2 u1 u2 p1 p2 q1 q2 e num den a b c d line-v line-u small = (
+  plineSeg v1 v2 u1 u2 e,
+  accepted v1 v2 u1 u2 p1 p2 q1 q2 e num den a b c d line-v line-u small,
+  subst (λ (r : PlineSegIntr). Kept p1 p2 q1 q2 num den r) (sym (two-lines v1 v2 u1 u2 e line-v line-u))
+      (kernel-kept e num den (eps e num den small) (vertex.pos v1) (vertex.pos v2) (vertex.pos u1) (vertex.pos u2)
+      (vec v1 p1 a) (vec v2 p2 b) (vec u1 q1 c) (vec u2 q2 d) p1 p2 q1 q2
+      (vec-at v1 p1 a) (vec-at v2 p2 b) (vec-at u1 q1 c) (vec-at u2 q2 d)),
+)

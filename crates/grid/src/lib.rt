@@ -1,0 +1,1 @@
+// What is promised on the plant's grid, as theorems: see specs/. There is no code here.
