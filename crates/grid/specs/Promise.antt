@@ -3,6 +3,7 @@ use Prim.Native.Nat.{ℕ, _*_, _≤_, _<_}
 use mathlib.Core.Path.{_≡_}
 use mathlib.Core.Logic.{_≢_, _⊎_, _↔_}
 use mathlib.Core.Bool.{Bool, true, false}
+use mathlib.Core.List.{List}
 use lib.Dec.{T}
 use lib.IntN.{ℤ, pos, negℤ, natAbs, _+ℤ_, _-ℤ_, _*ℤ_}
 use lib.Signed.{_<ℤ_}
@@ -14,6 +15,11 @@ use Rattle.crossing.specs.PlineSegIntersect.{plineSegIntr}
 use Rattle.crossing.specs.declared.pline_seg_intersect.PlineSegIntr.{PlineSegIntr}
 use Rattle.crossing.specs.declared.pline_seg_intersect.PlineSegIntr.the-variants.{NoIntersect, OneIntersect, OverlappingLines}
 use Rattle.crossing.specs.declared.pline_seg_intersect.PlineSegAnswer.the-variants.{Met}
+use Rattle.paths.specs.declared.path.Segment.{Segment}
+use Rattle.paths.specs.Segments.{segmentFrom, segmentCount}
+use Rattle.listings.specs.declared.answer.ListingAnswer.the-variants.{Listed}
+use Rattle.listings.specs.Listing.{Outcome, mutualListing}
+use Rattle.listings.specs.HasRow.{HasRow}
 
 -- ---- numbers. ℤ has the whole numbers with a sign: `pos n` is n, `natAbs` the size. The float x is a / c: a finite float is
 -- m * 2 ^ e, with a minus where s is true, and 2 ^ e is up e / down e.
@@ -110,3 +116,17 @@ abbrev pub Promise : Type 0
 Promise = (v1 v2 u1 u2 : PlineVertex) (p1 p2 q1 q2 : Spot) (e : Float) (num den : ℕ)
     → On v1 p1 → On v2 p2 → On u1 q1 → On u2 q2 → T (bulgeIsZero v1) → T (bulgeIsZero u1) → Epsilon e num den
     → (r : PlineSegIntr) × (plineSegIntr v1 v2 u1 u2 e ≡ Met r) × Kept p1 p2 q1 q2 num den r
+
+-- ---- sentence 5. Segment k of a path is a line between grid points. Two such lines that share a point have a row where two paths
+-- were listed and not refused.
+abbrev pub GridLine : List Float → ℕ → Spot → Spot → Type 0
+GridLine path k a b = let s = segmentFrom path k in On (s .v1) a × On (s .v2) b × T (bulgeIsZero (s .v1))
+
+abbrev pub ListingPromise : Type 0
+ListingPromise = (first : List Float) (closed : Bool) (second : List Float) (closed′ : Bool) (e : Float) (num den : ℕ)
+    (indices : List ℕ) (points : List Float) (rows pairs : ℕ) → Epsilon e num den
+    → let o = mutualListing first closed second closed′ e indices points in
+    o .answer ≡ Listed rows pairs
+    → (i j : ℕ) → i < segmentCount first closed → j < segmentCount second closed′
+    → (p1 p2 q1 q2 : Spot) → GridLine first i p1 p2 → GridLine second j q1 q2
+    → Share p1 p2 q1 q2 → HasRow rows (o .indices) i j

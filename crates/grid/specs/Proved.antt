@@ -1,7 +1,9 @@
 -- The promise holds.
-use mathlib.Core.Path.{_≡_, sym, subst}
-use Prim.Native.Nat.{ℕ}
+use mathlib.Core.Path.{_≡_, refl, sym, subst}
+use Prim.Native.Nat.{ℕ, _<_}
+use native.Mathlib.Omega.{arith}
 use native.Mathlib.Decide.{ℕ-discrete}
+use lib.Dec.{T}
 use lib.Ieee.{Float}
 use Rattle.plane.specs.Vector2 as vector2
 use Rattle.plane.specs.PlineVertex as vertex
@@ -9,8 +11,22 @@ use Rattle.plane.specs.declared.vector2.Vector2.{Vector2}
 use Rattle.crossing.specs.LineLine.{lineLine}
 use Rattle.crossing.specs.PlineSeg.{plineSeg, lineLineOf, processLineLineIntr}
 use Rattle.crossing.specs.declared.line_line_intersect.LineLineIntr.{LineLineIntr}
+use Rattle.plane.specs.PlineVertex.{bulgeIsZero}
+use Rattle.plane.specs.declared.pline_vertex.PlineVertex.{PlineVertex}
+use Rattle.crossing.specs.PlineSegIntr.{classOf}
 use Rattle.crossing.specs.declared.pline_seg_intersect.PlineSegIntr.{PlineSegIntr}
-use Rattle.grid.specs.Promise.{Spot, Kept, Promise}
+use Rattle.crossing.specs.declared.pline_seg_intersect.PlineSegIntr.the-variants.{
+  NoIntersect,
+  TangentIntersect,
+  OneIntersect,
+  TwoIntersects,
+  OverlappingLines,
+  OverlappingArcs,
+}
+use Rattle.paths.specs.declared.path.Segment.{Segment}
+use Rattle.paths.specs.Segments.{segmentFrom}
+use Rattle.listings.specs.Complete.{complete}
+use Rattle.grid.specs.Promise.{Spot, On, Epsilon, Kept, Promise, ListingPromise}
 use Rattle.grid.specs.Accepted.{accepted, two-lines}
 use Rattle.grid.specs.Joined.{At, vec, vec-at, eps}
 use Rattle.grid.specs.Crossed.{crossed-kept}
@@ -44,12 +60,36 @@ module _ (e : Float) (num den : ℕ) (h : Eps e num den)
           put _ (goes-parallel e num den h v1 v2 u1 u2 A1 A2 B1 B2 s)
           (level-kept e num den h v1 v2 u1 u2 A1 A2 B1 B2 p1 p2 q1 q2 a1 a2 b1 b2 s)
 
+-- the pair's definition
+kept : (v1 v2 u1 u2 : PlineVertex) (p1 p2 q1 q2 : Spot) (e : Float) (num den : ℕ)
+    → On v1 p1 → On v2 p2 → On u1 q1 → On u2 q2 → T (bulgeIsZero v1) → T (bulgeIsZero u1) → Epsilon e num den
+    → Kept p1 p2 q1 q2 num den (plineSeg v1 v2 u1 u2 e)
+kept v1 v2 u1 u2 p1 p2 q1 q2 e num den a b c d line-v line-u small =
+    subst (λ (r : PlineSegIntr). Kept p1 p2 q1 q2 num den r) (sym (two-lines v1 v2 u1 u2 e line-v line-u))
+    (kernel-kept e num den (eps e num den small) (vertex.pos v1) (vertex.pos v2) (vertex.pos u1) (vertex.pos u2)
+    (vec v1 p1 a) (vec v2 p2 b) (vec u1 q1 c) (vec u2 q2 d) p1 p2 q1 q2
+    (vec-at v1 p1 a) (vec-at v2 p2 b) (vec-at u1 q1 c) (vec-at u2 q2 d))
+
 pub promise : Promise
 promise v1 v2 u1 u2 p1 p2 q1 q2 e num den a b c d line-v line-u small = (
   plineSeg v1 v2 u1 u2 e,
   accepted v1 v2 u1 u2 p1 p2 q1 q2 e num den a b c d line-v line-u small,
-  subst (λ (r : PlineSegIntr). Kept p1 p2 q1 q2 num den r) (sym (two-lines v1 v2 u1 u2 e line-v line-u))
-      (kernel-kept e num den (eps e num den small) (vertex.pos v1) (vertex.pos v2) (vertex.pos u1) (vertex.pos u2)
-      (vec v1 p1 a) (vec v2 p2 b) (vec u1 q1 c) (vec u2 q2 d) p1 p2 q1 q2
-      (vec-at v1 p1 a) (vec-at v2 p2 b) (vec-at u1 q1 c) (vec-at u2 q2 d)),
+  kept v1 v2 u1 u2 p1 p2 q1 q2 e num den a b c d line-v line-u small,
 )
+
+-- ---- listings: a pair that shares a point is not NoIntersect, so its class has a row
+class-above : (r : PlineSegIntr) → (r ≡ NoIntersect → ⊥) → 0 < classOf r
+class-above NoIntersect h = absurd (h refl)
+class-above (TangentIntersect p) h = omega arith
+class-above (OneIntersect p) h = omega arith
+class-above (TwoIntersects p q) h = omega arith
+class-above (OverlappingLines p q) h = omega arith
+class-above (OverlappingArcs p q) h = omega arith
+
+pub listing-promise : ListingPromise
+listing-promise first closed second closed′ e num den indices points rows pairs small is i j hi hj p1 p2 q1 q2 v u share =
+    let a = segmentFrom first i in
+    let b = segmentFrom second j in
+    let k = kept (a .v1) (a .v2) (b .v1) (b .v2) p1 p2 q1 q2 e num den (v .0) (v .1) (u .0) (u .1) (v .2) (u .2) small in
+    complete first closed second closed′ e indices points rows pairs is i j hi hj
+    (class-above (plineSeg (a .v1) (a .v2) (b .v1) (b .v2) e) (λ none. k .none-missed none share))

@@ -25,13 +25,8 @@ use Rattle.listings.specs.Rows.{rowsOf, lookedAt}
 use Rattle.listings.specs.Look.{look}
 use Rattle.listings.specs.Listing.{Outcome, over, outcomeOf, outcome, roomCheck, mutualChecks, mutualListing}
 use Rattle.listings.specs.Refusals.{all}
-use Rattle.listings.specs.Laws.Complete.{Within, RowAt, pairs-have, row-of-pair, row-in-slice}
-
--- row k, one of the rows written, has the indices i and j
-pub record HasRow (rows : ℕ) (slice : List ℕ) (i j : ℕ) : Type 0 where
-  pub k : ℕ
-  pub written : k < rows
-  pub at : RowAt slice k i j
+use Rattle.listings.specs.HasRow.{HasRow}
+use Rattle.listings.specs.Laws.Complete.{Within, pairs-have, row-of-pair, row-in-slice}
 
 -- how segment i of the first path and segment j of the second meet
 abbrev pub pairOf : List Float → List Float → Float → ℕ → ℕ → PlineSegIntr

@@ -6,5 +6,6 @@ pub mod Listing
 pub mod Filled
 pub mod Told
 pub mod Refusals
+pub mod HasRow
 pub mod Complete
 pub mod Laws

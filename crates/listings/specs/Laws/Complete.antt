@@ -13,6 +13,7 @@ use Rattle.listings.specs.declared.row.Look.the-variants.{Passed, Nothin
 use Rattle.listings.specs.Row.{indicesOf, flat}
 use Rattle.listings.specs.Order.{Pair, along, pairsFrom}
 use Rattle.listings.specs.Rows.{onto, rowsOf}
+use Rattle.listings.specs.HasRow.{RowAt}
 use Rattle.listings.specs.Listing.{over}
 use Rattle.listings.specs.Laws.Stores.{flat-append, flat-length}
 
@@ -92,10 +93,6 @@ module _ (look : ℕ → ℕ → Look) where
       }
 
 -- ---- its numbers in the slice
-pub record RowAt (slice : List ℕ) (k i j : ℕ) : Type 0 where
-  pub first : getD slice (k * 3) 0 ≡ i
-  pub second : getD slice (k * 3 + 1) 0 ≡ j
-
 pub row-in-slice : (r : Row) (rows : List Row) (old : List ℕ) (w : Within r rows)
     → (length (w .before) < length rows) × RowAt (over old (flat indicesOf rows)) (length (w .before)) (r .i) (r .j)
 row-in-slice r rows old w =
