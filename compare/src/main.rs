@@ -45,7 +45,7 @@ usage: compare check [COUNT [SEED]]  compare each float function on COUNT random
        compare search [COUNT [SEED]] try to break what is promised of lines on the grid, on COUNT pairs (default 25165824,
                                      seed 1)
        compare texts PROGRAM [COUNT [SEED]]
-                                     hold the text program to a model on COUNT texts (default 4096, seed 1), of the right
+                                     hold the text program to a model on COUNT texts (default 3072, seed 1), of the right
                                      form and damaged, and on small ones with every damage of a byte
        compare layouts FOLDER        write the model's output NAME.out for each text NAME.txt there
        compare record FILE           write the recorded list for the program replay
@@ -53,7 +53,7 @@ usage: compare check [COUNT [SEED]]  compare each float function on COUNT random
 
 const COUNT: u64 = 10 << 20;
 const SEARCHED: u64 = 24 << 20;
-const TEXTS: u64 = 4096;
+const TEXTS: u64 = 3072;
 const SEED: u64 = 1;
 
 fn main() -> ExitCode {

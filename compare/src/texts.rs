@@ -13,10 +13,11 @@ mod stored;
 
 pub use stored::write;
 
-use damage::{replaced, swapped, DAMAGES, FORM, OTHERS};
+use damage::{lengthened, replaced, swapped, DAMAGES, FORM, OTHERS};
+use model::MOST_BYTES;
 use program::{Program, Way};
 use score::Score;
-use sheet::{small, KINDS};
+use sheet::{longest, small, Kind, KINDS};
 
 use crate::rng::Rng;
 
@@ -26,8 +27,8 @@ const SMALL: [&[u8]; 2] = [
     b"1 2\n-10 8 65536\n907 -56 -3\n0 412 0\n",
 ];
 
-/// Runs the program on two small texts with every damage of one byte in every place, and with every byte in some places; then on
-/// `count` texts, half of which were drawn to be of the right form and half were damaged. Answers how many differences there were,
+/// Runs the program on two small texts with every damage of one byte in every place, and with every byte in some places, and on very
+/// long ones; then on `count` texts, half of which were drawn to be of the right form and half were damaged. Answers how many differences there were,
 /// and kinds of text that never occurred.
 pub fn check(program: &str, count: u64, seed: u64) -> Result<u64, String> {
     let mut run = Run {
@@ -36,6 +37,7 @@ pub fn check(program: &str, count: u64, seed: u64) -> Result<u64, String> {
     };
     run.each_place()?;
     run.each_byte()?;
+    run.each_length()?;
     run.drawn(count / 2)?;
     run.damaged(count - count / 2)?;
     Ok(run.score.report())
@@ -71,7 +73,8 @@ impl Run {
                 if at + 1 < text.len() {
                     texts.push(swapped(text, at));
                 }
-                for byte in FORM.iter().chain(self.rng.pick(&[OTHERS, b"\0+"])) {
+                let others = [0; 4].map(|_| self.rng.pick(OTHERS));
+                for byte in FORM.iter().chain(&others) {
                     texts.push(replaced(text, at..at + 1, &[*byte]));
                     texts.push(replaced(text, at..at, &[*byte]));
                 }
@@ -97,12 +100,30 @@ impl Run {
         Ok(())
     }
 
+    /// About as many bytes as a text may have, and more than a pipe holds, a text of the right form at their front.
+    fn each_length(&mut self) -> Result<(), String> {
+        let group = self.score.group("very long", Some(10));
+        for bytes in [-1, 0, 1, 2, 30_000, 90_000] {
+            let bytes = (MOST_BYTES as i64 + bytes) as usize;
+            for filler in [b"\n".as_slice(), b" ", b"0", b"9", b"\0", b"0 0 0\n"] {
+                for text in [SMALL[0], &longest(&mut self.rng).text()] {
+                    self.once(group, &lengthened(text, bytes, filler))?;
+                }
+            }
+        }
+        Ok(())
+    }
+
     /// Texts of the right form.
     fn drawn(&mut self, count: u64) -> Result<(), String> {
-        let groups = KINDS.map(|kind| (self.score.group(kind.name, kind.must), kind.draw));
-        for (group, draw) in groups.into_iter().cycle().take(count as usize) {
-            let sheet = draw(&mut self.rng);
-            self.once(group, &sheet.text())?;
+        let groups = KINDS.map(|kind| (self.score.group(kind.name, kind.must), kind));
+        let rounds = (0..).flat_map(|round| {
+            let due = move |(_, kind): &&(usize, Kind)| round % kind.rounds == 0;
+            groups.iter().filter(due)
+        });
+        for (group, kind) in rounds.take(count as usize) {
+            let sheet = (kind.draw)(&mut self.rng);
+            self.once(*group, &sheet.text())?;
         }
         Ok(())
     }

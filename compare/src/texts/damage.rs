@@ -2,7 +2,7 @@
 
 use std::ops::Range;
 
-use super::model::{BULGE, COORDINATE, MOST_BYTES, MOST_VERTICES};
+use super::model::{BULGE, COORDINATE, MOST_VERTICES};
 use crate::rng::Rng;
 
 pub struct Damage {
@@ -14,7 +14,7 @@ const fn damage(name: &'static str, make: fn(&[u8], &mut Rng) -> Vec<u8>) -> Dam
     Damage { name, make }
 }
 
-pub const DAMAGES: [Damage; 37] = [
+pub const DAMAGES: [Damage; 35] = [
     damage("a byte changed", |text, rng| {
         at_byte(text, rng, |_, rng| vec![any_byte(rng)])
     }),
@@ -159,10 +159,6 @@ pub const DAMAGES: [Damage; 37] = [
             other.max(0).to_string()
         })
     }),
-    damage("the counts exchanged", |text, _| {
-        let [n, m] = counts(text);
-        [format!("{m} {n}").as_bytes(), &text[counts_end(text)..]].concat()
-    }),
     damage("257 vertices", |_, rng| {
         let many = MOST_VERTICES as usize + 1;
         let few = rng.below(4) as usize;
@@ -195,22 +191,6 @@ pub const DAMAGES: [Damage; 37] = [
             [digits.trim_start_matches('0'), &"1000".repeat(many / 4 + 1)].concat()
         })
     }),
-    damage("very long", |text, rng| {
-        let size = rng.pick(&[
-            MOST_BYTES - 1,
-            MOST_BYTES,
-            MOST_BYTES,
-            MOST_BYTES + 1,
-            MOST_BYTES + 1,
-            MOST_BYTES + 2,
-            40_000,
-            100_000,
-        ]);
-        let filler = rng.pick(&[b"\n".as_slice(), b" ", b"0", b"0 0 0\n", b"\0", b"9"]);
-        let mut text = text.to_vec();
-        text.extend(filler.iter().cycle().take(size.saturating_sub(text.len())));
-        text
-    }),
     damage("any bytes", |_, rng| {
         let size = rng.pick(&[0, 1, 2, 3, 4, 5, 6, 50, 2000]);
         let of_form = rng.one_in(2);
@@ -233,6 +213,13 @@ pub const OTHERS: &[u8] = &[
     0, b'\t', 0x0b, 0x0c, b'\r', b'+', b',', b'.', b'/', b':', b'_', b'a', b'o', b'O', b'l', b'p',
     0x7f, 0x80, 0x85, 0x8a, 0xa0, 0xad, 0xb0, 0xb9, 0xff,
 ];
+
+/// The text, and behind it as much of the filler as makes so many bytes.
+pub fn lengthened(text: &[u8], bytes: usize, filler: &[u8]) -> Vec<u8> {
+    let more = bytes.saturating_sub(text.len());
+    let filler = filler.iter().cycle().take(more);
+    text.iter().chain(filler).copied().collect()
+}
 
 /// Two neighbours, the first of which is not the last byte, in the other order.
 pub fn swapped(text: &[u8], at: usize) -> Vec<u8> {
@@ -314,11 +301,6 @@ fn ascii(word: &[u8]) -> String {
 fn counts(text: &[u8]) -> [i64; 2] {
     let words = words(text);
     [0, 1].map(|at| ascii(&text[words[at].clone()]).parse().expect("a count"))
-}
-
-/// Where the first line's newline is.
-fn counts_end(text: &[u8]) -> usize {
-    words(text)[1].end
 }
 
 /// One of these bytes, or all of them, replaced.

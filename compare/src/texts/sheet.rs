@@ -39,40 +39,51 @@ impl Sheet {
 pub struct Kind {
     pub name: &'static str,
     pub draw: fn(&mut Rng) -> Sheet,
+    /// Drawn once in so many rounds.
+    pub rounds: u64,
     /// The refusal that must be among the answers, or else a listing must.
     pub must: Option<u64>,
 }
 
-const fn kind(name: &'static str, draw: fn(&mut Rng) -> Sheet, must: Option<u64>) -> Kind {
-    Kind { name, draw, must }
+const fn kind(name: &'static str, rounds: u64, draw: fn(&mut Rng) -> Sheet) -> Kind {
+    Kind {
+        name,
+        draw,
+        rounds,
+        must: None,
+    }
 }
 
-pub const KINDS: [Kind; 11] = [
-    kind("the scope's example", |_| example(), None),
-    kind("where the Rust and the prose part", parting, None),
-    kind("a row of each class", of_each_class, None),
-    kind("0 to 4 vertices", few, None),
-    kind("as they are cut, and others", as_cut, None),
-    kind("numbers at the limits", at_limits, None),
-    kind("on a coarse grid", coarse, None),
-    kind("any counts up to 256", any_counts, None),
-    kind("as long as can be", longest, None),
-    kind("a chosen number of rows", chosen_rows, None),
-    kind("an arc of equal ends", short_arc, Some(5)),
+pub const KINDS: [Kind; 10] = [
+    kind("the scope's own", 8, stated),
+    kind("a row of each class", 1, of_each_class),
+    kind("0 to 4 vertices", 1, few),
+    kind("as they are cut, and others", 1, as_cut),
+    kind("numbers at the limits", 1, at_limits),
+    kind("on a coarse grid", 1, coarse),
+    kind("any counts up to 256", 2, any_counts),
+    kind("as long as can be", 4, longest),
+    kind("a chosen number of rows", 1, chosen_rows),
+    Kind {
+        must: Some(5),
+        ..kind("an arc of equal ends", 1, short_arc)
+    },
 ];
 
-pub fn example() -> Sheet {
-    Sheet::new(vec![[0, 0, 0], [4, 0, 0]], vec![[2, -2, 0], [2, 2, 0]])
+/// The scope's example, and the two texts on which the Rust and the scope's first prose part.
+fn stated(rng: &mut Rng) -> Sheet {
+    match rng.below(3) {
+        0 => example(),
+        1 => Sheet::new(
+            vec![[0, -1, 0], [-1, 1, 0]],
+            vec![[0, 0, 16384], [0, -1, 0]],
+        ),
+        _ => Sheet::new(vec![[0, 0, 0], [1, 1, 0]], vec![[1, 0, 16384], [0, 2, 0]]),
+    }
 }
 
-fn parting(rng: &mut Rng) -> Sheet {
-    if rng.one_in(2) {
-        let second = vec![[0, 0, 16384], [0, -1, 0]];
-        Sheet::new(vec![[0, -1, 0], [-1, 1, 0]], second)
-    } else {
-        let second = vec![[1, 0, 16384], [0, 2, 0]];
-        Sheet::new(vec![[0, 0, 0], [1, 1, 0]], second)
-    }
+fn example() -> Sheet {
+    Sheet::new(vec![[0, 0, 0], [4, 0, 0]], vec![[2, -2, 0], [2, 2, 0]])
 }
 
 /// A small one, for texts that are damaged.
@@ -177,7 +188,7 @@ fn any_counts(rng: &mut Rng) -> Sheet {
 
 /// As many vertices as there may be, and each number as long as it can be written: so no text of the right form is longer. Short
 /// steps upwards beside each other, which meet here and there; now and then all over the place.
-fn longest(rng: &mut Rng) -> Sheet {
+pub fn longest(rng: &mut Rng) -> Sheet {
     let wild = rng.one_in(4);
     let beside = rng.below(60) as i64;
     let mut path = |at: i64| {
@@ -211,7 +222,7 @@ fn chosen_rows(rng: &mut Rng) -> Sheet {
             let across = rng.pick(&[8, 16, 17, 23]);
             let (first, second) = crossed(rows, across);
             let (mut first, mut second) = (whole(&first, 2.0), whole(&second, 2.0));
-            if rng.one_in(2) {
+            if rng.one_in(3) {
                 fill(&mut first, 1);
                 fill(&mut second, 0);
             }
