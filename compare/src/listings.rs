@@ -3,16 +3,16 @@
 
 mod bench;
 mod damage;
-mod draw;
+pub mod draw;
 #[cfg(test)]
 mod examples;
 mod kinds;
-mod layout;
+pub mod layout;
 mod lent;
-mod model;
+pub mod model;
 mod rooms;
 mod score;
-mod shapes;
+pub mod shapes;
 mod sites;
 
 pub use bench::run as bench;

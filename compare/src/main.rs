@@ -29,6 +29,8 @@ mod search;
 mod tally;
 #[cfg(feature = "rust-text")]
 mod text;
+#[cfg(feature = "rust-text")]
+mod texts;
 
 use std::env;
 use std::path::Path;
@@ -42,11 +44,16 @@ usage: compare check [COUNT [SEED]]  compare each float function on COUNT random
                                      until as many pairs were looked at, and on chosen ones
        compare search [COUNT [SEED]] try to break what is promised of lines on the grid, on COUNT pairs (default 25165824,
                                      seed 1)
+       compare texts PROGRAM [COUNT [SEED]]
+                                     hold the text program to a model on COUNT texts (default 3072, seed 1), of the right
+                                     form and damaged, and on small ones with every damage of a byte
+       compare layouts FOLDER        write the model's output NAME.out for each text NAME.txt there
        compare record FILE           write the recorded list for the program replay
        compare bench                 nanoseconds a call, ours beside the machine's own and the Rust's";
 
 const COUNT: u64 = 10 << 20;
 const SEARCHED: u64 = 24 << 20;
+const TEXTS: u64 = 3072;
 const SEED: u64 = 1;
 
 fn main() -> ExitCode {
@@ -55,6 +62,8 @@ fn main() -> ExitCode {
     let done = match words[..] {
         ["check", ref numbers @ ..] => check(numbers),
         ["search", ref numbers @ ..] => search(numbers),
+        ["texts", program, ref numbers @ ..] => texts(program, numbers),
+        ["layouts", folder] => layouts(Path::new(folder)),
         ["record", file] => record(file),
         ["bench"] => {
             bench::run();
@@ -93,6 +102,14 @@ fn search(numbers: &[&str]) -> Result<(), String> {
     }
 }
 
+fn texts(program: &str, numbers: &[&str]) -> Result<(), String> {
+    let (count, seed) = count_and_seed(numbers, TEXTS)?;
+    match check_program(program, count, seed)? {
+        0 => Ok(()),
+        differences => Err(format!("{differences} differences")),
+    }
+}
+
 fn count_and_seed(numbers: &[&str], count: u64) -> Result<(u64, u64), String> {
     let number = |at: usize, default: u64| match numbers.get(at) {
         Some(word) => word
@@ -119,6 +136,27 @@ fn check_text(count: u64, seed: u64) -> u64 {
 fn check_text(_count: u64, _seed: u64) -> u64 {
     println!("rust text not compiled in: nothing was compared with it");
     0
+}
+
+#[cfg(feature = "rust-text")]
+fn check_program(program: &str, count: u64, seed: u64) -> Result<u64, String> {
+    texts::check(program, count, seed)
+}
+
+#[cfg(not(feature = "rust-text"))]
+fn check_program(_program: &str, _count: u64, _seed: u64) -> Result<u64, String> {
+    Err("rust text not compiled in: there is no model of the program".to_string())
+}
+
+#[cfg(feature = "rust-text")]
+fn layouts(folder: &Path) -> Result<(), String> {
+    println!("{} layouts", texts::write(folder)?);
+    Ok(())
+}
+
+#[cfg(not(feature = "rust-text"))]
+fn layouts(_folder: &Path) -> Result<(), String> {
+    Err("rust text not compiled in: there is no model of the program".to_string())
 }
 
 fn record(file: &str) -> Result<(), String> {

@@ -56,12 +56,6 @@ module _ (look : ℕ → ℕ → Look) (ps : List Pair) (i₀ : List ℕ) (p₀ 
   pub fit-points : (n : ℕ) → n ≤ room i₀ p₀ → n * 4 ≤ length p₀
   fit-points n h = omega (arith, h)
 
-  indices-long : (rs : List Row) → length (flat indicesOf rs) ≡ length rs * 3
-  indices-long = flat-length indicesOf 3 (λ r. refl)
-
-  points-long : (rs : List Row) → length (flat pointsOf rs) ≡ length rs * 4
-  points-long = flat-length pointsOf 4 (λ r. refl)
-
   -- ---- no pair is left after a page with room for k rows
   module _ (k : ℕ) (q : Page) (j : Joins look ps k q) (within : k ≤ room i₀ p₀) (ended : empty (q .rest) ≡ true) where
     all : q .rows ≡ rows
@@ -70,14 +64,32 @@ module _ (look : ℕ → ℕ → Look) (ps : List Pair) (i₀ : List ℕ) (p₀ 
     few : length rows ≤ room i₀ p₀
     few = omega (arith, ap length all, j .few, within)
 
+    -- one kind of numbers, stored where there is room for all rows
+    stored-all : {A : Type 0} (numbers : Row → List A) (width : ℕ) → ((r : Row) → length (numbers r) ≡ width)
+        → (old : List A) → length rows * width ≤ length old → sets old 0 (flat numbers (q .rows)) ≡ over old (flat numbers rows)
+    stored-all numbers width each old fit =
+        ap (λ (rs : List Row). sets old 0 (flat numbers rs)) all
+        ∙ sets-over old (flat numbers rows) (omega (arith, flat-length numbers width each rows, fit))
+
     -- filled where they are to stand
     pub on-one-page : (n m : ℕ) (i : List ℕ) (p : List Float) → n ≡ 0 + length (q .rows) → m ≡ q .looked
         → i ≡ sets i₀ 0 (flat indicesOf (q .rows)) → p ≡ sets p₀ 0 (flat pointsOf (q .rows))
         → Leaves (listed look ps i₀ p₀) (Listed n m) i p
     on-one-page n m i p a b c d =
         is-listed few n m i p (omega (arith, a, ap length all)) (b ∙ whole-looked look j ended)
-        (c ∙ ap (λ (rs : List Row). sets i₀ 0 (flat indicesOf rs)) all ∙ sets-over i₀ (flat indicesOf rows) (omega (arith, indices-long rows, fit-indices (length rows) few)))
-        (d ∙ ap (λ (rs : List Row). sets p₀ 0 (flat pointsOf rs)) all ∙ sets-over p₀ (flat pointsOf rows) (omega (arith, points-long rows, fit-points (length rows) few)))
+        (c ∙ stored-all indicesOf 3 (λ r. refl) i₀ (fit-indices (length rows) few))
+        (d ∙ stored-all pointsOf 4 (λ r. refl) p₀ (fit-points (length rows) few))
+
+    -- one kind of numbers, stored in a buffer a and copied from there
+    copied-all : {A : Type 0} (numbers : Row → List A) (width : ℕ) → ((r : Row) → length (numbers r) ≡ width)
+        → (old buffer a : List A) (n : ℕ) → n ≡ length rows → k * width ≤ length buffer
+        → a ≡ sets buffer 0 (flat numbers (q .rows)) → paste old 0 a (n * width) ≡ over old (flat numbers rows)
+    copied-all {A} numbers width each old buffer a n count fit is =
+        let fewer : length rows ≤ k = omega (arith, ap length all, j .few) in
+        let inside = stored-all numbers width each buffer (omega (arith, mul-le-mul fewer (le-refl width), fit)) in
+        ap (λ (l : List A). paste old 0 l (n * width)) (is ∙ inside)
+        ∙ paste-over old buffer (flat numbers rows) (n * width)
+        (ap (λ (c : ℕ). c * width) count ∙ sym (flat-length numbers width each rows))
 
     -- filled into other slices, which have room for k rows, and copied
     pub held-back : (n m : ℕ) (a₀ a i : List ℕ) (b₀ b p : List Float) → n ≡ 0 + length (q .rows) → m ≡ q .looked
@@ -88,10 +100,8 @@ module _ (look : ℕ → ℕ → Look) (ps : List Pair) (i₀ : List ℕ) (p₀ 
     held-back n m a₀ a i b₀ b p e f x y c d g h =
         let count : n ≡ length rows = omega (arith, e, ap length all) in
         is-listed few n m i p count (f ∙ whole-looked look j ended)
-        (g ∙ ap (λ (l : List ℕ). paste i₀ 0 l (n * 3)) (c ∙ ap (λ (rs : List Row). sets a₀ 0 (flat indicesOf rs)) all ∙ sets-over a₀ (flat indicesOf rows) (omega (arith, indices-long rows, ap length all, j .few, x)))
-        ∙ paste-over i₀ a₀ (flat indicesOf rows) (n * 3) (omega (arith, indices-long rows, count)))
-        (h ∙ ap (λ (l : List Float). paste p₀ 0 l (n * 4)) (d ∙ ap (λ (rs : List Row). sets b₀ 0 (flat pointsOf rs)) all ∙ sets-over b₀ (flat pointsOf rows) (omega (arith, points-long rows, ap length all, j .few, y)))
-        ∙ paste-over p₀ b₀ (flat pointsOf rows) (n * 4) (omega (arith, points-long rows, count)))
+        (g ∙ copied-all indicesOf 3 (λ r. refl) i₀ a₀ a n count x c)
+        (h ∙ copied-all pointsOf 4 (λ r. refl) p₀ b₀ b n count y d)
 
 -- ---- filled from the first pair on
 module _ (look : ℕ → ℕ → Look) (job : Job) where

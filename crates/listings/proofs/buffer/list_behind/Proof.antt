@@ -28,13 +28,15 @@ long-indices : (c : tie.Start) → length (now (c .args .held-indices)) ≡ 6144
 long-indices c =
     let a = c .args in
     held-indices (look (now (a .first)) (now (a .second)) (a .job .epsilon)) (a .job) 2048 (a .i) (a .j) (a .pairs)
-    (now (a .held-indices)) (now (a .held-points)) (c .pre .1 .1 .1) (now (a .indices)) (now (a .points)) (omega (arith, c .pre .1 .0, c .pre .1 .1 .0))
+    (now (a .held-indices)) (now (a .held-points)) (c .pre .1 .1 .1) (now (a .indices)) (now (a .points))
+    (omega (arith, c .pre .1 .0, c .pre .1 .1 .0))
 
 long-points : (c : tie.Start) → length (now (c .args .held-points)) ≡ 8192
 long-points c =
     let a = c .args in
     held-points (look (now (a .first)) (now (a .second)) (a .job .epsilon)) (a .job) 2048 (a .i) (a .j) (a .pairs)
-    (now (a .held-indices)) (now (a .held-points)) (c .pre .1 .1 .1) (now (a .indices)) (now (a .points)) (omega (arith, c .pre .1 .0, c .pre .1 .1 .0))
+    (now (a .held-indices)) (now (a .held-points)) (c .pre .1 .1 .1) (now (a .indices)) (now (a .points))
+    (omega (arith, c .pre .1 .0, c .pre .1 .1 .0))
 
 -- the rows that were held back are copied
 copied-indices : (c : tie.After-copy-rows)
@@ -69,7 +71,9 @@ fill-requires-2 c κs =
     let k = c .before .before .before .before .before .before in
     let f = k .before .before .before .before .before .before .before .before in
     let h = start f .pre in
-    (h .0, (h .1 .1 .1 .within, (h .1 .1 .0, (omega (arith, h .1 .0, ap length (copied-indices k)), omega (arith, h .1 .0, ap length (copied-points k))))))
+    let on-indices = ap length (copied-indices k) in
+    let on-points = ap length (copied-points k) in
+    (h .0, (h .1 .1 .1 .within, (h .1 .1 .0, (omega (arith, h .1 .0, on-indices), omega (arith, h .1 .0, on-points)))))
 
 add-t28 : tie.Need-add-t28
 add-t28 c =

@@ -1,5 +1,5 @@
+-- `listings::order::from` meets its contract: each return is an end of the definition, by the test that led to it.
 use borrow.Author.Needs.{needs}
-use mathlib.Core.Path.{refl}
 use Rattle.listings.specs.Laws.Job.{from}
 use Rattle.listings.proofs.order.from.Statement.{statement}
 use Rattle.listings.proofs.order.from.Tie as tie
@@ -9,15 +9,11 @@ add-result c = search needs
 
 returns : tie.Need-returns
 unfolding from
-returns c =
-    simp (
-    c .if1 .taken)
+returns c = simp (c .if1 .taken)
 
 returns-2 : tie.Need-returns-2
 unfolding from
-returns-2 c =
-    simp (
-    c .if1 .left)
+returns-2 c = simp (c .if1 .left)
 
 pub from-spec : {M : Type 1} → statement M
 from-spec = tie.close (tie.spec add-result returns returns-2)

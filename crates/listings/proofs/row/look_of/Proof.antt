@@ -1,5 +1,5 @@
+-- `listings::row::look_of` meets its contract: each arm is a class of the definition.
 use borrow.Author.Needs.{needs}
-use mathlib.Core.Path.{refl}
 use Rattle.listings.specs.Row.{lookOf}
 use Rattle.listings.proofs.row.look_of.Statement.{statement}
 use Rattle.listings.proofs.row.look_of.Tie as tie
@@ -64,4 +64,18 @@ returns-6 c =
     p1 .met5 .given .1)
 
 pub look-of-spec : {M : Type 1} → statement M
-look-of-spec = tie.close (tie.spec enum-told enum-known-met enum-known-met-2 enum-known-met-3 enum-known-met-4 enum-known-met-5 returns returns-2 returns-3 returns-4 returns-5 returns-6)
+look-of-spec =
+    tie.close
+    (tie.spec
+    enum-told
+    enum-known-met
+    enum-known-met-2
+    enum-known-met-3
+    enum-known-met-4
+    enum-known-met-5
+    returns
+    returns-2
+    returns-3
+    returns-4
+    returns-5
+    returns-6)

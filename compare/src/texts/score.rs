@@ -1,0 +1,176 @@
+//! Holds one run of the program after the other to the model, and counts what was met: by how the text came about and by its
+//! answer, rows by class, and differences.
+
+use super::kinds::{Case, Kinds};
+use super::model::{answer, CLASSES};
+use super::program::{judge, Program, Verdict, Way};
+
+const SHOWN: u64 = 5;
+/// The refusals that a text can reach.
+pub const REFUSALS: [u64; 3] = [10, 5, 8];
+
+/// Texts that came about in one way.
+pub struct Group {
+    name: String,
+    /// What must be among its answers: a refusal, or a listing.
+    must: Option<u64>,
+    texts: u64,
+    listed: u64,
+    refused: [u64; 3],
+}
+
+impl Group {
+    pub fn new(name: impl Into<String>, must: Option<u64>) -> Group {
+        Group {
+            name: name.into(),
+            must,
+            texts: 0,
+            listed: 0,
+            refused: [0; 3],
+        }
+    }
+
+    fn count(&mut self, refused: Option<u64>) {
+        self.texts += 1;
+        match refused {
+            None => self.listed += 1,
+            Some(number) => {
+                let at = REFUSALS.iter().position(|n| *n == number);
+                self.refused[at.expect("no text reaches another")] += 1;
+            }
+        }
+    }
+
+    fn answers(&self) -> String {
+        let by = |(number, count): (u64, u64)| {
+            (count > 0).then(|| format!("{count} refused by {number}"))
+        };
+        let refused = REFUSALS.into_iter().zip(self.refused).filter_map(by);
+        let listed = (self.listed > 0).then(|| format!("{} listed", self.listed));
+        let answers: Vec<String> = listed.into_iter().chain(refused).collect();
+        format!("{} texts: {}", self.texts, answers.join(", "))
+    }
+
+    fn is_met(&self) -> bool {
+        let at = |number: u64| REFUSALS.iter().position(|n| *n == number);
+        match self.must {
+            None => self.listed > 0,
+            Some(number) => at(number).is_some_and(|at| self.refused[at] > 0),
+        }
+    }
+}
+
+pub struct Score {
+    program: Program,
+    groups: Vec<Group>,
+    whole: Group,
+    kinds: Kinds,
+    rows: [u64; 6],
+    other_zeros: u64,
+    differences: u64,
+}
+
+impl Score {
+    pub fn new(program: Program) -> Score {
+        Score {
+            program,
+            groups: Vec::new(),
+            whole: Group::new("texts", None),
+            kinds: Kinds::new(),
+            rows: [0; 6],
+            other_zeros: 0,
+            differences: 0,
+        }
+    }
+
+    /// Begins a group, and answers its index.
+    pub fn group(&mut self, name: impl Into<String>, must: Option<u64>) -> usize {
+        self.groups.push(Group::new(name, must));
+        self.groups.len() - 1
+    }
+
+    /// Runs the program on a text. Fails only if the program cannot be run.
+    pub fn compare(&mut self, group: usize, text: &[u8], way: Way) -> Result<(), String> {
+        let answer = answer(text);
+        let expected = answer.printed();
+        let printed = self.program.run(text, way)?;
+        match judge(&printed, &expected) {
+            Verdict::Same => {}
+            Verdict::SameNumbers => self.other_zeros += 1,
+            Verdict::Different => self.differ(group, text, &printed, &expected),
+        }
+        let refused = answer.refused();
+        self.groups[group].count(refused);
+        self.whole.count(refused);
+        if refused.is_none() {
+            for row in answer.rows() {
+                self.rows[row.class as usize] += 1;
+            }
+        }
+        let in_pieces = matches!(way, Way::InPieces(_));
+        self.kinds.count(&Case {
+            text,
+            answer: &answer,
+            in_pieces,
+        });
+        Ok(())
+    }
+
+    fn differ(&mut self, group: usize, text: &[u8], printed: &[u8], expected: &str) {
+        self.differences += 1;
+        if self.differences > SHOWN {
+            return;
+        }
+        let name = &self.groups[group].name;
+        println!("texts, {name}: {} bytes {}", text.len(), front(text));
+        let mut ours = printed.split_inclusive(|byte| *byte == b'\n');
+        let mut lines = expected.split_inclusive('\n').map(str::as_bytes);
+        // the first line that differs
+        loop {
+            let (line, stated) = (ours.next(), lines.next());
+            if line != stated || line.is_none() {
+                println!("  printed  {}", front(line.unwrap_or_default()));
+                println!("  expected {}", front(stated.unwrap_or_default()));
+                return;
+            }
+        }
+    }
+
+    /// Prints the counts, and answers how many differences there were; what never occurred is one.
+    pub fn report(&self) -> u64 {
+        for group in &self.groups {
+            println!("texts, {}: {}", group.name, group.answers());
+        }
+        let rows = CLASSES.iter().zip(self.rows).skip(1);
+        let rows: Vec<String> = rows
+            .map(|(class, count)| format!("{class} {count}"))
+            .collect();
+        println!(
+            "texts: {}; rows {}; {} with another zero or NaN, {} differences",
+            self.whole.answers(),
+            rows.join(", "),
+            self.other_zeros,
+            self.differences
+        );
+        let groups = self.groups.iter().filter(|group| !group.is_met());
+        let unmet: Vec<String> = groups
+            .map(|group| match group.must {
+                Some(number) => format!("{}, refused by {number}", group.name),
+                None => format!("{}, listed", group.name),
+            })
+            .chain(self.kinds.report())
+            .collect();
+        for what in &unmet {
+            println!("texts: NEVER MET: {what}");
+        }
+        self.differences + unmet.len() as u64
+    }
+}
+
+/// The first bytes, to be read by a person.
+fn front(bytes: &[u8]) -> String {
+    const MOST: usize = 160;
+    let dots = if bytes.len() > MOST { ".." } else { "" };
+    let bytes = &bytes[..bytes.len().min(MOST)];
+    format!("\"{}\"{dots}", bytes.escape_ascii())
+}
