@@ -54,7 +54,7 @@ const fn kind(name: &'static str, rounds: u64, draw: fn(&mut Rng) -> Sheet) -> K
     }
 }
 
-pub const KINDS: [Kind; 10] = [
+pub const KINDS: [Kind; 11] = [
     kind("the scope's own", 8, stated),
     kind("a row of each class", 1, of_each_class),
     kind("0 to 4 vertices", 1, few),
@@ -63,6 +63,7 @@ pub const KINDS: [Kind; 10] = [
     kind("on a coarse grid", 1, coarse),
     kind("any counts up to 256", 2, any_counts),
     kind("as long as can be", 4, longest),
+    kind("about the epsilon", 1, about_epsilon),
     kind("a chosen number of rows", 1, chosen_rows),
     Kind {
         must: Some(5),
@@ -205,6 +206,52 @@ pub fn longest(rng: &mut Rng) -> Sheet {
         (0..MOST_VERTICES).map(&mut next).collect()
     };
     Sheet::new(path(0), path(1)).map(mended)
+}
+
+/// A line that ends a little more or less than the epsilon beside another one or beside an arc; or an arc about as flat as the
+/// epsilon on its chord's line.
+fn about_epsilon(rng: &mut Rng) -> Sheet {
+    // the epsilon is 1/1024: the reciprocal of the first number, or half the second one times the bulge
+    let long = 1024 + rng.pick(&[0, 1, 20]) * number(1, rng);
+    let (chord, flat) = rng.pick(&[(128, 1), (64, 2), (16, 8), (2, 64), (1024, 1), (1, 128)]);
+    let chord = chord + rng.pick(&[0, 0, 1, -1]);
+    let flat = (flat + rng.pick(&[0, 0, 1, -1])) * sign(rng);
+    let (first, second) = match rng.below(4) {
+        0 | 1 => {
+            let end = [long - 1, 1, 0];
+            let beside = [end, [long - 1 + number(3, rng), 5, 0]];
+            ([[0, 0, 0], [long, 1, 0]], beside)
+        }
+        2 => {
+            let middle = [chord / 2, 0, 0];
+            let beside = [middle, [number(5, rng), 7 * sign(rng), 0]];
+            ([[0, 0, flat], [chord, 0, 0]], beside)
+        }
+        _ => {
+            let other = rng.pick(&[0, 0, -flat, 2 * flat]);
+            let along = [[number(3, rng), 0, other], [chord + number(3, rng), 0, 0]];
+            ([[0, 0, flat], [chord, 0, 0]], along)
+        }
+    };
+    let turns = rng.below(4);
+    let mut placed = |mut path: Vec<Place>| {
+        for _ in 0..turns {
+            path = path.into_iter().map(|[x, y, b]| [-y, x, b]).collect();
+        }
+        if rng.one_in(2) {
+            path = vec![
+                [path[1][0], path[1][1], -path[0][2]],
+                [path[0][0], path[0][1], 0],
+            ];
+        }
+        mended(path)
+    };
+    let (first, second) = (placed(first.to_vec()), placed(second.to_vec()));
+    if rng.one_in(2) {
+        Sheet::new(first, second)
+    } else {
+        Sheet::new(second, first)
+    }
 }
 
 /// About as many rows as there is room for, or few: two meanders across each other, filled up to the most vertices or not; or
