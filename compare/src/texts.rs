@@ -2,6 +2,7 @@
 //! pair function: its whole output to texts of the right form and to damaged ones.
 
 mod damage;
+mod draw;
 #[cfg(test)]
 mod examples;
 mod kinds;
@@ -14,10 +15,10 @@ mod stored;
 pub use stored::write;
 
 use damage::{lengthened, replaced, swapped, DAMAGES, FORM, OTHERS};
+use draw::{longest, small, Kind, KINDS};
 use model::MOST_BYTES;
 use program::{Program, Way};
 use score::Score;
-use sheet::{longest, small, Kind, KINDS};
 
 use crate::rng::Rng;
 
@@ -27,9 +28,9 @@ const SMALL: [&[u8]; 2] = [
     b"1 2\n-10 8 65536\n907 -56 -3\n0 412 0\n",
 ];
 
-/// Runs the program on two small texts with every damage of one byte in every place, and with every byte in some places, and on very
-/// long ones; then on `count` texts, half of which were drawn to be of the right form and half were damaged. Answers how many differences there were,
-/// and kinds of text that never occurred.
+/// Runs the program on two small texts with every damage of one byte in every place, and with every byte in some places, and on
+/// very long texts; then on `count` texts, of which half were drawn to be of the right form and half were damaged. Answers how many
+/// differences there were, and kinds of text that never occurred.
 pub fn check(program: &str, count: u64, seed: u64) -> Result<u64, String> {
     let mut run = Run {
         score: Score::new(Program::new(program)?),

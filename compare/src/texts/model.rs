@@ -51,10 +51,13 @@ impl Answer {
 
     /// The whole output.
     pub fn printed(&self) -> String {
-        match (self.refused(), self) {
-            (Some(number), _) => format!("refused {number}\n"),
-            (None, Answer::Made(listing)) => lines(&listing.rows),
-            (None, Answer::Broken) => unreachable!("a broken text is refused"),
+        let refused = |number: u64| format!("refused {number}\n");
+        match self {
+            Answer::Broken => refused(BROKEN),
+            Answer::Made(listing) => match listing.fault(MOST_ROWS) {
+                Some(fault) => refused(fault.number),
+                None => lines(&listing.rows),
+            },
         }
     }
 }

@@ -2,3 +2,4 @@ pub mod Later
 pub mod Order
 pub mod Fine
 pub mod Chains
+pub mod Chord

@@ -9,6 +9,7 @@ pub mod Exactly
 pub mod Table
 pub mod Edges
 pub mod First
+pub mod FirstFault
 pub mod Lists
 pub mod Told
 pub mod Laws

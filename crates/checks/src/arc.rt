@@ -5,6 +5,7 @@ use super::each;
 use super::fault::Checked;
 use super::fault::Item;
 use super::fault::Place;
+use super::limit;
 use plane::pline_vertex::PlineVertex;
 
 // Refusal 5 if the segment from a to b is an arc and its computed chord length is below 2^-40; a line is fine whatever its
@@ -16,6 +17,10 @@ pub fn arc_chord(a: PlineVertex, b: PlineVertex, owner: u64, index: u64) -> Chec
         return Checked::Fine;
     }
     let chord = b.pos().sub(a.pos());
+    // Long enough by its self dot: no root is needed.
+    if chord.length_squared() >= limit::CHORD_SQUARE {
+        return Checked::Fine;
+    }
     each::chord(
         chord.length(),
         Place {

@@ -14,6 +14,9 @@ pub const EPSILON_MOST: f64 = 0.5;
 // 2^-40: the least chord of an arc
 pub const CHORD_LEAST: f64 = 1.0 / 1099511627776.0;
 
+// 2^-80: its square. A chord whose self dot is at least this is no shorter (specs/Laws/Chord.antt).
+pub const CHORD_SQUARE: f64 = CHORD_LEAST * CHORD_LEAST;
+
 // 2^-42 and 2^47: the least and the most radius of a circle
 pub const RADIUS_LEAST: f64 = 1.0 / 4398046511104.0;
 

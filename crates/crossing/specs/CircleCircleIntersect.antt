@@ -1,9 +1,6 @@
 -- The call of src/circle_circle_intersect.rt: its numbers are looked at first, and the first fault is its answer.
-use mathlib.Core.Path.{_≡_, refl}
-use mathlib.Core.Bool.{true, false, cond}
+use mathlib.Core.Bool.{true, false}
 use mathlib.Core.List.{List, [], _∷_, _++_}
-use Prim.Native.Nat.{ℕ}
-use lib.Dec.{eqb}
 use lib.Ieee.{Float}
 use Rattle.plane.specs.declared.vector2.Vector2.{Vector2}
 use Rattle.checks.specs.declared.fault.Item.the-variants.{Epsilon}
@@ -13,9 +10,8 @@ use Rattle.checks.specs.Each
 use Rattle.checks.specs.First.{first}
 use Rattle.checks.specs.Lists.{circleChecks}
 use Rattle.crossing.specs.Settle.{settle}
-use Rattle.crossing.specs.Told.{Told, apart-by, two, four}
+use Rattle.crossing.specs.Told.{Told}
 use Rattle.crossing.specs.CircleCircle.{circleCircle}
-use Rattle.crossing.specs.declared.circle_circle_intersect.CircleCircleIntr.{CircleCircleIntr}
 use Rattle.crossing.specs.declared.circle_circle_intersect.CircleCircleIntr.the-variants.{
   NoIntersect,
   TangentIntersect,
@@ -40,32 +36,10 @@ unfoldable pub circleCircleIntr : Float → Vector2 → Float → Vector2 → Fl
 circleCircleIntr radius1 center1 radius2 center2 epsilon =
     settle Refused Met (look radius1 center1 radius2 center2 epsilon) (circleCircle radius1 center1 radius2 center2 epsilon)
 
--- ---- what an answer tells, in numbers; two that tell the same are the same
+-- ---- what an answer tells, in numbers
 abbrev pub told : CircleCircleAnswer → Told
 told (Refused n) = record { refused = true; number = n; values = [] }
 told (Met NoIntersect) = record { refused = false; number = 0; values = [] }
 told (Met (TangentIntersect p)) = record { refused = false; number = 1; values = p .x ∷ p .y ∷ [] }
 told (Met (TwoIntersects p q)) = record { refused = false; number = 2; values = p .x ∷ p .y ∷ q .x ∷ q .y ∷ [] }
 told (Met Overlapping) = record { refused = false; number = 3; values = [] }
-
-abbrev point : Float → Float → Vector2
-point x y = record { x = x; y = y }
-
-back : Told → CircleCircleAnswer
-back t =
-    cond (t .refused) (Refused (t .number))
-    (cond (eqb (t .number) 1) (two (λ a b. Met (TangentIntersect (point a b))) (Met NoIntersect) (t .values))
-    (cond (eqb (t .number) 2) (four (λ a b c d. Met (TwoIntersects (point a b) (point c d))) (Met NoIntersect) (t .values))
-    (cond (eqb (t .number) 3) (Met Overlapping)
-    (Met NoIntersect))))
-
-told-back : (a : CircleCircleAnswer) → back (told a) ≡ a
-unfolding back
-told-back (Refused n) = refl
-told-back (Met NoIntersect) = refl
-told-back (Met (TangentIntersect p)) = refl
-told-back (Met (TwoIntersects p q)) = refl
-told-back (Met Overlapping) = refl
-
-pub told-apart : (a b : CircleCircleAnswer) → told a ≡ told b → a ≡ b
-told-apart = apart-by told back told-back

@@ -2,3 +2,4 @@ pub mod Sweep
 pub mod Answers
 pub mod Bulges
 pub mod Order
+pub mod Within

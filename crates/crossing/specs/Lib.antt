@@ -8,11 +8,13 @@ pub mod LineArc
 pub mod ArcArc
 pub mod PlineSeg
 pub mod Settle
+pub mod Settled
 pub mod Told
 pub mod LineLineIntersect
 pub mod LineCircleIntersect
 pub mod CircleCircleIntersect
 pub mod PlineSegIntersect
+pub mod Apart
 pub mod Refusals
 pub mod Bulges
 pub mod Laws

@@ -1,9 +1,6 @@
 -- The call of src/line_circle_intersect.rt: its numbers are looked at first, and the first fault is its answer.
-use mathlib.Core.Path.{_≡_, refl}
-use mathlib.Core.Bool.{true, false, cond}
+use mathlib.Core.Bool.{true, false}
 use mathlib.Core.List.{List, [], _∷_, _++_}
-use Prim.Native.Nat.{ℕ}
-use lib.Dec.{eqb}
 use lib.Ieee.{Float}
 use Rattle.plane.specs.declared.vector2.Vector2.{Vector2}
 use Rattle.checks.specs.declared.fault.Item.the-variants.{Epsilon}
@@ -13,9 +10,8 @@ use Rattle.checks.specs.Each
 use Rattle.checks.specs.First.{first}
 use Rattle.checks.specs.Lists.{pointChecks, circleChecks}
 use Rattle.crossing.specs.Settle.{settle}
-use Rattle.crossing.specs.Told.{Told, apart-by, one, two}
+use Rattle.crossing.specs.Told.{Told}
 use Rattle.crossing.specs.LineCircle.{lineCircle}
-use Rattle.crossing.specs.declared.line_circle_intersect.LineCircleIntr.{LineCircleIntr}
 use Rattle.crossing.specs.declared.line_circle_intersect.LineCircleIntr.the-variants.{
   NoIntersect,
   TangentIntersect,
@@ -40,26 +36,9 @@ unfoldable pub lineCircleIntr : Vector2 → Vector2 → Float → Vector2 → Fl
 lineCircleIntr p0 p1 radius circleCenter epsilon =
     settle Refused Met (look p0 p1 radius circleCenter epsilon) (lineCircle p0 p1 radius circleCenter epsilon)
 
--- ---- what an answer tells, in numbers; two that tell the same are the same
+-- ---- what an answer tells, in numbers
 abbrev pub told : LineCircleAnswer → Told
 told (Refused n) = record { refused = true; number = n; values = [] }
 told (Met NoIntersect) = record { refused = false; number = 0; values = [] }
 told (Met (TangentIntersect t0)) = record { refused = false; number = 1; values = t0 ∷ [] }
 told (Met (TwoIntersects t0 t1)) = record { refused = false; number = 2; values = t0 ∷ t1 ∷ [] }
-
-back : Told → LineCircleAnswer
-back t =
-    cond (t .refused) (Refused (t .number))
-    (cond (eqb (t .number) 1) (one (λ a. Met (TangentIntersect a)) (Met NoIntersect) (t .values))
-    (cond (eqb (t .number) 2) (two (λ a b. Met (TwoIntersects a b)) (Met NoIntersect) (t .values))
-    (Met NoIntersect)))
-
-told-back : (a : LineCircleAnswer) → back (told a) ≡ a
-unfolding back
-told-back (Refused n) = refl
-told-back (Met NoIntersect) = refl
-told-back (Met (TangentIntersect t0)) = refl
-told-back (Met (TwoIntersects t0 t1)) = refl
-
-pub told-apart : (a b : LineCircleAnswer) → told a ≡ told b → a ≡ b
-told-apart = apart-by told back told-back

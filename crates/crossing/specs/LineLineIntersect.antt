@@ -1,9 +1,6 @@
 -- The call of src/line_line_intersect.rt: its numbers are looked at first, and the first fault is its answer.
-use mathlib.Core.Path.{_≡_, refl}
-use mathlib.Core.Bool.{true, false, cond}
+use mathlib.Core.Bool.{true, false}
 use mathlib.Core.List.{List, [], _∷_, _++_}
-use Prim.Native.Nat.{ℕ}
-use lib.Dec.{eqb}
 use lib.Ieee.{Float}
 use Rattle.plane.specs.declared.vector2.Vector2.{Vector2}
 use Rattle.checks.specs.declared.fault.Item.the-variants.{Epsilon}
@@ -13,9 +10,8 @@ use Rattle.checks.specs.Each
 use Rattle.checks.specs.First.{first}
 use Rattle.checks.specs.Lists.{pointChecks}
 use Rattle.crossing.specs.Settle.{settle}
-use Rattle.crossing.specs.Told.{Told, apart-by, two}
+use Rattle.crossing.specs.Told.{Told}
 use Rattle.crossing.specs.LineLine.{lineLine}
-use Rattle.crossing.specs.declared.line_line_intersect.LineLineIntr.{LineLineIntr}
 use Rattle.crossing.specs.declared.line_line_intersect.LineLineIntr.the-variants.{
   NoIntersect,
   TrueIntersect,
@@ -42,29 +38,10 @@ unfoldable pub lineLineIntr : Vector2 → Vector2 → Vector2 → Vector2 → Fl
 lineLineIntr v1 v2 u1 u2 epsilon =
     settle Refused Met (look v1 v2 u1 u2 epsilon) (lineLine v1 v2 u1 u2 epsilon)
 
--- ---- what an answer tells, in numbers; two that tell the same are the same
+-- ---- what an answer tells, in numbers
 abbrev pub told : LineLineAnswer → Told
 told (Refused n) = record { refused = true; number = n; values = [] }
 told (Met NoIntersect) = record { refused = false; number = 0; values = [] }
 told (Met (TrueIntersect t1 t2)) = record { refused = false; number = 1; values = t1 ∷ t2 ∷ [] }
 told (Met (Overlapping t0 t1)) = record { refused = false; number = 2; values = t0 ∷ t1 ∷ [] }
 told (Met (FalseIntersect t1 t2)) = record { refused = false; number = 3; values = t1 ∷ t2 ∷ [] }
-
-back : Told → LineLineAnswer
-back t =
-    cond (t .refused) (Refused (t .number))
-    (cond (eqb (t .number) 1) (two (λ a b. Met (TrueIntersect a b)) (Met NoIntersect) (t .values))
-    (cond (eqb (t .number) 2) (two (λ a b. Met (Overlapping a b)) (Met NoIntersect) (t .values))
-    (cond (eqb (t .number) 3) (two (λ a b. Met (FalseIntersect a b)) (Met NoIntersect) (t .values))
-    (Met NoIntersect))))
-
-told-back : (a : LineLineAnswer) → back (told a) ≡ a
-unfolding back
-told-back (Refused n) = refl
-told-back (Met NoIntersect) = refl
-told-back (Met (TrueIntersect t1 t2)) = refl
-told-back (Met (Overlapping t0 t1)) = refl
-told-back (Met (FalseIntersect t1 t2)) = refl
-
-pub told-apart : (a b : LineLineAnswer) → told a ≡ told b → a ≡ b
-told-apart = apart-by told back told-back

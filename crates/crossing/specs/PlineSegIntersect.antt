@@ -1,9 +1,7 @@
 -- The call of src/pline_seg_intersect.rt: its numbers are looked at first, and the first fault is its answer.
-use mathlib.Core.Path.{_≡_, refl, sym, ap}
-use mathlib.Core.Bool.{true, false, cond}
+use mathlib.Core.Bool.{true, false}
 use mathlib.Core.List.{List, [], _∷_, _++_}
 use lib.Ieee.{Float}
-use Rattle.plane.specs.declared.vector2.Vector2.{Vector2}
 use Rattle.plane.specs.declared.pline_vertex.PlineVertex.{PlineVertex}
 use Rattle.checks.specs.declared.fault.Item.the-variants.{Epsilon}
 use Rattle.checks.specs.declared.fault.Checked.{Checked}
@@ -13,10 +11,9 @@ use Rattle.checks.specs.Arc.{arcChord}
 use Rattle.checks.specs.First.{first}
 use Rattle.checks.specs.Lists.{pointChecks, vertexChecks}
 use Rattle.crossing.specs.Settle.{settle}
-use Rattle.crossing.specs.Told.{Told, apart-by, four}
+use Rattle.crossing.specs.Told.{Told}
 use Rattle.crossing.specs.PlineSeg.{plineSeg}
 use Rattle.crossing.specs.PlineSegIntr.{classOf, point1Of, point2Of}
-use Rattle.crossing.specs.Laws.Answers.{answer, again}
 use Rattle.crossing.specs.declared.pline_seg_intersect.PlineSegAnswer.{PlineSegAnswer}
 use Rattle.crossing.specs.declared.pline_seg_intersect.PlineSegAnswer.the-variants.{Refused, Met}
 
@@ -38,7 +35,7 @@ unfoldable pub plineSegIntr : PlineVertex → PlineVertex → PlineVertex → Pl
 plineSegIntr v1 v2 u1 u2 posEqualEps =
     settle Refused Met (look v1 v2 u1 u2 posEqualEps) (plineSeg v1 v2 u1 u2 posEqualEps)
 
--- ---- what an answer tells, in numbers: its class and its points, absent ones +0; two that tell the same are the same
+-- ---- what an answer tells, in numbers: its class and its points, absent ones +0
 abbrev pub told : PlineSegAnswer → Told
 told (Refused n) = record { refused = true; number = n; values = [] }
 told (Met r) =
@@ -47,19 +44,3 @@ told (Met r) =
       number = classOf r;
       values = point1Of r .x ∷ point1Of r .y ∷ point2Of r .x ∷ point2Of r .y ∷ [];
     }
-
-abbrev point : Float → Float → Vector2
-point x y = record { x = x; y = y }
-
-back : Told → PlineSegAnswer
-back t =
-    cond (t .refused) (Refused (t .number))
-    (four (λ a b c d. Met (answer (t .number) (point a b) (point c d))) (Refused 0) (t .values))
-
-told-back : (a : PlineSegAnswer) → back (told a) ≡ a
-unfolding back
-told-back (Refused n) = refl
-told-back (Met r) = ap Met (sym (again r))
-
-pub told-apart : (a b : PlineSegAnswer) → told a ≡ told b → a ≡ b
-told-apart = apart-by told back told-back

@@ -7,7 +7,7 @@ use native.Mathlib.Omega.{arith}
 use lib.Ieee.{Float}
 use Rattle.plane.specs.declared.vector2.Vector2.{Vector2}
 use Rattle.plane.specs.declared.pline_vertex.PlineVertex.{PlineVertex}
-use Rattle.crossing.specs.Settle.{Settled, Apart, settled}
+use Rattle.crossing.specs.Settled.{Settled, Apart, settled}
 use Rattle.crossing.specs.LineLine.{lineLine}
 use Rattle.crossing.specs.LineCircle.{lineCircle}
 use Rattle.crossing.specs.CircleCircle.{circleCircle}

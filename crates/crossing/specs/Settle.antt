@@ -1,51 +1,8 @@
 -- What a call answers, by what the look at its numbers found: a fault's number alone, or where there is none what was worked out.
--- And the scope's "exactly when", for every call and every type of answer.
-use mathlib.Core.Path.{_≡_, refl, sym, ap, _∙_}
-use mathlib.Core.Logic.{_↔_}
-use mathlib.Core.List.{List}
 use Prim.Native.Nat.{ℕ}
-use Rattle.checks.specs.declared.fault.Fault.{Fault}
 use Rattle.checks.specs.declared.fault.Checked.{Checked}
 use Rattle.checks.specs.declared.fault.Checked.the-variants.{Fine, Bad}
-use Rattle.checks.specs.First.{first, FirstFault, AllFine, first-bad, first-fine}
 
 abbrev pub settle : {I A : Type 0} → (ℕ → A) → (I → A) → Checked → I → A
 settle refused met Fine intr = met intr
 settle refused met (Bad fault) intr = refused (fault .number)
-
--- the first fault among the checks, in their order, has the number n
-abbrev pub FirstIs : ℕ → List Checked → Type 0
-FirstIs n checks = (f : Fault) × (FirstFault f checks × (f .number ≡ n))
-
--- The answer is refusal n if and only if the first fault has that number, and it is what was worked out if and only if every
--- number passes.
-pub record Settled {I A : Type 0} (refused : ℕ → A) (met : I → A) (answer : A) (checks : List Checked) (intr : I) : Type 0 where
-  pub refused-when : (n : ℕ) → (answer ≡ refused n) ↔ FirstIs n checks
-  pub met-when : (answer ≡ met intr) ↔ AllFine checks
-
--- ---- every answer that `settle` gives is such
--- two refusals are equal only if their numbers are, and none is an answer
-pub record Apart {I A : Type 0} (refused : ℕ → A) (met : I → A) : Type 0 where
-  pub numbers : (n m : ℕ) → refused n ≡ refused m → n ≡ m
-  pub kinds : (n : ℕ) (i : I) → refused n ≡ met i → ⊥
-
-module _ {I A : Type 0} (refused : ℕ → A) (met : I → A) (apart : Apart refused met) (checks : List Checked) (intr : I) where
-  abbrev answer : Checked → A
-  answer c = settle refused met c intr
-
-  to-first : (n : ℕ) (c : Checked) → first checks ≡ c → answer (first checks) ≡ refused n → FirstIs n checks
-  to-first n Fine e h = absurd (apart .kinds n intr (sym h ∙ ap answer e))
-  to-first n (Bad f) e h = (f, (first-bad checks f .0 e, apart .numbers (f .number) n (sym (ap answer e) ∙ h)))
-
-  from-first : (n : ℕ) → FirstIs n checks → answer (first checks) ≡ refused n
-  from-first n (f, (is, number)) = ap answer (first-bad checks f .1 is) ∙ ap refused number
-
-  to-fine : (c : Checked) → first checks ≡ c → answer (first checks) ≡ met intr → AllFine checks
-  to-fine Fine e h = first-fine checks .0 e
-  to-fine (Bad f) e h = absurd (apart .kinds (f .number) intr (sym (ap answer e) ∙ h))
-
-  pub settled : Settled refused met (settle refused met (first checks) intr) checks intr
-  settled = record {
-    refused-when = λ n. (to-first n (first checks) refl, from-first n);
-    met-when = (to-fine (first checks) refl, λ h. ap answer (first-fine checks .1 h));
-  }

@@ -1,6 +1,7 @@
 // Two line segments, for any numbers: line_line_intersect.rs. The names of its locals are the Rust's.
 ghost use mathlib.Core.Path.{_≡_};
 ghost use Rattle.crossing.specs.LineLine;
+ghost use Rattle.crossing.specs.Laws.Within;
 use super::line_line_intersect::LineLineIntr;
 use plane::base_math::parametric_from_point;
 use plane::fuzzy::fuzzy_eq_zero_eps;
@@ -15,12 +16,64 @@ pub struct Span {
     pub t1: f64,
 }
 
+// What the shortcut of `within` compares with. A segment is of usual length from 2^-5 to 2^25, which is told by its square, and an
+// epsilon is usual from 2^-40 to 2^-10. Then a parameter is clearly inside up to 31/32, and clearly outside from 33/32 on and down
+// from -1/32.
+const EPS_LEAST: f64 = 1.0 / 1099511627776.0;
+
+const THOUSANDTH: f64 = 1.0 / 1024.0;
+
+const SQUARE_MOST: f64 = 1125899906842624.0;
+
+const BEFORE_END: f64 = 31.0 / 32.0;
+
+const AFTER_END: f64 = 33.0 / 32.0;
+
+const STEP: f64 = 1.0 / 32.0;
+
+// Whether a segment's self dot and epsilon are of usual sizes.
+fn usual(square: f64, eps: f64) -> bool
+    ensures { λ r. ⌜ r ≡ Within.usual square eps ⌝ }
+{
+    ((eps >= EPS_LEAST) & (eps <= THOUSANDTH)) & ((square >= THOUSANDTH) & (square <= SQUARE_MOST))
+}
+
+// Whether t is clearly inside a segment of usual length.
+fn inside(t: f64) -> bool
+    ensures { λ r. ⌜ r ≡ Within.inside t ⌝ }
+{
+    (t >= 0.0) & (t <= BEFORE_END)
+}
+
+// Whether t is clearly outside a segment of usual length.
+fn outside(t: f64) -> bool
+    ensures { λ r. ⌜ r ≡ Within.outside t ⌝ }
+{
+    (t >= AFTER_END) | (t <= -STEP)
+}
+
 // Whether the parameter t lies on a segment, given as a vector: by its place along the segment, so that epsilon is a distance.
-fn within(t: f64, segment: Vector2, eps: f64) -> bool
+fn within_length(t: f64, segment: Vector2, eps: f64) -> bool
     ensures { λ r. ⌜ r ≡ LineLine.within t segment eps ⌝ }
 {
     let length = segment.length();
     fuzzy_in_range_eps(t * length, 0.0, length, eps)
+}
+
+// The same, without a root where t is clearly inside or outside.
+fn within(t: f64, segment: Vector2, eps: f64) -> bool
+    ensures { λ r. ⌜ r ≡ LineLine.within t segment eps ⌝ }
+{
+    if !usual(segment.length_squared(), eps) {
+        return within_length(t, segment, eps);
+    }
+    if inside(t) {
+        return true;
+    }
+    if outside(t) {
+        return false;
+    }
+    within_length(t, segment, eps)
 }
 
 // Two segments that are not parallel: their lines cross at one point, which lies on both segments or not.

@@ -1,13 +1,18 @@
 -- The laws at binary64, for proofs that count. Its unit, 2 ^ -1074, makes a number of 324 digits, which `omega` refuses: here it is
 -- a shut name, of which it is known that it is above zero.
-use mathlib.Core.Path.{_≡_, refl, sym, subst}
-use Prim.Native.Nat.{ℕ, _+_, _*_, _^_, _≤_, _<_}
-use mathlib.Core.Bool.{Bool}
+use mathlib.Core.Path.{_≡_, refl, sym, ap, subst}
+use Prim.Native.Nat.{ℕ, _+_, _-_, _*_, _^_, _≤_, _<_}
+use native.Mathlib.Nat.{lt-of-mul-lt-mul-right}
+use native.Mathlib.Omega.{arith}
+use mathlib.Core.Bool.{Bool, false}
 use lib.Dec.{T}
 use lib.Pow.{pow-pos}
-use lib.Ieee.{Float, binary64, low, fits}
+use lib.Ieee.{Float, binary64, low, fits, le}
+use lib.Ieee.Exact.{HasValue}
 use lib.Ieee.Scale.{finite}
-use Rattle.float_laws.specs.Signed.{SizeOf, Units, units-of}
+use Rattle.float_laws.specs.Signed.{Diff, SizeOf, Units, units-of, size-above, diff-finite}
+use Rattle.float_laws.specs.Order.{le-diff}
+use Rattle.float_laws.specs.Chains.{between-finite}
 use Rattle.float_laws.specs.Rounded.{Rounded}
 use Rattle.float_laws.specs.Roundings.{Near, Sized, rounded-near, rounded-size}
 
@@ -36,3 +41,37 @@ pub sized64 : (r : Float) (P N c : ℕ) (s : Bool) (A k : ℕ) → Rounded binar
     → Sized unit r s A c (2 ^ k) (2 ^ 54)
 sized64 r P N c s A k h C e l fine =
     subst (λ (L : ℕ). Sized L r s A c (2 ^ k) (2 ^ 54)) (sym unit-is) (rounded-size binary64 r P N c s A k h C e l fine)
+
+-- a float that lies between 1 / a and h / b has a count of units above zero, between the same
+pub record Between (x : Float) (a h b : ℕ) : Type 0 where
+  pub X : ℕ
+  pub value : HasValue x false X unit
+  pub some : 0 < X
+  pub least : unit ≤ a * X
+  pub most : X * b ≤ h * unit
+
+pub between64 : (x lo hi : Float) (a h b : ℕ) → T (fits binary64 x) → Diff lo 1 0 a → Diff hi h 0 b → 0 < a → 0 < b
+    → T (le lo x) → T (le x hi) → Between x a h b
+between64 x lo hi a h b t i j A B under over =
+    let f = between-finite lo x hi (diff-finite lo 1 0 a i) (diff-finite hi h 0 b j) under over in
+    let u = units64 x f t in
+    let l = le-diff lo x 1 0 a (u .p) (u .n) unit A unit-pos i (u .is) .0 under in
+    let m = le-diff x hi (u .p) (u .n) unit h 0 b unit-pos B (u .is) j .0 over in
+    let r = plain (u .p) (u .n) a h b unit A unit-pos l m in
+    record {
+      X = u .p - u .n;
+      value = size-above x (u .p) (u .n) unit (r .0) (u .is);
+      some = r .1;
+      least = r .2;
+      most = r .3;
+    }
+  where
+    plain : (p n a h b L : ℕ) → 0 < a → 0 < L → 1 * L + n * a ≤ p * a + 0 * L → p * b + 0 * L ≤ h * L + n * b
+        → (n < p) × (0 < p - n) × (L ≤ a * (p - n)) × ((p - n) * b ≤ h * L)
+    plain p n a h b L A Q x y =
+        let wide : n * a < p * a = omega arith in
+        let l : n < p = lt-of-mul-lt-mul-right a wide in
+        let split : p ≡ p - n + n = omega arith in
+        let x' : p * a ≡ (p - n + n) * a = ap (λ (z : ℕ). z * a) split in
+        let y' : p * b ≡ (p - n + n) * b = ap (λ (z : ℕ). z * b) split in
+        (l, omega arith, omega arith, omega arith)

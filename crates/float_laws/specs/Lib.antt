@@ -8,6 +8,7 @@ pub mod Count
 pub mod Patterns
 pub mod Signed
 pub mod Order
+pub mod Chains
 pub mod Rounded
 pub mod Roundings
 pub mod Whole

@@ -6,3 +6,4 @@ pub mod Root
 pub mod Picked
 pub mod Sqrt
 pub mod Leaves
+pub mod RootPowers

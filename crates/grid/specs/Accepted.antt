@@ -22,7 +22,7 @@ use Rattle.checks.specs.declared.fault.Checked.the-variants.{Fine}
 use Rattle.checks.specs.Arc.{arcChord}
 use Rattle.checks.specs.Each
 use Rattle.checks.specs.Edges.{powers}
-use Rattle.checks.specs.First.{AllFine, none, one, first-fine}
+use Rattle.checks.specs.FirstFault.{AllFine, none, one, first-fine}
 use Rattle.checks.specs.Limit
 use Rattle.checks.specs.Laws.Fine.{Within, Between, epsilon-fine, coordinate-fine, bulge-fine}
 use Rattle.crossing.specs.PlineSeg.{plineSeg, processLineLineIntr}

@@ -1,6 +1,8 @@
--- `checks::arc::arc_chord` meets its contract: each return is an end of the definition, by the calls and tests on its way.
+-- `checks::arc::arc_chord` meets its contract: each return is an end of the definition, by the calls and tests on its way;
+-- of a chord that is long enough by its self dot the check has nothing to say (`Laws/Chord`).
 use borrow.Author.Needs.{needs}
 use Rattle.checks.specs.Arc
+use Rattle.checks.specs.Laws.Chord.{long-fine}
 use Rattle.checks.proofs.arc.arc_chord.Statement.{statement}
 use Rattle.checks.proofs.arc.arc_chord.Tie as tie
 
@@ -25,12 +27,10 @@ pos-requires-2 c κs = search needs
 sub-requires : tie.Need-sub-requires
 sub-requires c κs = search needs
 
-length-requires : tie.Need-length-requires
-length-requires c κs = search needs
+length-squared-requires : tie.Need-length-squared-requires
+length-squared-requires c κs = search needs
 
-chord-requires : tie.Need-chord-requires
-chord-requires c κs = search needs
-
+-- long enough by its self dot
 returns-2 : tie.Need-returns-2
 unfolding Arc.arcChord
 returns-2 c =
@@ -46,6 +46,32 @@ returns-2 c =
       ← p4 .pos .ensures,
       ← p3 .pos2 .ensures,
       ← p2 .sub .ensures,
+      long-fine _ _ (p1 .length-squared .ensures) (c .if2 .taken),
+    )
+
+length-requires : tie.Need-length-requires
+length-requires c κs = search needs
+
+chord-requires : tie.Need-chord-requires
+chord-requires c κs = search needs
+
+returns-3 : tie.Need-returns-3
+unfolding Arc.arcChord
+returns-3 c =
+    let p1 = c .before in
+    let p2 = p1 .before in
+    let p3 = p2 .before in
+    let p4 = p3 .before in
+    let p5 = p4 .before in
+    let p6 = p5 .before in
+    let p7 = p6 .before in
+    let p8 = p7 .before in
+    simp (
+      ← p8 .bulge-is-zero .ensures,
+      p7 .if1 .left,
+      ← p6 .pos .ensures,
+      ← p5 .pos2 .ensures,
+      ← p4 .sub .ensures,
       ← p1 .length .ensures,
       ← c .chord .ensures,
     )
@@ -59,6 +85,8 @@ arc-chord-spec =
     pos-requires
     pos-requires-2
     sub-requires
+    length-squared-requires
+    returns-2
     length-requires
     chord-requires
-    returns-2)
+    returns-3)

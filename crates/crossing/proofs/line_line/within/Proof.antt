@@ -1,23 +1,73 @@
--- `crossing::line_line::within` meets its contract: its calls are the definition's.
+-- `crossing::line_line::within` meets its contract: where t is clearly inside or outside, the law of `Laws/Within` says what the
+-- length would; elsewhere the length is asked.
+use mathlib.Core.Path.{_≡_, sym, _∙_, subst}
+use mathlib.Core.Bool.{Bool, true, false, not, true≢false}
+use lib.Dec.{T}
+use lib.Ieee.{Float}
+use denote.Floats.{passes}
 use borrow.Author.Needs.{needs}
+use Rattle.plane.specs.Vector2 as vector2
 use Rattle.crossing.specs.LineLine
+use Rattle.crossing.specs.Laws.Within.{usual, within-inside, within-outside}
 use Rattle.crossing.proofs.line_line.within.Statement.{statement}
 use Rattle.crossing.proofs.line_line.within.Tie as tie
 
-length-requires : tie.Need-length-requires
-length-requires c κs = search needs
+-- the sizes are usual, as the first test found
+kept : (b : Bool) → not b ≡ false → T b
+kept true h = tt
+kept false h = absurd (true≢false h)
 
-fuzzy-in-range-eps-requires : tie.Need-fuzzy-in-range-eps-requires
-fuzzy-in-range-eps-requires c κs = search needs
+at-sizes : (b : Bool) (x y e : Float) → not b ≡ false → b ≡ usual x e → x ≡ y → T (usual y e)
+at-sizes b x y e h u d = subst (λ (z : Float). T (usual z e)) d (subst T u (kept b h))
+
+said : (b a : Bool) → b ≡ true → b ≡ a → T a
+said b a h e = subst T (sym h ∙ e) tt
+
+length-squared-requires : tie.Need-length-squared-requires
+length-squared-requires c κs = search needs
+
+usual-requires : tie.Need-usual-requires
+usual-requires c κs = search needs
+
+within-length-requires : tie.Need-within-length-requires
+within-length-requires c κs = search needs
 
 returns : tie.Need-returns
-unfolding LineLine.within
-returns c =
+returns c = search needs
+
+inside-requires : tie.Need-inside-requires
+inside-requires c κs = search needs
+
+sizes : (c : tie.Else1) → T (usual (vector2.dot (c .before .before .before .args .segment) (c .before .before .before .args .segment))
+    (c .before .before .before .args .eps))
+sizes c = at-sizes _ _ _ _ (c .if1 .left) (c .before .usual .ensures) (c .before .before .length-squared .ensures)
+
+returns-2 : tie.Need-returns-2
+returns-2 c =
     let p1 = c .before in
-    simp (
-      ← p1 .length .ensures,
-      ← c .fuzzy-in-range-eps .ensures,
-    )
+    let p2 = p1 .before in
+    let start = p2 .before .before .before in
+    sym (within-inside _ _ _ (passes _ (start .good .0 .1)) (passes _ (start .good .1 .1 .0 .1)) (sizes p2)
+    (said _ _ (c .if2 .taken) (p1 .inside .ensures)))
+
+outside-requires : tie.Need-outside-requires
+outside-requires c κs = search needs
+
+returns-3 : tie.Need-returns-3
+returns-3 c =
+    let p1 = c .before in
+    let p2 = p1 .before .before .before in
+    let start = p2 .before .before .before in
+    sym (within-outside _ _ _ (passes _ (start .good .0 .1)) (passes _ (start .good .1 .1 .0 .1)) (sizes p2)
+    (said _ _ (c .if3 .taken) (p1 .outside .ensures)))
+
+within-length-requires-2 : tie.Need-within-length-requires-2
+within-length-requires-2 c κs = search needs
+
+returns-4 : tie.Need-returns-4
+returns-4 c = search needs
 
 pub within-spec : {M : Type 1} → statement M
-within-spec = tie.close (tie.spec length-requires fuzzy-in-range-eps-requires returns)
+within-spec =
+    tie.close (tie.spec length-squared-requires usual-requires within-length-requires returns inside-requires returns-2
+    outside-requires returns-3 within-length-requires-2 returns-4)

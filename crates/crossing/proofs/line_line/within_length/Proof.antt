@@ -1,0 +1,23 @@
+-- `crossing::line_line::within_length` meets its contract: its calls are the definition's.
+use borrow.Author.Needs.{needs}
+use Rattle.crossing.specs.LineLine
+use Rattle.crossing.proofs.line_line.within_length.Statement.{statement}
+use Rattle.crossing.proofs.line_line.within_length.Tie as tie
+
+length-requires : tie.Need-length-requires
+length-requires c κs = search needs
+
+fuzzy-in-range-eps-requires : tie.Need-fuzzy-in-range-eps-requires
+fuzzy-in-range-eps-requires c κs = search needs
+
+returns : tie.Need-returns
+unfolding LineLine.within
+returns c =
+    let p1 = c .before in
+    simp (
+      ← p1 .length .ensures,
+      ← c .fuzzy-in-range-eps .ensures,
+    )
+
+pub within-length-spec : {M : Type 1} → statement M
+within-length-spec = tie.close (tie.spec length-requires fuzzy-in-range-eps-requires returns)

@@ -1,0 +1,113 @@
+-- Chains of comparisons, for all floats: where a NaN stands no comparison says yes, and an infinity lies beyond every finite float.
+use mathlib.Core.Path.{refl}
+use Prim.Native.Nat.{ℕ, _+_, _*_, _≤_, _<_}
+use native.Mathlib.Nat.{mul-le-mul-right, mul-lt-mul-of-pos-right, lt-of-mul-lt-mul-right}
+use native.Mathlib.Omega.{arith}
+use mathlib.Core.Bool.{Bool, true, false, not}
+use lib.Dec.{T, not-T}
+use lib.IntN.{ℤ}
+use lib.Ieee.{Float, nan, inf, fin, up, down, lt, le}
+use lib.Ieee.Fits.{down-pos}
+use lib.Ieee.Scale.{finite}
+use Rattle.float_laws.specs.Signed.{Diff, ups, downs, own-diff}
+use Rattle.float_laws.specs.Order.{lt-diff, le-diff}
+
+-- a finite float, as it is written
+own : (s : Bool) (m : ℕ) (e : ℤ) → Diff (fin s m e) (ups s (m * up e)) (downs s (m * up e)) (down e)
+own s m e = own-diff (fin s m e) s (m * up e) (down e) (refl, refl)
+
+-- ---- what is at least x is not below it
+never-both : (a b : ℕ) → a ≤ b → b < a → ⊥
+never-both a b h k = omega arith
+
+pub le-not-lt : (x y : Float) → T (le x y) → T (not (lt y x))
+unfolding le
+le-not-lt nan y h = absurd h
+le-not-lt (inf s) nan h = absurd h
+le-not-lt (inf true) (inf true) h = tt
+le-not-lt (inf true) (inf false) h = tt
+le-not-lt (inf false) (inf true) h = absurd h
+le-not-lt (inf false) (inf false) h = tt
+le-not-lt (inf true) (fin t n d) h = tt
+le-not-lt (inf false) (fin t n d) h = absurd h
+le-not-lt (fin s m e) nan h = absurd h
+le-not-lt (fin s m e) (inf true) h = absurd h
+le-not-lt (fin s m e) (inf false) h = tt
+le-not-lt (fin s m e) (fin t n d) h =
+    let x = fin s m e in
+    let y = fin t n d in
+    let a = le-diff x y _ _ _ _ _ _ (down-pos e) (down-pos d) (own s m e) (own t n d) .0 h in
+    let b = lt-diff y x _ _ _ _ _ _ (down-pos d) (down-pos e) (own t n d) (own s m e) .0 in
+    not-T (lt y x) (λ k. never-both _ _ a (b k))
+
+-- ---- below y, and y at most z
+through : (p n c a b d q k f : ℕ) → 0 < d → 0 < f → p * d + b * c < a * c + n * d → a * f + k * d ≤ q * d + b * f
+    → p * f + k * c < q * c + n * f
+through p n c a b d q k f D F h g =
+    let x = mul-lt-mul-of-pos-right h F in
+    let y = mul-le-mul-right c g in
+    lt-of-mul-lt-mul-right d {m = p * f + k * c} {n = q * c + n * f} (omega arith)
+
+pub lt-le : (x y z : Float) → T (lt x y) → T (le y z) → T (lt x z)
+unfolding le
+lt-le nan y z h g = absurd h
+lt-le (inf s) nan z h g = absurd h
+lt-le (inf true) (inf true) z h g = absurd h
+lt-le (inf false) (inf t) z h g = absurd h
+lt-le (inf true) (inf false) nan h g = absurd g
+lt-le (inf true) (inf false) (inf true) h g = absurd g
+lt-le (inf true) (inf false) (inf false) h g = tt
+lt-le (inf true) (inf false) (fin u l f) h g = absurd g
+lt-le (inf false) (fin t n d) z h g = absurd h
+lt-le (inf true) (fin t n d) nan h g = absurd g
+lt-le (inf true) (fin t n d) (inf true) h g = absurd g
+lt-le (inf true) (fin t n d) (inf false) h g = tt
+lt-le (inf true) (fin t n d) (fin u l f) h g = tt
+lt-le (fin s m e) nan z h g = absurd h
+lt-le (fin s m e) (inf true) z h g = absurd h
+lt-le (fin s m e) (inf false) nan h g = absurd g
+lt-le (fin s m e) (inf false) (inf true) h g = absurd g
+lt-le (fin s m e) (inf false) (inf false) h g = tt
+lt-le (fin s m e) (inf false) (fin u l f) h g = absurd g
+lt-le (fin s m e) (fin t n d) nan h g = absurd g
+lt-le (fin s m e) (fin t n d) (inf true) h g = absurd g
+lt-le (fin s m e) (fin t n d) (inf false) h g = tt
+lt-le (fin s m e) (fin t n d) (fin u l f) h g =
+    let x = fin s m e in
+    let y = fin t n d in
+    let z = fin u l f in
+    let a = lt-diff x y _ _ _ _ _ _ (down-pos e) (down-pos d) (own s m e) (own t n d) .0 h in
+    let b = le-diff y z _ _ _ _ _ _ (down-pos d) (down-pos f) (own t n d) (own u l f) .0 g in
+    lt-diff x z _ _ _ _ _ _ (down-pos e) (down-pos f) (own s m e) (own u l f) .1
+    (through _ _ _ _ _ _ _ _ _ (down-pos d) (down-pos f) a b)
+
+-- ---- between two finite floats lie finite ones
+pub between-finite : (x y z : Float) → T (finite x) → T (finite z) → T (le x y) → T (le y z) → T (finite y)
+unfolding le
+between-finite nan y z a c h g = absurd a
+between-finite (inf s) y z a c h g = absurd a
+between-finite (fin s m e) nan z a c h g = absurd h
+between-finite (fin s m e) (inf true) z a c h g = absurd h
+between-finite (fin s m e) (inf false) nan a c h g = absurd c
+between-finite (fin s m e) (inf false) (inf t) a c h g = absurd c
+between-finite (fin s m e) (inf false) (fin t n d) a c h g = absurd g
+between-finite (fin s m e) (fin t n d) z a c h g = tt
+
+-- what is at least a finite float is finite or infinity; what is at most one is finite or minus infinity
+pub from-above : (P : Float → Type 0) (x y : Float) → T (finite x) → T (le x y) → P (inf false) → (T (finite y) → P y) → P y
+unfolding le
+from-above P nan y a h i f = absurd a
+from-above P (inf s) y a h i f = absurd a
+from-above P (fin s m e) nan a h i f = absurd h
+from-above P (fin s m e) (inf true) a h i f = absurd h
+from-above P (fin s m e) (inf false) a h i f = i
+from-above P (fin s m e) (fin t n d) a h i f = f tt
+
+pub from-below : (P : Float → Type 0) (x y : Float) → T (finite y) → T (le x y) → P (inf true) → (T (finite x) → P x) → P x
+unfolding le
+from-below P nan y a h i f = absurd h
+from-below P (inf s) nan a h i f = absurd a
+from-below P (inf s) (inf t) a h i f = absurd a
+from-below P (inf true) (fin t n d) a h i f = i
+from-below P (inf false) (fin t n d) a h i f = absurd h
+from-below P (fin s m e) y a h i f = f tt
