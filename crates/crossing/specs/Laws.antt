@@ -3,3 +3,4 @@ pub mod Answers
 pub mod Bulges
 pub mod Order
 pub mod Within
+pub mod Apart

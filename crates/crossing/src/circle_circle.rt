@@ -1,6 +1,7 @@
 // Two circles, for any numbers: circle_circle_intersect.rs. The names of its locals are the Rust's.
 ghost use mathlib.Core.Path.{_≡_};
 ghost use Rattle.crossing.specs.CircleCircle;
+ghost use Rattle.crossing.specs.Laws.Apart;
 use super::circle_circle_intersect::CircleCircleIntr;
 use plane::fuzzy::fuzzy_eq_eps;
 use plane::fuzzy::fuzzy_eq_zero_eps;
@@ -58,8 +59,16 @@ fn meeting(
     two_sides(midpoint, cv, h / d, eps)
 }
 
-// How two circles meet, for any numbers.
-pub fn circle_circle(
+// Whether two circles are far apart: `reach` is their radii and epsilon together, and d2 the square of the distance of their
+// centres.
+fn apart(d2: f64, reach: f64, eps: f64) -> bool
+    ensures { λ r. ⌜ r ≡ Apart.apart d2 reach eps ⌝ }
+{
+    ((reach >= 0.0) & (reach >= eps)) & (reach * reach < d2)
+}
+
+// How two circles meet, for any numbers, by the distance of their centres.
+fn by_distance(
     radius1: f64,
     center1: Vector2,
     radius2: f64,
@@ -81,4 +90,21 @@ pub fn circle_circle(
         return CircleCircleIntr::NoIntersect;
     }
     meeting(radius1, center1, radius2, cv, d2, d, epsilon)
+}
+
+// How two circles meet, for any numbers. Where they are far apart no root is taken.
+pub fn circle_circle(
+    radius1: f64,
+    center1: Vector2,
+    radius2: f64,
+    center2: Vector2,
+    epsilon: f64,
+) -> CircleCircleIntr
+    ensures { λ r. ⌜ r ≡ CircleCircle.circleCircle radius1 center1 radius2 center2 epsilon ⌝ }
+{
+    let cv = center2.sub(center1);
+    if apart(cv.dot(cv), radius1 + radius2 + epsilon, epsilon) {
+        return CircleCircleIntr::NoIntersect;
+    }
+    by_distance(radius1, center1, radius2, center2, epsilon)
 }

@@ -111,3 +111,17 @@ from-below P (inf s) (inf t) a h i f = absurd a
 from-below P (inf true) (fin t n d) a h i f = i
 from-below P (inf false) (fin t n d) a h i f = absurd h
 from-below P (fin s m e) y a h i f = f tt
+
+-- what lies above anything is finite or infinity
+pub above-any : (P : Float → Type 0) (x y : Float) → T (lt x y) → P (inf false) → (T (finite y) → P y) → P y
+unfolding lt
+above-any P nan y h i f = absurd h
+above-any P (inf s) nan h i f = absurd h
+above-any P (inf true) (inf true) h i f = absurd h
+above-any P (inf false) (inf true) h i f = absurd h
+above-any P (inf s) (inf false) h i f = i
+above-any P (inf s) (fin t n d) h i f = f tt
+above-any P (fin s m e) nan h i f = absurd h
+above-any P (fin s m e) (inf true) h i f = absurd h
+above-any P (fin s m e) (inf false) h i f = i
+above-any P (fin s m e) (fin t n d) h i f = f tt

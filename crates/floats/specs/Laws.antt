@@ -7,3 +7,4 @@ pub mod Picked
 pub mod Sqrt
 pub mod Leaves
 pub mod RootPowers
+pub mod RootBeside

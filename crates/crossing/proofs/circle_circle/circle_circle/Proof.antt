@@ -1,9 +1,24 @@
--- `crossing::circle_circle::circle_circle` meets its contract: each return is an end of the definition, by the calls and
--- tests on its way.
+-- `crossing::circle_circle::circle_circle` meets its contract: of circles that are far apart the law of `Laws/Apart` says what the
+-- distance would; elsewhere the distance is asked.
+use mathlib.Core.Path.{_≡_, sym, _∙_, subst}
+use mathlib.Core.Bool.{Bool, true}
+use lib.Dec.{T}
+use lib.Ieee.{Float}
 use borrow.Author.Needs.{needs}
+use Rattle.plane.specs.Vector2 as vector2
+use Rattle.plane.specs.declared.vector2.Vector2.{Vector2}
 use Rattle.crossing.specs.CircleCircle
+use Rattle.crossing.specs.Laws.Apart.{apart, circles-apart}
 use Rattle.crossing.proofs.circle_circle.circle_circle.Statement.{statement}
 use Rattle.crossing.proofs.circle_circle.circle_circle.Tie as tie
+
+-- the test's yes, about the definition's own square
+told : (b : Bool) (v w : Vector2) (x r e : Float) → b ≡ true → b ≡ apart x r e → x ≡ vector2.dot v v → v ≡ w
+    → T (apart (vector2.dot w w) r e)
+told b v w x r e h a d s =
+    let yes : T (apart x r e) = subst T (sym h ∙ a) tt in
+    let own : T (apart (vector2.dot v v) r e) = subst (λ (z : Float). T (apart z r e)) d yes in
+    subst (λ (z : Vector2). T (apart (vector2.dot z z) r e)) s own
 
 sub-requires : tie.Need-sub-requires
 sub-requires c κs = search needs
@@ -11,93 +26,22 @@ sub-requires c κs = search needs
 dot-requires : tie.Need-dot-requires
 dot-requires c κs = search needs
 
-sqrt-requires : tie.Need-sqrt-requires
-sqrt-requires c κs = search needs
-
-fuzzy-eq-zero-eps-requires : tie.Need-fuzzy-eq-zero-eps-requires
-fuzzy-eq-zero-eps-requires c κs = search needs
-
-same-center-requires : tie.Need-same-center-requires
-same-center-requires c κs = search needs
+apart-requires : tie.Need-apart-requires
+apart-requires c κs = search needs
 
 returns : tie.Need-returns
-unfolding CircleCircle.circleCircle
 returns c =
     let p1 = c .before in
     let p2 = p1 .before in
     let p3 = p2 .before in
-    let p4 = p3 .before in
-    let p5 = p4 .before in
-    simp (
-      ← p5 .sub .ensures,
-      ← p4 .dot .ensures,
-      ← p3 .sqrt .ensures,
-      ← p2 .fuzzy-eq-zero-eps .ensures,
-      p1 .if1 .taken,
-      ← c .same-center .ensures,
-    )
+    sym (circles-apart _ _ _ _ _ (told _ _ _ _ _ _ (c .if1 .taken) (p1 .apart .ensures) (p2 .dot .ensures) (p3 .sub .ensures)))
 
-fuzzy-lt-eps-requires : tie.Need-fuzzy-lt-eps-requires
-fuzzy-lt-eps-requires c κs = search needs
-
-abs-requires : tie.Need-abs-requires
-abs-requires c κs = search needs
-
-fuzzy-gt-eps-requires : tie.Need-fuzzy-gt-eps-requires
-fuzzy-gt-eps-requires c κs = search needs
+by-distance-requires : tie.Need-by-distance-requires
+by-distance-requires c κs = search needs
 
 returns-2 : tie.Need-returns-2
-unfolding CircleCircle.circleCircle
-returns-2 c =
-    let p1 = c .before in
-    let p2 = p1 .before in
-    let p3 = p2 .before in
-    let p4 = p3 .before in
-    let p5 = p4 .before in
-    let p6 = p5 .before in
-    let p7 = p6 .before in
-    let p8 = p7 .before in
-    simp (
-      ← p8 .sub .ensures,
-      ← p7 .dot .ensures,
-      ← p6 .sqrt .ensures,
-      ← p5 .fuzzy-eq-zero-eps .ensures,
-      p4 .if1 .left,
-      ← p3 .fuzzy-lt-eps .ensures,
-      ← p2 .abs .ensures,
-      ← p1 .fuzzy-gt-eps .ensures,
-      c .if2 .taken,
-    )
-
-meeting-requires : tie.Need-meeting-requires
-meeting-requires c κs = search needs
-
-returns-3 : tie.Need-returns-3
-unfolding CircleCircle.circleCircle
-returns-3 c =
-    let p1 = c .before in
-    let p2 = p1 .before in
-    let p3 = p2 .before in
-    let p4 = p3 .before in
-    let p5 = p4 .before in
-    let p6 = p5 .before in
-    let p7 = p6 .before in
-    let p8 = p7 .before in
-    let p9 = p8 .before in
-    simp (
-      ← p9 .sub .ensures,
-      ← p8 .dot .ensures,
-      ← p7 .sqrt .ensures,
-      ← p6 .fuzzy-eq-zero-eps .ensures,
-      p5 .if1 .left,
-      ← p4 .fuzzy-lt-eps .ensures,
-      ← p3 .abs .ensures,
-      ← p2 .fuzzy-gt-eps .ensures,
-      p1 .if2 .left,
-      ← c .meeting .ensures,
-    )
+returns-2 c = search needs
 
 pub circle-circle-spec : {M : Type 1} → statement M
 circle-circle-spec =
-    tie.close (tie.spec sub-requires dot-requires sqrt-requires fuzzy-eq-zero-eps-requires same-center-requires returns
-    fuzzy-lt-eps-requires abs-requires fuzzy-gt-eps-requires returns-2 meeting-requires returns-3)
+    tie.close (tie.spec sub-requires dot-requires apart-requires returns by-distance-requires returns-2)

@@ -1,0 +1,119 @@
+-- A root beside a float s, by the square of s as floats compute it: where the rounded s * s is below x, the root of x is at least s.
+-- No margin is needed: a product that rounds to less than the float x is less than x, and a root is not rounded across the float s.
+use mathlib.Core.Path.{_≡_, refl, sym, ap, subst}
+use Prim.Native.Nat.{ℕ, _+_, _-_, _*_, _^_, _≤_, _<_}
+use native.Mathlib.Nat.{mul-pos, mul-le-mul-right, lt-of-mul-lt-mul-right, lt-of-not-le}
+use native.Mathlib.Omega.{arith}
+use mathlib.Core.Bool.{Bool, true, false, not}
+use lib.Dec.{T}
+use lib.Ieee.{Float, nan, inf, fin, binary64, low, ofBits, fits, lt, le, mul}
+use lib.Ieee.Exact.{HasValue}
+use lib.Ieee.Fits.{mul-fits}
+use lib.Ieee.Scale.{finite}
+use Rattle.float_laws.specs.Count.{counted}
+use Rattle.float_laws.specs.Signed.{Diff, ups, downs, own-diff, size-above}
+use Rattle.float_laws.specs.Order.{le-over}
+use Rattle.float_laws.specs.Chains.{le-not-lt, from-above, above-any}
+use Rattle.float_laws.specs.Rounded.{Rounded, mul-rounded}
+use Rattle.float_laws.specs.Roundings.{rounded-ge}
+use Rattle.float_laws.specs.Best.{Held}
+use Rattle.float_laws.specs.Binary64.{unit, unit-is, unit-pos, units64}
+use Rattle.floats.specs.Ops.{_⊗_, _≺_, _≽_, f0}
+use Rattle.floats.specs.F64
+use Rattle.floats.specs.Laws.RootPowers.{root64}
+
+-- d is at least s, and has no sign
+pub record Beyond (s d : Float) : Type 0 where
+  pub least : T (le s d)
+  pub unsigned : F64.abs d ≡ d
+
+unsigned-value : (d : Float) (R c : ℕ) → HasValue d false R c → F64.abs d ≡ d
+unfolding F64.abs
+unsigned-value nan R c v = absurd v
+unsigned-value (inf s) R c v = absurd v
+unsigned-value (fin s m e) R c v = ap (λ (z : Bool). fin z m e) (sym (v .0))
+
+-- ---- both finite: s is S units with any sign, and x is (p - n) units
+module _ (s x : Float) (t : Bool) (S p n : ℕ) (held : Held 53 S) (s-value : HasValue s t S unit)
+    (x-fits : T (fits binary64 x)) (x-is : Diff x p n unit) (h : T (s ⊗ s ≺ x)) where
+  s-is : Diff s (ups t S) (downs t S) unit
+  s-is = own-diff s t S unit s-value
+
+  product : Rounded binary64 (s ⊗ s) (ups t S * ups t S + downs t S * downs t S) (ups t S * downs t S + downs t S * ups t S) (unit * unit)
+  product = mul-rounded binary64 s s (ups t S) (downs t S) (ups t S) (downs t S) unit unit unit-pos unit-pos s-is s-is
+
+  below : S * S * unit + n * (unit * unit) < p * (unit * unit)
+  below = lt-of-not-le (λ (y : p * (unit * unit) ≤ S * S * unit + n * (unit * unit)). clash y)
+    where
+      scaled : (t : Bool) (L : ℕ) → p * (L * L) ≤ S * S * L + n * (L * L)
+          → p * (L * L) + (ups t S * downs t S + downs t S * ups t S) * L
+          ≤ (ups t S * ups t S + downs t S * downs t S) * L + n * (L * L)
+      scaled true L y = omega arith
+      scaled false L y = omega arith
+
+      never : (b : Bool) → T b → T (not b) → ⊥
+      never true y z = z
+      never false y z = y
+
+      clash : p * (unit * unit) ≤ S * S * unit + n * (unit * unit) → ⊥
+      clash y =
+          never (s ⊗ s ≺ x) h
+          (le-not-lt x (s ⊗ s) (rounded-ge binary64 (s ⊗ s) _ _ (unit * unit) product (mul-pos unit-pos unit-pos) x p n unit unit-pos
+          x-fits x-is (scaled t unit y)))
+
+  beyond-finite : Beyond s (F64.sqrt x)
+  beyond-finite =
+      let k = sizes p n S unit unit-pos below in
+      let X = p - n in
+      let r = root64 x X x-fits (k .1) (size-above x p n unit (k .0) x-is) in
+      let d = F64.sqrt x in
+      let l = r .least S held (k .2) in
+      record {
+        least = le-over s d (ups t S) (downs t S) (r .R) 0 unit unit-pos s-is (own-diff d false (r .R) unit (r .value)) .1
+            (signed t (r .R) l);
+        unsigned = unsigned-value d (r .R) unit (r .value);
+      }
+    where
+      sizes : (p n S L : ℕ) → 0 < L → S * S * L + n * (L * L) < p * (L * L)
+          → (n < p) × (0 < p - n) × (S * S * L ≤ (p - n) * (L * L))
+      sizes p n S L Q y =
+          let wide : n * (L * L) < p * (L * L) = omega arith in
+          let l : n < p = lt-of-mul-lt-mul-right (L * L) wide in
+          let split : p ≡ p - n + n = omega arith in
+          let e : p * (L * L) ≡ (p - n + n) * (L * L) = ap (λ (z : ℕ). z * (L * L)) split in
+          (l, omega arith, omega arith)
+
+      signed : (t : Bool) (R : ℕ) → S ≤ R → ups t S + 0 ≤ R + downs t S
+      signed true R l = omega arith
+      signed false R l = omega arith
+
+-- ---- for all floats
+past-all : (x : Float) → T (inf false ⊗ inf false ≺ x) → ⊥
+unfolding mul lt
+past-all nan h = h
+past-all (inf s) h = h
+past-all (fin s m e) h = h
+
+below-inf : (s : Float) → T (finite s) → Beyond s (F64.sqrt (inf false))
+unfolding le F64.abs F64.sqrt
+below-inf nan f = absurd f
+below-inf (inf t) f = absurd f
+below-inf (fin t m e) f = record { least = tt; unsigned = refl }
+
+zero-finite : T (finite f0)
+unfolding ofBits
+zero-finite = tt
+
+pub root-beyond : (s x : Float) → T (fits binary64 s) → T (fits binary64 x) → T (s ≽ f0) → T (s ⊗ s ≺ x) → Beyond s (F64.sqrt x)
+root-beyond s x s-fits x-fits lo h =
+    from-above (λ (z : Float). T (z ⊗ z ≺ x) → Beyond z (F64.sqrt x)) f0 s zero-finite lo (λ y. absurd (past-all x y)) finite-s h
+  where
+    finite-both : T (finite s) → T (finite x) → T (s ⊗ s ≺ x) → Beyond s (F64.sqrt x)
+    finite-both f g y =
+        let c = counted binary64 s f s-fits in
+        let u = units64 x g x-fits in
+        beyond-finite s x (c .s) (c .count) (u .p) (u .n) (c .held)
+        (subst (λ (L : ℕ). HasValue s (c .s) (c .count) L) (sym unit-is) (c .value)) x-fits (u .is) y
+
+    finite-s : T (finite s) → T (s ⊗ s ≺ x) → Beyond s (F64.sqrt x)
+    finite-s f y = above-any (λ (z : Float). Beyond s (F64.sqrt z)) (s ⊗ s) x y (below-inf s f) (λ g. finite-both f g y)
