@@ -4,3 +4,4 @@ pub mod Bulges
 pub mod Order
 pub mod Within
 pub mod Apart
+pub mod FarLine

@@ -1,6 +1,7 @@
 // A line segment and a circle, for any numbers: line_circle_intersect.rs. The names of its locals are the Rust's.
 ghost use mathlib.Core.Path.{_≡_};
 ghost use Rattle.crossing.specs.LineCircle;
+ghost use Rattle.crossing.specs.Laws.FarLine;
 use super::line_circle_intersect::LineCircleIntr;
 use plane::base_math::MinMax;
 use plane::base_math::min_max;
@@ -85,8 +86,30 @@ fn two_points(
     }
 }
 
-// How a line and a circle about (h, k) meet.
-fn line_meets(
+// What the shortcut of `line_meets` compares with: 2^-100 and 2^100, beyond which nothing is told.
+const TINY: f64 = 1.0 / 1267650600228229401496703205376.0;
+
+const HUGE: f64 = 1267650600228229401496703205376.0;
+
+// Whether x is neither tiny nor huge, and above zero.
+fn moderate(x: f64) -> bool
+    ensures { λ r. ⌜ r ≡ FarLine.moderate x ⌝ }
+{
+    (x >= TINY) & (x <= HUGE)
+}
+
+// Whether a line is far from a circle: a yes says that |c| / sqrt(q) exceeds s. w is a guess of the root that must not be less than
+// it, and z one of a number above s; how good they are decides only how often the answer is yes.
+fn far(c: f64, q: f64, w: f64, z: f64, s: f64) -> bool
+    ensures { λ r. ⌜ FarLine.Far r c q s ⌝ }
+{
+    let k = floats::abs(c);
+    ((moderate(k) & moderate(q)) & (moderate(w) & moderate(z)))
+        & (((q < w * w) & (z * w < k)) & (s < z))
+}
+
+// How a line and a circle about (h, k) meet, by the distance of the line from the centre.
+fn line_meets_by_distance(
     p0: Vector2,
     p1: Vector2,
     line: Line,
@@ -117,6 +140,30 @@ fn line_meets(
     // The magnitude, since rounding can make d slightly negative.
     let mult = floats::sqrt(floats::abs(d * inv_a2_b2));
     two_points(p0, p1, line, x0, y0, mult, eps)
+}
+
+// How a line and a circle about (h, k) meet. Where the line is far from the circle no root is taken.
+fn line_meets(
+    p0: Vector2,
+    p1: Vector2,
+    line: Line,
+    radius: f64,
+    h: f64,
+    k: f64,
+    eps: f64,
+) -> LineCircleIntr
+    ensures { λ r. ⌜ r ≡ LineCircle.lineMeets p0 p1 line radius h k eps ⌝ }
+{
+    let q = line.a * line.a + line.b * line.b;
+    let s = radius + eps;
+    // One step of Newton's from the sum of the sides, which is at least the root and at most sqrt(2) times as much: the mean of it
+    // and of what q is divided by it is at least the root, and at most some 6 % more. The factors leave room for rounding.
+    let g = floats::abs(line.a) + floats::abs(line.b);
+    let w = (g + q / g) * (513.0 / 1024.0);
+    if far(line.c, q, w, s * (129.0 / 128.0), s) {
+        return LineCircleIntr::NoIntersect;
+    }
+    line_meets_by_distance(p0, p1, line, radius, h, k, eps)
 }
 
 // How the segment p0 to p1 and a circle meet, for any numbers.

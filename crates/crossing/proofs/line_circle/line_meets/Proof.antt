@@ -1,79 +1,30 @@
--- `crossing::line_circle::line_meets` meets its contract: each return is an end of the definition, by the calls and tests on
--- its way.
+-- `crossing::line_circle::line_meets` meets its contract: of a line that is far from the circle the law of `Laws/FarLine` says what
+-- the distance would; elsewhere the distance is asked.
+use mathlib.Core.Path.{sym}
 use borrow.Author.Needs.{needs}
 use Rattle.crossing.specs.LineCircle
+use Rattle.crossing.specs.Laws.FarLine.{line-far}
 use Rattle.crossing.proofs.line_circle.line_meets.Statement.{statement}
 use Rattle.crossing.proofs.line_circle.line_meets.Tie as tie
 
 abs-requires : tie.Need-abs-requires
 abs-requires c κs = search needs
 
-sqrt-requires : tie.Need-sqrt-requires
-sqrt-requires c κs = search needs
-
-returns : tie.Need-returns
-unfolding LineCircle.lineMeets
-returns c =
-    let p1 = c .before in
-    let p2 = p1 .before in
-    simp (
-      ← p2 .abs .ensures,
-      ← p1 .sqrt .ensures,
-      c .if1 .taken,
-    )
-
-new-requires : tie.Need-new-requires
-new-requires c κs = search needs
-
-parametric-from-point-requires : tie.Need-parametric-from-point-requires
-parametric-from-point-requires c κs = search needs
-
-returns-2 : tie.Need-returns-2
-unfolding LineCircle.lineMeets
-returns-2 c =
-    let p1 = c .before in
-    let p2 = p1 .before in
-    let p3 = p2 .before .before .before .before .before in
-    let p4 = p3 .before in
-    let p5 = p4 .before in
-    simp (
-      ← p5 .abs .ensures,
-      ← p4 .sqrt .ensures,
-      p3 .if1 .left,
-      p2 .if2 .taken,
-      ← p1 .new .ensures,
-      ← c .parametric-from-point .ensures,
-    )
-
 abs-requires-2 : tie.Need-abs-requires-2
 abs-requires-2 c κs = search needs
 
-sqrt-requires-2 : tie.Need-sqrt-requires-2
-sqrt-requires-2 c κs = search needs
+far-requires : tie.Need-far-requires
+far-requires c κs = search needs
 
-two-points-requires : tie.Need-two-points-requires
-two-points-requires c κs = search needs
+returns : tie.Need-returns
+returns c = sym (line-far _ _ _ _ _ _ _ (c .before .far .ensures (c .if1 .taken)))
 
-returns-3 : tie.Need-returns-3
-unfolding LineCircle.lineMeets
-returns-3 c =
-    let p1 = c .before in
-    let p2 = p1 .before in
-    let p3 = p2 .before in
-    let p4 = p3 .before .before .before .before .before in
-    let p5 = p4 .before in
-    let p6 = p5 .before in
-    simp (
-      ← p6 .abs .ensures,
-      ← p5 .sqrt .ensures,
-      p4 .if1 .left,
-      p3 .if2 .left,
-      ← p2 .abs2 .ensures,
-      ← p1 .sqrt2 .ensures,
-      ← c .two-points .ensures,
-    )
+line-meets-by-distance-requires : tie.Need-line-meets-by-distance-requires
+line-meets-by-distance-requires c κs = search needs
+
+returns-2 : tie.Need-returns-2
+returns-2 c = search needs
 
 pub line-meets-spec : {M : Type 1} → statement M
 line-meets-spec =
-    tie.close (tie.spec abs-requires sqrt-requires returns new-requires parametric-from-point-requires returns-2
-    abs-requires-2 sqrt-requires-2 two-points-requires returns-3)
+    tie.close (tie.spec abs-requires abs-requires-2 far-requires returns line-meets-by-distance-requires returns-2)
