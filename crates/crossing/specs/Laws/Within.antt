@@ -76,15 +76,15 @@ beforeEnd-is : Diff beforeEnd 31 0 32
 unfolding ofBits
 beforeEnd-is = omega arith
 
-afterEnd-is : Diff afterEnd 33 0 32
+pub afterEnd-is : Diff afterEnd 33 0 32
 unfolding ofBits
 afterEnd-is = omega arith
 
-step-is : Diff step 1 0 32
+pub step-is : Diff step 1 0 32
 unfolding ofBits
 step-is = omega arith
 
-zero-is : Diff f0 0 0 unit
+pub zero-is : Diff f0 0 0 unit
 unfolding ofBits
 zero-is = omega arith
 
@@ -297,7 +297,7 @@ module _ (e : Float) (E : ℕ) (e-fits : T (fits binary64 e)) (e-value : HasValu
       (after-start t fit (u .p) (u .n) (u .is) l m, before-end t fit (u .p) (u .n) (u .is) l m)
 
 -- ---- together
-either : (a b : Bool) {P : Type 0} → (T a → P) → (T b → P) → T (a || b) → P
+pub either : (a b : Bool) {P : Type 0} → (T a → P) → (T b → P) → T (a || b) → P
 either true b f g t = f tt
 either false b f g t = g t
 

@@ -1,0 +1,44 @@
+-- `glance::pair::pline_seg_kept` meets its contract: of two segments that are clearly apart the law of `Laws/Pair` says what the pair
+-- call would; elsewhere it is asked.
+use mathlib.Core.Path.{_≡_, sym, ap, _∙_, subst}
+use mathlib.Core.Bool.{Bool, true}
+use lib.Dec.{T}
+use lib.Ieee.{Float, binary64, fits}
+use denote.Floats.{passes}
+use borrow.Author.Needs.{needs}
+use Rattle.plane.specs.declared.pline_vertex.PlineVertex.{PlineVertex}
+use Rattle.crossing.specs.PlineSeg.{plineSeg}
+use Rattle.crossing.specs.declared.pline_seg_intersect.PlineSegIntr.the-variants.{NoIntersect}
+use Rattle.glance.specs.declared.kept.Kept.{Kept}
+use Rattle.glance.specs.Kept.{keptOf}
+use Rattle.glance.specs.Glance.{clearlyApart}
+use Rattle.glance.specs.Laws.Pair.{apart-pair}
+use Rattle.glance.proofs.pair.pline_seg_kept.Statement.{statement}
+use Rattle.glance.proofs.pair.pline_seg_kept.Tie as tie
+
+told : (r : Bool) (v1 v2 u1 u2 : PlineVertex) (v u : Kept) (eps : Float) → T (fits binary64 eps)
+    → v ≡ keptOf v1 v2 eps → u ≡ keptOf u1 u2 eps → r ≡ clearlyApart v1 v2 v u1 u2 u eps → r ≡ true
+    → plineSeg v1 v2 u1 u2 eps ≡ NoIntersect
+told r v1 v2 u1 u2 v u eps f ev eu e y =
+    apart-pair v1 v2 u1 u2 eps f
+    (passes _ (ap (λ (k : Kept). clearlyApart v1 v2 k u1 u2 (keptOf u1 u2 eps) eps) (sym ev)
+    ∙ ap (λ (k : Kept). clearlyApart v1 v2 v u1 u2 k eps) (sym eu)
+    ∙ sym e ∙ y))
+
+clearly-apart-requires : tie.Need-clearly-apart-requires
+clearly-apart-requires c κs = search needs
+
+returns : tie.Need-returns
+returns c =
+    let p1 = c .before in
+    let s = p1 .before in
+    sym (told _ _ _ _ _ _ _ _ (passes _ (s .good .1 .1 .1 .1 .1 .1 .0 .1)) (s .pre .1 .0) (s .pre .1 .1) (p1 .clearly-apart .ensures) (c .if1 .taken))
+
+pline-seg-looked-at-requires : tie.Need-pline-seg-looked-at-requires
+pline-seg-looked-at-requires c κs = search needs
+
+returns-2 : tie.Need-returns-2
+returns-2 c = search needs
+
+pub pline-seg-kept-spec : {M : Type 1} → statement M
+pline-seg-kept-spec = tie.close (tie.spec clearly-apart-requires returns pline-seg-looked-at-requires returns-2)

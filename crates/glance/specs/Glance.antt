@@ -1,0 +1,77 @@
+-- When two segments are clearly apart: src/circles.rt, line.rt, lines.rt and pair.rt, function by function. Nothing here need be
+-- believed: a yes is proved to say what `plineSeg` says (Laws/Pair).
+use mathlib.Core.Bool.{Bool, false, cond, _&&_, _||_}
+use lib.Ieee.{Float, neg, binary64, ofBits}
+use Rattle.floats.specs.Ops.{_⊕_, _⊖_, _⊗_, _⊘_, _≺_, _≼_, _≽_, f0, f2}
+use Rattle.floats.specs.F64
+use Rattle.plane.specs.Fuzzy.{fuzzyEqZero, fuzzyEqZeroEps}
+use Rattle.plane.specs.PlineVertex.{pos, bulgeIsZero}
+use Rattle.plane.specs.Vector2 as vector2
+use Rattle.plane.specs.declared.vector2.Vector2.{Vector2}
+use Rattle.plane.specs.declared.pline_vertex.PlineVertex.{PlineVertex}
+use Rattle.plane.specs.declared.pline_seg.ArcRadiusCenter.{ArcRadiusCenter}
+use Rattle.crossing.specs.Laws.Apart.{apart}
+use Rattle.crossing.specs.Laws.FarLine.{moderate, huge}
+use Rattle.crossing.specs.Laws.Within.{usual, afterEnd, step}
+use Rattle.glance.specs.declared.kept.Kept.{Kept}
+use Rattle.glance.specs.Kept.{circleOf}
+
+-- ---- two lines
+unfoldable pub quotientOutside : Float → Float → Bool
+quotientOutside n d =
+    let m = F64.abs n in
+    let k = F64.abs d in
+    (moderate m && moderate k) && ((k ⊗ afterEnd ≺ m) || ((n ⊗ d ≺ f0) && (k ⊗ step ≺ m)))
+
+unfoldable pub crossesOutside : Float → Float → Vector2 → Float → Bool
+crossesOutside n d segment eps = usual (vector2.dot segment segment) eps && quotientOutside n d
+
+unfoldable pub linesApart : Vector2 → Vector2 → Vector2 → Vector2 → Float → Bool
+linesApart v1 v2 u1 u2 eps =
+    let v = vector2.sub v2 v1 in
+    let u = vector2.sub u2 u1 in
+    let d = vector2.perpDot v u in
+    let w = vector2.sub v1 u1 in
+    cond (fuzzyEqZeroEps d eps)
+    false
+    (crossesOutside (vector2.perpDot u w) d v eps || crossesOutside (vector2.perpDot v w) d u eps)
+
+-- ---- a line and a circle
+unfoldable pub constant : Float → Float → Vector2 → Vector2 → Float
+constant dx slope p0Shifted p1Shifted =
+    cond (fuzzyEqZero dx)
+    (neg ((p1Shifted .x ⊕ p0Shifted .x) ⊘ f2))
+    (p1Shifted .y ⊖ slope ⊗ p1Shifted .x)
+
+-- 129/128
+abbrev pub more : Float
+more = ofBits binary64 0x3ff0_2000_0000_0000
+
+abbrev pub beside : Float → Float → Float → Bool
+beside guess k s =
+    let z = s ⊗ more in
+    (guess ≼ huge) && ((moderate k && moderate z) && ((z ⊗ guess ≺ k) && (s ≺ z)))
+
+unfoldable pub lineBeside : Vector2 → Vector2 → Kept → ArcRadiusCenter → Float → Bool
+lineBeside p0 p1 kept circle eps =
+    let p0Shifted = vector2.sub p0 (circle .center) in
+    let p1Shifted = vector2.sub p1 (circle .center) in
+    let c = constant (p1 .x ⊖ p0 .x) (kept .first) p0Shifted p1Shifted in
+    beside (kept .second) (F64.abs c) (circle .radius ⊕ eps)
+
+-- ---- two circles
+unfoldable pub circlesApart : ArcRadiusCenter → ArcRadiusCenter → Float → Bool
+circlesApart circle1 circle2 eps =
+    let cv = vector2.sub (circle2 .center) (circle1 .center) in
+    apart (vector2.dot cv cv) (circle1 .radius ⊕ circle2 .radius ⊕ eps) eps
+
+-- ---- two segments
+unfoldable pub clearlyApart : PlineVertex → PlineVertex → Kept → PlineVertex → PlineVertex → Kept → Float → Bool
+clearlyApart v1 v2 v u1 u2 u eps =
+    cond (bulgeIsZero v1)
+    (cond (bulgeIsZero u1)
+    (linesApart (pos v1) (pos v2) (pos u1) (pos u2) eps)
+    (lineBeside (pos v1) (pos v2) v (circleOf u) eps))
+    (cond (bulgeIsZero u1)
+    (lineBeside (pos u1) (pos u2) u (circleOf v) eps)
+    (circlesApart (circleOf v) (circleOf u) eps))

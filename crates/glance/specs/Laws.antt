@@ -1,0 +1,3 @@
+pub mod Lines
+pub mod Line
+pub mod Pair

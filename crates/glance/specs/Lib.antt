@@ -1,0 +1,3 @@
+pub mod Kept
+pub mod Glance
+pub mod Laws

@@ -1,0 +1,45 @@
+// Two line segments that are clearly apart.
+ghost use mathlib.Core.Path.{_≡_};
+ghost use Rattle.glance.specs.Glance;
+use super::sizes::moderate;
+use super::sizes::usual;
+use plane::fuzzy::fuzzy_eq_zero_eps;
+use plane::vector2::Vector2;
+
+// A parameter is clearly outside a segment of usual length from 33/32 on, and down from -1/32.
+const AFTER_END: f64 = 33.0 / 32.0;
+
+const STEP: f64 = 1.0 / 32.0;
+
+// Whether n / d is clearly outside, without the division.
+fn quotient_outside(n: f64, d: f64) -> bool
+    ensures { λ r. ⌜ r ≡ Glance.quotientOutside n d ⌝ }
+{
+    let m = floats::abs(n);
+    let k = floats::abs(d);
+    (moderate(m) & moderate(k)) & ((k * AFTER_END < m) | ((n * d < 0.0) & (k * STEP < m)))
+}
+
+// Whether the lines of two segments that are not parallel cross clearly outside the segment, given as a vector.
+fn crosses_outside(n: f64, d: f64, segment: Vector2, eps: f64) -> bool
+    ensures { λ r. ⌜ r ≡ Glance.crossesOutside n d segment eps ⌝ }
+{
+    usual(segment.length_squared(), eps) & quotient_outside(n, d)
+}
+
+// Whether two line segments are clearly apart: their lines cross, clearly outside one of the two.
+pub fn lines_apart(v1: Vector2, v2: Vector2, u1: Vector2, u2: Vector2, eps: f64) -> bool
+    ensures { λ r. ⌜ r ≡ Glance.linesApart v1 v2 u1 u2 eps ⌝ }
+{
+    let v = v2.sub(v1);
+    let u = u2.sub(u1);
+    let d = v.perp_dot(u);
+    let w = v1.sub(u1);
+    if fuzzy_eq_zero_eps(d, eps) {
+        return false;
+    }
+    if crosses_outside(u.perp_dot(w), d, v, eps) {
+        return true;
+    }
+    crosses_outside(v.perp_dot(w), d, u, eps)
+}

@@ -1,0 +1,61 @@
+// The pair call inside a listing, which has looked at the numbers already and kept what belongs to each segment.
+ghost use mathlib.Core.Path.{_≡_};
+ghost use Rattle.checks.specs.declared.fault.Checked.the-variants.{Fine};
+ghost use Rattle.crossing.specs.PlineSeg;
+ghost use Rattle.crossing.specs.PlineSegIntersect;
+ghost use Rattle.glance.specs.Glance;
+ghost use Rattle.glance.specs.Kept as keeping;
+use super::circles::circles_apart;
+use super::kept::Kept;
+use super::kept::circle_of;
+use super::line::line_beside;
+use super::lines::lines_apart;
+use crossing::pline_seg_intersect::PlineSegIntr;
+use crossing::pline_seg_intersect::pline_seg_looked_at;
+use plane::pline_vertex::PlineVertex;
+
+// Whether two segments are clearly apart.
+fn clearly_apart(
+    v1: PlineVertex,
+    v2: PlineVertex,
+    v: Kept,
+    u1: PlineVertex,
+    u2: PlineVertex,
+    u: Kept,
+    eps: f64,
+) -> bool
+    ensures { λ r. ⌜ r ≡ Glance.clearlyApart v1 v2 v u1 u2 u eps ⌝ }
+{
+    if v1.bulge_is_zero() {
+        if u1.bulge_is_zero() {
+            return lines_apart(v1.pos(), v2.pos(), u1.pos(), u2.pos(), eps);
+        }
+        return line_beside(v1.pos(), v2.pos(), v, circle_of(u), eps);
+    }
+    if u1.bulge_is_zero() {
+        return line_beside(u1.pos(), u2.pos(), u, circle_of(v), eps);
+    }
+    circles_apart(circle_of(v), circle_of(u), eps)
+}
+
+// How the segments v1 to v2 and u1 to u2 meet, of which v and u are kept. As `pline_seg_looked_at`, it is for a caller that has
+// looked at the numbers.
+pub fn pline_seg_kept(
+    v1: PlineVertex,
+    v2: PlineVertex,
+    v: Kept,
+    u1: PlineVertex,
+    u2: PlineVertex,
+    u: Kept,
+    pos_equal_eps: f64,
+) -> PlineSegIntr
+    requires { ⌜ PlineSegIntersect.look v1 v2 u1 u2 «pos_equal_eps» ≡ Fine ⌝ }
+    requires { ⌜ v ≡ keeping.keptOf v1 v2 «pos_equal_eps» ⌝ }
+    requires { ⌜ u ≡ keeping.keptOf u1 u2 «pos_equal_eps» ⌝ }
+    ensures { λ r. ⌜ r ≡ PlineSeg.plineSeg v1 v2 u1 u2 «pos_equal_eps» ⌝ }
+{
+    if clearly_apart(v1, v2, v, u1, u2, u, pos_equal_eps) {
+        return PlineSegIntr::NoIntersect;
+    }
+    pline_seg_looked_at(v1, v2, u1, u2, pos_equal_eps)
+}
