@@ -5,6 +5,7 @@ pub mod Pages
 pub mod Filling
 pub mod Loop
 pub mod Ready
+pub mod Keeping
 pub mod Stores
 pub mod Outcome
 pub mod Entry

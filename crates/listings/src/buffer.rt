@@ -3,6 +3,7 @@ ghost use Rattle.listings.specs.Look;
 ghost use Rattle.listings.specs.Rows;
 ghost use Rattle.listings.specs.Listing;
 ghost use Rattle.listings.specs.Laws.Job as job_of;
+ghost use Rattle.listings.specs.Laws.Keeping;
 ghost use Rattle.listings.specs.Laws.Outcome;
 ghost use Rattle.listings.specs.Laws.Ready;
 ghost use Prim.Native.Nat.{_≤_, _<_, _*_, min};
@@ -10,6 +11,7 @@ ghost use lib.ListN.{length};
 ghost use mathlib.Core.Path.{_≡_};
 use super::answer::ListingAnswer;
 use super::fill::fill;
+use super::keeping;
 use super::order;
 use super::order::Job;
 use super::row;
@@ -34,6 +36,7 @@ fn lesser(x: usize, y: usize) -> usize
 fn list_behind(
     first: &[f64],
     second: &[f64],
+    kept: &[f64],
     job: Job,
     i: usize,
     j: usize,
@@ -44,7 +47,7 @@ fn list_behind(
     indices: &mut [u64],
     points: &mut [f64],
 ) -> ListingAnswer
-    requires { ⌜ Ready.Ready (now first) (now second) job ⌝ }
+    requires { ⌜ Keeping.Ready (now first) (now second) (now kept) job ⌝ }
     requires { ⌜ room ≡ Listing.room (now indices) (now points) ⌝ }
     requires { ⌜ 2048 ≤ room ⌝ }
     requires { ⌜
@@ -55,10 +58,10 @@ fn list_behind(
         (now (indices .entry)) (now (points .entry)))
         r (now (indices .exit)) (now (points .exit)) ⌝ }
 {
-    let counted = fill(first, second, job, i, j, false, ROWS, room, indices, points);
+    let counted = fill(first, second, kept, job, i, j, false, ROWS, room, indices, points);
     if counted.ended {
         rows::copy_rows(held_indices, held_points, ROWS, indices, points);
-        let more = fill(first, second, job, i, j, true, ROWS, room, indices, points);
+        let more = fill(first, second, kept, job, i, j, true, ROWS, room, indices, points);
         return ListingAnswer::Listed {
             rows: more.rows,
             pairs: pairs + more.pairs,
@@ -71,12 +74,13 @@ fn list_behind(
 fn list_held_back(
     first: &[f64],
     second: &[f64],
+    kept: &[f64],
     job: Job,
     room: usize,
     indices: &mut [u64],
     points: &mut [f64],
 ) -> ListingAnswer
-    requires { ⌜ Ready.Ready (now first) (now second) job ⌝ }
+    requires { ⌜ Keeping.Ready (now first) (now second) (now kept) job ⌝ }
     requires { ⌜ room ≡ Listing.room (now indices) (now points) ⌝ }
     ensures { λ r. ⌜
         Listing.Leaves (Outcome.listed (Look.look (now (first .entry)) (now (second .entry)) (job .epsilon)) (job_of.every job)
@@ -90,6 +94,7 @@ fn list_held_back(
     let held = fill(
         first,
         second,
+        kept,
         job,
         0,
         start,
@@ -112,6 +117,7 @@ fn list_held_back(
     list_behind(
         first,
         second,
+        kept,
         job,
         held.i,
         held.j,
@@ -122,6 +128,34 @@ fn list_held_back(
         indices,
         points,
     )
+}
+
+// The listing of a job, with what is kept of the second path's segments.
+fn list_kept(
+    first: &[f64],
+    second: &[f64],
+    kept: &[f64],
+    job: Job,
+    indices: &mut [u64],
+    points: &mut [f64],
+) -> ListingAnswer
+    requires { ⌜ Keeping.Ready (now first) (now second) (now kept) job ⌝ }
+    ensures { λ r. ⌜
+        Listing.Leaves (Outcome.listed (Look.look (now (first .entry)) (now (second .entry)) (job .epsilon)) (job_of.every job)
+        (now (indices .entry)) (now (points .entry)))
+        r (now (indices .exit)) (now (points .exit)) ⌝ }
+{
+    let room = lesser(indices.len() / row::INDICES, points.len() / row::POINTS);
+    // where every pair could have a row, all rows fit
+    if job.n * job.m <= room {
+        let start = order::from(job, 0);
+        let all = fill(first, second, kept, job, 0, start, true, 0, room, indices, points);
+        return ListingAnswer::Listed {
+            rows: all.rows,
+            pairs: all.pairs,
+        };
+    }
+    list_held_back(first, second, kept, job, room, indices, points)
 }
 
 // The listing of a job: refused with 8 if it has more rows than fit, and then nothing is written.
@@ -138,15 +172,8 @@ pub fn list(
         (now (indices .entry)) (now (points .entry)))
         r (now (indices .exit)) (now (points .exit)) ⌝ }
 {
-    let room = lesser(indices.len() / row::INDICES, points.len() / row::POINTS);
-    // where every pair could have a row, all rows fit
-    if job.n * job.m <= room {
-        let start = order::from(job, 0);
-        let all = fill(first, second, job, 0, start, true, 0, room, indices, points);
-        return ListingAnswer::Listed {
-            rows: all.rows,
-            pairs: all.pairs,
-        };
-    }
-    list_held_back(first, second, job, room, indices, points)
+    // three numbers of each segment that a path may have: 96 KiB
+    let mut kept = [0.0f64; 12288];
+    keeping::keep(second, job.m, job.epsilon, &mut kept);
+    list_kept(first, second, &kept, job, indices, points)
 }

@@ -7,12 +7,13 @@ ghost use Rattle.listings.specs.Look;
 ghost use Rattle.listings.specs.Laws.Job as job_of;
 ghost use Rattle.listings.specs.Laws.Pages;
 ghost use Rattle.listings.specs.Laws.Filling as filling;
-ghost use Rattle.listings.specs.Laws.Ready;
+ghost use Rattle.listings.specs.Laws.Keeping;
 use super::look;
 use super::order;
 use super::order::Job;
 use super::row;
 use super::rows;
+use glance::kept::kept_of;
 use paths::segments;
 
 // How far it came: rows in all, pairs looked at, and the pair before which it stopped, or that it came to the end.
@@ -25,10 +26,11 @@ pub struct Filling {
 }
 
 // Goes by the pairs from (i, j) on, to the end or before a pair that makes a row where `room` rows stand already; `at` rows stand
-// before it starts. Rows are written if `write`, and else only counted.
+// before it starts. Rows are written if `write`, and else only counted. `kept` has what is kept of the second path's segments.
 pub fn fill(
     first: &[f64],
     second: &[f64],
+    kept: &[f64],
     job: Job,
     start_i: usize,
     start_j: usize,
@@ -38,7 +40,7 @@ pub fn fill(
     indices: &mut [u64],
     points: &mut [f64],
 ) -> Filling
-    requires { ⌜ Ready.Ready (now first) (now second) job ⌝ }
+    requires { ⌜ Keeping.Ready (now first) (now second) (now kept) job ⌝ }
     requires { ⌜ «start_i» ≤ job .n ⌝ }
     requires { ⌜ at ≤ room ⌝ }
     requires { ⌜ (room * 3 ≤ length (now indices)) × (room * 4 ≤ length (now points)) ⌝ }
@@ -53,9 +55,10 @@ pub fn fill(
     let mut pairs = 0;
     while i < job.n {
         let v = segments::segment_from(first, i);
+        let v_kept = kept_of(v.v1, v.v2, job.epsilon);
         let end = order::to(job, i);
         while j < end {
-            let seen = look::look(v, second, job, i, j);
+            let seen = look::look(v, v_kept, second, kept, job, i, j);
             match seen {
                 row::Look::Passed => {
                     j += 1;

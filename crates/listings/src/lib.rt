@@ -3,6 +3,7 @@ pub mod answer;
 mod buffer;
 mod fill;
 pub mod filled;
+mod keeping;
 mod look;
 pub mod mutual_listing;
 mod order;

@@ -1,34 +1,34 @@
--- `listings::buffer::list` meets its contract: where every pair could have a row, the page of all pairs is the listing; else rows are
--- held back.
-use mathlib.Core.Path.{_≡_, _∙_}
-use native.Mathlib.Nat.{mul-le-mul, le-refl}
+-- `listings::buffer::list` meets its contract: what is kept is that of the second path's segments, and the listing is that of `list_kept`.
+use mathlib.Core.Path.{_≡_}
 use native.Mathlib.Omega.{arith}
-use borrow.Author.Needs.{needs}
 use denote.Ref.{now}
-use Rattle.listings.specs.Look.{look}
-use Rattle.listings.specs.Laws.Job as job_of
-use Rattle.listings.specs.Laws.Pages.{page, joins}
-use Rattle.listings.specs.Laws.Outcome.{filled-first, no-more, on-one-page}
+use lib.Ieee.{Float, binary64, ofBits}
+use lib.ListN.{length, replicate, length-replicate}
+use Rattle.listings.specs.Laws.Keeping.{kept-ready}
+use borrow.Author.Needs.{needs}
 use Rattle.listings.proofs.buffer.list.Statement.{statement}
 use Rattle.listings.proofs.buffer.list.Tie as tie
 
-lesser-requires : tie.Need-lesser-requires
-lesser-requires c κs = search needs
+-- the numbers, at first
+long : length (let z : Float = ofBits binary64 0 in replicate 12288 z) ≡ 12288
+long = let z : Float = ofBits binary64 0 in length-replicate 12288 z
 
-mul-if1 : tie.Need-mul-if1
-mul-if1 c =
-    let ready = c .before .before .before .before .before .before .pre in
-    omega (arith, mul-le-mul (ready .few) (ready .few-second))
+slice-aggregate-keep : tie.Need-slice-aggregate-keep
+slice-aggregate-keep c = search needs
 
-from-requires : tie.Need-from-requires
-from-requires c κs = search needs
+keep-requires : tie.Need-keep-requires
+keep-requires c κs =
+    let ready = c .before .before .before .before .before .pre in
+    (ready .m-within, (ready .few-second, omega (arith, long, ready .few-second)))
 
-fill-requires : tie.Need-fill-requires
-fill-requires c κs =
-    let n = c .before .before .before .before .before in
-    let s = n .before .before .before .before .before in
-    let e = n .lesser .ensures in
-    (s .pre, (omega arith, (omega arith, (omega (arith, e), omega (arith, e)))))
+slice-aggregate-list-kept : tie.Need-slice-aggregate-list-kept
+slice-aggregate-list-kept c = search needs
+
+list-kept-requires : tie.Need-list-kept-requires
+list-kept-requires c κs =
+    let k = c .before .before .before .before in
+    let s = k .before .before .before .before .before .before in
+    kept-ready _ _ _ _ _ (s .pre) (omega (arith, long, s .pre .few-second)) (k .keep .ensures)
 
 same-length : tie.Need-same-length
 same-length c = search needs
@@ -37,43 +37,16 @@ same-length-2 : tie.Need-same-length-2
 same-length-2 c = search needs
 
 returns : tie.Need-returns
-returns c =
-    let f = c .before .before .before .before in
-    let t = f .before .before .before .before in
-    let n = t .before .before in
-    let a = n .before .before .before .before .before .args in
-    let F = look (now (a .first)) (now (a .second)) (a .job .epsilon) in
-    let ps = job_of.every (a .job) in
-    let room = n .lesser .result in
-    let done = filled-first F (a .job) (f .before .before .before .from .result) room (f .fill .result)
-    (now (a .indices)) _ (now (a .points)) _ (f .before .before .before .from .ensures) (f .fill .ensures) in
-    on-one-page F ps (now (a .indices)) (now (a .points)) room (page F ps room) (joins F ps room) (omega (arith, n .lesser .ensures))
-    (no-more F (a .job) room (t .if1 .taken)) _ _ _ _ (done .rows) (done .pairs) (done .indices) (done .points)
-
-list-held-back-requires : tie.Need-list-held-back-requires
-list-held-back-requires c κs = search needs
-
-same-length-3 : tie.Need-same-length-3
-same-length-3 c = search needs
-
-same-length-4 : tie.Need-same-length-4
-same-length-4 c = search needs
-
-returns-2 : tie.Need-returns-2
-returns-2 c = search needs
+returns c = search needs
 
 pub list-spec : {M : Type 1} → statement M
 list-spec =
     tie.close
     (tie.spec
-    lesser-requires
-    mul-if1
-    from-requires
-    fill-requires
+    slice-aggregate-keep
+    keep-requires
+    slice-aggregate-list-kept
+    list-kept-requires
     same-length
     same-length-2
-    returns
-    list-held-back-requires
-    same-length-3
-    same-length-4
-    returns-2)
+    returns)

@@ -14,13 +14,13 @@ use Rattle.listings.proofs.buffer.list_behind.Statement.{statement}
 use Rattle.listings.proofs.buffer.list_behind.Tie as tie
 
 abbrev start : tie.After-fill → tie.Start
-start c = c .before .before .before .before .before .before .before .before .before
+start c = c .before .before .before .before .before .before .before .before .before .before
 
 -- counting writes nothing
-same-indices : (c : tie.After-fill) → c .fill .last .1 .1 .1 .1 .1 .1 .1 .1 .0 ≡ now (start c .args .indices)
+same-indices : (c : tie.After-fill) → c .fill .last .1 .1 .1 .1 .1 .1 .1 .1 .1 .0 ≡ now (start c .args .indices)
 same-indices c = c .fill .ensures .indices
 
-same-points : (c : tie.After-fill) → c .fill .last .1 .1 .1 .1 .1 .1 .1 .1 .1 .0 ≡ now (start c .args .points)
+same-points : (c : tie.After-fill) → c .fill .last .1 .1 .1 .1 .1 .1 .1 .1 .1 .1 .0 ≡ now (start c .args .points)
 same-points c = c .fill .ensures .points
 
 -- what is held back
@@ -55,7 +55,7 @@ copied-points c =
 
 fill-requires : tie.Need-fill-requires
 fill-requires c κs =
-    let h = c .before .before .before .before .before .before .before .before .pre in
+    let h = c .before .before .before .before .before .before .before .before .before .pre in
     (h .0, (h .1 .1 .1 .within, (h .1 .1 .0, (omega (arith, h .1 .0), omega (arith, h .1 .0)))))
 
 copy-rows-requires : tie.Need-copy-rows-requires
@@ -75,13 +75,13 @@ fill-requires-2 c κs =
     let on-points = ap length (copied-points k) in
     (h .0, (h .1 .1 .1 .within, (h .1 .1 .0, (omega (arith, h .1 .0, on-indices), omega (arith, h .1 .0, on-points)))))
 
-add-t28 : tie.Need-add-t28
-add-t28 c =
+add-t29 : tie.Need-add-t29
+add-t29 c =
     let k = c .before .before .before .before .before in
     let s = start (k .before .before .before .before .before .before .before .before .before .before .before .before .before .before .before) in
     let a = s .args in
     let F = look (now (a .first)) (now (a .second)) (a .job .epsilon) in
-    let ready = s .pre .0 in
+    let ready = s .pre .0 .pairs in
     let held = s .pre .1 .1 .1 in
     let few = few-on-every F (a .job) 2048 (ready .few) (ready .few-second) in
     let more = few-on-page F (a .job) (a .i) (a .j) (a .room - 2048) (ready .few) (ready .few-second) in
@@ -132,7 +132,7 @@ list-behind-spec =
     fill-requires
     copy-rows-requires
     fill-requires-2
-    add-t28
+    add-t29
     same-length
     same-length-2
     returns

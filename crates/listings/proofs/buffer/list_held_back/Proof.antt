@@ -21,7 +21,7 @@ use Rattle.listings.proofs.buffer.list_held_back.Statement.{statement}
 use Rattle.listings.proofs.buffer.list_held_back.Tie as tie
 
 abbrev start : tie.After-fill → tie.Start
-start c = c .before .before .before .before .before .before .before .before .before
+start c = c .before .before .before .before .before .before .before .before .before .before
 
 -- the buffer, at first
 abbrev no-indices : List ℕ
@@ -47,8 +47,8 @@ done : (c : tie.After-fill)
     Filled (a .job) true 0
     (page (look (now (a .first)) (now (a .second)) (a .job .epsilon)) (job_of.every (a .job)) (c .before .before .before .lesser .result))
     (c .fill .result)
-    no-indices (c .fill .last .1 .1 .1 .1 .1 .1 .1 .1 .0)
-    no-points (c .fill .last .1 .1 .1 .1 .1 .1 .1 .1 .1 .0)
+    no-indices (c .fill .last .1 .1 .1 .1 .1 .1 .1 .1 .1 .0)
+    no-points (c .fill .last .1 .1 .1 .1 .1 .1 .1 .1 .1 .1 .0)
 done c =
     let a = start c .args in
     filled-first (look (now (a .first)) (now (a .second)) (a .job .epsilon)) (a .job) (c .before .before .before .before .from .result)
@@ -64,10 +64,10 @@ few c =
     let j = joins (look (now (a .first)) (now (a .second)) (a .job .epsilon)) (job_of.every (a .job)) (most c) in
     omega (arith, done c .rows, j .few)
 
-long-indices : (c : tie.After-fill) → length (c .fill .last .1 .1 .1 .1 .1 .1 .1 .1 .0) ≡ 6144
+long-indices : (c : tie.After-fill) → length (c .fill .last .1 .1 .1 .1 .1 .1 .1 .1 .1 .0) ≡ 6144
 long-indices c = ap length (done c .indices) ∙ length-sets no-indices 0 (flat indicesOf (held c)) ∙ long-no-indices
 
-long-points : (c : tie.After-fill) → length (c .fill .last .1 .1 .1 .1 .1 .1 .1 .1 .1 .0) ≡ 8192
+long-points : (c : tie.After-fill) → length (c .fill .last .1 .1 .1 .1 .1 .1 .1 .1 .1 .1 .0) ≡ 8192
 long-points c = ap length (done c .points) ∙ length-sets no-points 0 (flat pointsOf (held c)) ∙ long-no-points
 
 from-requires : tie.Need-from-requires
@@ -85,7 +85,7 @@ slice-aggregate-fill-2 c = search needs
 fill-requires : tie.Need-fill-requires
 fill-requires c κs =
     let e = c .before .before .lesser .ensures in
-    let s = c .before .before .before .before .before .before .before .before in
+    let s = c .before .before .before .before .before .before .before .before .before in
     (s .pre .0, (omega arith, (omega arith, (omega (arith, e), omega (arith, e)))))
 
 slice-aggregate-copy-rows : tie.Need-slice-aggregate-copy-rows

@@ -15,21 +15,21 @@ use Rattle.listings.proofs.fill.fill.Tie as tie
 
 -- the inner loop does not know what the slices held at the call: whatever that was, it keeps the state
 abbrev Inv-loop2 : tie.InvT-loop2
-Inv-loop2 first second job start-i start-j write at room indices₀ points₀ i j₀ rows₀ pairs₀ v end indices points j rows pairs =
+Inv-loop2 first second kept job start-i start-j write at room indices₀ points₀ i j₀ rows₀ pairs₀ v v-kept end indices points j rows pairs =
     (x : List ℕ) (y : List Float)
     → State (look first second (job .epsilon)) job write at room start-i start-j x y i j₀ rows₀ pairs₀ indices₀ points₀
     → State (look first second (job .epsilon)) job write at room start-i start-j x y i j rows pairs indices points
 
 abbrev μ-loop2 : tie.MeasureT-loop2
-μ-loop2 first second job start-i start-j write at room indices₀ points₀ i j₀ rows₀ pairs₀ v end indices points j rows pairs =
+μ-loop2 first second kept job start-i start-j write at room indices₀ points₀ i j₀ rows₀ pairs₀ v v-kept end indices points j rows pairs =
     end - j
 
 abbrev Inv-loop : tie.InvT-loop
-Inv-loop first second job start-i start-j write at room indices₀ points₀ i₀ j₀ rows₀ pairs₀ indices points i j rows pairs =
+Inv-loop first second kept job start-i start-j write at room indices₀ points₀ i₀ j₀ rows₀ pairs₀ indices points i j rows pairs =
     State (look first second (job .epsilon)) job write at room start-i start-j indices₀ points₀ i j rows pairs indices points
 
 abbrev μ-loop : tie.MeasureT-loop
-μ-loop first second job start-i start-j write at room indices₀ points₀ i₀ j₀ rows₀ pairs₀ indices points i j rows pairs =
+μ-loop first second kept job start-i start-j write at room indices₀ points₀ i₀ j₀ rows₀ pairs₀ indices points i j rows pairs =
     job .n - i
 
 abbrev At-loop2 : Type 0
@@ -39,10 +39,10 @@ abbrev Outer : Type 0
 Outer = tie.At-loop Inv-loop2 μ-loop2 Inv-loop μ-loop
 
 abbrev outer : At-loop2 → Outer
-outer c = c .before .before .before .before .before
+outer c = c .before .before .before .before .before .before
 
 abbrev start : Outer → tie.Start Inv-loop2 μ-loop2 Inv-loop μ-loop
-start c = c .before .before .before .before .before
+start c = c .before .before .before .before .before .before
 
 -- the state in the inner loop
 inner : (c : At-loop2)
@@ -65,21 +65,24 @@ seen : (c : tie.After-look Inv-loop2 μ-loop2 Inv-loop μ-loop)
 seen c =
     let p = c .before .before in
     let a = start (outer p) .args in
-    sym (look-on (p .before .before .segment-from .result) (now (a .first)) (now (a .second)) (a .job .epsilon)
-    (outer p .loop .i) (p .loop2 .j) (p .before .before .segment-from .ensures))
+    sym (look-on (p .before .before .before .segment-from .result) (now (a .first)) (now (a .second)) (a .job .epsilon)
+    (outer p .loop .i) (p .loop2 .j) (p .before .before .before .segment-from .ensures))
     ∙ sym (c .look .ensures)
 
 few-pairs : (c : At-loop2) → c .loop2 .pairs ≤ 16777216
-few-pairs c = let ready = start (outer c) .pre .0 in few (inner c) (ready .few) (ready .few-second)
+few-pairs c = let ready = start (outer c) .pre .0 .pairs in few (inner c) (ready .few) (ready .few-second)
 
 loop-holds : tie.Need-loop-holds Inv-loop2 μ-loop2 Inv-loop μ-loop
 loop-holds c =
-    let a = c .before .before .before .before .args in
+    let a = c .before .before .before .before .before .args in
     starts (look (now (a .first)) (now (a .second)) (a .job .epsilon)) (a .job) (a .write) (a .at) (a .room) (a .start-i) (a .start-j)
     (now (a .indices)) (now (a .points)) (search needs) (search needs)
 
 segment-from-requires : tie.Need-segment-from-requires Inv-loop2 μ-loop2 Inv-loop μ-loop
 segment-from-requires c κs = search needs
+
+kept-of-requires : tie.Need-kept-of-requires Inv-loop2 μ-loop2 Inv-loop μ-loop
+kept-of-requires c κs = search needs
 
 to-requires : tie.Need-to-requires Inv-loop2 μ-loop2 Inv-loop μ-loop
 to-requires c κs = search needs
@@ -91,9 +94,11 @@ look-requires : tie.Need-look-requires Inv-loop2 μ-loop2 Inv-loop μ-loop
 look-requires c κs =
     let p = c .before in
     let a = start (outer p) .args in (
-      at-segment (p .before .before .segment-from .result) (now (a .first)) (now (a .second)) (a .job) (outer p .loop .i)
-          (start (outer p) .pre .0) (p .before .before .before .if1 .taken) (p .before .before .segment-from .ensures),
-      omega (arith, below c, to-within (a .job) (outer p .loop .i)),
+      at-segment (p .before .before .before .segment-from .result) (now (a .first)) (now (a .second)) (a .job) (outer p .loop .i)
+          (start (outer p) .pre .0 .pairs) (p .before .before .before .before .if1 .taken) (p .before .before .before .segment-from .ensures),
+      (start (outer p) .pre .0 .keeps,
+      (p .before .before .kept-of .ensures,
+      omega (arith, below c, to-within (a .job) (outer p .loop .i)))),
     )
 
 enum-told : tie.Need-enum-told Inv-loop2 μ-loop2 Inv-loop μ-loop
@@ -110,7 +115,7 @@ loop2-again c =
     let k = c .before .before in
     let p = k .before .before in
     λ x y s.
-    passes (p .loop2 .inv x y s) (p .before .before .before .if1 .taken) (below (k .before)) (seen k ∙ c .enum-told .given .1)
+    passes (p .loop2 .inv x y s) (p .before .before .before .before .if1 .taken) (below (k .before)) (seen k ∙ c .enum-told .given .1)
 
 enum-told-2 : tie.Need-enum-told-2 Inv-loop2 μ-loop2 Inv-loop μ-loop
 enum-told-2 c = search needs
@@ -129,7 +134,7 @@ loop2-again-2 c =
     let k = c .before .before in
     let p = k .before .before in
     λ x y s.
-    looks (p .loop2 .inv x y s) (p .before .before .before .if1 .taken) (below (k .before)) (seen k ∙ c .enum-told2 .given .1)
+    looks (p .loop2 .inv x y s) (p .before .before .before .before .if1 .taken) (below (k .before)) (seen k ∙ c .enum-told2 .given .1)
 
 enum-known-seen : tie.Need-enum-known-seen Inv-loop2 μ-loop2 Inv-loop μ-loop
 enum-known-seen c = search needs
@@ -145,7 +150,7 @@ returns c =
     let m = c .before .before in
     let k = m .before .before in
     let p = k .before .before in
-    stops (inner p) (p .before .before .before .if1 .taken) (below (k .before)) _ (seen k ∙ m .seen .given .1) (c .if2 .taken)
+    stops (inner p) (p .before .before .before .before .if1 .taken) (below (k .before)) _ (seen k ∙ m .seen .given .1) (c .if2 .taken)
 
 put-row-requires : tie.Need-put-row-requires Inv-loop2 μ-loop2 Inv-loop μ-loop
 put-row-requires c κs =
@@ -179,7 +184,7 @@ loop2-again-3 c =
     let p = k .before .before in
     λ x y s.
     rw (w .0, w .1)
-    (makes (p .loop2 .inv x y s) (p .before .before .before .if1 .taken) (below (k .before)) _ (seen k ∙ m .seen .given .1) (e .if2 .left))
+    (makes (p .loop2 .inv x y s) (p .before .before .before .before .if1 .taken) (below (k .before)) _ (seen k ∙ m .seen .given .1) (e .if2 .left))
 
 add-i : tie.Need-add-i Inv-loop2 μ-loop2 Inv-loop μ-loop
 add-i c = search needs
@@ -194,7 +199,7 @@ loop-again : tie.Need-loop-again Inv-loop2 μ-loop2 Inv-loop μ-loop
 loop-again c =
     let p = c .before .before in
     let o = outer p in
-    let i = p .before .before .before .if1 .taken in
+    let i = p .before .before .before .before .if1 .taken in
     rw (c .from .ensures) (next-i (inner p) i (rw (← p .before .to .ensures) (c .before .loop2-test .left)))
 
 same-length-3 : tie.Need-same-length-3 Inv-loop2 μ-loop2 Inv-loop μ-loop
@@ -216,6 +221,7 @@ fill-spec =
     μ-loop
     loop-holds
     segment-from-requires
+    kept-of-requires
     to-requires
     loop2-holds
     look-requires

@@ -1,0 +1,79 @@
+-- `listings::buffer::list_kept` meets its contract: where every pair could have a row, the page of all pairs is the listing; else rows are
+-- held back.
+use mathlib.Core.Path.{_≡_, _∙_}
+use native.Mathlib.Nat.{mul-le-mul, le-refl}
+use native.Mathlib.Omega.{arith}
+use borrow.Author.Needs.{needs}
+use denote.Ref.{now}
+use Rattle.listings.specs.Look.{look}
+use Rattle.listings.specs.Laws.Job as job_of
+use Rattle.listings.specs.Laws.Pages.{page, joins}
+use Rattle.listings.specs.Laws.Outcome.{filled-first, no-more, on-one-page}
+use Rattle.listings.proofs.buffer.list_kept.Statement.{statement}
+use Rattle.listings.proofs.buffer.list_kept.Tie as tie
+
+lesser-requires : tie.Need-lesser-requires
+lesser-requires c κs = search needs
+
+mul-if1 : tie.Need-mul-if1
+mul-if1 c =
+    let ready = c .before .before .before .before .before .before .before .pre .pairs in
+    omega (arith, mul-le-mul (ready .few) (ready .few-second))
+
+from-requires : tie.Need-from-requires
+from-requires c κs = search needs
+
+fill-requires : tie.Need-fill-requires
+fill-requires c κs =
+    let n = c .before .before .before .before .before in
+    let s = n .before .before .before .before .before .before in
+    let e = n .lesser .ensures in
+    (s .pre, (omega arith, (omega arith, (omega (arith, e), omega (arith, e)))))
+
+same-length : tie.Need-same-length
+same-length c = search needs
+
+same-length-2 : tie.Need-same-length-2
+same-length-2 c = search needs
+
+returns : tie.Need-returns
+returns c =
+    let f = c .before .before .before .before in
+    let t = f .before .before .before .before in
+    let n = t .before .before in
+    let a = n .before .before .before .before .before .before .args in
+    let F = look (now (a .first)) (now (a .second)) (a .job .epsilon) in
+    let ps = job_of.every (a .job) in
+    let room = n .lesser .result in
+    let done = filled-first F (a .job) (f .before .before .before .from .result) room (f .fill .result)
+    (now (a .indices)) _ (now (a .points)) _ (f .before .before .before .from .ensures) (f .fill .ensures) in
+    on-one-page F ps (now (a .indices)) (now (a .points)) room (page F ps room) (joins F ps room) (omega (arith, n .lesser .ensures))
+    (no-more F (a .job) room (t .if1 .taken)) _ _ _ _ (done .rows) (done .pairs) (done .indices) (done .points)
+
+list-held-back-requires : tie.Need-list-held-back-requires
+list-held-back-requires c κs = search needs
+
+same-length-3 : tie.Need-same-length-3
+same-length-3 c = search needs
+
+same-length-4 : tie.Need-same-length-4
+same-length-4 c = search needs
+
+returns-2 : tie.Need-returns-2
+returns-2 c = search needs
+
+pub list-kept-spec : {M : Type 1} → statement M
+list-kept-spec =
+    tie.close
+    (tie.spec
+    lesser-requires
+    mul-if1
+    from-requires
+    fill-requires
+    same-length
+    same-length-2
+    returns
+    list-held-back-requires
+    same-length-3
+    same-length-4
+    returns-2)

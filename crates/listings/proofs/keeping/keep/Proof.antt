@@ -1,0 +1,102 @@
+-- `listings::keeping::keep` meets its contract: after j turns what is kept of the first j segments is stored.
+use mathlib.Core.Path.{_≡_, refl, ap, _∙_}
+use Prim.Native.Nat.{_-_, _≤_, zero-le}
+use native.Mathlib.Omega.{arith}
+use borrow.Author.Needs.{needs}
+use denote.Ref.{now}
+use lib.ListN.{length, length-set}
+use Rattle.listings.specs.Laws.Keeping.{keep, keep-length, keep-more}
+use Rattle.listings.proofs.keeping.keep.Statement.{statement}
+use Rattle.listings.proofs.keeping.keep.Tie as tie
+
+abbrev Inv-loop : tie.InvT-loop
+Inv-loop path m epsilon kept₀ j₀ kept j = (kept ≡ keep path j epsilon kept₀) × (j ≤ m) × (length kept ≡ length kept₀)
+
+abbrev μ-loop : tie.MeasureT-loop
+μ-loop path m epsilon kept₀ j₀ kept j = m - j
+
+loop-holds : tie.Need-loop-holds Inv-loop μ-loop
+unfolding keep
+loop-holds c = (refl, zero-le, refl)
+
+segment-from-requires : tie.Need-segment-from-requires Inv-loop μ-loop
+segment-from-requires c κs = search needs
+
+kept-of-requires : tie.Need-kept-of-requires Inv-loop μ-loop
+kept-of-requires c κs = search needs
+
+mul-at : tie.Need-mul-at Inv-loop μ-loop
+mul-at c = search needs
+
+mul-kept : tie.Need-mul-kept Inv-loop μ-loop
+mul-kept c = search needs
+
+slice-write-kept : tie.Need-slice-write-kept Inv-loop μ-loop
+slice-write-kept c = search needs
+
+add-kept : tie.Need-add-kept Inv-loop μ-loop
+add-kept c = search needs
+
+mul-kept-2 : tie.Need-mul-kept-2 Inv-loop μ-loop
+mul-kept-2 c = search needs
+
+slice-write-kept-2 : tie.Need-slice-write-kept-2 Inv-loop μ-loop
+slice-write-kept-2 c = simp length-set (omega arith)
+
+add-kept-2 : tie.Need-add-kept-2 Inv-loop μ-loop
+add-kept-2 c = search needs
+
+mul-kept-3 : tie.Need-mul-kept-3 Inv-loop μ-loop
+mul-kept-3 c = search needs
+
+slice-write-kept-3 : tie.Need-slice-write-kept-3 Inv-loop μ-loop
+slice-write-kept-3 c = simp length-set (omega arith)
+
+add-j : tie.Need-add-j Inv-loop μ-loop
+add-j c = search needs
+
+loop-less : tie.Need-loop-less Inv-loop μ-loop
+loop-less c = search needs
+
+loop-again : tie.Need-loop-again Inv-loop μ-loop
+loop-again c =
+    let f = c .before in
+    let s = f .before .before in
+    let a = s .before .before .before .args in
+    let more = keep-more (now (a .path)) (now (a .kept)) (s .loop .kept) (s .loop .j) (a .epsilon)
+    (f .segment-from .result) (c .kept-of .result) (s .loop .inv .0) (f .segment-from .ensures) (c .kept-of .ensures) in
+    (more, search needs, ap length more ∙ keep-length (now (a .path)) _ (a .epsilon) (now (a .kept)))
+
+same-length : tie.Need-same-length Inv-loop μ-loop
+same-length c = search needs
+
+returns : tie.Need-returns Inv-loop μ-loop
+returns c =
+    let s = c .before in
+    let a = s .before .before .before .args in
+    let all : s .loop .j ≡ a .m = omega arith in
+    s .loop .inv .0 ∙ ap (λ n. keep (now (a .path)) n (a .epsilon) (now (a .kept))) all
+
+pub keep-spec : {M : Type 1} → statement M
+keep-spec =
+    tie.close
+    (tie.spec
+    Inv-loop
+    μ-loop
+    loop-holds
+    segment-from-requires
+    kept-of-requires
+    mul-at
+    mul-kept
+    slice-write-kept
+    add-kept
+    mul-kept-2
+    slice-write-kept-2
+    add-kept-2
+    mul-kept-3
+    slice-write-kept-3
+    add-j
+    loop-less
+    loop-again
+    same-length
+    returns)
