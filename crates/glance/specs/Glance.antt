@@ -2,7 +2,7 @@
 -- believed: a yes is proved to say what `plineSeg` says (Laws/Pair).
 use mathlib.Core.Bool.{Bool, false, cond, _&&_, _||_}
 use lib.Ieee.{Float, neg, binary64, ofBits}
-use Rattle.floats.specs.Ops.{_⊕_, _⊖_, _⊗_, _⊘_, _≺_, _≼_, _≽_, f0, f2}
+use Rattle.floats.specs.Ops.{_⊕_, _⊖_, _⊗_, _⊘_, _≺_, _≼_, _≻_, f2}
 use Rattle.floats.specs.F64
 use Rattle.plane.specs.Fuzzy.{fuzzyEqZero, fuzzyEqZeroEps}
 use Rattle.plane.specs.PlineVertex.{pos, bulgeIsZero}
@@ -12,16 +12,20 @@ use Rattle.plane.specs.declared.pline_vertex.PlineVertex.{PlineVertex}
 use Rattle.plane.specs.declared.pline_seg.ArcRadiusCenter.{ArcRadiusCenter}
 use Rattle.crossing.specs.Laws.Apart.{apart}
 use Rattle.crossing.specs.Laws.FarLine.{moderate, huge}
-use Rattle.crossing.specs.Laws.Within.{usual, afterEnd, step}
+use Rattle.crossing.specs.Laws.Within.{usual, afterEnd}
 use Rattle.glance.specs.declared.kept.Kept.{Kept}
 use Rattle.glance.specs.Kept.{circleOf}
 
 -- ---- two lines
+-- -1/32
+abbrev pub beforeStart : Float
+beforeStart = ofBits binary64 0xbfa0_0000_0000_0000
+
 unfoldable pub quotientOutside : Float → Float → Bool
 quotientOutside n d =
-    let m = F64.abs n in
-    let k = F64.abs d in
-    (moderate m && moderate k) && ((k ⊗ afterEnd ≺ m) || ((n ⊗ d ≺ f0) && (k ⊗ step ≺ m)))
+    let end = d ⊗ afterEnd in
+    let start = d ⊗ beforeStart in
+    ((n ≻ end) && (n ≻ start)) || ((n ≺ end) && (n ≺ start))
 
 unfoldable pub crossesOutside : Float → Float → Vector2 → Float → Bool
 crossesOutside n d segment eps = usual (vector2.dot segment segment) eps && quotientOutside n d

@@ -25,13 +25,7 @@ fn constant(dx: f64, slope: f64, p0_shifted: Vector2, p1_shifted: Vector2) -> f6
 }
 
 // Whether the line of a segment, of which `kept` is kept, passes the circle farther away than epsilon.
-pub fn line_beside(
-    p0: Vector2,
-    p1: Vector2,
-    kept: Kept,
-    circle: ArcRadiusCenter,
-    eps: f64,
-) -> bool
+pub fn line_beside(p0: Vector2, p1: Vector2, kept: Kept, circle: ArcRadiusCenter, eps: f64) -> bool
     ensures { λ r. ⌜ r ≡ Glance.lineBeside p0 p1 kept circle eps ⌝ }
 {
     let p0_shifted = p0.sub(circle.center);

@@ -1,7 +1,6 @@
 // Two line segments that are clearly apart.
 ghost use mathlib.Core.Path.{_≡_};
 ghost use Rattle.glance.specs.Glance;
-use super::sizes::moderate;
 use super::sizes::usual;
 use plane::fuzzy::fuzzy_eq_zero_eps;
 use plane::vector2::Vector2;
@@ -9,15 +8,15 @@ use plane::vector2::Vector2;
 // A parameter is clearly outside a segment of usual length from 33/32 on, and down from -1/32.
 const AFTER_END: f64 = 33.0 / 32.0;
 
-const STEP: f64 = 1.0 / 32.0;
+const BEFORE_START: f64 = -1.0 / 32.0;
 
-// Whether n / d is clearly outside, without the division.
+// Whether n / d is clearly outside, without the division: n is on one side of both limits' products with d.
 fn quotient_outside(n: f64, d: f64) -> bool
     ensures { λ r. ⌜ r ≡ Glance.quotientOutside n d ⌝ }
 {
-    let m = floats::abs(n);
-    let k = floats::abs(d);
-    (moderate(m) & moderate(k)) & ((k * AFTER_END < m) | ((n * d < 0.0) & (k * STEP < m)))
+    let end = d * AFTER_END;
+    let start = d * BEFORE_START;
+    ((n > end) & (n > start)) | ((n < end) & (n < start))
 }
 
 // Whether the lines of two segments that are not parallel cross clearly outside the segment, given as a vector.

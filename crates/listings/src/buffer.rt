@@ -58,10 +58,34 @@ fn list_behind(
         (now (indices .entry)) (now (points .entry)))
         r (now (indices .exit)) (now (points .exit)) ⌝ }
 {
-    let counted = fill(first, second, kept, job, i, j, false, ROWS, room, indices, points);
+    let counted = fill(
+        first,
+        second,
+        kept,
+        job,
+        i,
+        j,
+        false,
+        ROWS,
+        room,
+        indices,
+        points,
+    );
     if counted.ended {
         rows::copy_rows(held_indices, held_points, ROWS, indices, points);
-        let more = fill(first, second, kept, job, i, j, true, ROWS, room, indices, points);
+        let more = fill(
+            first,
+            second,
+            kept,
+            job,
+            i,
+            j,
+            true,
+            ROWS,
+            room,
+            indices,
+            points,
+        );
         return ListingAnswer::Listed {
             rows: more.rows,
             pairs: pairs + more.pairs,
@@ -149,7 +173,19 @@ fn list_kept(
     // where every pair could have a row, all rows fit
     if job.n * job.m <= room {
         let start = order::from(job, 0);
-        let all = fill(first, second, kept, job, 0, start, true, 0, room, indices, points);
+        let all = fill(
+            first,
+            second,
+            kept,
+            job,
+            0,
+            start,
+            true,
+            0,
+            room,
+            indices,
+            points,
+        );
         return ListingAnswer::Listed {
             rows: all.rows,
             pairs: all.pairs,

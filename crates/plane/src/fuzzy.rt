@@ -5,11 +5,11 @@ ghost use Rattle.plane.specs.Fuzzy;
 // The tolerance where none is given.
 pub const FUZZY_EPSILON: f64 = 1e-8;
 
-// Whether a's magnitude is below eps.
+// Whether a's magnitude is below eps. Two comparisons say it too, and cost less than to clear a sign, as a NaN must keep its bits.
 pub fn fuzzy_eq_zero_eps(a: f64, eps: f64) -> bool
     ensures { λ r. ⌜ r ≡ Fuzzy.fuzzyEqZeroEps a eps ⌝ }
 {
-    floats::abs(a) < eps
+    (a < eps) & (-eps < a)
 }
 
 // Whether a's magnitude is below the default epsilon.
@@ -23,7 +23,7 @@ pub fn fuzzy_eq_zero(a: f64) -> bool
 pub fn fuzzy_eq_eps(a: f64, b: f64, eps: f64) -> bool
     ensures { λ r. ⌜ r ≡ Fuzzy.fuzzyEqEps a b eps ⌝ }
 {
-    floats::abs(a - b) < eps
+    fuzzy_eq_zero_eps(a - b, eps)
 }
 
 // Whether a is greater than b once a is raised by eps.

@@ -54,7 +54,7 @@ huge-is : Diff huge (2 ^ 100) 0 1
 unfolding ofBits
 huge-is = omega arith
 
-pub counts : (x : Float) → T (fits binary64 x) → T (moderate x) → Between x (2 ^ 100) (2 ^ 100) 1
+counts : (x : Float) → T (fits binary64 x) → T (moderate x) → Between x (2 ^ 100) (2 ^ 100) 1
 counts x f m =
     between64 x tiny huge (2 ^ 100) (2 ^ 100) 1 f tiny-is huge-is (lit< tt) (lit< tt)
     (and-l (x ≽ tiny) (x ≼ huge) m) (and-r (x ≽ tiny) (x ≼ huge) m)
@@ -129,7 +129,7 @@ module _ (k q w z : Float) (K Q W Z : ℕ)
           omega arith
 
 -- ---- the test
-pub abs-fits : (x : Float) → T (fits binary64 x) → T (fits binary64 (F64.abs x))
+abs-fits : (x : Float) → T (fits binary64 x) → T (fits binary64 (F64.abs x))
 unfolding fits F64.abs
 abs-fits nan f = tt
 abs-fits (inf s) f = tt

@@ -84,7 +84,7 @@ pub step-is : Diff step 1 0 32
 unfolding ofBits
 step-is = omega arith
 
-pub zero-is : Diff f0 0 0 unit
+zero-is : Diff f0 0 0 unit
 unfolding ofBits
 zero-is = omega arith
 
@@ -313,6 +313,13 @@ sqrt-fits : (x : Float) → T (fits binary64 x) → T (fits binary64 (F64.sqrt x
 unfolding F64.sqrt
 sqrt-fits x t = rootOf-fits binary64 x t
 
+-- an epsilon of usual size is above zero
+pub eps-between : (square e : Float) → T (fits binary64 e) → T (usual square e) → Between e (2 ^ 40) 1 1024
+eps-between square e e-fits sizes =
+    let of-e = and-l ((e ≽ epsLeast) && (e ≼ thousandth)) ((square ≽ thousandth) && (square ≼ squareMost)) sizes in
+    between64 e epsLeast thousandth (2 ^ 40) 1 1024 e-fits epsLeast-is thousandth-is (lit< tt) (lit< tt)
+    (and-l (e ≽ epsLeast) (e ≼ thousandth) of-e) (and-r (e ≽ epsLeast) (e ≼ thousandth) of-e)
+
 module _ (t : Float) (v : Vector2) (e : Float) (t-fits : T (fits binary64 t)) (e-fits : T (fits binary64 e))
     (sizes : T (usual (vector2.dot v v) e)) where
   abbrev square : Float
@@ -321,16 +328,11 @@ module _ (t : Float) (v : Vector2) (e : Float) (t-fits : T (fits binary64 t)) (e
   square-fits : T (fits binary64 square)
   square-fits = add-fits binary64 (v .x ⊗ v .x) (v .y ⊗ v .y)
 
-  of-e : T ((e ≽ epsLeast) && (e ≼ thousandth))
-  of-e = and-l ((e ≽ epsLeast) && (e ≼ thousandth)) ((square ≽ thousandth) && (square ≼ squareMost)) sizes
-
   of-square : T ((square ≽ thousandth) && (square ≼ squareMost))
   of-square = and-r ((e ≽ epsLeast) && (e ≼ thousandth)) ((square ≽ thousandth) && (square ≼ squareMost)) sizes
 
   e-between : Between e (2 ^ 40) 1 1024
-  e-between =
-      between64 e epsLeast thousandth (2 ^ 40) 1 1024 e-fits epsLeast-is thousandth-is (lit< tt) (lit< tt)
-      (and-l (e ≽ epsLeast) (e ≼ thousandth) of-e) (and-r (e ≽ epsLeast) (e ≼ thousandth) of-e)
+  e-between = eps-between square e e-fits sizes
 
   square-between : Between square 1024 (2 ^ 50) 1
   square-between =

@@ -63,11 +63,13 @@ module _ (p0 p1 : Vector2) (line : Line) (point : Bool) (circle : ArcRadiusCente
       let z = s ⊗ more in
       let rest = (moderate k && moderate z) && ((z ⊗ g ≺ k) && (s ≺ z)) in
       let t = taken point (sound q w) w (and-l (g ≼ huge) rest h) in
-      let r = subst (λ (x : Float). T ((moderate k && moderate z) && ((z ⊗ x ≺ k) && (s ≺ z)))) (t .2) (and-r (g ≼ huge) rest h) in
-      (t .0, line-far p0 p1 line (circle .radius) (circle .center .x) (circle .center .y) eps
-      (far-line (line .c) k q w z s c-fits (add-fits binary64 (a ⊗ a) (b ⊗ b)) (guess-fits (F64.abs a ⊕ F64.abs b) q)
-      (mul-fits binary64 s more) refl
-      (together (moderate k) (moderate q) (moderate w) (moderate z) (q ≺ w ⊗ w) (z ⊗ w ≺ k) (s ≺ z) (sure (sound q w) (t .1)) r)))
+      let r = subst (λ (x : Float). T ((moderate k && moderate z) && ((z ⊗ x ≺ k) && (s ≺ z)))) (t .2) (and-r (g ≼ huge) rest h) in (
+        t .0,
+        line-far p0 p1 line (circle .radius) (circle .center .x) (circle .center .y) eps
+            (far-line (line .c) k q w z s c-fits (add-fits binary64 (a ⊗ a) (b ⊗ b)) (guess-fits (F64.abs a ⊕ F64.abs b) q)
+            (mul-fits binary64 s more) refl
+            (together (moderate k) (moderate q) (moderate w) (moderate z) (q ≺ w ⊗ w) (z ⊗ w ≺ k) (s ≺ z) (sure (sound q w) (t .1)) r)),
+      )
 
 -- ---- the definition's line: its a and b are those of which the number is kept, its c is what the glance works out
 met : (point : Bool) (x y : LineCircleIntr) → (point ≡ false) × (y ≡ NoIntersect) → cond point x y ≡ NoIntersect

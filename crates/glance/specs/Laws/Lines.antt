@@ -5,53 +5,45 @@ use mathlib.Core.Path.{_≡_, refl, sym, ap, _∙_, subst}
 use Prim.Native.Nat.{ℕ, _+_, _*_, _^_, _≤_, _<_}
 use native.Mathlib.Nat.{mul-pos, mul-le-mul-right, lt-of-not-le, le-of-lt}
 use native.Mathlib.Omega.{arith}
-use mathlib.Core.Bool.{Bool, true, false, not, cond, _&&_, _||_}
+use mathlib.Core.Bool.{Bool, true, false, not, cond, _&&_, _||_, true≢false}
 use lib.Dec.{T, lit<}
-use lib.Ieee.{Float, nan, inf, fin, binary64, ofBits, fits, neg, lt, le}
-use lib.Ieee.Bits.{ofBits-fits}
+use lib.IntN.{ℤ}
+use lib.Ieee.{Float, nan, inf, fin, binary64, ofBits, fits, neg, lt, le, eq, mul, div}
+use lib.Ieee.Bits.{ofBits-fits, is-true}
 use lib.Ieee.Exact.{HasValue}
 use lib.Ieee.Fits.{sub-fits, div-fits, neg-fits, and-l, and-r}
-use Rattle.float_laws.specs.Signed.{Diff, own-diff, neg-diff, ups, downs}
+use Rattle.float_laws.specs.Signed.{Diff, own-diff, neg-diff, signed-of, ups, downs}
+use Rattle.float_laws.specs.Order.{lt-over}
 use Rattle.float_laws.specs.Chains.{le-not-lt}
 use Rattle.float_laws.specs.Rounded.{Rounded, mul-rounded, div-rounded, signed-by}
 use Rattle.float_laws.specs.Roundings.{rounded-le, rounded-ge}
-use Rattle.float_laws.specs.Binary64.{unit, unit-pos}
-use Rattle.floats.specs.Ops.{_⊖_, _⊗_, _⊘_, _≺_, _≼_, _≽_, f0}
+use Rattle.float_laws.specs.Binary64.{unit, unit-pos, units64}
+use Rattle.floats.specs.Ops.{_⊖_, _⊗_, _⊘_, _≺_, _≼_, _≻_, _≽_}
 use Rattle.floats.specs.F64
 use Rattle.plane.specs.Vector2 as vector2
 use Rattle.plane.specs.Fuzzy.{fuzzyEqZeroEps}
 use Rattle.plane.specs.declared.vector2.Vector2.{Vector2}
 use Rattle.crossing.specs.LineLine.{lineLine, crossing, parallel, within}
 use Rattle.crossing.specs.PlineSeg.{processLineLineIntr, lineLineOf}
-use Rattle.crossing.specs.Laws.FarLine.{moderate, counts, never, abs-fits}
-use Rattle.crossing.specs.Laws.Within.{usual, outside, afterEnd, step, afterEnd-is, step-is, zero-is, either, within-outside}
+use Rattle.crossing.specs.Laws.FarLine.{never}
+use Rattle.crossing.specs.Laws.Within.{
+  usual,
+  outside,
+  afterEnd,
+  step,
+  afterEnd-is,
+  step-is,
+  either,
+  eps-between,
+  within-outside,
+}
 use Rattle.crossing.specs.declared.line_line_intersect.LineLineIntr.{LineLineIntr}
 use Rattle.crossing.specs.declared.pline_seg_intersect.PlineSegIntr.the-variants.{NoIntersect}
-use Rattle.glance.specs.Glance.{quotientOutside, crossesOutside, linesApart}
+use Rattle.glance.specs.Glance.{beforeStart, quotientOutside, crossesOutside, linesApart}
 
--- ---- what the tests tell
--- a float whose magnitude is X units is X units, of one sign
-signed : (x : Float) (X : ℕ) → HasValue (F64.abs x) false X unit → (s : Bool) × HasValue x s X unit
-unfolding F64.abs
-signed nan X v = absurd v
-signed (inf s) X v = absurd v
-signed (fin s m e) X v = (s, (refl, v .1))
-
--- k times a / b, rounded, is below m: so it is before rounding
-product-below : (k m c : Float) (Y X a b : ℕ) → HasValue k false Y unit → HasValue m false X unit → T (fits binary64 m)
-    → Diff c a 0 b → 0 < b → T (k ⊗ c ≺ m) → a * Y < X * b
-product-below k m c Y X a b k-value m-value m-fits c-is B h = lt-of-not-le (λ (y : X * b ≤ a * Y). clash y)
-  where
-    plain : (Y X a b L : ℕ) → X * b ≤ a * Y → X * (L * b) + (Y * 0 + 0 * a) * L ≤ (Y * a + 0 * 0) * L + 0 * (L * b)
-    plain Y X a b L y = omega (arith, mul-le-mul-right L y)
-
-    clash : X * b ≤ a * Y → ⊥
-    clash y =
-        never (k ⊗ c ≺ m) h
-        (le-not-lt m (k ⊗ c) (rounded-ge binary64 (k ⊗ c) _ _ (unit * b)
-        (mul-rounded binary64 k c Y 0 a 0 unit b unit-pos B (own-diff k false Y unit k-value) c-is)
-        (mul-pos unit-pos B) m X 0 unit unit-pos m-fits (own-diff m false X unit m-value)
-        (plain Y X a b unit y)))
+beforeStart-is : Diff beforeStart 0 1 32
+unfolding ofBits
+beforeStart-is = omega arith
 
 left : (a b : Bool) → T a → T (a || b)
 left true b t = tt
@@ -61,88 +53,201 @@ right : (a b : Bool) → T b → T (a || b)
 right true b t = tt
 right false b t = t
 
-module _ (n d : Float) (X Y : ℕ) (some : 0 < Y) where
-  -- a product of two of one sign is not below zero
-  one-sign : (s : Bool) → HasValue n s X unit → HasValue d s Y unit → T (not (n ⊗ d ≺ f0))
-  one-sign s a b =
-      le-not-lt f0 (n ⊗ d) (rounded-ge binary64 (n ⊗ d) _ _ (unit * unit)
-      (mul-rounded binary64 n d (ups s X) (downs s X) (ups s Y) (downs s Y) unit unit unit-pos unit-pos
-      (own-diff n s X unit a) (own-diff d s Y unit b))
-      (mul-pos unit-pos unit-pos) f0 0 0 unit unit-pos (ofBits-fits binary64 0) zero-is
-      (plain s X Y unit))
-    where
-      plain : (s : Bool) (X Y L : ℕ)
-          → 0 * (L * L) + (ups s X * downs s Y + downs s X * ups s Y) * L ≤ (ups s X * ups s Y + downs s X * downs s Y) * L + 0 * (L * L)
-      plain true X Y L = omega arith
-      plain false X Y L = omega arith
+-- ---- n of X units and the sign s, d of Y units and the sign t
+module _ (n d : Float) (s t : Bool) (X Y : ℕ) (n-fits : T (fits binary64 n)) (n-value : HasValue n s X unit)
+    (d-value : HasValue d t Y unit) (some : 0 < Y) where
+  n-is : Diff n (ups s X) (downs s X) unit
+  n-is = own-diff n s X unit n-value
 
-  quotient : (s t : Bool) → HasValue n s X unit → HasValue d t Y unit
-      → Rounded binary64 (n ⊘ d) (signed-by t (ups s X) (downs s X) * unit) (signed-by t (downs s X) (ups s X) * unit) (Y * unit)
-  quotient s t a b = div-rounded binary64 n d (ups s X) (downs s X) unit t Y unit unit-pos unit-pos some (own-diff n s X unit a) b
+  -- d times a / e - b / e, rounded, is below n: so it is before rounding; and the same the other way round
+  module _ (c : Float) (a b e : ℕ) (c-is : Diff c a b e) (E : 0 < e) where
+    abbrev P : ℕ
+    P = ups t Y * a + downs t Y * b
 
-  at-least : (s : Bool) → HasValue n s X unit → HasValue d s Y unit → 33 * Y < X * 32 → T (n ⊘ d ≽ afterEnd)
-  at-least s a b h =
-      rounded-ge binary64 (n ⊘ d) _ _ (Y * unit) (quotient s s a b) (mul-pos some unit-pos) afterEnd 33 0 32 (lit< tt)
+    abbrev N : ℕ
+    N = ups t Y * b + downs t Y * a
+
+    product : Rounded binary64 (d ⊗ c) P N (unit * e)
+    product = mul-rounded binary64 d c (ups t Y) (downs t Y) a b unit e unit-pos E (own-diff d t Y unit d-value) c-is
+
+    above : T (n ≻ d ⊗ c) → P + downs s X * e < ups s X * e + N
+    above h = lt-of-not-le (λ (y : ups s X * e + N ≤ P + downs s X * e). clash y)
+      where
+        plain : (x y P N e L : ℕ) → x * e + N ≤ P + y * e → x * (L * e) + N * L ≤ P * L + y * (L * e)
+        plain x y P N e L h = omega (arith, mul-le-mul-right L h)
+
+        clash : ups s X * e + N ≤ P + downs s X * e → ⊥
+        clash y =
+            never (n ≻ d ⊗ c) h
+            (le-not-lt n (d ⊗ c) (rounded-ge binary64 (d ⊗ c) P N (unit * e) product (mul-pos unit-pos E) n (ups s X) (downs s X) unit
+            unit-pos n-fits n-is (plain (ups s X) (downs s X) P N e unit y)))
+
+    beneath : T (n ≺ d ⊗ c) → ups s X * e + N < P + downs s X * e
+    beneath h = lt-of-not-le (λ (y : P + downs s X * e ≤ ups s X * e + N). clash y)
+      where
+        plain : (x y P N e L : ℕ) → P + y * e ≤ x * e + N → P * L + y * (L * e) ≤ x * (L * e) + N * L
+        plain x y P N e L h = omega (arith, mul-le-mul-right L h)
+
+        clash : P + downs s X * e ≤ ups s X * e + N → ⊥
+        clash y =
+            never (n ≺ d ⊗ c) h
+            (le-not-lt (d ⊗ c) n (rounded-le binary64 (d ⊗ c) P N (unit * e) product (mul-pos unit-pos E) n (ups s X) (downs s X) unit
+            unit-pos n-fits n-is (plain (ups s X) (downs s X) P N e unit y)))
+
+  quotient : Rounded binary64 (n ⊘ d) (signed-by t (ups s X) (downs s X) * unit) (signed-by t (downs s X) (ups s X) * unit) (Y * unit)
+  quotient = div-rounded binary64 n d (ups s X) (downs s X) unit t Y unit unit-pos unit-pos some n-is d-value
+
+  -- at least 33/32 where the signs are alike, at most -1/32 where they are not
+  at-least : s ≡ t → 33 * Y < X * 32 → T (n ⊘ d ≽ afterEnd)
+  at-least e h =
+      rounded-ge binary64 (n ⊘ d) _ _ (Y * unit) quotient (mul-pos some unit-pos) afterEnd 33 0 32 (lit< tt)
       (ofBits-fits binary64 0x3ff0_8000_0000_0000) afterEnd-is
-      (plain s X Y unit h)
+      (plain s t e X Y unit h)
     where
-      plain : (s : Bool) (X Y L : ℕ) → 33 * Y < X * 32
-          → 33 * (Y * L) + signed-by s (downs s X) (ups s X) * L * 32 ≤ signed-by s (ups s X) (downs s X) * L * 32 + 0 * (Y * L)
-      plain true X Y L h = omega (arith, mul-le-mul-right L (le-of-lt h))
-      plain false X Y L h = omega (arith, mul-le-mul-right L (le-of-lt h))
+      plain : (s t : Bool) → s ≡ t → (X Y L : ℕ) → 33 * Y < X * 32
+          → 33 * (Y * L) + signed-by t (downs s X) (ups s X) * L * 32 ≤ signed-by t (ups s X) (downs s X) * L * 32 + 0 * (Y * L)
+      plain true true e X Y L h = omega (arith, mul-le-mul-right L (le-of-lt h))
+      plain false false e X Y L h = omega (arith, mul-le-mul-right L (le-of-lt h))
+      plain true false e X Y L h = absurd (true≢false e)
+      plain false true e X Y L h = absurd (true≢false (sym e))
 
-  at-most : (s : Bool) → HasValue n s X unit → HasValue d (not s) Y unit → 1 * Y < X * 32 → T (n ⊘ d ≼ neg step)
-  at-most s a b h =
-      rounded-le binary64 (n ⊘ d) _ _ (Y * unit) (quotient s (not s) a b) (mul-pos some unit-pos) (neg step) 0 1 32 (lit< tt)
+  at-most : s ≡ not t → 1 * Y < X * 32 → T (n ⊘ d ≼ neg step)
+  at-most e h =
+      rounded-le binary64 (n ⊘ d) _ _ (Y * unit) quotient (mul-pos some unit-pos) (neg step) 0 1 32 (lit< tt)
       (neg-fits binary64 step (ofBits-fits binary64 0x3fa0_0000_0000_0000)) (neg-diff step 1 0 32 step-is)
-      (plain s X Y unit h)
+      (plain s t e X Y unit h)
     where
-      plain : (s : Bool) (X Y L : ℕ) → 1 * Y < X * 32
-          → signed-by (not s) (ups s X) (downs s X) * L * 32 + 1 * (Y * L) ≤ 0 * (Y * L) + signed-by (not s) (downs s X) (ups s X) * L * 32
-      plain true X Y L h = omega (arith, mul-le-mul-right L (le-of-lt h))
-      plain false X Y L h = omega (arith, mul-le-mul-right L (le-of-lt h))
+      plain : (s t : Bool) → s ≡ not t → (X Y L : ℕ) → 1 * Y < X * 32
+          → signed-by t (ups s X) (downs s X) * L * 32 + 1 * (Y * L) ≤ 0 * (Y * L) + signed-by t (downs s X) (ups s X) * L * 32
+      plain true false e X Y L h = omega (arith, mul-le-mul-right L (le-of-lt h))
+      plain false true e X Y L h = omega (arith, mul-le-mul-right L (le-of-lt h))
+      plain true true e X Y L h = absurd (true≢false e)
+      plain false false e X Y L h = absurd (true≢false (sym e))
 
-  -- by the signs
-  far : (s t : Bool) → HasValue n s X unit → HasValue d t Y unit → 33 * Y < X * 32 → T (outside (n ⊘ d))
-  far true true a b h = left (n ⊘ d ≽ afterEnd) (n ⊘ d ≼ neg step) (at-least true a b h)
-  far false false a b h = left (n ⊘ d ≽ afterEnd) (n ⊘ d ≼ neg step) (at-least false a b h)
-  far true false a b h = right (n ⊘ d ≽ afterEnd) (n ⊘ d ≼ neg step) (at-most true a b (omega arith))
-  far false true a b h = right (n ⊘ d ≽ afterEnd) (n ⊘ d ≼ neg step) (at-most false a b (omega arith))
+  end : 33 * Y < X * 32 → s ≡ t → T (outside (n ⊘ d))
+  end h e = left (n ⊘ d ≽ afterEnd) (n ⊘ d ≼ neg step) (at-least e h)
 
-  behind : (s t : Bool) → HasValue n s X unit → HasValue d t Y unit → T (n ⊗ d ≺ f0) → 1 * Y < X * 32 → T (outside (n ⊘ d))
-  behind true true a b o h = absurd (never (n ⊗ d ≺ f0) o (one-sign true a b))
-  behind false false a b o h = absurd (never (n ⊗ d ≺ f0) o (one-sign false a b))
-  behind true false a b o h = right (n ⊘ d ≽ afterEnd) (n ⊘ d ≼ neg step) (at-most true a b h)
-  behind false true a b o h = right (n ⊘ d ≽ afterEnd) (n ⊘ d ≼ neg step) (at-most false a b h)
+  start : 1 * Y < X * 32 → s ≡ not t → T (outside (n ⊘ d))
+  start h e = right (n ⊘ d ≽ afterEnd) (n ⊘ d ≼ neg step) (at-most e h)
 
-pub outside-told : (n d : Float) → T (fits binary64 n) → T (fits binary64 d) → T (quotientOutside n d) → T (outside (n ⊘ d))
-unfolding quotientOutside
-outside-told n d n-fits d-fits h =
-    let m = F64.abs n in
-    let k = F64.abs d in
-    let far-by = k ⊗ afterEnd ≺ m in
-    let behind-by = (n ⊗ d ≺ f0) && (k ⊗ step ≺ m) in
-    let sizes = and-l (moderate m && moderate k) (far-by || behind-by) h in
-    let M = counts m (abs-fits n n-fits) (and-l (moderate m) (moderate k) sizes) in
-    let K = counts k (abs-fits d d-fits) (and-r (moderate m) (moderate k) sizes) in
-    let N = signed n (M .X) (M .value) in
-    let D = signed d (K .X) (K .value) in
-    either far-by behind-by
-    (λ y. far n d (M .X) (K .X) (K .some) (N .0) (D .0) (N .1) (D .1)
-        (product-below k m afterEnd (K .X) (M .X) 33 32 (K .value) (M .value) (abs-fits n n-fits) afterEnd-is (lit< tt) y))
-    (λ y. behind n d (M .X) (K .X) (K .some) (N .0) (D .0) (N .1) (D .1) (and-l (n ⊗ d ≺ f0) (k ⊗ step ≺ m) y)
-        (product-below k m step (K .X) (M .X) 1 32 (K .value) (M .value) (abs-fits n n-fits) step-is (lit< tt)
-        (and-r (n ⊗ d ≺ f0) (k ⊗ step ≺ m) y)))
-    (and-r (moderate m && moderate k) (far-by || behind-by) h)
+  -- beyond both limits, or before both
+  beyond : T (n ≻ d ⊗ afterEnd) → T (n ≻ d ⊗ beforeStart) → T (outside (n ⊘ d))
+  beyond h g = go s t (above afterEnd 33 0 32 afterEnd-is (lit< tt) h) (above beforeStart 0 1 32 beforeStart-is (lit< tt) g) end start
+    where
+      go : (s t : Bool)
+          → ups t Y * 33 + downs t Y * 0 + downs s X * 32 < ups s X * 32 + (ups t Y * 0 + downs t Y * 33)
+          → ups t Y * 0 + downs t Y * 1 + downs s X * 32 < ups s X * 32 + (ups t Y * 1 + downs t Y * 0)
+          → (33 * Y < X * 32 → s ≡ t → T (outside (n ⊘ d))) → (1 * Y < X * 32 → s ≡ not t → T (outside (n ⊘ d)))
+          → T (outside (n ⊘ d))
+      go false false a b f k = f (omega arith) refl
+      go false true a b f k = k (omega arith) refl
+      go true false a b f k = absurd (omega arith)
+      go true true a b f k = absurd (omega arith)
+
+  before : T (n ≺ d ⊗ afterEnd) → T (n ≺ d ⊗ beforeStart) → T (outside (n ⊘ d))
+  before h g = go s t (beneath afterEnd 33 0 32 afterEnd-is (lit< tt) h) (beneath beforeStart 0 1 32 beforeStart-is (lit< tt) g) end start
+    where
+      go : (s t : Bool)
+          → ups s X * 32 + (ups t Y * 0 + downs t Y * 33) < ups t Y * 33 + downs t Y * 0 + downs s X * 32
+          → ups s X * 32 + (ups t Y * 1 + downs t Y * 0) < ups t Y * 0 + downs t Y * 1 + downs s X * 32
+          → (33 * Y < X * 32 → s ≡ t → T (outside (n ⊘ d))) → (1 * Y < X * 32 → s ≡ not t → T (outside (n ⊘ d)))
+          → T (outside (n ⊘ d))
+      go true true a b f k = f (omega arith) refl
+      go true false a b f k = k (omega arith) refl
+      go false true a b f k = absurd (omega arith)
+      go false false a b f k = absurd (omega arith)
+
+  both : T (quotientOutside n d) → T (outside (n ⊘ d))
+  unfolding quotientOutside
+  both h =
+      either ((n ≻ d ⊗ afterEnd) && (n ≻ d ⊗ beforeStart)) ((n ≺ d ⊗ afterEnd) && (n ≺ d ⊗ beforeStart))
+      (λ y. beyond (and-l (n ≻ d ⊗ afterEnd) (n ≻ d ⊗ beforeStart) y) (and-r (n ≻ d ⊗ afterEnd) (n ≻ d ⊗ beforeStart) y))
+      (λ y. before (and-l (n ≺ d ⊗ afterEnd) (n ≺ d ⊗ beforeStart) y) (and-r (n ≺ d ⊗ afterEnd) (n ≺ d ⊗ beforeStart) y))
+      h
+
+-- ---- for every n and d, of which d is not near zero
+infinite : (s t : Bool) (m : ℕ) (e : ℤ) → T (outside (inf s ⊘ fin t m e))
+unfolding div le lt eq ofBits neg
+infinite true true m e = tt
+infinite true false m e = tt
+infinite false true m e = tt
+infinite false false m e = tt
+
+nothing-between : (n : Float) (t : Bool) → T (((n ≻ inf t) && (n ≻ inf (not t))) || ((n ≺ inf t) && (n ≺ inf (not t)))) → ⊥
+unfolding lt
+nothing-between nan true h = h
+nothing-between nan false h = h
+nothing-between (inf true) true h = h
+nothing-between (inf true) false h = h
+nothing-between (inf false) true h = h
+nothing-between (inf false) false h = h
+nothing-between (fin s m e) true h = h
+nothing-between (fin s m e) false h = h
+
+by-infinity : (n : Float) (t : Bool) → T (quotientOutside n (inf t)) → ⊥
+unfolding quotientOutside mul ofBits
+by-infinity n true h = nothing-between n true h
+by-infinity n false h = nothing-between n false h
+
+by-nan : (n : Float) → T (quotientOutside n nan) → ⊥
+unfolding quotientOutside mul lt
+by-nan nan h = h
+by-nan (inf s) h = h
+by-nan (fin s m e) h = h
+
+below-nan : (x : Float) → T (x ≺ nan) → ⊥
+unfolding lt
+below-nan nan h = h
+below-nan (inf s) h = h
+below-nan (fin s m e) h = h
+
+of-nan : (d : Float) → T (quotientOutside nan d) → ⊥
+unfolding quotientOutside lt
+of-nan d h =
+    let over = (d ⊗ afterEnd ≺ nan) && (d ⊗ beforeStart ≺ nan) in
+    either over false (λ y. below-nan (d ⊗ afterEnd) (and-l (d ⊗ afterEnd ≺ nan) (d ⊗ beforeStart ≺ nan) y)) (λ y. y) h
+
+-- a finite d that is not near zero is not zero
+not-zero : (d eps : Float) (s : Bool) (Y E : ℕ) → HasValue d s Y unit → HasValue eps false E unit → 0 < E → (F64.abs d ≺ eps) ≡ false → 0 < Y
+unfolding F64.abs
+not-zero nan eps s Y E v w h far = absurd v
+not-zero (inf t) eps s Y E v w h far = absurd v
+not-zero (fin t m e) eps s Y E v w h far =
+    lt-of-not-le (λ (y : Y ≤ 0). true≢false (sym (is-true (fin false m e ≺ eps) (small y)) ∙ far))
+  where
+    small : Y ≤ 0 → T (fin false m e ≺ eps)
+    small y =
+        lt-over (fin false m e) eps Y 0 E 0 unit unit-pos (own-diff (fin false m e) false Y unit (refl, v .1)) (own-diff eps false E unit w) .1
+        (omega arith)
+
+pub outside-told : (n d eps : Float) (E : ℕ) → T (fits binary64 n) → T (fits binary64 d) → HasValue eps false E unit → 0 < E
+    → (F64.abs d ≺ eps) ≡ false → T (quotientOutside n d) → T (outside (n ⊘ d))
+outside-told nan d eps E n-fits d-fits e-value some far h = absurd (of-nan d h)
+outside-told (inf s) nan eps E n-fits d-fits e-value some far h = absurd (by-nan (inf s) h)
+outside-told (fin s m e) nan eps E n-fits d-fits e-value some far h = absurd (by-nan (fin s m e) h)
+outside-told (inf s) (inf t) eps E n-fits d-fits e-value some far h = absurd (by-infinity (inf s) t h)
+outside-told (fin s m e) (inf t) eps E n-fits d-fits e-value some far h = absurd (by-infinity (fin s m e) t h)
+outside-told (inf s) (fin t k f) eps E n-fits d-fits e-value some far h = infinite s t k f
+outside-told (fin s m e) (fin t k f) eps E n-fits d-fits e-value some far h =
+    let n = fin s m e in
+    let d = fin t k f in
+    let a = units64 n tt n-fits in
+    let b = units64 d tt d-fits in
+    let A = signed-of n (a .p) (a .n) unit (a .is) in
+    let B = signed-of d (b .p) (b .n) unit (b .is) in
+    both n d (A .s) (B .s) (A .size) (B .size) n-fits (A .value) (B .value)
+    (not-zero d eps (B .s) (B .size) E (B .value) e-value some far) h
 
 -- ---- the range test then
 pub not-within : (n d : Float) (v : Vector2) (eps : Float) → T (fits binary64 n) → T (fits binary64 d) → T (fits binary64 eps)
-    → T (crossesOutside n d v eps) → within (n ⊘ d) v eps ≡ false
+    → (F64.abs d ≺ eps) ≡ false → T (crossesOutside n d v eps) → within (n ⊘ d) v eps ≡ false
 unfolding crossesOutside
-not-within n d v eps n-fits d-fits e-fits h =
-    let sizes = usual (vector2.dot v v) eps in
-    within-outside (n ⊘ d) v eps (div-fits binary64 n d) e-fits (and-l sizes (quotientOutside n d) h)
-    (outside-told n d n-fits d-fits (and-r sizes (quotientOutside n d) h))
+not-within n d v eps n-fits d-fits e-fits far h =
+    let square = vector2.dot v v in
+    let sizes = and-l (usual square eps) (quotientOutside n d) h in
+    let e = eps-between square eps e-fits sizes in
+    within-outside (n ⊘ d) v eps (div-fits binary64 n d) e-fits sizes
+    (outside-told n d eps (e .X) n-fits d-fits (e .value) (e .some) far (and-r (usual square eps) (quotientOutside n d) h))
 
 first-off : (a b : Bool) (x y : LineLineIntr) → a ≡ false → cond (not a || not b) x y ≡ x
 first-off a b x y e = rw e
@@ -188,14 +293,14 @@ module _ (v1 v2 u1 u2 : Vector2) (eps : Float) (e-fits : T (fits binary64 eps)) 
   n2-fits = sub-fits binary64 (v .x ⊗ w .y) (v .y ⊗ w .x)
 
   pub apart-lines : T (linesApart v1 v2 u1 u2 eps) → processLineLineIntr v1 v2 u1 u2 eps ≡ NoIntersect
-  unfolding linesApart processLineLineIntr lineLine crossing
+  unfolding linesApart processLineLineIntr lineLine crossing fuzzyEqZeroEps
   apart-lines h =
       let told = not-near (fuzzyEqZeroEps d eps) (crossesOutside n1 d v eps || crossesOutside n2 d u eps) h in
       let t1 = n1 ⊘ d in
       let t2 = n2 ⊘ d in
       let found = either (crossesOutside n1 d v eps) (crossesOutside n2 d u eps)
-      (λ y. first-off (within t1 v eps) (within t2 u eps) _ _ (not-within n1 d v eps n1-fits d-fits e-fits y))
-      (λ y. second-off (within t1 v eps) (within t2 u eps) _ _ (not-within n2 d u eps n2-fits d-fits e-fits y))
+      (λ y. first-off (within t1 v eps) (within t2 u eps) _ _ (not-within n1 d v eps n1-fits d-fits e-fits (told .0) y))
+      (λ y. second-off (within t1 v eps) (within t2 u eps) _ _ (not-within n2 d u eps n2-fits d-fits e-fits (told .0) y))
       (told .1) in
       ap (λ (r : LineLineIntr). lineLineOf r v1 v2 u1 u2)
       (crossed (fuzzyEqZeroEps d eps) _ (parallel v1 v2 u1 u2 v u w eps) (told .0) ∙ found)

@@ -18,7 +18,8 @@ returns c =
     let p3 = p2 .before in
     simp (
       ← p3 .sub .ensures,
-      ← c .dot .ensures)
+      ← c .dot .ensures,
+    )
 
 pub circles-apart-spec : {M : Type 1} → statement M
 circles-apart-spec = tie.close (tie.spec sub-requires dot-requires returns)

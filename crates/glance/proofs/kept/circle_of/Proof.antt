@@ -11,7 +11,7 @@ returns : tie.Need-returns
 unfolding keeping.circleOf
 returns c =
     simp (
-      ← c .new .ensures)
+    ← c .new .ensures)
 
 pub circle-of-spec : {M : Type 1} → statement M
 circle-of-spec = tie.close (tie.spec new-requires returns)

@@ -28,7 +28,8 @@ returns c =
       p3 .if1 .taken,
       ← p2 .pos .ensures,
       ← p1 .pos2 .ensures,
-      ← c .of-line .ensures)
+      ← c .of-line .ensures,
+    )
 
 of-arc-requires : tie.Need-of-arc-requires
 of-arc-requires c κs = search needs
@@ -41,7 +42,8 @@ returns-2 c =
     simp (
       ← p2 .bulge-is-zero .ensures,
       p1 .if1 .left,
-      ← c .of-arc .ensures)
+      ← c .of-arc .ensures,
+    )
 
 pub kept-of-spec : {M : Type 1} → statement M
 kept-of-spec = tie.close (tie.spec bulge-is-zero-requires pos-requires pos-requires-2 of-line-requires returns of-arc-requires returns-2)

@@ -11,7 +11,7 @@ returns : tie.Need-returns
 unfolding keeping.ofArc
 returns c =
     simp (
-      ← c .seg-arc-radius-and-center .ensures)
+    ← c .seg-arc-radius-and-center .ensures)
 
 pub of-arc-spec : {M : Type 1} → statement M
 of-arc-spec = tie.close (tie.spec seg-arc-radius-and-center-requires returns)

@@ -23,7 +23,8 @@ returns c =
       ← p3 .fuzzy-eq-eps .ensures,
       ← p2 .fuzzy-eq-zero .ensures,
       p1 .if1 .taken,
-      ← c .of-slant .ensures)
+      ← c .of-slant .ensures,
+    )
 
 of-slant-requires-2 : tie.Need-of-slant-requires-2
 of-slant-requires-2 c κs = search needs
@@ -38,7 +39,8 @@ returns-2 c =
       ← p3 .fuzzy-eq-eps .ensures,
       ← p2 .fuzzy-eq-zero .ensures,
       p1 .if1 .left,
-      ← c .of-slant2 .ensures)
+      ← c .of-slant2 .ensures,
+    )
 
 pub of-line-spec : {M : Type 1} → statement M
 of-line-spec = tie.close (tie.spec fuzzy-eq-eps-requires fuzzy-eq-zero-requires of-slant-requires returns of-slant-requires-2 returns-2)

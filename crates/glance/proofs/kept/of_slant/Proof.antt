@@ -23,7 +23,8 @@ returns c =
       ← p3 .abs .ensures,
       ← p2 .abs2 .ensures,
       ← p1 .guess .ensures,
-      c .if1 .taken)
+      c .if1 .taken,
+    )
 
 moderate-requires : tie.Need-moderate-requires
 moderate-requires c κs = search needs
@@ -47,7 +48,8 @@ returns-2 c =
       p3 .if1 .left,
       ← p2 .moderate .ensures,
       ← p1 .moderate2 .ensures,
-      c .if2 .taken)
+      c .if2 .taken,
+    )
 
 returns-3 : tie.Need-returns-3
 unfolding keeping.ofSlant
@@ -65,7 +67,8 @@ returns-3 c =
       p3 .if1 .left,
       ← p2 .moderate .ensures,
       ← p1 .moderate2 .ensures,
-      c .if2 .left)
+      c .if2 .left,
+    )
 
 pub of-slant-spec : {M : Type 1} → statement M
 of-slant-spec = tie.close (tie.spec abs-requires abs-requires-2 guess-requires returns moderate-requires moderate-requires-2 returns-2 returns-3)

@@ -15,7 +15,8 @@ returns c =
     let p3 = p2 .before in
     simp (
       ← p3 .fuzzy-eq-zero .ensures,
-      p2 .if1 .taken)
+      p2 .if1 .taken,
+    )
 
 returns-2 : tie.Need-returns-2
 unfolding Glance.constant
@@ -25,7 +26,8 @@ returns-2 c =
     let p3 = p2 .before in
     simp (
       ← p3 .fuzzy-eq-zero .ensures,
-      p2 .if1 .left)
+      p2 .if1 .left,
+    )
 
 pub constant-spec : {M : Type 1} → statement M
 constant-spec = tie.close (tie.spec fuzzy-eq-zero-requires returns returns-2)

@@ -41,7 +41,8 @@ returns c =
       ← p6 .constant .ensures,
       ← p5 .abs .ensures,
       ← p2 .moderate .ensures,
-      ← p1 .moderate2 .ensures)
+      ← p1 .moderate2 .ensures,
+    )
 
 pub line-beside-spec : {M : Type 1} → statement M
 line-beside-spec = tie.close (tie.spec sub-requires sub-requires-2 constant-requires abs-requires moderate-requires moderate-requires-2 returns)

@@ -21,7 +21,8 @@ returns c =
     simp (
       ← p2 .length-squared .ensures,
       ← p1 .usual .ensures,
-      ← c .quotient-outside .ensures)
+      ← c .quotient-outside .ensures,
+    )
 
 pub crosses-outside-spec : {M : Type 1} → statement M
 crosses-outside-spec = tie.close (tie.spec length-squared-requires usual-requires quotient-outside-requires returns)

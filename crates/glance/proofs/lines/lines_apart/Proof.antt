@@ -33,7 +33,8 @@ returns c =
       ← p3 .perp-dot .ensures,
       ← p2 .sub3 .ensures,
       ← p1 .fuzzy-eq-zero-eps .ensures,
-      c .if1 .taken)
+      c .if1 .taken,
+    )
 
 perp-dot-requires-2 : tie.Need-perp-dot-requires-2
 perp-dot-requires-2 c κs = search needs
@@ -61,7 +62,8 @@ returns-2 c =
       p3 .if1 .left,
       ← p2 .perp-dot2 .ensures,
       ← p1 .crosses-outside .ensures,
-      c .if2 .taken)
+      c .if2 .taken,
+    )
 
 perp-dot-requires-3 : tie.Need-perp-dot-requires-3
 perp-dot-requires-3 c κs = search needs
@@ -93,7 +95,8 @@ returns-3 c =
       ← p3 .crosses-outside .ensures,
       p2 .if2 .left,
       ← p1 .perp-dot3 .ensures,
-      ← c .crosses-outside2 .ensures)
+      ← c .crosses-outside2 .ensures,
+    )
 
 pub lines-apart-spec : {M : Type 1} → statement M
 lines-apart-spec = tie.close (tie.spec sub-requires sub-requires-2 perp-dot-requires sub-requires-3 fuzzy-eq-zero-eps-requires returns perp-dot-requires-2 crosses-outside-requires returns-2 perp-dot-requires-3 crosses-outside-requires-2 returns-3)

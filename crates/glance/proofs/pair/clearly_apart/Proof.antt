@@ -45,7 +45,8 @@ returns c =
       ← p3 .pos2 .ensures,
       ← p2 .pos3 .ensures,
       ← p1 .pos4 .ensures,
-      ← c .lines-apart .ensures)
+      ← c .lines-apart .ensures,
+    )
 
 pos-requires-5 : tie.Need-pos-requires-5
 pos-requires-5 c κs = search needs
@@ -77,7 +78,8 @@ returns-2 c =
       ← p3 .pos5 .ensures,
       ← p2 .pos6 .ensures,
       ← p1 .circle-of .ensures,
-      ← c .line-beside .ensures)
+      ← c .line-beside .ensures,
+    )
 
 bulge-is-zero-requires-3 : tie.Need-bulge-is-zero-requires-3
 bulge-is-zero-requires-3 c κs = search needs
@@ -112,7 +114,8 @@ returns-3 c =
       ← p3 .pos7 .ensures,
       ← p2 .pos8 .ensures,
       ← p1 .circle-of2 .ensures,
-      ← c .line-beside2 .ensures)
+      ← c .line-beside2 .ensures,
+    )
 
 circle-of-requires-3 : tie.Need-circle-of-requires-3
 circle-of-requires-3 c κs = search needs
@@ -139,7 +142,8 @@ returns-4 c =
       p3 .if3 .left,
       ← p2 .circle-of3 .ensures,
       ← p1 .circle-of4 .ensures,
-      ← c .circles-apart .ensures)
+      ← c .circles-apart .ensures,
+    )
 
 pub clearly-apart-spec : {M : Type 1} → statement M
 clearly-apart-spec = tie.close (tie.spec bulge-is-zero-requires bulge-is-zero-requires-2 pos-requires pos-requires-2 pos-requires-3 pos-requires-4 lines-apart-requires returns pos-requires-5 pos-requires-6 circle-of-requires line-beside-requires returns-2 bulge-is-zero-requires-3 pos-requires-7 pos-requires-8 circle-of-requires-2 line-beside-requires-2 returns-3 circle-of-requires-3 circle-of-requires-4 circles-apart-requires returns-4)

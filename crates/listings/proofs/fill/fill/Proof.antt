@@ -96,9 +96,13 @@ look-requires c κs =
     let a = start (outer p) .args in (
       at-segment (p .before .before .before .segment-from .result) (now (a .first)) (now (a .second)) (a .job) (outer p .loop .i)
           (start (outer p) .pre .0 .pairs) (p .before .before .before .before .if1 .taken) (p .before .before .before .segment-from .ensures),
-      (start (outer p) .pre .0 .keeps,
-      (p .before .before .kept-of .ensures,
-      omega (arith, below c, to-within (a .job) (outer p .loop .i)))),
+      (
+        start (outer p) .pre .0 .keeps,
+        (
+          p .before .before .kept-of .ensures,
+          omega (arith, below c, to-within (a .job) (outer p .loop .i)),
+        ),
+      ),
     )
 
 enum-told : tie.Need-enum-told Inv-loop2 μ-loop2 Inv-loop μ-loop

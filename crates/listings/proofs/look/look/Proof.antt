@@ -22,9 +22,11 @@ pline-seg-kept-requires c κs =
     let s = g .before .before .before in
     let h = s .pre in (
       rw (g .segment-from .ensures) (h .0 .fine (s .args .j) (h .1 .1 .1)),
-      (h .1 .1 .0,
-      c .kept-at .ensures ∙ h .1 .0 .at (s .args .j) (h .1 .1 .1)
-      ∙ ap (λ (u : Segment). ofSegment u (s .args .job .epsilon)) (sym (g .segment-from .ensures))),
+      (
+        h .1 .1 .0,
+        c .kept-at .ensures ∙ h .1 .0 .at (s .args .j) (h .1 .1 .1)
+            ∙ ap (λ (u : Segment). ofSegment u (s .args .job .epsilon)) (sym (g .segment-from .ensures)),
+      ),
     )
 
 look-of-requires : tie.Need-look-of-requires
