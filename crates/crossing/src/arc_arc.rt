@@ -2,6 +2,7 @@
 // Ends are sticky here too: an end of one arc that lies on the other stands for a crossing near it.
 ghost use mathlib.Core.Path.{_≡_};
 ghost use Rattle.crossing.specs.ArcArc;
+ghost use Rattle.plane.specs.PlineSeg.{segArcRadiusAndCenter};
 use super::arc_geometry::ArcGeometry;
 use super::arc_sweep::ArcSweep;
 use super::circle_circle::circle_circle;
@@ -10,7 +11,6 @@ use super::pline_seg_intersect::PlineSegIntr;
 use plane::base_math::dist_squared;
 use plane::fuzzy::FUZZY_EPSILON;
 use plane::pline_seg::ArcRadiusCenter;
-use plane::pline_seg::seg_arc_radius_and_center;
 use plane::pline_vertex::PlineVertex;
 use plane::vector2::Vector2;
 
@@ -387,18 +387,20 @@ fn overlapping_arc_arc(
     )
 }
 
-// How the arcs v1 to v2 and u1 to u2 meet.
+// How the arcs v1 to v2 and u1 to u2 meet, which lie on these circles.
 pub fn arc_arc(
     v1: PlineVertex,
     v2: PlineVertex,
+    circle1: ArcRadiusCenter,
     u1: PlineVertex,
     u2: PlineVertex,
+    circle2: ArcRadiusCenter,
     pos_equal_eps: f64,
 ) -> PlineSegIntr
+    requires { ⌜ circle1 ≡ segArcRadiusAndCenter v1 v2 ⌝ }
+    requires { ⌜ circle2 ≡ segArcRadiusAndCenter u1 u2 ⌝ }
     ensures { λ r. ⌜ r ≡ ArcArc.arcArc v1 v2 u1 u2 «pos_equal_eps» ⌝ }
 {
-    let circle1 = seg_arc_radius_and_center(v1, v2);
-    let circle2 = seg_arc_radius_and_center(u1, u2);
     let intr_result = circle_circle(
         circle1.radius,
         circle1.center,

@@ -61,7 +61,7 @@ fn within_length(t: f64, segment: Vector2, eps: f64) -> bool
 }
 
 // The same, without a root where t is clearly inside or outside.
-fn within(t: f64, segment: Vector2, eps: f64) -> bool
+pub fn within(t: f64, segment: Vector2, eps: f64) -> bool
     ensures { λ r. ⌜ r ≡ LineLine.within t segment eps ⌝ }
 {
     if !usual(segment.length_squared(), eps) {

@@ -1,12 +1,15 @@
 // Two segments of polylines, for any numbers: pline_seg_intersect.rs.
 ghost use mathlib.Core.Path.{_≡_};
 ghost use Rattle.crossing.specs.PlineSeg;
+ghost use Rattle.crossing.specs.Laws.Circles;
 use super::arc_arc::arc_arc;
 use super::line_arc::process_line_arc_intr;
 use super::line_line::line_line;
 use super::line_line_intersect::LineLineIntr;
 use super::pline_seg_intersect::PlineSegIntr;
 use plane::base_math::point_from_parametric;
+use plane::pline_seg::ArcRadiusCenter;
+use plane::pline_seg::seg_arc_radius_and_center;
 use plane::pline_vertex::PlineVertex;
 use plane::vector2::Vector2;
 
@@ -37,8 +40,65 @@ fn process_line_line_intr(
     }
 }
 
+// The circle of the segment from v1 to v2 if it is an arc; a line has none, and whatever stands for it is not looked at.
+fn circle_of(v1: PlineVertex, v2: PlineVertex) -> ArcRadiusCenter
+    ensures { λ r. ⌜ r ≡ Circles.circleOf v1 v2 ⌝ }
+{
+    if v1.bulge_is_zero() {
+        return ArcRadiusCenter {
+            radius: 0.0,
+            center: Vector2::new(0.0, 0.0),
+        };
+    }
+    seg_arc_radius_and_center(v1, v2)
+}
+
 // How the segments v1 to v2 and u1 to u2 meet. Each is a line or an arc by the bulge of its first vertex; the bulge of its second
-// vertex plays no part.
+// vertex plays no part. An arc's circle is given.
+pub fn pline_seg_on(
+    v1: PlineVertex,
+    v2: PlineVertex,
+    circle1: ArcRadiusCenter,
+    u1: PlineVertex,
+    u2: PlineVertex,
+    circle2: ArcRadiusCenter,
+    pos_equal_eps: f64,
+) -> PlineSegIntr
+    requires { ⌜ Circles.OfArc v1 v2 circle1 ⌝ }
+    requires { ⌜ Circles.OfArc u1 u2 circle2 ⌝ }
+    ensures { λ r. ⌜ r ≡ PlineSeg.plineSeg v1 v2 u1 u2 «pos_equal_eps» ⌝ }
+{
+    let v_is_line = v1.bulge_is_zero();
+    let u_is_line = u1.bulge_is_zero();
+    if v_is_line {
+        if u_is_line {
+            return process_line_line_intr(v1.pos(), v2.pos(), u1.pos(), u2.pos(), pos_equal_eps);
+        }
+        return process_line_arc_intr(
+            v1.pos(),
+            v2.pos(),
+            u1,
+            u2,
+            circle2,
+            false,
+            pos_equal_eps,
+        );
+    }
+    if u_is_line {
+        return process_line_arc_intr(
+            u1.pos(),
+            u2.pos(),
+            v1,
+            v2,
+            circle1,
+            true,
+            pos_equal_eps,
+        );
+    }
+    arc_arc(v1, v2, circle1, u1, u2, circle2, pos_equal_eps)
+}
+
+// The same, from the segments alone.
 pub fn pline_seg(
     v1: PlineVertex,
     v2: PlineVertex,
@@ -48,16 +108,7 @@ pub fn pline_seg(
 ) -> PlineSegIntr
     ensures { λ r. ⌜ r ≡ PlineSeg.plineSeg v1 v2 u1 u2 «pos_equal_eps» ⌝ }
 {
-    let v_is_line = v1.bulge_is_zero();
-    let u_is_line = u1.bulge_is_zero();
-    if v_is_line {
-        if u_is_line {
-            return process_line_line_intr(v1.pos(), v2.pos(), u1.pos(), u2.pos(), pos_equal_eps);
-        }
-        return process_line_arc_intr(v1.pos(), v2.pos(), u1, u2, false, pos_equal_eps);
-    }
-    if u_is_line {
-        return process_line_arc_intr(u1.pos(), u2.pos(), v1, v2, true, pos_equal_eps);
-    }
-    arc_arc(v1, v2, u1, u2, pos_equal_eps)
+    let circle1 = circle_of(v1, v2);
+    let circle2 = circle_of(u1, u2);
+    pline_seg_on(v1, v2, circle1, u1, u2, circle2, pos_equal_eps)
 }

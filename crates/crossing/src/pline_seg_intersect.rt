@@ -2,8 +2,10 @@
 ghost use mathlib.Core.Path.{_≡_};
 ghost use Rattle.crossing.specs.PlineSeg;
 ghost use Rattle.crossing.specs.PlineSegIntersect;
+ghost use Rattle.crossing.specs.Laws.Circles;
 ghost use Rattle.checks.specs.declared.fault.Checked.the-variants.{Fine};
 use super::pline_seg::pline_seg;
+use super::pline_seg::pline_seg_on;
 use checks::arc;
 use checks::chain;
 use checks::each;
@@ -11,6 +13,7 @@ use checks::fault::Checked;
 use checks::fault::Item;
 use checks::fault::Place;
 use checks::fault::later;
+use plane::pline_seg::ArcRadiusCenter;
 use plane::pline_vertex::PlineVertex;
 use plane::vector2::Vector2;
 
@@ -80,17 +83,21 @@ pub fn pline_seg_intr(
     }
 }
 
-// How the segments v1 to v2 and u1 to u2 meet, for a caller that has looked at their numbers already: it owes that the look finds
-// no fault.
+// How the segments v1 to v2 and u1 to u2 meet, for a caller that has looked at their numbers already and has the circle of each that
+// is an arc: it owes that the look finds no fault, and that these are the circles.
 pub fn pline_seg_looked_at(
     v1: PlineVertex,
     v2: PlineVertex,
+    circle1: ArcRadiusCenter,
     u1: PlineVertex,
     u2: PlineVertex,
+    circle2: ArcRadiusCenter,
     pos_equal_eps: f64,
 ) -> PlineSegIntr
     requires { ⌜ PlineSegIntersect.look v1 v2 u1 u2 «pos_equal_eps» ≡ Fine ⌝ }
+    requires { ⌜ Circles.OfArc v1 v2 circle1 ⌝ }
+    requires { ⌜ Circles.OfArc u1 u2 circle2 ⌝ }
     ensures { λ r. ⌜ r ≡ PlineSeg.plineSeg v1 v2 u1 u2 «pos_equal_eps» ⌝ }
 {
-    pline_seg(v1, v2, u1, u2, pos_equal_eps)
+    pline_seg_on(v1, v2, circle1, u1, u2, circle2, pos_equal_eps)
 }

@@ -5,12 +5,6 @@ use Rattle.crossing.specs.ArcArc
 use Rattle.crossing.proofs.arc_arc.arc_arc.Statement.{statement}
 use Rattle.crossing.proofs.arc_arc.arc_arc.Tie as tie
 
-seg-arc-radius-and-center-requires : tie.Need-seg-arc-radius-and-center-requires
-seg-arc-radius-and-center-requires c κs = search needs
-
-seg-arc-radius-and-center-requires-2 : tie.Need-seg-arc-radius-and-center-requires-2
-seg-arc-radius-and-center-requires-2 c κs = search needs
-
 circle-circle-requires : tie.Need-circle-circle-requires
 circle-circle-requires c κs = search needs
 
@@ -79,10 +73,9 @@ unfolding ArcArc.arcArc
 returns c =
     let p1 = c .before .before in
     let p2 = p1 .before in
-    let p3 = p2 .before in
     simp (
-      ← p3 .seg-arc-radius-and-center .ensures,
-      ← p2 .seg-arc-radius-and-center2 .ensures,
+      ← p2 .pre .0,
+      ← p2 .pre .1,
       ← p1 .circle-circle .ensures,
       c .enum-told .given .1,
     )
@@ -99,10 +92,9 @@ returns-2 c =
     let p7 = p6 .before .before in
     let p8 = p7 .before .before in
     let p9 = p8 .before in
-    let p10 = p9 .before in
     simp (
-      ← p10 .seg-arc-radius-and-center .ensures,
-      ← p9 .seg-arc-radius-and-center2 .ensures,
+      ← p9 .pre .0,
+      ← p9 .pre .1,
       ← p8 .circle-circle .ensures,
       p7 .intr-result .given .1,
       ← p6 .of-segment .ensures,
@@ -127,10 +119,9 @@ returns-3 c =
     let p8 = p7 .before .before in
     let p9 = p8 .before .before in
     let p10 = p9 .before in
-    let p11 = p10 .before in
     simp (
-      ← p11 .seg-arc-radius-and-center .ensures,
-      ← p10 .seg-arc-radius-and-center2 .ensures,
+      ← p10 .pre .0,
+      ← p10 .pre .1,
       ← p9 .circle-circle .ensures,
       p8 .intr-result2 .given .1,
       ← p7 .of-segment3 .ensures,
@@ -149,10 +140,9 @@ returns-4 c =
     let p1 = c .before in
     let p2 = p1 .before .before in
     let p3 = p2 .before in
-    let p4 = p3 .before in
     simp (
-      ← p4 .seg-arc-radius-and-center .ensures,
-      ← p3 .seg-arc-radius-and-center2 .ensures,
+      ← p3 .pre .0,
+      ← p3 .pre .1,
       ← p2 .circle-circle .ensures,
       p1 .enum-told2 .given .1,
       ← c .overlapping-arc-arc .ensures,
@@ -160,7 +150,7 @@ returns-4 c =
 
 pub arc-arc-spec : {M : Type 1} → statement M
 arc-arc-spec =
-    tie.close (tie.spec seg-arc-radius-and-center-requires seg-arc-radius-and-center-requires-2 circle-circle-requires
+    tie.close (tie.spec circle-circle-requires
     enum-told enum-known-intr-result of-segment-requires of-segment-requires-2 pos-requires pos-requires-2
     pos-requires-3 pos-requires-4 tangent-arc-arc-requires enum-known-intr-result-2 of-segment-requires-3
     of-segment-requires-4 pos-requires-5 pos-requires-6 pos-requires-7 pos-requires-8 collect-end-points-requires

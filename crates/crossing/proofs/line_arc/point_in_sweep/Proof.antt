@@ -2,18 +2,23 @@
 -- on its way.
 use borrow.Author.Needs.{needs}
 use Rattle.crossing.specs.LineArc
+use Rattle.crossing.specs.LineLine
 use Rattle.crossing.proofs.line_arc.point_in_sweep.Statement.{statement}
 use Rattle.crossing.proofs.line_arc.point_in_sweep.Tie as tie
 
-fuzzy-in-range-eps-requires : tie.Need-fuzzy-in-range-eps-requires
-fuzzy-in-range-eps-requires c κs = search needs
+sub-requires : tie.Need-sub-requires
+sub-requires c κs = search needs
+
+within-requires : tie.Need-within-requires
+within-requires c κs = search needs
 
 returns : tie.Need-returns
-unfolding LineArc.pointInSweep
+unfolding LineArc.pointInSweep LineLine.within
 returns c =
     let p1 = c .before in
     simp (
-      ← p1 .fuzzy-in-range-eps .ensures,
+      ← p1 .before .sub .ensures,
+      ← p1 .within .ensures,
       c .if1 .taken,
     )
 
@@ -24,14 +29,15 @@ sweeps-requires : tie.Need-sweeps-requires
 sweeps-requires c κs = search needs
 
 returns-2 : tie.Need-returns-2
-unfolding LineArc.pointInSweep
+unfolding LineArc.pointInSweep LineLine.within
 returns-2 c =
     let p1 = c .before in
     let p2 = p1 .before in
     let p3 = p2 .before in
     let p4 = p3 .before in
     simp (
-      ← p4 .fuzzy-in-range-eps .ensures,
+      ← p4 .before .sub .ensures,
+      ← p4 .within .ensures,
       p3 .if1 .left,
       ← p2 .point-from-parametric .ensures,
       ← p1 .sweeps .ensures,
@@ -39,14 +45,15 @@ returns-2 c =
     )
 
 returns-3 : tie.Need-returns-3
-unfolding LineArc.pointInSweep
+unfolding LineArc.pointInSweep LineLine.within
 returns-3 c =
     let p1 = c .before in
     let p2 = p1 .before in
     let p3 = p2 .before in
     let p4 = p3 .before in
     simp (
-      ← p4 .fuzzy-in-range-eps .ensures,
+      ← p4 .before .sub .ensures,
+      ← p4 .within .ensures,
       p3 .if1 .left,
       ← p2 .point-from-parametric .ensures,
       ← p1 .sweeps .ensures,
@@ -55,5 +62,5 @@ returns-3 c =
 
 pub point-in-sweep-spec : {M : Type 1} → statement M
 point-in-sweep-spec =
-    tie.close (tie.spec fuzzy-in-range-eps-requires returns point-from-parametric-requires sweeps-requires returns-2
+    tie.close (tie.spec sub-requires within-requires returns point-from-parametric-requires sweeps-requires returns-2
     returns-3)

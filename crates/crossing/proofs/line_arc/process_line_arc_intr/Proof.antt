@@ -5,9 +5,6 @@ use Rattle.crossing.specs.LineArc
 use Rattle.crossing.proofs.line_arc.process_line_arc_intr.Statement.{statement}
 use Rattle.crossing.proofs.line_arc.process_line_arc_intr.Tie as tie
 
-seg-arc-radius-and-center-requires : tie.Need-seg-arc-radius-and-center-requires
-seg-arc-radius-and-center-requires c κs = search needs
-
 line-circle-requires : tie.Need-line-circle-requires
 line-circle-requires c κs = search needs
 
@@ -20,12 +17,6 @@ enum-known-intr-result c = search needs
 of-segment-requires : tie.Need-of-segment-requires
 of-segment-requires c κs = search needs
 
-sub-requires : tie.Need-sub-requires
-sub-requires c κs = search needs
-
-length-requires : tie.Need-length-requires
-length-requires c κs = search needs
-
 tangent-line-arc-requires : tie.Need-tangent-line-arc-requires
 tangent-line-arc-requires c κs = search needs
 
@@ -34,12 +25,6 @@ enum-known-intr-result-2 c = search needs
 
 of-segment-requires-2 : tie.Need-of-segment-requires-2
 of-segment-requires-2 c κs = search needs
-
-sub-requires-2 : tie.Need-sub-requires-2
-sub-requires-2 c κs = search needs
-
-length-requires-2 : tie.Need-length-requires-2
-length-requires-2 c κs = search needs
 
 point-in-sweep-requires : tie.Need-point-in-sweep-requires
 point-in-sweep-requires c κs = search needs
@@ -57,9 +42,9 @@ returns : tie.Need-returns
 unfolding LineArc.processLineArcIntr
 returns c =
     let p1 = c .before .before in
-    let p2 = p1 .before in
+    let s = p1 .before in
     simp (
-      ← p2 .seg-arc-radius-and-center .ensures,
+      ← s .pre,
       ← p1 .line-circle .ensures,
       c .enum-told .given .1,
     )
@@ -68,18 +53,14 @@ returns-2 : tie.Need-returns-2
 unfolding LineArc.processLineArcIntr
 returns-2 c =
     let p1 = c .before in
-    let p2 = p1 .before in
-    let p3 = p2 .before in
-    let p4 = p3 .before .before in
-    let p5 = p4 .before .before in
-    let p6 = p5 .before in
+    let p2 = p1 .before .before in
+    let p3 = p2 .before .before in
+    let s = p3 .before in
     simp (
-      ← p6 .seg-arc-radius-and-center .ensures,
-      ← p5 .line-circle .ensures,
-      p4 .intr-result .given .1,
-      ← p3 .of-segment .ensures,
-      ← p2 .sub .ensures,
-      ← p1 .length .ensures,
+      ← s .pre,
+      ← p3 .line-circle .ensures,
+      p2 .intr-result .given .1,
+      ← p1 .of-segment .ensures,
       ← c .tangent-line-arc .ensures,
     )
 
@@ -90,18 +71,14 @@ returns-3 c =
     let p2 = p1 .before in
     let p3 = p2 .before in
     let p4 = p3 .before in
-    let p5 = p4 .before in
-    let p6 = p5 .before in
-    let p7 = p6 .before .before in
-    let p8 = p7 .before .before in
-    let p9 = p8 .before in
+    let p5 = p4 .before .before in
+    let p6 = p5 .before .before in
+    let s = p6 .before in
     simp (
-      ← p9 .seg-arc-radius-and-center .ensures,
-      ← p8 .line-circle .ensures,
-      p7 .intr-result2 .given .1,
-      ← p6 .of-segment2 .ensures,
-      ← p5 .sub2 .ensures,
-      ← p4 .length2 .ensures,
+      ← s .pre,
+      ← p6 .line-circle .ensures,
+      p5 .intr-result2 .given .1,
+      ← p4 .of-segment2 .ensures,
       ← p3 .point-in-sweep .ensures,
       ← p2 .point-in-sweep2 .ensures,
       ← p1 .pos .ensures,
@@ -110,7 +87,6 @@ returns-3 c =
 
 pub process-line-arc-intr-spec : {M : Type 1} → statement M
 process-line-arc-intr-spec =
-    tie.close (tie.spec seg-arc-radius-and-center-requires line-circle-requires enum-told enum-known-intr-result
-    of-segment-requires sub-requires length-requires tangent-line-arc-requires enum-known-intr-result-2
-    of-segment-requires-2 sub-requires-2 length-requires-2 point-in-sweep-requires point-in-sweep-requires-2
-    pos-requires crossings-line-arc-requires returns returns-2 returns-3)
+    tie.close (tie.spec line-circle-requires enum-told enum-known-intr-result of-segment-requires tangent-line-arc-requires
+    enum-known-intr-result-2 of-segment-requires-2 point-in-sweep-requires point-in-sweep-requires-2 pos-requires
+    crossings-line-arc-requires returns returns-2 returns-3)
