@@ -74,26 +74,10 @@ pub fn pline_seg_on(
         if u_is_line {
             return process_line_line_intr(v1.pos(), v2.pos(), u1.pos(), u2.pos(), pos_equal_eps);
         }
-        return process_line_arc_intr(
-            v1.pos(),
-            v2.pos(),
-            u1,
-            u2,
-            circle2,
-            false,
-            pos_equal_eps,
-        );
+        return process_line_arc_intr(v1.pos(), v2.pos(), u1, u2, circle2, false, pos_equal_eps);
     }
     if u_is_line {
-        return process_line_arc_intr(
-            u1.pos(),
-            u2.pos(),
-            v1,
-            v2,
-            circle1,
-            true,
-            pos_equal_eps,
-        );
+        return process_line_arc_intr(u1.pos(), u2.pos(), v1, v2, circle1, true, pos_equal_eps);
     }
     arc_arc(v1, v2, circle1, u1, u2, circle2, pos_equal_eps)
 }

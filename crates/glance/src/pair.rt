@@ -57,5 +57,5 @@ pub fn pline_seg_kept(
     if clearly_apart(v1, v2, v, u1, u2, u, pos_equal_eps) {
         return PlineSegIntr::NoIntersect;
     }
-    pline_seg_looked_at(v1, v2, u1, u2, pos_equal_eps)
+    pline_seg_looked_at(v1, v2, circle_of(v), u1, u2, circle_of(u), pos_equal_eps)
 }

@@ -14,6 +14,7 @@ use Rattle.crossing.specs.ArcArc.{arcArc, arcArcOf}
 use Rattle.crossing.specs.LineArc.{processLineArcIntr, lineArcOf}
 use Rattle.crossing.specs.PlineSeg.{plineSeg, processLineLineIntr}
 use Rattle.crossing.specs.Laws.Apart.{circles-apart}
+use Rattle.crossing.specs.Laws.Circles.{OfArc}
 use Rattle.crossing.specs.declared.circle_circle_intersect.CircleCircleIntr.{CircleCircleIntr}
 use Rattle.crossing.specs.declared.line_circle_intersect.LineCircleIntr.{LineCircleIntr}
 use Rattle.crossing.specs.declared.pline_seg_intersect.PlineSegIntr.the-variants.{NoIntersect}
@@ -27,6 +28,15 @@ use Rattle.glance.specs.Laws.Line.{beside-circle}
 pub circle-kept : (v1 v2 : PlineVertex) → circleOf (ofArc v1 v2) ≡ segArcRadiusAndCenter v1 v2
 unfolding circleOf ofArc vector2.new
 circle-kept v1 v2 = refl
+
+-- so the circle that is kept of a segment is an arc's own
+pub circle-given : (v1 v2 : PlineVertex) (v : Kept) (circle : ArcRadiusCenter) (eps : Float) → v ≡ keptOf v1 v2 eps → circle ≡ circleOf v
+    → OfArc v1 v2 circle
+unfolding keptOf
+circle-given v1 v2 v circle eps e f arc = f ∙ ap circleOf (e ∙ arc-kept (bulgeIsZero v1) _ _ arc) ∙ circle-kept v1 v2
+  where
+    arc-kept : (line : Bool) (x y : Kept) → line ≡ false → cond line x y ≡ y
+    arc-kept line x y h = rw h
 
 apart-arcs : (v1 v2 u1 u2 : PlineVertex) (eps : Float)
     → T (circlesApart (segArcRadiusAndCenter v1 v2) (segArcRadiusAndCenter u1 u2) eps) → arcArc v1 v2 u1 u2 eps ≡ NoIntersect

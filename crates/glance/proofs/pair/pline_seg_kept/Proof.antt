@@ -12,7 +12,7 @@ use Rattle.crossing.specs.declared.pline_seg_intersect.PlineSegIntr.the-variant
 use Rattle.glance.specs.declared.kept.Kept.{Kept}
 use Rattle.glance.specs.Kept.{keptOf}
 use Rattle.glance.specs.Glance.{clearlyApart}
-use Rattle.glance.specs.Laws.Pair.{apart-pair}
+use Rattle.glance.specs.Laws.Pair.{apart-pair, circle-given}
 use Rattle.glance.proofs.pair.pline_seg_kept.Statement.{statement}
 use Rattle.glance.proofs.pair.pline_seg_kept.Tie as tie
 
@@ -34,11 +34,21 @@ returns c =
     let s = p1 .before in
     sym (told _ _ _ _ _ _ _ _ (passes _ (s .good .1 .1 .1 .1 .1 .1 .0 .1)) (s .pre .1 .0) (s .pre .1 .1) (p1 .clearly-apart .ensures) (c .if1 .taken))
 
+circle-of-requires : tie.Need-circle-of-requires
+circle-of-requires c κs = search needs
+
+circle-of-requires-2 : tie.Need-circle-of-requires-2
+circle-of-requires-2 c κs = search needs
+
 pline-seg-looked-at-requires : tie.Need-pline-seg-looked-at-requires
-pline-seg-looked-at-requires c κs = search needs
+pline-seg-looked-at-requires c κs =
+    let k = c .before in
+    let h = k .before .before .before .pre in
+    (h .0, (circle-given _ _ _ _ _ (h .1 .0) (k .circle-of .ensures), circle-given _ _ _ _ _ (h .1 .1) (c .circle-of2 .ensures)))
 
 returns-2 : tie.Need-returns-2
 returns-2 c = search needs
 
 pub pline-seg-kept-spec : {M : Type 1} → statement M
-pline-seg-kept-spec = tie.close (tie.spec clearly-apart-requires returns pline-seg-looked-at-requires returns-2)
+pline-seg-kept-spec =
+    tie.close (tie.spec clearly-apart-requires returns circle-of-requires circle-of-requires-2 pline-seg-looked-at-requires returns-2)
