@@ -3,3 +3,4 @@ mod Choice
 mod Raise
 mod RootBits
 mod Cases
+mod Cut

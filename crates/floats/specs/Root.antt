@@ -1,9 +1,10 @@
--- What the steps of the digit-by-digit root answer: src/root.rt, function by function.
+-- What the steps of the root answer: src/root.rt and src/guess.rt, function by function.
 use Prim.Native.Nat.{ℕ, _+_, _-_, _*_, _/_, _%_, _^_}
 use mathlib.Core.Bool.{cond}
 use lib.Dec.{eqb, leb}
-use lib.Ieee.{size}
+use lib.Ieee.{Float, binary64, ofBits, size}
 use Rattle.floats.specs.F64.{isqrt}
+use Rattle.floats.specs.Ops.{_⊕_, _⊖_, _⊗_, _⊘_, f4}
 use Rattle.floats.specs.declared.root.Scaled.{Scaled}
 use Rattle.floats.specs.declared.root.Turning.{Turning}
 
@@ -26,6 +27,11 @@ unfoldable pub digits : ℕ → ℕ
 unfolding isqrt
 digits n = isqrt (n * 2 ^ 53)
 
+-- the root of n * 2 ^ 51, rounded: half the root of four times as much, and the last digit of that one rounds
+unfoldable pub rounded : ℕ → ℕ
+unfolding digits
+rounded n = (digits n + 1) / 2
+
 -- t, moved up to 53 digits
 unfoldable pub raised : ℕ → Scaled
 unfolding size
@@ -38,3 +44,30 @@ parts b =
     let field = b / 2 ^ 52 in
     let t = b % 2 ^ 52 in
     cond (eqb field 0) (raised t) (record { m = t + 2 ^ 52; e = field + 1023 })
+
+-- ---- the guess
+
+-- 0.3239538, 0.9197119, 0.3214935, 0.0885725, 0.0107364
+abbrev k0 : Float
+k0 = ofBits binary64 0x3fd4_bba8_b81a_8e21
+
+abbrev k1 : Float
+k1 = ofBits binary64 0x3fed_6e47_a687_bea6
+
+abbrev k2 : Float
+k2 = ofBits binary64 0x3fd4_9359_7918_19d2
+
+abbrev k3 : Float
+k3 = ofBits binary64 0x3fb6_acaf_f6d3_3094
+
+abbrev k4 : Float
+k4 = ofBits binary64 0x3f85_fcf7_3703_a24c
+
+abbrev pub start : Float → Float → Float
+start v c = let last = k3 ⊗ v ⊖ k2 ⊖ k4 ⊗ (v ⊗ v) in c ⊗ (k0 ⊕ k1 ⊗ v) ⊕ c ⊗ v ⊗ v ⊗ last
+
+abbrev pub near : Float → Float → Float
+near x hi =
+    let square = hi ⊗ hi in
+    let left = x ⊖ square in
+    hi ⊕ left ⊗ (f4 ⊗ square ⊕ left) ⊘ (f4 ⊗ hi ⊗ (square ⊕ square ⊕ left))

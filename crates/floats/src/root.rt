@@ -1,10 +1,11 @@
 // The square root of a number above zero, digit by digit, with shifts, adding, subtraction and comparison only: a chip that
 // has no 64-bit product works it out as fast as any other.
 ghost use mathlib.Core.Path.{_≡_};
-ghost use Prim.Native.Nat.{_^_, _<_};
+ghost use Prim.Native.Nat.{_+_, _*_, _^_, _<_};
 ghost use Rattle.floats.specs.Bits;
 ghost use Rattle.floats.specs.Root;
 ghost use Rattle.floats.specs.Laws.Turns.{Room, Sound};
+use super::guess;
 
 // A number above zero taken apart: it is m * 2 ^ (e - 2098), and m has 53 digits.
 pub struct Scaled {
@@ -77,6 +78,24 @@ fn digits(n: u64) -> u64
     s9.root
 }
 
+// The root of m * 2 ^ (odd + 52), rounded: a guess that the test says is right, or what the digits one by one say. A root that lies
+// hardly below the middle of two numbers is guessed one too high.
+fn rounded(m: u64, odd: u64) -> u64
+    requires { ⌜ m < 2 ^ 53 ⌝ ∗ ⌜ odd < 2 ⌝ }
+    ensures { λ r. ⌜ r ≡ Root.rounded ((m + m) * 2 ^ odd) ⌝ }
+{
+    let n: u64 = (m + m) << odd;
+    let s: u64 = guess::guess(m, odd);
+    if guess::fits(n, s) {
+        return s;
+    }
+    let below: u64 = s - 1;
+    if guess::fits(n, below) {
+        return below;
+    }
+    (digits(n) + 1) >> 1
+}
+
 // The digits of a subnormal number, moved up to 53 places.
 fn raised(t: u64) -> Scaled
     requires { ⌜ 0 < t ⌝ ∗ ⌜ t < 2 ^ 52 ⌝ }
@@ -120,7 +139,5 @@ pub fn sqrt(b: u64) -> u64
     let e: u64 = p.e;
     let half: u64 = e >> 1;
     let odd: u64 = e - half - half;
-    let n: u64 = (m + m) << odd;
-    let q: u64 = digits(n);
-    ((half - 1) << 52) + ((q + 1) >> 1)
+    ((half - 1) << 52) + rounded(m, odd)
 }
