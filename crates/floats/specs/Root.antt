@@ -47,21 +47,24 @@ parts b =
 
 -- ---- the guess
 
--- 0.3239538, 0.9197119, 0.3214935, 0.0885725, 0.0107364
+-- 0.3239509, 0.9197036, 0.3214906, 0.0885717, 0.0107363, and hardly more than 4.0
 abbrev k0 : Float
-k0 = ofBits binary64 0x3fd4_bba8_b81a_8e21
+k0 = ofBits binary64 0x3fd4_bb9c_8e40_a003
 
 abbrev k1 : Float
-k1 = ofBits binary64 0x3fed_6e47_a687_bea6
+k1 = ofBits binary64 0x3fed_6e36_3e80_6e4f
 
 abbrev k2 : Float
-k2 = ofBits binary64 0x3fd4_9359_7918_19d2
+k2 = ofBits binary64 0x3fd4_934d_4f3e_2bb5
 
 abbrev k3 : Float
-k3 = ofBits binary64 0x3fb6_acaf_f6d3_3094
+k3 = ofBits binary64 0x3fb6_aca2_8ad9_e336
 
 abbrev k4 : Float
-k4 = ofBits binary64 0x3f85_fcf7_3703_a24c
+k4 = ofBits binary64 0x3f85_fce9_cb0a_54ee
+
+abbrev above4 : Float
+above4 = ofBits binary64 0x4010_0000_0000_000b
 
 abbrev pub start : Float → Float → Float
 start v c = let last = k3 ⊗ v ⊖ k2 ⊖ k4 ⊗ (v ⊗ v) in c ⊗ (k0 ⊕ k1 ⊗ v) ⊕ c ⊗ v ⊗ v ⊗ last
@@ -70,4 +73,4 @@ abbrev pub near : Float → Float → Float
 near x hi =
     let square = hi ⊗ hi in
     let left = x ⊖ square in
-    hi ⊕ left ⊗ (f4 ⊗ square ⊕ left) ⊘ (f4 ⊗ hi ⊗ (square ⊕ square ⊕ left))
+    hi ⊕ left ⊗ (f4 ⊗ square ⊕ left) ⊘ (above4 ⊗ hi ⊗ (square ⊕ square ⊕ left))

@@ -5,26 +5,29 @@ ghost use Prim.Native.Nat.{_^_, _<_, _≤_};
 ghost use Rattle.floats.specs.Root;
 ghost use Rattle.floats.specs.Laws.Guess.{Right};
 
-// A polynomial that is near c * sqrt(v), within a part in 100,000 for v from 1 to 2.
+// A polynomial that is near c * sqrt(v) for v from 1 to 2: below it, by two parts in 100,000 at most.
 fn start(v: f64, c: f64) -> f64
     ensures { λ r. ⌜ r ≡ Root.start v c ⌝ }
 {
-    let last = 0.0885725 * v - 0.3214935 - 0.0107364 * (v * v);
-    c * (0.3239538 + 0.9197119 * v) + c * v * v * last
+    let last = 0.0885717 * v - 0.3214906 - 0.0107363 * (v * v);
+    c * (0.3239509 + 0.9197036 * v) + c * v * v * last
 }
 
 // Two steps of Heron's rule from hi towards the root of x, with one division: `left` is what hi * hi leaves of x.
+//
+// The rule has 4.0 twice. The second is a little more here, and hi is below the root, so the sum comes out a little low: a root that
+// lies hardly below the middle of two numbers, as that of 1.0 and one last digit does, is not to be rounded up.
 fn near(x: f64, hi: f64) -> f64
     ensures { λ r. ⌜ r ≡ Root.near x hi ⌝ }
 {
     let square = hi * hi;
     let left = x - square;
-    hi + left * (4.0 * square + left) / (4.0 * hi * (square + square + left))
+    hi + left * (4.0 * square + left) / (4.00000000000001 * hi * (square + square + left))
 }
 
 // 53 digits, most likely those of the root of the number m * 2 ^ odd, rounded. Nothing but their number is known of them.
 //
-// The first guess is cut to 26 digits: so its square is exact in f64, and what that leaves of the number too.
+// The first guess is cut to 26 digits, so that its square is exact in f64, and what that leaves of the number too.
 pub fn guess(m: u64, odd: u64) -> u64
     requires { ⌜ m < 2 ^ 53 ⌝ ∗ ⌜ odd < 2 ⌝ }
     ensures { λ r. ⌜ 2 ^ 52 ≤ r ⌝ ∗ ⌜ r < 2 ^ 53 ⌝ }

@@ -1,5 +1,5 @@
-// The square root of a number above zero, digit by digit, with shifts, adding, subtraction and comparison only: a chip that
-// has no 64-bit product works it out as fast as any other.
+// The square root of a number above zero: its digits are guessed, and where the guess is wrong worked out one by one. That plain form
+// takes shifts, adding, subtraction and comparison only: a chip that has no 64-bit product works it out as fast as any other.
 ghost use mathlib.Core.Path.{_≡_};
 ghost use Prim.Native.Nat.{_+_, _*_, _^_, _<_};
 ghost use Rattle.floats.specs.Bits;
@@ -78,8 +78,7 @@ fn digits(n: u64) -> u64
     s9.root
 }
 
-// The root of m * 2 ^ (odd + 52), rounded: a guess that the test says is right, or what the digits one by one say. A root that lies
-// hardly below the middle of two numbers is guessed one too high.
+// The root of m * 2 ^ (odd + 52), rounded: a guess, where the test says that it is right, and else what its digits one by one say.
 fn rounded(m: u64, odd: u64) -> u64
     requires { ⌜ m < 2 ^ 53 ⌝ ∗ ⌜ odd < 2 ⌝ }
     ensures { λ r. ⌜ r ≡ Root.rounded ((m + m) * 2 ^ odd) ⌝ }
@@ -88,10 +87,6 @@ fn rounded(m: u64, odd: u64) -> u64
     let s: u64 = guess::guess(m, odd);
     if guess::fits(n, s) {
         return s;
-    }
-    let below: u64 = s - 1;
-    if guess::fits(n, below) {
-        return below;
     }
     (digits(n) + 1) >> 1
 }

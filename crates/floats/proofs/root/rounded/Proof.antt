@@ -30,48 +30,21 @@ returns c =
     let start = p1 .before .before in
     p1 .fits2 .ensures (c .if1 .taken) ∙ ap Root.rounded (moved _ _ (start .pre .0) (start .pre .1))
 
-sub-below : tie.Need-sub-below
-sub-below c = search needs
-
-fits-requires-2 : tie.Need-fits-requires-2
-fits-requires-2 c κs =
-    let guessed = c .before .before in
-    let start = guessed .before in
-    (moved-small _ _ (start .pre .0) (start .pre .1), omega (arith, guessed .guess .ensures .1))
-
-returns-2 : tie.Need-returns-2
-returns-2 c =
-    let p1 = c .before in
-    let start = p1 .before .before .before .before in
-    p1 .fits3 .ensures (c .if2 .taken) ∙ ap Root.rounded (moved _ _ (start .pre .0) (start .pre .1))
-
 digits-requires : tie.Need-digits-requires
 digits-requires c κs =
-    let start = c .before .before .before .before .before in
+    let start = c .before .before .before in
     moved-small _ _ (start .pre .0) (start .pre .1)
 
 add-result : tie.Need-add-result
 add-result c =
-    let start = c .before .before .before .before .before .before in
+    let start = c .before .before .before .before in
     omega (arith, q-small _ _ (moved-small _ _ (start .pre .0) (start .pre .1)) (c .digits .ensures))
 
-returns-3 : tie.Need-returns-3
-returns-3 c =
-    let start = c .before .before .before .before .before .before in
+returns-2 : tie.Need-returns-2
+returns-2 c =
+    let start = c .before .before .before .before in
     half _ _ (c .digits .ensures) ∙ ap Root.rounded (moved _ _ (start .pre .0) (start .pre .1))
 
 pub rounded-spec : {M : Type 1} → statement M
 rounded-spec =
-    tie.close
-    (tie.spec
-    add-n
-    shl-n
-    guess-requires
-    fits-requires
-    returns
-    sub-below
-    fits-requires-2
-    returns-2
-    digits-requires
-    add-result
-    returns-3)
+    tie.close (tie.spec add-n shl-n guess-requires fits-requires returns digits-requires add-result returns-2)
