@@ -3,4 +3,3 @@ mod Choice
 mod Raise
 mod RootBits
 mod Cases
-mod Cut

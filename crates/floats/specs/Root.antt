@@ -4,7 +4,7 @@ use mathlib.Core.Bool.{cond}
 use lib.Dec.{eqb, leb}
 use lib.Ieee.{Float, binary64, ofBits, size}
 use Rattle.floats.specs.F64.{isqrt}
-use Rattle.floats.specs.Ops.{_⊕_, _⊖_, _⊗_, _⊘_, f4}
+use Rattle.floats.specs.Ops.{_⊕_, _⊖_, _⊗_, _⊘_}
 use Rattle.floats.specs.declared.root.Scaled.{Scaled}
 use Rattle.floats.specs.declared.root.Turning.{Turning}
 
@@ -45,32 +45,11 @@ parts b =
     let t = b % 2 ^ 52 in
     cond (eqb field 0) (raised t) (record { m = t + 2 ^ 52; e = field + 1023 })
 
--- ---- the guess
-
--- 0.3239509, 0.9197036, 0.3214906, 0.0885717, 0.0107363, and hardly more than 4.0
-abbrev k0 : Float
-k0 = ofBits binary64 0x3fd4_bb9c_8e40_a003
-
-abbrev k1 : Float
-k1 = ofBits binary64 0x3fed_6e36_3e80_6e4f
-
-abbrev k2 : Float
-k2 = ofBits binary64 0x3fd4_934d_4f3e_2bb5
-
-abbrev k3 : Float
-k3 = ofBits binary64 0x3fb6_aca2_8ad9_e336
-
-abbrev k4 : Float
-k4 = ofBits binary64 0x3f85_fce9_cb0a_54ee
-
-abbrev above4 : Float
-above4 = ofBits binary64 0x4010_0000_0000_000b
-
-abbrev pub start : Float → Float → Float
-start v c = let last = k3 ⊗ v ⊖ k2 ⊖ k4 ⊗ (v ⊗ v) in c ⊗ (k0 ⊕ k1 ⊗ v) ⊕ c ⊗ v ⊗ v ⊗ last
-
+-- a step from hi towards the root of x; the numbers are 0.333333333333333 and 1.333333333333337
 abbrev pub near : Float → Float → Float
 near x hi =
+    let third = ofBits binary64 0x3fd5_5555_5555_554f in
+    let more = ofBits binary64 0x3ff5_5555_5555_5566 in
     let square = hi ⊗ hi in
     let left = x ⊖ square in
-    hi ⊕ left ⊗ (f4 ⊗ square ⊕ left) ⊘ (above4 ⊗ hi ⊗ (square ⊕ square ⊕ left))
+    hi ⊕ left ⊗ (square ⊕ third ⊗ x) ⊘ (more ⊗ hi ⊗ (square ⊕ x))

@@ -5,41 +5,42 @@ ghost use Prim.Native.Nat.{_^_, _<_, _≤_};
 ghost use Rattle.floats.specs.Root;
 ghost use Rattle.floats.specs.Laws.Guess.{Right};
 
-// A polynomial that is near c * sqrt(v) for v from 1 to 2: below it, by two parts in 100,000 at most.
-fn start(v: f64, c: f64) -> f64
-    ensures { λ r. ⌜ r ≡ Root.start v c ⌝ }
+// A number below the root of m * 2 ^ (odd - 52) by two parts in 100,000 at most, in units of 2 ^ -25. Nothing but a bound is known of it.
+//
+// It is a polynomial in v = m * 2 ^ -52 of fourth degree, as two factors and a constant: the root of v, times that of 2 where odd is 1.
+fn first(m: u64, odd: u64) -> u64
+    requires { ⌜ m < 2 ^ 53 ⌝ ∗ ⌜ odd < 2 ⌝ }
+    ensures { λ r. ⌜ r < 2 ^ 27 ⌝ }
 {
-    let last = 0.0885717 * v - 0.3214906 - 0.0107363 * (v * v);
-    c * (0.3239509 + 0.9197036 * v) + c * v * v * last
+    let v: u64 = m >> 23;
+    // 16.5714 - v * (2.77547 - v), 1.82081 + v * (5.47429 - v), and 0.0107363 or 0.0107363 * sqrt(2)
+    let one: u64 = 2224175658 - ((v * (1490069110 - v)) >> 31);
+    let two: u64 = 488769963 + ((v * (2938987065 - v)) >> 30);
+    let scale: u64 = 11528014 + odd * 4775060;
+    (((one * two) >> 29) * scale) >> 31
 }
 
-// Two steps of Heron's rule from hi towards the root of x, with one division: `left` is what hi * hi leaves of x.
+// Two steps of Heron's rule from hi towards the root of x, with one division: hi + left * (3 * square + x) / (4 * hi * (square + x)),
+// where `left` is what hi * hi leaves of x. Both products are divided by 3 here, and then none waits for another.
 //
-// The rule has 4.0 twice. The second is a little more here, and hi is below the root, so the sum comes out a little low: a root that
-// lies hardly below the middle of two numbers, as that of 1.0 and one last digit does, is not to be rounded up.
+// The divisor is a little too large, and hi is below the root, so the sum comes out a little low: a root that lies hardly below the
+// middle of two numbers, as that of 1.0 and one last digit does, is not to be rounded up.
 fn near(x: f64, hi: f64) -> f64
     ensures { λ r. ⌜ r ≡ Root.near x hi ⌝ }
 {
     let square = hi * hi;
     let left = x - square;
-    hi + left * (4.0 * square + left) / (4.00000000000001 * hi * (square + square + left))
+    hi + left * (square + 0.333333333333333 * x) / (1.333333333333337 * hi * (square + x))
 }
 
-// 53 digits, most likely those of the root of the number m * 2 ^ odd, rounded. Nothing but their number is known of them.
+// 53 digits, most likely those of the root of m * 2 ^ (odd + 52), rounded. Nothing but their number is known of them.
 //
-// The first guess is cut to 26 digits, so that its square is exact in f64, and what that leaves of the number too.
+// The first guess has 26 digits, so that its square is exact in f64, and what that leaves of the number too.
 pub fn guess(m: u64, odd: u64) -> u64
     requires { ⌜ m < 2 ^ 53 ⌝ ∗ ⌜ odd < 2 ⌝ }
     ensures { λ r. ⌜ 2 ^ 52 ≤ r ⌝ ∗ ⌜ r < 2 ^ 53 ⌝ }
 {
-    // m * 2 ^ -52, and 1.0 or the root of 2.0
-    let v = f64::from_bits(m + 0x3fe0_0000_0000_0000);
-    let c = f64::from_bits(odd * 0x6_a09e_667f_3bcd + 0x3ff0_0000_0000_0000);
-    let first = start(v, c);
-    if first != first {
-        return 0x10_0000_0000_0000;
-    }
-    let hi = f64::from_bits((f64::to_bits(first) >> 27) << 27);
+    let hi = f64::from_bits((first(m, odd) << 27) + 0x3fe0_0000_0000_0000);
     let x = f64::from_bits(m + ((odd + 1022) << 52));
     let found = near(x, hi);
     if found != found {
