@@ -45,7 +45,17 @@ parts b =
     let t = b % 2 ^ 52 in
     cond (eqb field 0) (raised t) (record { m = t + 2 ^ 52; e = field + 1023 })
 
--- a step from hi towards the root of x; the numbers are 0.333333333333333 and 1.333333333333337
+-- ---- the guess
+
+unfoldable pub first : ℕ → ℕ → ℕ
+first m odd =
+    let v = m / 2 ^ 24 in
+    let one = 1112087829 - v * (745034555 - v) / 2 ^ 30 in
+    let two = 244384982 + v * (1469493533 - v) / 2 ^ 29 in
+    let scale = 11528014 + odd * 4775060 in
+    one * two / 2 ^ 27 * scale / 2 ^ 31
+
+-- the numbers are 0.333333333333333 and 1.333333333333337
 abbrev pub near : Float → Float → Float
 near x hi =
     let third = ofBits binary64 0x3fd5_5555_5555_554f in
@@ -53,3 +63,10 @@ near x hi =
     let square = hi ⊗ hi in
     let left = x ⊖ square in
     hi ⊕ left ⊗ (square ⊕ third ⊗ x) ⊘ (more ⊗ hi ⊗ (square ⊕ x))
+
+unfoldable pub guess : ℕ → ℕ → Float
+unfolding first
+guess m odd =
+    let hi = ofBits binary64 (first m odd * 2 ^ 27 + 0x3fe0_0000_0000_0000) in
+    let x = ofBits binary64 (m + (odd + 1022) * 2 ^ 52) in
+    near x hi

@@ -78,17 +78,30 @@ fn digits(n: u64) -> u64
     s9.root
 }
 
+// The root of n * 2 ^ 51, rounded by its last digit.
+fn plain(n: u64) -> u64
+    requires { ⌜ n < 2 ^ 55 ⌝ }
+    ensures { λ r. ⌜ r ≡ Root.rounded n ⌝ }
+{
+    (digits(n) + 1) >> 1
+}
+
 // The root of m * 2 ^ (odd + 52), rounded: a guess, where the test says that it is right, and else what its digits one by one say.
 fn rounded(m: u64, odd: u64) -> u64
     requires { ⌜ m < 2 ^ 53 ⌝ ∗ ⌜ odd < 2 ⌝ }
     ensures { λ r. ⌜ r ≡ Root.rounded ((m + m) * 2 ^ odd) ⌝ }
 {
     let n: u64 = (m + m) << odd;
-    let s: u64 = guess::guess(m, odd);
+    let g: f64 = guess::guess(m, odd);
+    // A NaN has no digits that can be read.
+    if g != g {
+        return plain(n);
+    }
+    let s: u64 = (f64::to_bits(g) & 0xf_ffff_ffff_ffff) + 0x10_0000_0000_0000;
     if guess::fits(n, s) {
         return s;
     }
-    (digits(n) + 1) >> 1
+    plain(n)
 }
 
 // The digits of a subnormal number, moved up to 53 places.

@@ -2,7 +2,7 @@
 -- s + 1/2: where N + s is s * s and 1 to 2 * s more. The test works this difference out of s = a * 2 ^ 27 + b from the left.
 use mathlib.Core.Path.{_≡_, sym, ap, _∙_}
 use Prim.Native.Nat.{ℕ, zero, suc, _+_, _-_, _*_, _/_, _%_, _^_, _≤_, _<_}
-use native.Mathlib.Nat.{mul-le-mul}
+use native.Mathlib.Nat.{mul-le-mul, sub-le}
 use native.Mathlib.Omega.{arith}
 use mathlib.Core.Bool.{Bool, true}
 use Rattle.floats.specs.F64.{isqrt}
@@ -45,7 +45,7 @@ square s a b is = let e : s * s ≡ (a * 2 ^ 27 + b) * (a * 2 ^ 27 + b) = ap (λ
 
 -- d, e and w as the code takes them
 module _ (n s a b d e w : ℕ) (N : n < 2 ^ 55) (S : s < 2 ^ 53) (is : s ≡ a * 2 ^ 27 + b) (A : a < 2 ^ 26) (B : b < 2 ^ 27) where
-  pub right : (d + a * a * 8 % 2 ^ 64) % 2 ^ 64 ≡ n + 8 → d < 2 ^ 36 → (e + a * b) % 2 ^ 64 ≡ d * 2 ^ 23 % 2 ^ 64 → e < 2 ^ 33
+  pub right : (d + a * a * 8 % 2 ^ 64) % 2 ^ 64 ≡ n + 8 → d < 2 ^ 31 → (e + a * b) % 2 ^ 64 ≡ d * 2 ^ 23 % 2 ^ 64 → e < 2 ^ 30
       → (w + (b * b + (2 ^ 54 + 1))) % 2 ^ 64 ≡ e * 2 ^ 28 % 2 ^ 64 + s → w < s + s → s ≡ Root.rounded n
   right p D q E r W =
       let k = products a b A B in
@@ -64,3 +64,38 @@ module _ (n s a b d e w : ℕ) (N : n < 2 ^ 55) (S : s < 2 ^ 53) (is : s ≡ a *
       three : (z : ℕ) → z < 2 ^ 54 → (w + (z + (2 ^ 54 + 1))) % 2 ^ 64 ≡ e * 2 ^ 28 % 2 ^ 64 + s
           → w + (z + (2 ^ 54 + 1)) ≡ e * 2 ^ 28 + s
       three z l r = omega arith
+
+-- ---- the first guess: the largest value of each factor bounds each product
+pub part-most : (a m : ℕ) → m < 2 ^ 53 → m / 2 ^ 24 * (a - m / 2 ^ 24) ≤ 2 ^ 29 * a
+part-most a m h = let v : m / 2 ^ 24 ≤ 2 ^ 29 = omega arith in mul-le-mul v (sub-le a (m / 2 ^ 24))
+
+module _ (m odd : ℕ) (h : m < 2 ^ 53) (o : odd < 2) where
+  abbrev v : ℕ
+  v = m / 2 ^ 24
+
+  abbrev one : ℕ
+  one = 1112087829 - v * (745034555 - v) / 2 ^ 30
+
+  abbrev two : ℕ
+  two = 244384982 + v * (1469493533 - v) / 2 ^ 29
+
+  pub two-most : two ≤ 1713878515
+  two-most = omega (arith, part-most 1469493533 m h)
+
+  pub both-most : one * two ≤ 1112087829 * 1713878515
+  both-most = mul-le-mul (sub-le 1112087829 (v * (745034555 - v) / 2 ^ 30)) two-most
+
+  pub all-most : one * two / 2 ^ 27 * (11528014 + odd * 4775060) ≤ 2 ^ 34 * 16303074
+  all-most =
+      let q : 11528014 + odd * 4775060 ≤ 16303074 = omega arith in
+      mul-le-mul (cut (one * two) both-most) q
+    where
+      cut : (z : ℕ) → z ≤ 1112087829 * 1713878515 → z / 2 ^ 27 ≤ 2 ^ 34
+      cut z l = omega arith
+
+  pub first-small : Root.first m odd < 2 ^ 27
+  unfolding Root.first
+  first-small = last (one * two / 2 ^ 27 * (11528014 + odd * 4775060)) all-most
+    where
+      last : (z : ℕ) → z ≤ 2 ^ 34 * 16303074 → z / 2 ^ 31 < 2 ^ 27
+      last z l = omega arith

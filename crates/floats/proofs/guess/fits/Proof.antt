@@ -76,7 +76,7 @@ returns-3 c h =
     let s = start .args .s in
     let k = halves s (start .pre .1) in
     right (start .args .n) s (high s) (low s) _ _ _ (start .pre .0) (start .pre .1) (k .0) (k .1 .0) (k .1 .1)
-    (p1 .wrapping-sub-u64 .ensures) (p2 .if1 .left) (p3 .wrapping-sub-u642 .ensures) (p4 .if2 .left)
+    (p1 .wrapping-sub-u64 .ensures) (omega (arith, p2 .if1 .left)) (p3 .wrapping-sub-u642 .ensures) (omega (arith, p4 .if2 .left))
     (c .wrapping-sub-u643 .ensures) (ltb→lt _ _ (passes _ h))
 
 pub fits-spec : {M : Type 1} → statement M

@@ -1,28 +1,41 @@
--- `floats::guess::guess` meets its contract: each pattern that is read is a number's, and 52 digits and a leading one are 53.
+-- `floats::guess::guess` meets its contract: each pattern that is read is a number's, below infinity's.
+use mathlib.Core.Path.{_≡_, sym, ap, _∙_, subst}
 use mathlib.Core.Bool.{not}
-use Prim.Native.Nat.{ℕ, _≤_, _<_}
+use Prim.Native.Nat.{ℕ, _+_, _*_, _%_, _^_, _<_}
 use native.Mathlib.Omega.{arith}
 use borrow.Author.Needs.{needs}
-use lib.Bits.{and-mask}
 use lib.Dec.{T}
-use lib.Ieee.{binary64, nanBits, toBits}
+use lib.Ieee.{Float, binary64, nanBits, ofBits}
 use Rattle.float_laws.specs.Patterns.{number-up-to}
+use Rattle.floats.specs.Root
+use Rattle.floats.specs.Laws.Guess.{first-small}
 use Rattle.floats.proofs.Through.{off}
-use Rattle.floats.proofs.Choice.{number}
 use Rattle.floats.proofs.guess.guess.Statement.{statement}
 use Rattle.floats.proofs.guess.guess.Tie as tie
 
 below-infinity : (b : ℕ) → b < 0x7ff0_0000_0000_0000 → T (not (nanBits binary64 b))
 below-infinity b h = off (number-up-to binary64 b (omega arith))
 
+small : (c : tie.After-first) → c .first .result < 2 ^ 27
+small c =
+    let start = c .before in
+    subst (λ (z : ℕ). z < 2 ^ 27) (sym (c .first .ensures)) (first-small (start .args .m) (start .args .odd) (start .pre .0) (start .pre .1))
+
+-- the two patterns, as the code has them
+hi-is : (f g : ℕ) → f < 2 ^ 27 → f ≡ g → f * 2 ^ 27 % 2 ^ 64 + 0x3fe0_0000_0000_0000 ≡ g * 2 ^ 27 + 0x3fe0_0000_0000_0000
+hi-is f g l e = omega arith
+
+x-is : (m o : ℕ) → o < 2 → m + (o + 1022) * 2 ^ 52 % 2 ^ 64 ≡ m + (o + 1022) * 2 ^ 52
+x-is m o l = omega arith
+
 first-requires : tie.Need-first-requires
 first-requires c κs = search needs
 
 add-hi : tie.Need-add-hi
-add-hi c = search needs
+add-hi c = omega (arith, small c)
 
 float-from-bits-hi : tie.Need-float-from-bits-hi
-float-from-bits-hi c = below-infinity _ (omega (arith, c .first .ensures))
+float-from-bits-hi c = below-infinity _ (omega (arith, small c))
 
 add-x : tie.Need-add-x
 add-x c = search needs
@@ -37,18 +50,13 @@ near-requires : tie.Need-near-requires
 near-requires c κs = search needs
 
 returns : tie.Need-returns
-returns c = search needs
-
-float-to-bits-result : tie.Need-float-to-bits-result
-float-to-bits-result c = off (number _ (c .if1 .left))
-
-add-result : tie.Need-add-result
-add-result c = omega (arith, and-mask (toBits binary64 (c .before .near .result)) 52)
-
-returns-2 : tie.Need-returns-2
-returns-2 c =
-    let low = and-mask (toBits binary64 (c .before .near .result)) 52 in
-    (omega (arith, low), omega (arith, low))
+unfolding Root.guess
+returns c =
+    let p1 = c .before in
+    let start = p1 .before in
+    c .near .ensures
+    ∙ ap (λ (z : ℕ). Root.near (ofBits binary64 (start .args .m + (start .args .odd + 1022) * 2 ^ 52 % 2 ^ 64)) (ofBits binary64 z)) (hi-is _ _ (small p1) (p1 .first .ensures))
+    ∙ ap (λ (z : ℕ). Root.near (ofBits binary64 z) (ofBits binary64 (Root.first (start .args .m) (start .args .odd) * 2 ^ 27 + 0x3fe0_0000_0000_0000))) (x-is (start .args .m) (start .args .odd) (start .pre .1))
 
 pub guess-spec : {M : Type 1} → statement M
 guess-spec =
@@ -61,7 +69,4 @@ guess-spec =
     add-x-2
     float-from-bits-x
     near-requires
-    returns
-    float-to-bits-result
-    add-result
-    returns-2)
+    returns)
