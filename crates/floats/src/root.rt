@@ -97,7 +97,11 @@ fn rounded(m: u64, odd: u64) -> u64
     if g != g {
         return plain(n);
     }
-    let s: u64 = (f64::to_bits(g) & 0xf_ffff_ffff_ffff) + 0x10_0000_0000_0000;
+    // Where g is from 1 to 2, what its pattern has above that of 0.5 are its digits.
+    let s: u64 = std::num::wrapping_sub_u64(f64::to_bits(g), 0x3fe0_0000_0000_0000);
+    if s >= 0x20_0000_0000_0000 {
+        return plain(n);
+    }
     if guess::fits(n, s) {
         return s;
     }

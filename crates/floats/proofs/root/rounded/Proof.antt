@@ -1,9 +1,6 @@
 -- `floats::root::rounded` meets its contract: a guess that passes the test is the rounded root, whatever it was guessed by.
 use mathlib.Core.Path.{ap, _∙_}
-use native.Mathlib.Omega.{arith}
 use borrow.Author.Needs.{needs}
-use lib.Bits.{and-mask}
-use lib.Ieee.{binary64, toBits}
 use Rattle.floats.specs.Root
 use Rattle.floats.proofs.Through.{off}
 use Rattle.floats.proofs.Choice.{number}
@@ -28,30 +25,38 @@ returns c =
     let start = c .before .before .before in
     c .plain .ensures ∙ ap Root.rounded (moved _ _ (start .pre .0) (start .pre .1))
 
-float-to-bits-s : tie.Need-float-to-bits-s
-float-to-bits-s c = off (number _ (c .if1 .left))
+float-to-bits-wrapping-sub-u64 : tie.Need-float-to-bits-wrapping-sub-u64
+float-to-bits-wrapping-sub-u64 c = off (number _ (c .if1 .left))
 
-add-s : tie.Need-add-s
-add-s c = omega (arith, and-mask (toBits binary64 (c .before .guess .result)) 52)
-
-fits-requires : tie.Need-fits-requires
-fits-requires c κs =
-    let start = c .before .before in
-    (moved-small _ _ (start .pre .0) (start .pre .1), omega (arith, and-mask (toBits binary64 (c .before .guess .result)) 52))
-
-returns-2 : tie.Need-returns-2
-returns-2 c =
-    let tested = c .before in
-    let start = tested .before .before .before in
-    tested .fits2 .ensures (c .if2 .taken) ∙ ap Root.rounded (moved _ _ (start .pre .0) (start .pre .1))
+wrapping-sub-u64-requires : tie.Need-wrapping-sub-u64-requires
+wrapping-sub-u64-requires c κs = search needs
 
 plain-requires-2 : tie.Need-plain-requires-2
 plain-requires-2 c κs = let start = c .before .before .before .before in moved-small _ _ (start .pre .0) (start .pre .1)
 
-returns-3 : tie.Need-returns-3
-returns-3 c =
+returns-2 : tie.Need-returns-2
+returns-2 c =
     let start = c .before .before .before .before .before in
     c .plain2 .ensures ∙ ap Root.rounded (moved _ _ (start .pre .0) (start .pre .1))
+
+fits-requires : tie.Need-fits-requires
+fits-requires c κs =
+    let start = c .before .before .before .before in
+    (moved-small _ _ (start .pre .0) (start .pre .1), c .if2 .left)
+
+returns-3 : tie.Need-returns-3
+returns-3 c =
+    let tested = c .before in
+    let start = tested .before .before .before .before .before in
+    tested .fits2 .ensures (c .if3 .taken) ∙ ap Root.rounded (moved _ _ (start .pre .0) (start .pre .1))
+
+plain-requires-3 : tie.Need-plain-requires-3
+plain-requires-3 c κs = let start = c .before .before .before .before .before .before in moved-small _ _ (start .pre .0) (start .pre .1)
+
+returns-4 : tie.Need-returns-4
+returns-4 c =
+    let start = c .before .before .before .before .before .before .before in
+    c .plain3 .ensures ∙ ap Root.rounded (moved _ _ (start .pre .0) (start .pre .1))
 
 pub rounded-spec : {M : Type 1} → statement M
 rounded-spec =
@@ -62,9 +67,11 @@ rounded-spec =
     guess-requires
     plain-requires
     returns
-    float-to-bits-s
-    add-s
-    fits-requires
-    returns-2
+    float-to-bits-wrapping-sub-u64
+    wrapping-sub-u64-requires
     plain-requires-2
-    returns-3)
+    returns-2
+    fits-requires
+    returns-3
+    plain-requires-3
+    returns-4)
