@@ -11,21 +11,17 @@ use native.Mathlib.Nat.{
   eq-of-mul-eq-mul-right,
   le-trans,
   le-of-eq,
-  le-of-suc-le-suc,
   lt-of-lt-of-le,
   lt-of-le-of-lt,
-  lt-of-not-le,
-  not-le-of-lt,
-  mod-eq-of-lt,
   div-add-mod',
   pow-succ',
   zero-lt-suc,
 }
 use native.Mathlib.Omega.{arith}
-use mathlib.Core.Bool.{Bool, true, false, cond, not}
-use lib.Dec.{eqb, eqb→eq, not-T, lit<, lit≤}
-use lib.Pow.{pow-add, pow-pos, pow-mono, pow-lt}
-use lib.Ieee.{Float, binary64, low, size, toBits, ofBits}
+use mathlib.Core.Bool.{false}
+use lib.Dec.{eqb, eqb→eq, not-T, lit<}
+use lib.Pow.{pow-add, pow-pos, pow-lt}
+use lib.Ieee.{Float, binary64, low, size, ofBits}
 use lib.Ieee.Digits.{size-lt, size-le, size-reaches}
 use lib.Ieee.Bits.{cond-no}
 use lib.Ieee.Exact.{HasValue}

@@ -5,7 +5,7 @@ use Prim.Native.Nat.{ℕ, _+_, _*_, _%_, _^_, _<_}
 use native.Mathlib.Omega.{arith}
 use borrow.Author.Needs.{needs}
 use lib.Dec.{T}
-use lib.Ieee.{Float, binary64, nanBits, ofBits}
+use lib.Ieee.{binary64, nanBits, ofBits}
 use Rattle.float_laws.specs.Patterns.{number-up-to}
 use Rattle.floats.specs.Root
 use Rattle.floats.specs.Laws.Guess.{first-small}
@@ -19,14 +19,19 @@ below-infinity b h = off (number-up-to binary64 b (omega arith))
 small : (c : tie.After-first) → c .first .result < 2 ^ 27
 small c =
     let start = c .before in
-    subst (λ (z : ℕ). z < 2 ^ 27) (sym (c .first .ensures)) (first-small (start .args .m) (start .args .odd) (start .pre .0) (start .pre .1))
+    let l = first-small (start .args .m) (start .args .odd) (start .pre .0) (start .pre .1) in
+    subst (λ (z : ℕ). z < 2 ^ 27) (sym (c .first .ensures)) l
 
--- the two patterns, as the code has them
-hi-is : (f g : ℕ) → f < 2 ^ 27 → f ≡ g → f * 2 ^ 27 % 2 ^ 64 + 0x3fe0_0000_0000_0000 ≡ g * 2 ^ 27 + 0x3fe0_0000_0000_0000
-hi-is f g l e = omega arith
-
-x-is : (m o : ℕ) → o < 2 → m + (o + 1022) * 2 ^ 52 % 2 ^ 64 ≡ m + (o + 1022) * 2 ^ 52
-x-is m o l = omega arith
+-- the patterns of hi and x as the code has them: nothing is lost
+guess-is : (m o f : ℕ) → o < 2 → f < 2 ^ 27 → f ≡ Root.first m o
+    → Root.near (ofBits binary64 (m + (o + 1022) * 2 ^ 52 % 2 ^ 64)) (ofBits binary64 (f * 2 ^ 27 % 2 ^ 64 + 0x3fe0_0000_0000_0000))
+    ≡ Root.guess m o
+unfolding Root.guess
+guess-is m o f l k e =
+    let x : m + (o + 1022) * 2 ^ 52 % 2 ^ 64 ≡ m + (o + 1022) * 2 ^ 52 = omega arith in
+    let hi : f * 2 ^ 27 % 2 ^ 64 + 0x3fe0_0000_0000_0000 ≡ Root.first m o * 2 ^ 27 + 0x3fe0_0000_0000_0000 = omega arith in
+    ap (λ (z : ℕ). Root.near (ofBits binary64 z) (ofBits binary64 (f * 2 ^ 27 % 2 ^ 64 + 0x3fe0_0000_0000_0000))) x
+    ∙ ap (λ (z : ℕ). Root.near (ofBits binary64 (m + (o + 1022) * 2 ^ 52)) (ofBits binary64 z)) hi
 
 first-requires : tie.Need-first-requires
 first-requires c κs = search needs
@@ -50,13 +55,9 @@ near-requires : tie.Need-near-requires
 near-requires c κs = search needs
 
 returns : tie.Need-returns
-unfolding Root.guess
 returns c =
-    let p1 = c .before in
-    let start = p1 .before in
-    c .near .ensures
-    ∙ ap (λ (z : ℕ). Root.near (ofBits binary64 (start .args .m + (start .args .odd + 1022) * 2 ^ 52 % 2 ^ 64)) (ofBits binary64 z)) (hi-is _ _ (small p1) (p1 .first .ensures))
-    ∙ ap (λ (z : ℕ). Root.near (ofBits binary64 z) (ofBits binary64 (Root.first (start .args .m) (start .args .odd) * 2 ^ 27 + 0x3fe0_0000_0000_0000))) (x-is (start .args .m) (start .args .odd) (start .pre .1))
+    let start = c .before .before in
+    c .near .ensures ∙ guess-is (start .args .m) (start .args .odd) _ (start .pre .1) (small (c .before)) (c .before .first .ensures)
 
 pub guess-spec : {M : Type 1} → statement M
 guess-spec =
