@@ -1,5 +1,5 @@
-// A guess of a root's digits, and a test of it. The guess is worked out in f64 arithmetic, and how good it is decides only how long
-// a root takes; the test is of whole numbers, and exact.
+// A guess of a root's digits, and a test of it. How good the guess is decides only how long a root takes: nothing rests on it. The
+// test is of whole numbers, and exact.
 ghost use mathlib.Core.Path.{_≡_};
 ghost use Prim.Native.Nat.{_^_, _<_};
 ghost use Rattle.floats.specs.Root;
