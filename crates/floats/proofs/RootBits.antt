@@ -1,4 +1,4 @@
--- From a pattern to the digits that the loop works on, and from the loop's root to the pattern of the root.
+-- From a pattern to the digits whose root is taken, and from the rounded root to the pattern of the root.
 use mathlib.Core.Path.{_≡_, refl, sym, ap, _∙_, subst}
 use Prim.Native.Nat.{ℕ, zero, suc, _+_, _-_, _*_, _/_, _%_, _^_, _≤_, _<_}
 use native.Mathlib.Nat.{
@@ -11,21 +11,17 @@ use native.Mathlib.Nat.{
   eq-of-mul-eq-mul-right,
   le-trans,
   le-of-eq,
-  le-of-suc-le-suc,
   lt-of-lt-of-le,
   lt-of-le-of-lt,
-  lt-of-not-le,
-  not-le-of-lt,
-  mod-eq-of-lt,
   div-add-mod',
   pow-succ',
   zero-lt-suc,
 }
 use native.Mathlib.Omega.{arith}
-use mathlib.Core.Bool.{Bool, true, false, cond, not}
-use lib.Dec.{eqb, eqb→eq, not-T, lit<, lit≤}
-use lib.Pow.{pow-add, pow-pos, pow-mono, pow-lt}
-use lib.Ieee.{Float, binary64, low, size, toBits, ofBits}
+use mathlib.Core.Bool.{false}
+use lib.Dec.{eqb, eqb→eq, not-T, lit<}
+use lib.Pow.{pow-add, pow-pos, pow-lt}
+use lib.Ieee.{Float, binary64, low, size, ofBits}
 use lib.Ieee.Digits.{size-lt, size-le, size-reaches}
 use lib.Ieee.Bits.{cond-no}
 use lib.Ieee.Exact.{HasValue}
@@ -124,18 +120,28 @@ parts-is b P h = go (b / 2 ^ 52) (omega arith) (parts-low b) (parts-high b) (ome
 pub low-digits : (b : ℕ) → b < 2 ^ 64 → b - b / 2 ^ 52 * 2 ^ 52 % 2 ^ 64 ≡ b % 2 ^ 52
 low-digits b h = omega arith
 
--- ---- the digits that the loop is handed: twice m, and twice that where e is odd
-pub handed-in : (m o : ℕ) → 2 ^ 52 ≤ m → m < 2 ^ 53 → o < 2 → (2 ^ 53 ≤ (m + m) * 2 ^ o) × ((m + m) * 2 ^ o < 2 ^ 55)
+-- ---- the number whose root is taken: twice m, and twice that where e is odd
+handed-in : (m o : ℕ) → 2 ^ 52 ≤ m → m < 2 ^ 53 → o < 2 → (2 ^ 53 ≤ (m + m) * 2 ^ o) × ((m + m) * 2 ^ o < 2 ^ 55)
 handed-in m zero a b l = (omega arith, omega arith)
 handed-in m (suc zero) a b l = (omega arith, omega arith)
 handed-in m (suc (suc o)) a b l = absurd (omega arith)
 
--- as the code writes them
-pub handed : (m e : ℕ) → 2 ^ 52 ≤ m → m < 2 ^ 53 → (m + m) * 2 ^ (e - e / 2 - e / 2) % 2 ^ 64 ≡ (m + m) * 2 ^ (e % 2)
-handed m e a b =
-    let last : e - e / 2 - e / 2 ≡ e % 2 = omega arith in
-    ap (λ (x : ℕ). (m + m) * 2 ^ x % 2 ^ 64) last
-    ∙ mod-eq-of-lt (lt-of-lt-of-le (handed-in m (e % 2) a b (omega arith) .1) (lit≤ tt))
+-- as the code writes it: nothing is lost
+pub moved : (m o : ℕ) → m < 2 ^ 53 → o < 2 → (m + m) * 2 ^ o % 2 ^ 64 ≡ (m + m) * 2 ^ o
+moved m zero b l = omega arith
+moved m (suc zero) b l = omega arith
+moved m (suc (suc o)) b l = absurd (omega arith)
+
+pub moved-small : (m o : ℕ) → m < 2 ^ 53 → o < 2 → (m + m) * 2 ^ o % 2 ^ 64 < 2 ^ 55
+moved-small m zero b l = omega arith
+moved-small m (suc zero) b l = omega arith
+moved-small m (suc (suc o)) b l = absurd (omega arith)
+
+pub q-small : (n q : ℕ) → n < 2 ^ 55 → q ≡ Root.digits n → q < 2 ^ 54
+unfolding Root.digits
+q-small n q l e =
+    let r : IsRoot (n * 2 ^ 53) q = subst (λ (z : ℕ). IsRoot (n * 2 ^ 53) z) (sym e) (isqrt-is (n * 2 ^ 53)) in
+    sq-lt q (2 ^ 54) (omega (arith, r .low))
 
 root-in : (n q : ℕ) → 2 ^ 53 ≤ n → n < 2 ^ 55 → IsRoot (n * 2 ^ 53) q → (2 ^ 53 ≤ q) × (q < 2 ^ 54)
 root-in n q a b r =
@@ -221,41 +227,39 @@ module _ (b : ℕ) (P : 0 < b) (h : b < 0x7ff0_0000_0000_0000) where
           up : (g : ℕ) → g ≤ 1600 → 53 + g ≤ 1653
           up g h = omega arith
 
-  -- ---- as `root::sqrt` has them: p is what `parts` answered, and q what `digits` did
+  -- ---- as `root::sqrt` has them: p is what `parts` answered, and r what `rounded` did
   pub known : (p : Scaled) → p ≡ Root.parts b → Parts X p
   known p is = subst (Parts X) (sym is) (parts-is b P h)
 
-  -- the number that `digits` is handed
+  -- the number whose root `rounded` takes
   abbrev pub given : Scaled → ℕ
-  given p = (p .m + p .m) * 2 ^ (p .e - p .e / 2 - p .e / 2) % 2 ^ 64
+  given p = (p .m + p .m) * 2 ^ (p .e - p .e / 2 - p .e / 2)
 
-  given-is : (p : Scaled) → p ≡ Root.parts b → given p ≡ (p .m + p .m) * 2 ^ (p .e % 2)
-  given-is p is = handed (p .m) (p .e) (known p is .digits-low) (known p is .digits-high)
+  given-is : (p : Scaled) → given p ≡ (p .m + p .m) * 2 ^ (p .e % 2)
+  given-is p = let last : p .e - p .e / 2 - p .e / 2 ≡ p .e % 2 = omega arith in ap (λ (x : ℕ). (p .m + p .m) * 2 ^ x) last
 
-  pub given-small : (p : Scaled) → p ≡ Root.parts b → given p < 2 ^ 55
-  given-small p is =
+  pub r-small : (p : Scaled) (r : ℕ) → p ≡ Root.parts b → r ≡ Root.rounded (given p) → r ≤ 2 ^ 53
+  unfolding Root.rounded
+  r-small p r is e =
       let k = known p is in
-      subst (λ (z : ℕ). z < 2 ^ 55) (sym (given-is p is)) (handed-in (p .m) (p .e % 2) (k .digits-low) (k .digits-high) (omega arith) .1)
+      let n = given p in
+      let fits : n < 2 ^ 55 =
+      subst (λ (z : ℕ). z < 2 ^ 55) (sym (given-is p)) (handed-in (p .m) (p .e % 2) (k .digits-low) (k .digits-high) (omega arith) .1) in
+      half r (Root.digits n) e (q-small n (Root.digits n) fits refl)
+    where
+      half : (r q : ℕ) → r ≡ (q + 1) / 2 → q < 2 ^ 54 → r ≤ 2 ^ 53
+      half r q e l = omega arith
 
-  pub q-small : (p : Scaled) (q : ℕ) → p ≡ Root.parts b → q ≡ Root.digits (given p) → q < 2 ^ 54
-  unfolding Root.digits
-  q-small p q is e =
-      let k = known p is in
-      let n = (p .m + p .m) * 2 ^ (p .e % 2) in
-      let i = handed-in (p .m) (p .e % 2) (k .digits-low) (k .digits-high) (omega arith) in
-      let root : q ≡ isqrt (n * 2 ^ 53) = e ∙ ap (λ (z : ℕ). isqrt (z * 2 ^ 53)) (given-is p is) in
-      root-in n q (i .0) (i .1) (subst (λ (z : ℕ). IsRoot (n * 2 ^ 53) z) (sym root) (isqrt-is (n * 2 ^ 53))) .1
-
-  pub pattern-is : (p : Scaled) (q : ℕ) → p ≡ Root.parts b → q ≡ Root.digits (given p)
-      → (p .e / 2 - 1) * 2 ^ 52 % 2 ^ 64 + (q + 1) / 2 ≡ Bits.sqrt b
-  unfolding Root.digits
-  pattern-is p q is e =
-      let root : q ≡ isqrt ((p .m + p .m) * 2 ^ (p .e % 2) * 2 ^ 53) = e ∙ ap (λ (z : ℕ). isqrt (z * 2 ^ 53)) (given-is p is) in
-      let own : q ≡ isqrt ((Root.parts b .m + Root.parts b .m) * 2 ^ (Root.parts b .e % 2) * 2 ^ 53) =
-      root ∙ ap (λ (p : Scaled). isqrt ((p .m + p .m) * 2 ^ (p .e % 2) * 2 ^ 53)) is in
-      ap (λ (z : ℕ). z + (q + 1) / 2) (fits-in (p .e) (known p is .e-high))
-      ∙ ap (λ (p : Scaled). (p .e / 2 - 1) * 2 ^ 52 + (q + 1) / 2) is
-      ∙ root-is q own
+  pub pattern-is : (p : Scaled) (r : ℕ) → p ≡ Root.parts b → r ≡ Root.rounded (given p)
+      → (p .e / 2 - 1) * 2 ^ 52 % 2 ^ 64 + r ≡ Bits.sqrt b
+  unfolding Root.rounded Root.digits
+  pattern-is p r is e =
+      let q = isqrt ((Root.parts b .m + Root.parts b .m) * 2 ^ (Root.parts b .e % 2) * 2 ^ 53) in
+      let half = e ∙ ap (λ (z : ℕ). (isqrt (z * 2 ^ 53) + 1) / 2) (given-is p) in
+      ap (λ (z : ℕ). z + r) (fits-in (p .e) (known p is .e-high))
+      ∙ ap (λ (z : ℕ). (p .e / 2 - 1) * 2 ^ 52 + z) half
+      ∙ ap (λ (p : Scaled). (p .e / 2 - 1) * 2 ^ 52 + (isqrt ((p .m + p .m) * 2 ^ (p .e % 2) * 2 ^ 53) + 1) / 2) is
+      ∙ root-is q refl
     where
       fits-in : (e : ℕ) → e ≤ 3069 → (e / 2 - 1) * 2 ^ 52 % 2 ^ 64 ≡ (e / 2 - 1) * 2 ^ 52
       fits-in e l = omega arith

@@ -1,6 +1,7 @@
 -- What proofs need to know of the definitions. Nothing here has to be believed.
 pub mod Isqrt
 pub mod Turns
+pub mod Guess
 pub mod RootAt
 pub mod Root
 pub mod Picked

@@ -1,9 +1,10 @@
--- What the steps of the digit-by-digit root answer: src/root.rt, function by function.
+-- What the steps of the root answer: src/root.rt and src/guess.rt, function by function.
 use Prim.Native.Nat.{ℕ, _+_, _-_, _*_, _/_, _%_, _^_}
 use mathlib.Core.Bool.{cond}
 use lib.Dec.{eqb, leb}
-use lib.Ieee.{size}
+use lib.Ieee.{Float, binary64, ofBits, size}
 use Rattle.floats.specs.F64.{isqrt}
+use Rattle.floats.specs.Ops.{_⊕_, _⊖_, _⊗_, _⊘_}
 use Rattle.floats.specs.declared.root.Scaled.{Scaled}
 use Rattle.floats.specs.declared.root.Turning.{Turning}
 
@@ -26,6 +27,11 @@ unfoldable pub digits : ℕ → ℕ
 unfolding isqrt
 digits n = isqrt (n * 2 ^ 53)
 
+-- the root of n * 2 ^ 51, rounded: half the root of four times as much, and the last digit of that one rounds
+unfoldable pub rounded : ℕ → ℕ
+unfolding digits
+rounded n = (digits n + 1) / 2
+
 -- t, moved up to 53 digits
 unfoldable pub raised : ℕ → Scaled
 unfolding size
@@ -38,3 +44,29 @@ parts b =
     let field = b / 2 ^ 52 in
     let t = b % 2 ^ 52 in
     cond (eqb field 0) (raised t) (record { m = t + 2 ^ 52; e = field + 1023 })
+
+-- ---- the guess
+
+unfoldable pub first : ℕ → ℕ → ℕ
+first m odd =
+    let v = m / 2 ^ 24 in
+    let one = 1112087829 - v * (745034555 - v) / 2 ^ 30 in
+    let two = 244384982 + v * (1469493533 - v) / 2 ^ 29 in
+    let scale = 11528014 + odd * 4775060 in
+    one * two / 2 ^ 27 * scale / 2 ^ 31
+
+-- the numbers are 0.333333333333333 and 1.333333333333337
+abbrev pub near : Float → Float → Float
+near x hi =
+    let third = ofBits binary64 0x3fd5_5555_5555_554f in
+    let more = ofBits binary64 0x3ff5_5555_5555_5566 in
+    let square = hi ⊗ hi in
+    let left = x ⊖ square in
+    hi ⊕ left ⊗ (square ⊕ third ⊗ x) ⊘ (more ⊗ hi ⊗ (square ⊕ x))
+
+unfoldable pub guess : ℕ → ℕ → Float
+unfolding first
+guess m odd =
+    let hi = ofBits binary64 (first m odd * 2 ^ 27 + 0x3fe0_0000_0000_0000) in
+    let x = ofBits binary64 (m + (odd + 1022) * 2 ^ 52) in
+    near x hi

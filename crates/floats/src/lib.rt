@@ -4,6 +4,7 @@ ghost use mathlib.Core.Path.{_≡_};
 ghost use Rattle.floats.specs.F64;
 
 pub mod bits;
+mod guess;
 mod root;
 
 // The magnitude: the sign is cleared.

@@ -1,10 +1,11 @@
-// The square root of a number above zero, digit by digit, with shifts, adding, subtraction and comparison only: a chip that
-// has no 64-bit product works it out as fast as any other.
+// The square root of a number above zero: its digits are guessed, and where the guess is wrong worked out one by one. That plain form
+// takes shifts, adding, subtraction and comparison only: a chip that has no 64-bit product works it out as fast as any other.
 ghost use mathlib.Core.Path.{_≡_};
-ghost use Prim.Native.Nat.{_^_, _<_};
+ghost use Prim.Native.Nat.{_+_, _*_, _^_, _<_};
 ghost use Rattle.floats.specs.Bits;
 ghost use Rattle.floats.specs.Root;
 ghost use Rattle.floats.specs.Laws.Turns.{Room, Sound};
+use super::guess;
 
 // A number above zero taken apart: it is m * 2 ^ (e - 2098), and m has 53 digits.
 pub struct Scaled {
@@ -77,6 +78,36 @@ fn digits(n: u64) -> u64
     s9.root
 }
 
+// The root of n * 2 ^ 51, rounded by its last digit.
+fn plain(n: u64) -> u64
+    requires { ⌜ n < 2 ^ 55 ⌝ }
+    ensures { λ r. ⌜ r ≡ Root.rounded n ⌝ }
+{
+    (digits(n) + 1) >> 1
+}
+
+// The root of m * 2 ^ (odd + 52), rounded: a guess, where the test says that it is right, and else what its digits one by one say.
+fn rounded(m: u64, odd: u64) -> u64
+    requires { ⌜ m < 2 ^ 53 ⌝ ∗ ⌜ odd < 2 ⌝ }
+    ensures { λ r. ⌜ r ≡ Root.rounded ((m + m) * 2 ^ odd) ⌝ }
+{
+    let n: u64 = (m + m) << odd;
+    let g: f64 = guess::guess(m, odd);
+    // A NaN has no digits that can be read.
+    if g != g {
+        return plain(n);
+    }
+    // Where g is from 1 to 2, what its pattern has above that of 0.5 are its digits.
+    let s: u64 = std::num::wrapping_sub_u64(f64::to_bits(g), 0x3fe0_0000_0000_0000);
+    if s >= 0x20_0000_0000_0000 {
+        return plain(n);
+    }
+    if guess::fits(n, s) {
+        return s;
+    }
+    plain(n)
+}
+
 // The digits of a subnormal number, moved up to 53 places.
 fn raised(t: u64) -> Scaled
     requires { ⌜ 0 < t ⌝ ∗ ⌜ t < 2 ^ 52 ⌝ }
@@ -120,7 +151,5 @@ pub fn sqrt(b: u64) -> u64
     let e: u64 = p.e;
     let half: u64 = e >> 1;
     let odd: u64 = e - half - half;
-    let n: u64 = (m + m) << odd;
-    let q: u64 = digits(n);
-    ((half - 1) << 52) + ((q + 1) >> 1)
+    ((half - 1) << 52) + rounded(m, odd)
 }
