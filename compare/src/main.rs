@@ -41,7 +41,11 @@ usage: compare check [COUNT [SEED]]  compare each float function on COUNT random
                                      function of the plane on a quarter as many accepted ones, an eighth of all bit
                                      patterns, and some beside the limits; each kernel and the pair call until twice
                                      as many were answered, and on some that are refused; listings of whole paths
-                                     until as many pairs were looked at, and on chosen ones
+                                     until as many pairs were looked at, and on chosen ones;
+                                     then as compare edges, with a tenth of COUNT
+       compare edges [COUNT [SEED]]  compare the kernels, the pair call and listings on COUNT inputs an edge (default 1048576,
+                                     seed 1): where two numbers that are compared, by the Rust or by a shortcut of ours,
+                                     are all but equal
        compare search [COUNT [SEED]] try to break what is promised of lines on the grid, on COUNT pairs (default 25165824,
                                      seed 1)
        compare texts PROGRAM [COUNT [SEED]]
@@ -52,6 +56,7 @@ usage: compare check [COUNT [SEED]]  compare each float function on COUNT random
        compare bench                 nanoseconds a call, ours beside the machine's own and the Rust's";
 
 const COUNT: u64 = 10 << 20;
+const ON_AN_EDGE: u64 = 1 << 20;
 const SEARCHED: u64 = 24 << 20;
 const TEXTS: u64 = 3072;
 const SEED: u64 = 1;
@@ -61,6 +66,7 @@ fn main() -> ExitCode {
     let words: Vec<&str> = words.iter().map(String::as_str).collect();
     let done = match words[..] {
         ["check", ref numbers @ ..] => check(numbers),
+        ["edges", ref numbers @ ..] => edges(numbers),
         ["search", ref numbers @ ..] => search(numbers),
         ["texts", program, ref numbers @ ..] => texts(program, numbers),
         ["layouts", folder] => layouts(Path::new(folder)),
@@ -91,6 +97,14 @@ fn check(numbers: &[&str]) -> Result<(), String> {
     match differences {
         0 => Ok(()),
         _ => Err(format!("{differences} differences")),
+    }
+}
+
+fn edges(numbers: &[&str]) -> Result<(), String> {
+    let (count, seed) = count_and_seed(numbers, ON_AN_EDGE)?;
+    match check_edges(count, seed) {
+        0 => Ok(()),
+        differences => Err(format!("{differences} differences")),
     }
 }
 
@@ -130,10 +144,22 @@ fn check_text(count: u64, seed: u64) -> u64 {
         + plane::check(count, seed)
         + crossing::check(count, seed)
         + listings::check(count, seed)
+        + check_edges(count / 10, seed)
+}
+
+#[cfg(feature = "rust-text")]
+fn check_edges(count: u64, seed: u64) -> u64 {
+    crossing::check_edges(count, seed)
 }
 
 #[cfg(not(feature = "rust-text"))]
 fn check_text(_count: u64, _seed: u64) -> u64 {
+    println!("rust text not compiled in: nothing was compared with it");
+    0
+}
+
+#[cfg(not(feature = "rust-text"))]
+fn check_edges(_count: u64, _seed: u64) -> u64 {
     println!("rust text not compiled in: nothing was compared with it");
     0
 }
