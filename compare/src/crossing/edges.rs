@@ -236,7 +236,7 @@ impl Run<'_> {
         let inputs = if refuses {
             &inputs[turn / 2 % 2..][..1]
         } else {
-            &inputs[..3]
+            &inputs[..4]
         };
         let (pairs, wrong) = listings::wrong_on_pairs(inputs, turn % 2 == 0);
         self.listings += 1;

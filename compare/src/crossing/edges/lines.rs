@@ -303,10 +303,17 @@ fn hardly_usual(which: usize, rng: &mut Rng) -> Way {
     Way::new(numbers, place, length / 8.0)
 }
 
+/// An epsilon hardly of a usual size, beside a segment that mostly is so too: of length 2^-5, or the next greater ones, the largest
+/// usual epsilon reaches just as far as a shortcut takes for unclear.
 fn by_size_of_epsilon(exponent: i32, rng: &mut Rng) -> Way {
-    let ways = ways(rng);
+    let mut ways = ways(rng);
     let epsilon = two_to(exponent);
     let which = rng.below(2) as usize;
+    if rng.one_in(2) {
+        let longer = rng.pick(&[0.0, 0.0, two_to(-50), two_to(-30)]);
+        ways.from = near(Point::default(), rng.pick(&[0.0, 0.1]), rng);
+        ways.ways[which] = Point::default().along(unit(rng), two_to(-5) * (1.0 + longer));
+    }
     let t = deciding_t(ways.ways[which].length(), epsilon, rng);
     let numbers = ways.crossed(with_other(which, t, rng), epsilon, rng);
     Way::in_parts(numbers, EPSILON, 1.0 / 64.0)
