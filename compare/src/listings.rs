@@ -13,6 +13,7 @@ pub mod model;
 mod rooms;
 mod score;
 pub mod shapes;
+pub mod sheets;
 mod sites;
 
 pub use bench::run as bench;
