@@ -1,11 +1,12 @@
-//! Nanoseconds a call, ours beside the machine's own or the Rust's, through one driver and on the same inputs: by turns, the least
-//! of each over some rounds.
+//! Nanoseconds of processor time a call, ours beside the machine's own or the Rust's, through one driver and on the same inputs: by
+//! turns, the least of each over some rounds.
 
 use std::hint::black_box;
-use std::time::{Duration, Instant};
+use std::time::Duration;
 
 use crate::capi::{vj_abs, vj_max, vj_min, vj_sqrt};
 use crate::classes::{magnitude, Class};
+use crate::clock;
 use crate::rng::Rng;
 
 const PAIRS: usize = 4096;
@@ -21,7 +22,6 @@ pub fn run() {
         Row::new(name).of(PAIRS as u64).timed(1 << 15, ours, other);
     };
 
-    println!("ns a call or a pair, the least of {ROUNDS} rounds or more by turns");
     head("float functions on random normals, beside the machine's");
     timed(
         "sqrt, none waits for another",
@@ -97,16 +97,16 @@ impl Row<'_> {
     pub fn timed(self, a_round: u64, mut ours: impl FnMut(), mut other: impl FnMut()) {
         let times = (a_round / self.on).max(1);
         let one = |pass: &mut dyn FnMut()| {
-            let start = Instant::now();
+            let start = clock::now();
             for _ in 0..times {
                 pass();
             }
-            start.elapsed().as_nanos() as f64 / (times * self.on) as f64
+            (clock::now() - start).as_nanos() as f64 / (times * self.on) as f64
         };
         let mut least = [f64::INFINITY; 2];
-        let start = Instant::now();
+        let start = clock::now();
         let mut rounds = 0;
-        while rounds < ROUNDS || start.elapsed() < SPENT {
+        while rounds < ROUNDS || clock::now() - start < SPENT {
             rounds += 1;
             least[0] = least[0].min(one(&mut ours));
             least[1] = least[1].min(one(&mut other));

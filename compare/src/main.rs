@@ -5,6 +5,7 @@ mod answer;
 mod bench;
 mod capi;
 mod classes;
+mod clock;
 #[cfg(feature = "rust-text")]
 mod crossing;
 mod expected;
@@ -53,13 +54,15 @@ usage: compare check [COUNT [SEED]]  compare each float function on COUNT random
                                      form and damaged, and on small ones with every damage of a byte
        compare layouts FOLDER        write the model's output NAME.out for each text NAME.txt there
        compare record FILE           write the recorded list for the program replay
-       compare bench                 nanoseconds a call, ours beside the machine's own and the Rust's";
+       compare bench [PART...]       nanoseconds of processor time a call or a pair, ours beside the machine's own and the Rust's,
+                                     the least of five rounds or more by turns; all parts, or some of: floats calls listings";
 
 const COUNT: u64 = 10 << 20;
 const ON_AN_EDGE: u64 = 1 << 20;
 const SEARCHED: u64 = 24 << 20;
 const TEXTS: u64 = 3072;
 const SEED: u64 = 1;
+const BENCHES: [&str; 3] = ["floats", "calls", "listings"];
 
 fn main() -> ExitCode {
     let words: Vec<String> = env::args().skip(1).collect();
@@ -71,15 +74,8 @@ fn main() -> ExitCode {
         ["texts", program, ref numbers @ ..] => texts(program, numbers),
         ["layouts", folder] => layouts(Path::new(folder)),
         ["record", file] => record(file),
-        ["bench"] => {
-            bench::run();
-            #[cfg(feature = "rust-text")]
-            {
-                crossing::bench();
-                listings::bench();
-            }
-            Ok(())
-        }
+        ["bench"] => time(&BENCHES),
+        ["bench", ref parts @ ..] => time(parts),
         _ => Err(USAGE.to_string()),
     };
     match done {
@@ -124,6 +120,18 @@ fn texts(program: &str, numbers: &[&str]) -> Result<(), String> {
     }
 }
 
+fn time(parts: &[&str]) -> Result<(), String> {
+    for part in parts {
+        match *part {
+            "floats" => bench::run(),
+            "calls" => time_calls(),
+            "listings" => time_listings(),
+            _ => return Err(USAGE.to_string()),
+        }
+    }
+    Ok(())
+}
+
 fn count_and_seed(numbers: &[&str], count: u64) -> Result<(u64, u64), String> {
     let number = |at: usize, default: u64| match numbers.get(at) {
         Some(word) => word
@@ -163,6 +171,22 @@ fn check_edges(_count: u64, _seed: u64) -> u64 {
     println!("rust text not compiled in: nothing was compared with it");
     0
 }
+
+#[cfg(feature = "rust-text")]
+fn time_calls() {
+    crossing::bench();
+}
+
+#[cfg(feature = "rust-text")]
+fn time_listings() {
+    listings::bench();
+}
+
+#[cfg(not(feature = "rust-text"))]
+fn time_calls() {}
+
+#[cfg(not(feature = "rust-text"))]
+fn time_listings() {}
 
 #[cfg(feature = "rust-text")]
 fn check_program(program: &str, count: u64, seed: u64) -> Result<u64, String> {
