@@ -1,87 +1,142 @@
-//! Nanoseconds a call, ours beside the machine's own, through one driver and on the same inputs.
+//! Nanoseconds of processor time a call, ours beside the machine's own or the Rust's, through one driver and on the same inputs: by
+//! turns, the least of each over some rounds.
 
 use std::hint::black_box;
-use std::time::Instant;
+use std::time::Duration;
 
 use crate::capi::{vj_abs, vj_max, vj_min, vj_sqrt};
 use crate::classes::{magnitude, Class};
+use crate::clock;
 use crate::rng::Rng;
 
 const PAIRS: usize = 4096;
-const PASSES: usize = 64;
-const ROUNDS: usize = 9;
+/// Rounds are short, so that both sides find the machine in the same state: at least so many, and more while there is time.
+const ROUNDS: usize = 5;
+const SPENT: Duration = Duration::from_millis(250);
 
 pub fn run() {
     let mut rng = Rng::new(0xbe7c);
     let mut normal = || f64::from_bits(magnitude(Class::Normal, &mut rng));
     let pairs: Vec<(f64, f64)> = (0..PAIRS).map(|_| (normal(), normal())).collect();
+    let timed = |name: &str, ours: &dyn Fn(), other: &dyn Fn()| {
+        Row::new(name).of(PAIRS as u64).timed(1 << 15, ours, other);
+    };
 
+    head("float functions on random normals, beside the machine's");
+    timed(
+        "sqrt, none waits for another",
+        &|| throughput(&pairs, |x, _| vj_sqrt(x)),
+        &|| throughput(&pairs, |x, _| machine_sqrt(x)),
+    );
+    timed(
+        "sqrt, each waits for the last",
+        &|| latency(&pairs, |x, _| vj_sqrt(x)),
+        &|| latency(&pairs, |x, _| machine_sqrt(x)),
+    );
+    timed("abs", &|| throughput(&pairs, |x, _| vj_abs(x)), &|| {
+        throughput(&pairs, |x, _| machine_abs(x))
+    });
+    timed("min", &|| throughput(&pairs, |x, y| vj_min(x, y)), &|| {
+        throughput(&pairs, machine_min)
+    });
+    timed("max", &|| throughput(&pairs, |x, y| vj_max(x, y)), &|| {
+        throughput(&pairs, machine_max)
+    });
+}
+
+/// The head of a part of the table.
+pub fn head(part: &str) {
     println!(
-        "ns a call on random normals, best of {ROUNDS} rounds of {} calls",
-        PAIRS * PASSES
-    );
-    println!("{:28} {:>9} {:>9} {:>9}", "", "ours", "machine", "ratio");
-    row(
-        "sqrt throughput",
-        throughput(&pairs, |x, _| vj_sqrt(x)),
-        throughput(&pairs, |x, _| machine_sqrt(x)),
-    );
-    row(
-        "sqrt latency",
-        latency(&pairs, |x, _| vj_sqrt(x)),
-        latency(&pairs, |x, _| machine_sqrt(x)),
-    );
-    row(
-        "abs throughput",
-        throughput(&pairs, |x, _| vj_abs(x)),
-        throughput(&pairs, |x, _| machine_abs(x)),
-    );
-    row(
-        "min throughput",
-        throughput(&pairs, |x, y| vj_min(x, y)),
-        throughput(&pairs, machine_min),
-    );
-    row(
-        "max throughput",
-        throughput(&pairs, |x, y| vj_max(x, y)),
-        throughput(&pairs, machine_max),
+        "{part:62} {:>8} {:>9} {:>8} {:>8} {:>8} {:>6}",
+        "epsilon", "on", "meet", "ours", "other", "ratio"
     );
 }
 
-pub fn row(name: &str, ours: f64, other: f64) {
-    println!("{name:28} {ours:9.2} {other:9.2} {:9.1}", ours / other);
+/// A line of the table.
+pub struct Row<'a> {
+    name: &'a str,
+    epsilon: String,
+    on: u64,
+    meet: String,
+}
+
+impl Row<'_> {
+    pub fn new(name: &str) -> Row<'_> {
+        Row {
+            name,
+            epsilon: String::new(),
+            on: 0,
+            meet: String::new(),
+        }
+    }
+
+    /// On how many calls or pairs.
+    pub fn of(self, on: u64) -> Self {
+        Row { on, ..self }
+    }
+
+    /// How many of them meet.
+    #[cfg(feature = "rust-text")]
+    pub fn meeting(self, count: usize) -> Self {
+        let meet = count.to_string();
+        Row { meet, ..self }
+    }
+
+    #[cfg(feature = "rust-text")]
+    pub fn epsilon(self, epsilon: f64) -> Self {
+        let exact = epsilon == 1.0 / 1024.0;
+        let epsilon = if exact {
+            "1/1024".to_string()
+        } else {
+            format!("{epsilon:e}")
+        };
+        Row { epsilon, ..self }
+    }
+
+    /// Times both by turns, each so often that a round has at least so many calls or pairs, and prints the line.
+    pub fn timed(self, a_round: u64, mut ours: impl FnMut(), mut other: impl FnMut()) {
+        let times = (a_round / self.on).max(1);
+        let one = |pass: &mut dyn FnMut()| {
+            let start = clock::now();
+            for _ in 0..times {
+                pass();
+            }
+            (clock::now() - start).as_nanos() as f64 / (times * self.on) as f64
+        };
+        let mut least = [f64::INFINITY; 2];
+        let start = clock::now();
+        let mut rounds = 0;
+        while rounds < ROUNDS || clock::now() - start < SPENT {
+            rounds += 1;
+            least[0] = least[0].min(one(&mut ours));
+            least[1] = least[1].min(one(&mut other));
+        }
+        let [ours, other] = least;
+        println!(
+            "{:62} {:>8} {:9} {:>8} {ours:8.2} {other:8.2} {:6.2}",
+            self.name,
+            self.epsilon,
+            self.on,
+            self.meet,
+            ours / other
+        );
+    }
 }
 
 /// Calls that do not wait for each other.
-fn throughput(pairs: &[(f64, f64)], call: impl Fn(f64, f64) -> f64) -> f64 {
-    best(PAIRS, || {
-        black_box(
-            pairs
-                .iter()
-                .fold(0, |all, &(x, y)| all ^ call(x, y).to_bits()),
-        );
-    })
+fn throughput(pairs: &[(f64, f64)], call: impl Fn(f64, f64) -> f64) {
+    black_box(
+        pairs
+            .iter()
+            .fold(0, |all, &(x, y)| all ^ call(x, y).to_bits()),
+    );
 }
 
 /// Each call waits for the one before: its answer's last bit goes into the operand's.
-fn latency(pairs: &[(f64, f64)], call: impl Fn(f64, f64) -> f64) -> f64 {
-    best(PAIRS, || {
-        black_box(pairs.iter().fold(0, |last, &(x, y)| {
-            call(f64::from_bits(x.to_bits() ^ (last & 1)), y).to_bits()
-        }));
-    })
-}
-
-/// Nanoseconds a call of a pass of so many, in the best of some rounds.
-pub fn best(calls: usize, mut pass: impl FnMut()) -> f64 {
-    let round = |_| {
-        let start = Instant::now();
-        for _ in 0..PASSES {
-            pass();
-        }
-        start.elapsed().as_nanos() as f64 / (PASSES * calls) as f64
-    };
-    (0..ROUNDS).map(round).fold(f64::INFINITY, f64::min)
+fn latency(pairs: &[(f64, f64)], call: impl Fn(f64, f64) -> f64) {
+    black_box(pairs.iter().fold(0, |last, &(x, y)| {
+        call(f64::from_bits(x.to_bits() ^ (last & 1)), y).to_bits()
+    }));
 }
 
 // The machine's own, called and not put in place, as ours are.

@@ -2,12 +2,14 @@
 
 mod bench;
 mod calls;
+mod edges;
 pub mod faults;
 mod limits;
 mod score;
 
 pub use bench::run as bench;
 pub use calls::{of_segments, Call, CALLS, REFUSED};
+pub use edges::check as check_edges;
 pub use limits::specials;
 use score::Score;
 pub use score::NO_ROOM;

@@ -13,6 +13,7 @@ pub mod model;
 mod rooms;
 mod score;
 pub mod shapes;
+pub mod sheets;
 mod sites;
 
 pub use bench::run as bench;
@@ -23,6 +24,7 @@ use score::{Known, Score};
 
 use crate::inputs::values::epsilon;
 use crate::inputs::{Kind, Pair, Point, Vertex};
+use crate::numbers::{hex, Numbers};
 use crate::rng::Rng;
 
 /// Whether each of two paths is closed.
@@ -58,6 +60,31 @@ pub fn check(count: u64, seed: u64) -> u64 {
         run.largest();
     }
     run.scores.iter().map(Score::report).sum()
+}
+
+/// Lists pairs of segments, given as the pair call takes them, with the first one's epsilon: all first segments as one path and all
+/// second ones as another, or all in one path; in exactly the room that it needs. Answers how many pairs were looked at, and what is not
+/// as the model has it, if anything is.
+pub fn wrong_on_pairs(pairs: &[Numbers], in_one: bool) -> (u64, Option<String>) {
+    let vertices = |places: [usize; 2]| -> Vec<Vertex> {
+        let vertex = |n: &Numbers, i: usize| shapes::vertex(n[i], n[i + 1], n[i + 2]);
+        let segment = |n| places.map(|i| vertex(n, i));
+        pairs.iter().flat_map(segment).collect()
+    };
+    let (mut first, mut second) = (vertices([0, 3]), vertices([6, 9]));
+    if in_one {
+        first.append(&mut second);
+    }
+    let layout = Layout {
+        first: Drawn::new(&first, false),
+        second: Drawn::new(&second, false),
+        epsilon: pairs[0][12],
+    };
+    let call = if in_one { Call::Own } else { Call::Mutual };
+    let known = Known::new(&layout, call);
+    let wrong = known.wrong(Room::of(known.rows()), Old::Nans);
+    let on = |what| format!("{what}, on paths from {}", hex(&pairs[0]));
+    (known.pairs(), wrong.map(on))
 }
 
 struct Run {

@@ -5,6 +5,7 @@ mod answer;
 mod bench;
 mod capi;
 mod classes;
+mod clock;
 #[cfg(feature = "rust-text")]
 mod crossing;
 mod expected;
@@ -41,7 +42,11 @@ usage: compare check [COUNT [SEED]]  compare each float function on COUNT random
                                      function of the plane on a quarter as many accepted ones, an eighth of all bit
                                      patterns, and some beside the limits; each kernel and the pair call until twice
                                      as many were answered, and on some that are refused; listings of whole paths
-                                     until as many pairs were looked at, and on chosen ones
+                                     until as many pairs were looked at, and on chosen ones;
+                                     then as compare edges, with a tenth of COUNT
+       compare edges [COUNT [SEED]]  compare the kernels, the pair call and listings on COUNT inputs an edge (default 1048576,
+                                     seed 1): where two numbers that are compared, by the Rust or by a shortcut of ours,
+                                     are all but equal
        compare search [COUNT [SEED]] try to break what is promised of lines on the grid, on COUNT pairs (default 25165824,
                                      seed 1)
        compare texts PROGRAM [COUNT [SEED]]
@@ -49,31 +54,28 @@ usage: compare check [COUNT [SEED]]  compare each float function on COUNT random
                                      form and damaged, and on small ones with every damage of a byte
        compare layouts FOLDER        write the model's output NAME.out for each text NAME.txt there
        compare record FILE           write the recorded list for the program replay
-       compare bench                 nanoseconds a call, ours beside the machine's own and the Rust's";
+       compare bench [PART...]       nanoseconds of processor time a call or a pair, ours beside the machine's own and the Rust's,
+                                     the least of five rounds or more by turns; all parts, or some of: floats calls listings";
 
 const COUNT: u64 = 10 << 20;
+const ON_AN_EDGE: u64 = 1 << 20;
 const SEARCHED: u64 = 24 << 20;
 const TEXTS: u64 = 3072;
 const SEED: u64 = 1;
+const BENCHES: [&str; 3] = ["floats", "calls", "listings"];
 
 fn main() -> ExitCode {
     let words: Vec<String> = env::args().skip(1).collect();
     let words: Vec<&str> = words.iter().map(String::as_str).collect();
     let done = match words[..] {
         ["check", ref numbers @ ..] => check(numbers),
+        ["edges", ref numbers @ ..] => edges(numbers),
         ["search", ref numbers @ ..] => search(numbers),
         ["texts", program, ref numbers @ ..] => texts(program, numbers),
         ["layouts", folder] => layouts(Path::new(folder)),
         ["record", file] => record(file),
-        ["bench"] => {
-            bench::run();
-            #[cfg(feature = "rust-text")]
-            {
-                crossing::bench();
-                listings::bench();
-            }
-            Ok(())
-        }
+        ["bench"] => time(&BENCHES),
+        ["bench", ref parts @ ..] => time(parts),
         _ => Err(USAGE.to_string()),
     };
     match done {
@@ -94,6 +96,14 @@ fn check(numbers: &[&str]) -> Result<(), String> {
     }
 }
 
+fn edges(numbers: &[&str]) -> Result<(), String> {
+    let (count, seed) = count_and_seed(numbers, ON_AN_EDGE)?;
+    match check_edges(count, seed) {
+        0 => Ok(()),
+        differences => Err(format!("{differences} differences")),
+    }
+}
+
 fn search(numbers: &[&str]) -> Result<(), String> {
     let (count, seed) = count_and_seed(numbers, SEARCHED)?;
     match search::run(count, seed) {
@@ -108,6 +118,18 @@ fn texts(program: &str, numbers: &[&str]) -> Result<(), String> {
         0 => Ok(()),
         differences => Err(format!("{differences} differences")),
     }
+}
+
+fn time(parts: &[&str]) -> Result<(), String> {
+    for part in parts {
+        match *part {
+            "floats" => bench::run(),
+            "calls" => time_calls(),
+            "listings" => time_listings(),
+            _ => return Err(USAGE.to_string()),
+        }
+    }
+    Ok(())
 }
 
 fn count_and_seed(numbers: &[&str], count: u64) -> Result<(u64, u64), String> {
@@ -130,6 +152,12 @@ fn check_text(count: u64, seed: u64) -> u64 {
         + plane::check(count, seed)
         + crossing::check(count, seed)
         + listings::check(count, seed)
+        + check_edges(count / 10, seed)
+}
+
+#[cfg(feature = "rust-text")]
+fn check_edges(count: u64, seed: u64) -> u64 {
+    crossing::check_edges(count, seed)
 }
 
 #[cfg(not(feature = "rust-text"))]
@@ -137,6 +165,28 @@ fn check_text(_count: u64, _seed: u64) -> u64 {
     println!("rust text not compiled in: nothing was compared with it");
     0
 }
+
+#[cfg(not(feature = "rust-text"))]
+fn check_edges(_count: u64, _seed: u64) -> u64 {
+    println!("rust text not compiled in: nothing was compared with it");
+    0
+}
+
+#[cfg(feature = "rust-text")]
+fn time_calls() {
+    crossing::bench();
+}
+
+#[cfg(feature = "rust-text")]
+fn time_listings() {
+    listings::bench();
+}
+
+#[cfg(not(feature = "rust-text"))]
+fn time_calls() {}
+
+#[cfg(not(feature = "rust-text"))]
+fn time_listings() {}
 
 #[cfg(feature = "rust-text")]
 fn check_program(program: &str, count: u64, seed: u64) -> Result<u64, String> {

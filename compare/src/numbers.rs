@@ -14,8 +14,12 @@ pub struct Numbers {
 impl Numbers {
     /// The same but for the number at `place`.
     pub fn with(mut self, place: usize, number: f64) -> Numbers {
-        self.values[place] = number;
+        self.put(place, number);
         self
+    }
+
+    pub fn put(&mut self, place: usize, number: f64) {
+        self.values[place] = number;
     }
 }
 

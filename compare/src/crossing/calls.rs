@@ -167,8 +167,40 @@ fn pair(n: &[f64]) -> PlineSegIntr<f64> {
     pline_seg_intr(vertex(0), vertex(3), vertex(6), vertex(9), n[12])
 }
 
-fn at(n: &[f64], i: usize) -> Vector2 {
+pub fn at(n: &[f64], i: usize) -> Vector2 {
     Vector2::new(n[i], n[i + 1])
+}
+
+/// The kernel that a pair of segments comes down to, by its number in the list, and its operands. A kernel's operands are so already.
+pub fn kernel_of(n: &[f64]) -> (usize, Numbers) {
+    let line = |bulge: f64| bulge.abs() < 1e-8;
+    let circle = |i: usize| {
+        let vertex = |i: usize| PlineVertex::new(n[i], n[i + 1], n[i + 2]);
+        let (radius, center) = seg_arc_radius_and_center(vertex(i), vertex(i + 3));
+        [radius, center.x, center.y]
+    };
+    let with_circle = |line: usize, arc: usize| {
+        let [radius, x, y] = circle(arc);
+        let (from, to) = (at(n, line), at(n, line + 3));
+        [from.x, from.y, to.x, to.y, radius, x, y, n[12]].into()
+    };
+    match n.len() {
+        9 => (0, all::<9>(n).into()),
+        8 => (1, all::<8>(n).into()),
+        7 => (2, all::<7>(n).into()),
+        _ if line(n[2]) && line(n[8]) => {
+            let [v1, v2, u1, u2] = [0, 3, 6, 9].map(|i| at(n, i));
+            let lines = [v1.x, v1.y, v2.x, v2.y, u1.x, u1.y, u2.x, u2.y, n[12]];
+            (0, lines.into())
+        }
+        _ if line(n[2]) => (1, with_circle(0, 6)),
+        _ if line(n[8]) => (1, with_circle(6, 0)),
+        _ => {
+            let [a, b, c] = circle(0);
+            let [d, e, f] = circle(6);
+            (2, [a, b, c, d, e, f, n[12]].into())
+        }
+    }
 }
 
 fn all<const N: usize>(n: &[f64]) -> [f64; N] {

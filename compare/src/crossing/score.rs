@@ -1,5 +1,7 @@
 //! Compares one call after the other, and counts what was met: answers by class, refusals by number, and differences.
 
+use std::fmt::Display;
+
 use super::calls::{Call, REFUSED};
 use crate::lent::Lent;
 use crate::numbers::{hex, same, Numbers};
@@ -21,7 +23,7 @@ pub struct Score {
 }
 
 impl Score {
-    pub fn new(call: &'static Call, of: &str) -> Score {
+    pub fn new(call: &'static Call, of: impl Display) -> Score {
         Score {
             name: format!("{}{of}", call.name),
             call,
@@ -37,6 +39,17 @@ impl Score {
     /// Makes the call on these numbers, ours and the Rust's, with a lent slice of the next length.
     pub fn compare(&mut self, numbers: &Numbers) {
         let room = self.room();
+        self.compare_in(room, numbers);
+    }
+
+    /// The same with a slice that an answer fits into. Says whether it is answered.
+    pub fn in_full(&mut self, numbers: &Numbers) -> bool {
+        let before = self.answered;
+        self.compare_in(PLACES, numbers);
+        self.answered > before
+    }
+
+    fn compare_in(&mut self, room: usize, numbers: &Numbers) {
         let mut lent = Lent::new(room);
         let told = (self.call.ours)(numbers, lent.slice());
         let right = if room < PLACES {
@@ -87,16 +100,29 @@ impl Score {
         );
     }
 
+    pub fn differences(&self) -> u64 {
+        self.differences
+    }
+
+    /// Whether the call was made at all.
+    pub fn is_met(&self) -> bool {
+        self.answered + self.refusals.iter().sum::<u64>() > 0
+    }
+
+    /// The call's answers by class, those that came up.
+    pub fn met(&self) -> String {
+        format!("{} ({})", self.call.name, self.classes(1))
+    }
+
+    fn classes(&self, least: u64) -> String {
+        let named = |(name, count): (&&str, &u64)| format!("{name} {count}");
+        let classes = self.call.classes.iter().zip(&self.classes);
+        let classes = classes.filter(|(_, count)| **count >= least);
+        classes.map(named).collect::<Vec<String>>().join(", ")
+    }
+
     /// Prints the counts, and answers how many differences there were.
     pub fn report(&self) -> u64 {
-        let named = |(name, count): (&&str, &u64)| format!("{name} {count}");
-        let classes: Vec<String> = self
-            .call
-            .classes
-            .iter()
-            .zip(&self.classes)
-            .map(named)
-            .collect();
         let refusals: Vec<String> = (1..)
             .zip(&self.refusals[1..])
             .filter(|(_, count)| **count > 0)
@@ -106,7 +132,7 @@ impl Score {
             "{}: {} answered ({}), refused {}, {} without room, {} differences",
             self.name,
             self.answered,
-            classes.join(", "),
+            self.classes(0),
             refusals.join(", "),
             self.no_room,
             self.differences

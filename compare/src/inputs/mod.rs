@@ -2,7 +2,7 @@
 //!
 //! They use no function whose last bit a machine may choose (no sine), so that a seed gives the same inputs everywhere.
 
-mod shapes;
+pub mod shapes;
 pub mod values;
 
 use crate::classes::{magnitude, signed, CLASSES};

@@ -30,7 +30,7 @@ pub fn draw(rng: &mut Rng) -> Pair {
 }
 
 /// The same segment, or the same run from its other end. The last bulge is nobody's.
-fn either_way(s: Segment, rng: &mut Rng) -> Segment {
+pub fn either_way(s: Segment, rng: &mut Rng) -> Segment {
     let unused = bulge(rng);
     if rng.one_in(2) {
         segment(s.from.at, s.to.at, s.from.bulge, unused)
@@ -51,7 +51,8 @@ fn arc(from: Point, to: Point, bulge: f64) -> Segment {
     segment(from, to, bulge, 0.0)
 }
 
-fn line(from: Point, to: Point, rng: &mut Rng) -> Segment {
+/// With a bulge that makes a line.
+pub fn line(from: Point, to: Point, rng: &mut Rng) -> Segment {
     segment(from, to, line_bulge(rng), 0.0)
 }
 
@@ -74,7 +75,7 @@ fn on_grid(rng: &mut Rng) -> Segment {
 }
 
 /// A point near `center`.
-fn near(center: Point, size: f64, rng: &mut Rng) -> Point {
+pub fn near(center: Point, size: f64, rng: &mut Rng) -> Point {
     Point {
         x: center.x + rng.between(-size, size),
         y: center.y + rng.between(-size, size),
@@ -158,9 +159,9 @@ fn through(epsilon: f64, rng: &mut Rng) -> (Segment, Segment) {
     (v, u)
 }
 
-struct Circle {
-    center: Point,
-    radius: f64,
+pub struct Circle {
+    pub center: Point,
+    pub radius: f64,
 }
 
 impl Circle {
@@ -174,12 +175,13 @@ impl Circle {
         }
     }
 
-    fn at(&self, way: Point) -> Point {
+    /// The circle's point in this direction from the centre, which has length 1.
+    pub fn at(&self, way: Point) -> Point {
         self.center.along(way, self.radius)
     }
 
     /// The shorter arc between two ways from the centre.
-    fn arc(&self, from: Point, to: Point) -> Segment {
+    pub fn arc(&self, from: Point, to: Point) -> Segment {
         let half = from.to(to).length() / 2.0; // the sine of half the sweep
         let bulge = half / (1.0 + (1.0 - half * half).max(0.0).sqrt());
         let left = from.x * to.y - from.y * to.x >= 0.0;
@@ -193,7 +195,7 @@ impl Circle {
 }
 
 /// A way of length 1, now and then along an axis.
-fn unit(rng: &mut Rng) -> Point {
+pub fn unit(rng: &mut Rng) -> Point {
     if rng.one_in(4) {
         let (x, y) = rng.pick(&[(1.0, 0.0), (0.0, 1.0), (-1.0, 0.0), (0.0, -1.0)]);
         return Point { x, y };

@@ -1,68 +1,131 @@
 //! Nanoseconds a pair of whole listings: ours beside a plain loop in Rust with the same checks, on the same layouts, by turns.
 
 use std::hint::black_box;
-use std::time::Instant;
 
 use cavalier_contours::polyline::{pline_seg_intr, PlineSegIntr, PlineVertex};
 
 use super::layout::{ours, Call, Drawn, Layout};
 use super::model::{Listed, Path, Row};
-use super::shapes::{coil, placed, pocket, short_steps, to_and_fro};
+use super::shapes::{coil, on_grid, placed, pocket};
+use super::sheets::{Sheet, EPSILONS, SHEETS};
+use crate::bench::{self, head};
 use crate::capi::Rows;
 use crate::crossing::REFUSED;
 use crate::inputs::{Point, Vertex};
 use crate::numbers::same;
 use crate::rng::Rng;
 
-const RUNS: usize = 3;
-/// A listing of fewer pairs than this is made so often that a run has as many.
-const PAIRS_A_RUN: u64 = 1 << 20;
-/// Of 64, 256, 1,024 and 4,096 segments.
-const SIDES: [usize; 4] = [8, 16, 32, 64];
+/// A listing of fewer pairs than this is made so often that a round has as many.
+const A_ROUND: u64 = 1 << 17;
+/// Where the epsilon matters little.
 const EPSILON: f64 = 1e-5;
 
 pub fn run() {
     let mut rng = Rng::new(0xbe7c);
-    println!("whole listings, ns a pair, the least of {RUNS} runs by turns");
-    println!(
-        "{:36} {:>9} {:>8} {:>9} {:>9} {:>9}",
-        "", "pairs", "rows", "ours", "the Rust", "ratio"
-    );
-    for (name, bulged) in [("lines", false), ("arcs", true)] {
-        for side in SIDES {
-            let mut one = |off: f64| {
-                let path = to_and_fro(side, off, bulged, &mut rng);
-                Drawn::new(&path, true)
-            };
-            let layout = beside(one(0.0), one(0.5));
-            let size = side * side;
-            timed(&format!("{size} {name} by {size}"), &layout, Call::Mutual);
+    head("a pair of a listing of 1,024 by 1,024, checks negligible");
+    for sheet in &SHEETS {
+        let layout = of_sheet(sheet, 1024, &mut rng);
+        for epsilon in EPSILONS {
+            timed(sheet.name, &layout, epsilon, Call::Mutual);
         }
     }
-    let steps = short_steps(4096);
-    let moved = |path: &[Vertex], x: f64, y: f64| placed(path, (1.0, 0.0), 1.0, Point { x, y });
-    let second = Drawn::new(&moved(&steps, 20.0, 5.0), true);
-    let layout = beside(Drawn::new(&steps, true), second);
-    timed("4096 short steps of coils", &layout, Call::Mutual);
+    let layout = anywhere(&mut rng);
+    timed(
+        "line and line, anywhere, a quarter cross",
+        &layout,
+        EPSILON,
+        Call::Mutual,
+    );
 
+    head("whole listings, checks included, on either side");
+    let layout = of_sheet(&SHEETS[0], 4096, &mut rng);
+    for epsilon in EPSILONS {
+        timed(
+            "4,096 lines by 4,096, spread",
+            &layout,
+            epsilon,
+            Call::Mutual,
+        );
+    }
+    let layout = of_sheet(&SHEETS[1], 4096, &mut rng);
+    timed(
+        "4,096 lines by 4,096, coils",
+        &layout,
+        EPSILON,
+        Call::Mutual,
+    );
+    real_coil();
+
+    head("growth, closed paths spread over the sheet (4,096 lines above)");
+    for (name, sheet, sizes) in [
+        ("lines", &SHEETS[0], [64, 256, 1024].as_slice()),
+        ("arcs", &SHEETS[6], &[64, 256, 1024, 4096]),
+    ] {
+        for size in sizes {
+            let layout = of_sheet(sheet, *size, &mut rng);
+            let name = format!("{size} {name} by {size}");
+            timed(&name, &layout, EPSILON, Call::Mutual);
+        }
+    }
+}
+
+/// A coil of lines and quarter arcs in turns, with the outline of a pocket about a corner of it, with another coil, and by itself.
+fn real_coil() {
     let winding = coil(2000, 0.5, 0.25);
     let corner = winding[0].at;
     let outline = Drawn::new(&pocket(corner, 120.0, 90.0, 5.0), true);
-    let layout = beside(open(&winding), outline);
-    timed("coil of 2000, a pocket's outline", &layout, Call::Mutual);
-    let layout = beside(open(&winding), open(&moved(&winding, 240.0, 225.25)));
-    timed("coil of 2000, another", &layout, Call::Mutual);
-    timed("coil of 2000, by itself", &layout, Call::Own);
+    let by = Point {
+        x: 240.0,
+        y: 225.25,
+    };
+    let other = open(&placed(&winding, (1.0, 0.0), 1.0, by));
+    let (with_pocket, with_coil) = (
+        Layout {
+            first: open(&winding),
+            second: outline,
+            epsilon: EPSILON,
+        },
+        Layout {
+            first: open(&winding),
+            second: other,
+            epsilon: EPSILON,
+        },
+    );
+    for epsilon in EPSILONS {
+        let name = "coil of 2,000 segments, a pocket's outline of 8";
+        timed(name, &with_pocket, epsilon, Call::Mutual);
+    }
+    for epsilon in EPSILONS {
+        let name = "coil of 2,000 segments, another coil";
+        timed(name, &with_coil, epsilon, Call::Mutual);
+    }
+    let name = "coil of 2,000 segments, by itself";
+    timed(name, &with_coil, EPSILON, Call::Own);
 }
 
 fn open(path: &[Vertex]) -> Drawn {
     Drawn::new(path, false)
 }
 
-fn beside(first: Drawn, second: Drawn) -> Layout {
+fn of_sheet(sheet: &Sheet, vertices: usize, rng: &mut Rng) -> Layout {
+    let [first, second] = sheet.paths(vertices, rng);
     Layout {
-        first,
-        second,
+        first: Drawn::new(&first, true),
+        second: Drawn::new(&second, true),
+        epsilon: EPSILON,
+    }
+}
+
+/// Long lines from anywhere to anywhere on the sheet, on whole numbers.
+fn anywhere(rng: &mut Rng) -> Layout {
+    let mut path = || {
+        let line = |v: Vertex| Vertex { bulge: 0.0, ..v };
+        let path: Vec<Vertex> = on_grid(1024, 32_000, rng).into_iter().map(line).collect();
+        Drawn::new(&path, true)
+    };
+    Layout {
+        first: path(),
+        second: path(),
         epsilon: EPSILON,
     }
 }
@@ -98,32 +161,19 @@ impl Lent {
     }
 }
 
-fn timed(name: &str, layout: &Layout, call: Call) {
+fn timed(name: &str, layout: &Layout, epsilon: f64, call: Call) {
     let listed = layout.listed(call);
-    let rows = listed.rows(layout.epsilon);
+    let rows = listed.rows(epsilon);
     let (pairs, rows) = (rows.pairs, rows.rows.len());
     let (mut lent, mut lent_too) = (Lent::new(rows), Lent::new(rows));
-    let (mut least, mut least_plain) = (f64::INFINITY, f64::INFINITY);
-    for _ in 0..RUNS {
-        let run = || ours(listed, layout.epsilon, lent.slices());
-        least = least.min(nanoseconds(pairs, run));
-        let run = || plain(listed, layout.epsilon, lent_too.slices());
-        least_plain = least_plain.min(nanoseconds(pairs, run));
-    }
-    assert!(lent.is(&lent_too), "{name}: the two differ");
-    println!(
-        "{name:36} {pairs:9} {rows:8} {least:9.2} {least_plain:9.2} {:9.1}",
-        least / least_plain
+    let accepted = |told: u64| assert_eq!(black_box(told), 0, "{name}: refused");
+    let row = bench::Row::new(name).epsilon(epsilon).of(pairs);
+    row.meeting(rows).timed(
+        A_ROUND,
+        || accepted(ours(listed, epsilon, lent.slices())),
+        || accepted(plain(listed, epsilon, lent_too.slices())),
     );
-}
-
-fn nanoseconds(pairs: u64, mut call: impl FnMut() -> u64) -> f64 {
-    let times = (PAIRS_A_RUN / pairs).max(1);
-    let start = Instant::now();
-    for _ in 0..times {
-        assert_eq!(black_box(call()), 0, "refused");
-    }
-    start.elapsed().as_nanos() as f64 / (times * pairs) as f64
+    assert!(lent.is(&lent_too), "{name}: the two differ");
 }
 
 /// The listing as one would write it in Rust: the checks once a path, then one loop in the other, with rows written as they come.

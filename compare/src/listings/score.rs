@@ -4,7 +4,7 @@
 use super::kinds::{Case, Kinds};
 use super::layout::{ours, Call, Layout};
 use super::lent::{Expected, Lent, LentPath, Old, Room};
-use super::model::{row_room, Listing};
+use super::model::{row_room, Fault, Listing};
 use super::sites::Sites;
 
 const SHOWN: u64 = 5;
@@ -42,6 +42,35 @@ impl<'a> Known<'a> {
     pub fn rows(&self) -> usize {
         self.listing.rows.rows.len()
     }
+
+    /// How many pairs are looked at; none if it is refused.
+    pub fn pairs(&self) -> u64 {
+        self.listing.rows.pairs
+    }
+
+    /// The fault that decides in this room if the counts have room, and what the call is to do.
+    fn expected(&self, room: Room) -> (Option<Fault>, Expected<'_>) {
+        let fault = self.listing.fault(row_room(room.indices, room.points));
+        let expected = match fault {
+            _ if room.counts < 2 => Expected::NoRoom,
+            Some(fault) => Expected::Refused(fault.number),
+            None => Expected::Answered(&self.listing.rows),
+        };
+        (fault, expected)
+    }
+
+    /// Makes the call with slices of these lengths and these old contents, and says what is not as expected, if anything is.
+    pub fn wrong(&self, room: Room, old: Old) -> Option<String> {
+        let layout = self.layout;
+        let (first, second) = (LentPath::new(&layout.first), LentPath::new(&layout.second));
+        let listed = self.call.of(first.path(), second.path());
+        let mut lent = Lent::new(room, old);
+        let told = ours(listed, layout.epsilon, lent.slices());
+        lent.wrong(told, &self.expected(room).1).or_else(|| {
+            let kept = first.is(&layout.first) && second.is(&layout.second);
+            (!kept).then(|| "a path was written to".to_string())
+        })
+    }
 }
 
 impl Score {
@@ -61,30 +90,14 @@ impl Score {
 
     /// Makes the call with slices of these lengths and these old contents.
     pub fn compare(&mut self, known: &Known, room: Room, old: Old) {
-        let layout = known.layout;
-        let (first, second) = (LentPath::new(&layout.first), LentPath::new(&layout.second));
-        let listed = known.call.of(first.path(), second.path());
-        let mut lent = Lent::new(room, old);
-        let told = ours(listed, layout.epsilon, lent.slices());
-
-        let Listing { faults, rows } = &known.listing;
-        let fault = known.listing.fault(row_room(room.indices, room.points));
-        let expected = match fault {
-            _ if room.counts < 2 => Expected::NoRoom,
-            Some(fault) => Expected::Refused(fault.number),
-            None => Expected::Answered(rows),
-        };
-        let wrong = lent.wrong(told, &expected).or_else(|| {
-            let kept = first.is(&layout.first) && second.is(&layout.second);
-            (!kept).then(|| "a path was written to".to_string())
-        });
-        if let Some(what) = wrong {
+        if let Some(what) = known.wrong(room, old) {
             self.differ(known, room, &what);
         }
+        let (fault, expected) = known.expected(room);
         self.count(&expected);
         let case = Case {
-            paths: &layout.listed(known.call).paths(),
-            faults,
+            paths: &known.layout.listed(known.call).paths(),
+            faults: &known.listing.faults,
             fault,
             rows: known.rows(),
             room,
