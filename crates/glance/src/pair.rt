@@ -1,4 +1,5 @@
-// The pair call inside a listing, which has looked at the numbers already and kept what belongs to each segment.
+// The pair call with a glance first: inside a listing, which has looked at the numbers already and kept what belongs to each segment,
+// and on its own.
 ghost use mathlib.Core.Path.{_≡_};
 ghost use Rattle.checks.specs.declared.fault.Checked.the-variants.{Fine};
 ghost use Rattle.crossing.specs.PlineSeg;
@@ -8,11 +9,17 @@ ghost use Rattle.glance.specs.Kept as keeping;
 use super::circles::circles_apart;
 use super::kept::Kept;
 use super::kept::circle_of;
+use super::kept::kept_of;
 use super::line::line_beside;
 use super::lines::lines_apart;
+use super::looked::pair_fine;
+use crossing::pline_seg_intersect;
+use crossing::pline_seg_intersect::PlineSegAnswer;
 use crossing::pline_seg_intersect::PlineSegIntr;
 use crossing::pline_seg_intersect::pline_seg_looked_at;
+use plane::pline_seg::ArcRadiusCenter;
 use plane::pline_vertex::PlineVertex;
+use plane::vector2::Vector2;
 
 // Whether two segments are clearly apart.
 fn clearly_apart(
@@ -58,4 +65,65 @@ pub fn pline_seg_kept(
         return PlineSegIntr::NoIntersect;
     }
     pline_seg_looked_at(v1, v2, circle_of(v), u1, u2, circle_of(u), pos_equal_eps)
+}
+
+// The same, of segments of which nothing is kept yet.
+fn pline_seg_with_kept(
+    v1: PlineVertex,
+    v2: PlineVertex,
+    u1: PlineVertex,
+    u2: PlineVertex,
+    pos_equal_eps: f64,
+) -> PlineSegIntr
+    requires { ⌜ PlineSegIntersect.look v1 v2 u1 u2 «pos_equal_eps» ≡ Fine ⌝ }
+    ensures { λ r. ⌜ r ≡ PlineSeg.plineSeg v1 v2 u1 u2 «pos_equal_eps» ⌝ }
+{
+    let v = kept_of(v1, v2, pos_equal_eps);
+    let u = kept_of(u1, u2, pos_equal_eps);
+    pline_seg_kept(v1, v2, v, u1, u2, u, pos_equal_eps)
+}
+
+// The same again. Two lines need nothing kept.
+fn pline_seg_once(
+    v1: PlineVertex,
+    v2: PlineVertex,
+    u1: PlineVertex,
+    u2: PlineVertex,
+    pos_equal_eps: f64,
+) -> PlineSegIntr
+    requires { ⌜ PlineSegIntersect.look v1 v2 u1 u2 «pos_equal_eps» ≡ Fine ⌝ }
+    ensures { λ r. ⌜ r ≡ PlineSeg.plineSeg v1 v2 u1 u2 «pos_equal_eps» ⌝ }
+{
+    if !v1.bulge_is_zero() {
+        return pline_seg_with_kept(v1, v2, u1, u2, pos_equal_eps);
+    }
+    if !u1.bulge_is_zero() {
+        return pline_seg_with_kept(v1, v2, u1, u2, pos_equal_eps);
+    }
+    if lines_apart(v1.pos(), v2.pos(), u1.pos(), u2.pos(), pos_equal_eps) {
+        return PlineSegIntr::NoIntersect;
+    }
+    // a line has no circle, and none is asked for
+    let none = ArcRadiusCenter {
+        radius: 0.0,
+        center: Vector2::new(0.0, 0.0),
+    };
+    pline_seg_looked_at(v1, v2, none, u1, u2, none, pos_equal_eps)
+}
+
+// How the segments v1 to v2 and u1 to u2 meet, or the refusal of the first number at fault: the pair call, with a glance at its
+// numbers and at the segments first.
+pub fn pline_seg_intr(
+    v1: PlineVertex,
+    v2: PlineVertex,
+    u1: PlineVertex,
+    u2: PlineVertex,
+    pos_equal_eps: f64,
+) -> PlineSegAnswer
+    ensures { λ r. ⌜ r ≡ PlineSegIntersect.plineSegIntr v1 v2 u1 u2 «pos_equal_eps» ⌝ }
+{
+    if pair_fine(v1, v2, u1, u2, pos_equal_eps) {
+        return PlineSegAnswer::Met(pline_seg_once(v1, v2, u1, u2, pos_equal_eps));
+    }
+    pline_seg_intersect::pline_seg_intr(v1, v2, u1, u2, pos_equal_eps)
 }
