@@ -4,12 +4,12 @@ ghost use mathlib.Core.Path.{_≡_};
 ghost use Rattle.checks.specs.declared.fault.Checked.the-variants.{Fine};
 ghost use Rattle.crossing.specs.PlineSeg;
 ghost use Rattle.crossing.specs.PlineSegIntersect;
+ghost use Rattle.crossing.specs.Laws.Circles;
 ghost use Rattle.glance.specs.Glance;
 ghost use Rattle.glance.specs.Kept as keeping;
 use super::circles::circles_apart;
 use super::kept::Kept;
 use super::kept::circle_of;
-use super::kept::kept_of;
 use super::line::line_beside;
 use super::lines::lines_apart;
 use super::looked::pair_fine;
@@ -18,6 +18,7 @@ use crossing::pline_seg_intersect::PlineSegAnswer;
 use crossing::pline_seg_intersect::PlineSegIntr;
 use crossing::pline_seg_intersect::pline_seg_looked_at;
 use plane::pline_seg::ArcRadiusCenter;
+use plane::pline_seg::seg_arc_radius_and_center;
 use plane::pline_vertex::PlineVertex;
 use plane::vector2::Vector2;
 
@@ -67,23 +68,39 @@ pub fn pline_seg_kept(
     pline_seg_looked_at(v1, v2, circle_of(v), u1, u2, circle_of(u), pos_equal_eps)
 }
 
-// The same, of segments of which nothing is kept yet.
-fn pline_seg_with_kept(
+// Whether both segments are lines, and clearly apart.
+fn line_pair_apart(
     v1: PlineVertex,
     v2: PlineVertex,
     u1: PlineVertex,
     u2: PlineVertex,
-    pos_equal_eps: f64,
-) -> PlineSegIntr
-    requires { ⌜ PlineSegIntersect.look v1 v2 u1 u2 «pos_equal_eps» ≡ Fine ⌝ }
-    ensures { λ r. ⌜ r ≡ PlineSeg.plineSeg v1 v2 u1 u2 «pos_equal_eps» ⌝ }
+    eps: f64,
+) -> bool
+    ensures { λ r. ⌜ r ≡ Glance.linePairApart v1 v2 u1 u2 eps ⌝ }
 {
-    let v = kept_of(v1, v2, pos_equal_eps);
-    let u = kept_of(u1, u2, pos_equal_eps);
-    pline_seg_kept(v1, v2, v, u1, u2, u, pos_equal_eps)
+    if !v1.bulge_is_zero() {
+        return false;
+    }
+    if !u1.bulge_is_zero() {
+        return false;
+    }
+    lines_apart(v1.pos(), v2.pos(), u1.pos(), u2.pos(), eps)
 }
 
-// The same again. Two lines need nothing kept.
+// The circle of an arc; a line has none, and whatever stands for it is not looked at.
+fn circle_if_arc(v1: PlineVertex, v2: PlineVertex) -> ArcRadiusCenter
+    ensures { λ r. ⌜ r ≡ Circles.circleOf v1 v2 ⌝ }
+{
+    if v1.bulge_is_zero() {
+        return ArcRadiusCenter {
+            radius: 0.0,
+            center: Vector2::new(0.0, 0.0),
+        };
+    }
+    seg_arc_radius_and_center(v1, v2)
+}
+
+// The same as `pline_seg_kept`, of segments of which nothing is kept: for one pair it does not pay to keep a line's root.
 fn pline_seg_once(
     v1: PlineVertex,
     v2: PlineVertex,
@@ -94,21 +111,12 @@ fn pline_seg_once(
     requires { ⌜ PlineSegIntersect.look v1 v2 u1 u2 «pos_equal_eps» ≡ Fine ⌝ }
     ensures { λ r. ⌜ r ≡ PlineSeg.plineSeg v1 v2 u1 u2 «pos_equal_eps» ⌝ }
 {
-    if !v1.bulge_is_zero() {
-        return pline_seg_with_kept(v1, v2, u1, u2, pos_equal_eps);
-    }
-    if !u1.bulge_is_zero() {
-        return pline_seg_with_kept(v1, v2, u1, u2, pos_equal_eps);
-    }
-    if lines_apart(v1.pos(), v2.pos(), u1.pos(), u2.pos(), pos_equal_eps) {
+    if line_pair_apart(v1, v2, u1, u2, pos_equal_eps) {
         return PlineSegIntr::NoIntersect;
     }
-    // a line has no circle, and none is asked for
-    let none = ArcRadiusCenter {
-        radius: 0.0,
-        center: Vector2::new(0.0, 0.0),
-    };
-    pline_seg_looked_at(v1, v2, none, u1, u2, none, pos_equal_eps)
+    let circle1 = circle_if_arc(v1, v2);
+    let circle2 = circle_if_arc(u1, u2);
+    pline_seg_looked_at(v1, v2, circle1, u1, u2, circle2, pos_equal_eps)
 }
 
 // How the segments v1 to v2 and u1 to u2 meet, or the refusal of the first number at fault: the pair call, with a glance at its

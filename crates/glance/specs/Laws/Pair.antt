@@ -1,6 +1,6 @@
 -- Two segments that are clearly apart: the pair's definition finds no crossing, whatever kinds they are.
-use mathlib.Core.Path.{_≡_, refl, sym, ap, _∙_, subst}
-use mathlib.Core.Bool.{Bool, true, false, cond, _&&_, true≢false}
+use mathlib.Core.Path.{_≡_, refl, ap, _∙_, subst}
+use mathlib.Core.Bool.{Bool, true, false, not, cond, _&&_}
 use lib.Dec.{T}
 use lib.Ieee.{Float, binary64, fits}
 use Rattle.plane.specs.PlineSeg.{segArcRadiusAndCenter}
@@ -21,7 +21,7 @@ use Rattle.crossing.specs.declared.pline_seg_intersect.PlineSegIntr.{PlineSegIn
 use Rattle.crossing.specs.declared.pline_seg_intersect.PlineSegIntr.the-variants.{NoIntersect}
 use Rattle.glance.specs.declared.kept.Kept.{Kept}
 use Rattle.glance.specs.Kept.{keptOf, ofLine, ofArc, circleOf}
-use Rattle.glance.specs.Glance.{linesApart, lineBeside, circlesApart, clearlyApart}
+use Rattle.glance.specs.Glance.{linesApart, lineBeside, circlesApart, clearlyApart, linePairApart}
 use Rattle.glance.specs.Laws.Lines.{apart-lines}
 use Rattle.glance.specs.Laws.Line.{beside-circle}
 
@@ -88,14 +88,14 @@ module _ (v1 v2 u1 u2 : PlineVertex) (eps : Float) (e-fits : T (fits binary64 ep
           (subst (λ (c : ArcRadiusCenter). T (circlesApart (circleOf (ofArc v1 v2)) c eps)) (circle-kept u1 u2) t))
 
 -- ---- two lines, of which nothing is kept
-both-lines : (a b : Bool) (x y n : PlineSegIntr) → a ≡ true → b ≡ true → x ≡ n → cond (a && b) x y ≡ n
-both-lines a b x y n e f g = rw (e, f) g
-
-pub apart-line-pair : (v1 v2 u1 u2 : PlineVertex) (eps : Float) → T (fits binary64 eps) → bulgeIsZero v1 ≡ true → bulgeIsZero u1 ≡ true
-    → T (linesApart (pos v1) (pos v2) (pos u1) (pos u2) eps) → plineSeg v1 v2 u1 u2 eps ≡ NoIntersect
-unfolding plineSeg
-apart-line-pair v1 v2 u1 u2 eps e-fits a b h =
-    both-lines (bulgeIsZero v1) (bulgeIsZero u1) _ _ NoIntersect a b (apart-lines (pos v1) (pos v2) (pos u1) (pos u2) eps e-fits h)
-
-pub no-circle : (v1 v2 : PlineVertex) (circle : ArcRadiusCenter) → bulgeIsZero v1 ≡ true → OfArc v1 v2 circle
-no-circle v1 v2 circle line arc = absurd (true≢false (sym line ∙ arc))
+pub apart-line-pair : (v1 v2 u1 u2 : PlineVertex) (eps : Float) → T (fits binary64 eps) → T (linePairApart v1 v2 u1 u2 eps)
+    → plineSeg v1 v2 u1 u2 eps ≡ NoIntersect
+unfolding linePairApart plineSeg
+apart-line-pair v1 v2 u1 u2 eps e-fits h =
+    go (bulgeIsZero v1) (bulgeIsZero u1) (linesApart (pos v1) (pos v2) (pos u1) (pos u2) eps) _ _ h (apart-lines (pos v1) (pos v2) (pos u1) (pos u2) eps e-fits)
+  where
+    go : (a b l : Bool) (x y : PlineSegIntr) → T (cond (not a) false (cond (not b) false l)) → (T l → x ≡ NoIntersect)
+        → cond (a && b) x y ≡ NoIntersect
+    go true true l x y t f = f t
+    go true false l x y t f = absurd t
+    go false b l x y t f = absurd t

@@ -1,5 +1,5 @@
+-- `glance::looked::pair_fine` meets its contract: its calls are the definition's, one by one.
 use borrow.Author.Needs.{needs}
-use mathlib.Core.Path.{refl}
 use Rattle.glance.specs.Looked
 use Rattle.glance.proofs.looked.pair_fine.Statement.{statement}
 use Rattle.glance.proofs.looked.pair_fine.Tie as tie

@@ -1,5 +1,5 @@
+-- `glance::looked::point_fine` meets its contract: its calls are the definition's, one by one.
 use borrow.Author.Needs.{needs}
-use mathlib.Core.Path.{refl}
 use Rattle.glance.specs.Looked
 use Rattle.glance.proofs.looked.point_fine.Statement.{statement}
 use Rattle.glance.proofs.looked.point_fine.Tie as tie
@@ -11,7 +11,6 @@ inside-requires-2 : tie.Need-inside-requires-2
 inside-requires-2 c κs = search needs
 
 returns : tie.Need-returns
--- by its calls
 returns c =
     let p1 = c .before in
     simp (
