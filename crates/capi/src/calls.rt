@@ -9,7 +9,7 @@ use super::answer;
 use crossing::circle_circle_intersect;
 use crossing::line_circle_intersect;
 use crossing::line_line_intersect;
-use crossing::pline_seg_intersect;
+use glance::pair;
 use plane::pline_vertex::PlineVertex;
 use plane::vector2::Vector2;
 
@@ -120,7 +120,7 @@ pub extern "C" fn vj_pair(
         (vertex v1x v1y «v1_bulge») (vertex v2x v2y «v2_bulge») (vertex u1x u1y «u1_bulge») (vertex u2x u2y «u2_bulge») epsilon))
         r (now (out .entry)) (now (out .exit)) ⌝ }
 {
-    let met = pline_seg_intersect::pline_seg_intr(
+    let met = pair::pline_seg_intr(
         PlineVertex {
             x: v1x,
             y: v1y,

@@ -1,6 +1,6 @@
 -- When two segments are clearly apart: src/circles.rt, line.rt, lines.rt and pair.rt, function by function. Nothing here need be
 -- believed: a yes is proved to say what `plineSeg` says (Laws/Pair).
-use mathlib.Core.Bool.{Bool, false, cond, _&&_, _||_}
+use mathlib.Core.Bool.{Bool, false, not, cond, _&&_, _||_}
 use lib.Ieee.{Float, neg, binary64, ofBits}
 use Rattle.floats.specs.Ops.{_⊕_, _⊖_, _⊗_, _⊘_, _≺_, _≼_, _≻_, f2}
 use Rattle.floats.specs.F64
@@ -79,3 +79,10 @@ clearlyApart v1 v2 v u1 u2 u eps =
     (cond (bulgeIsZero u1)
     (lineBeside (pos u1) (pos u2) u (circleOf v) eps)
     (circlesApart (circleOf v) (circleOf u) eps))
+
+-- two lines, of which nothing is kept
+unfoldable pub linePairApart : PlineVertex → PlineVertex → PlineVertex → PlineVertex → Float → Bool
+linePairApart v1 v2 u1 u2 eps =
+    cond (not (bulgeIsZero v1))
+    false
+    (cond (not (bulgeIsZero u1)) false (linesApart (pos v1) (pos v2) (pos u1) (pos u2) eps))

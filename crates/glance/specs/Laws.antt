@@ -1,3 +1,4 @@
 pub mod Lines
 pub mod Line
 pub mod Pair
+pub mod Looked

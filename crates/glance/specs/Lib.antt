@@ -1,3 +1,4 @@
 pub mod Kept
 pub mod Glance
+pub mod Looked
 pub mod Laws

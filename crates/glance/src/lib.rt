@@ -4,5 +4,6 @@ mod circles;
 pub mod kept;
 mod line;
 mod lines;
+mod looked;
 pub mod pair;
 mod sizes;

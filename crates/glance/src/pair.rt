@@ -1,8 +1,10 @@
-// The pair call inside a listing, which has looked at the numbers already and kept what belongs to each segment.
+// The pair call with a glance first: inside a listing, which has looked at the numbers already and kept what belongs to each segment,
+// and on its own.
 ghost use mathlib.Core.Path.{_≡_};
 ghost use Rattle.checks.specs.declared.fault.Checked.the-variants.{Fine};
 ghost use Rattle.crossing.specs.PlineSeg;
 ghost use Rattle.crossing.specs.PlineSegIntersect;
+ghost use Rattle.crossing.specs.Laws.Circles;
 ghost use Rattle.glance.specs.Glance;
 ghost use Rattle.glance.specs.Kept as keeping;
 use super::circles::circles_apart;
@@ -10,9 +12,15 @@ use super::kept::Kept;
 use super::kept::circle_of;
 use super::line::line_beside;
 use super::lines::lines_apart;
+use super::looked::pair_fine;
+use crossing::pline_seg_intersect;
+use crossing::pline_seg_intersect::PlineSegAnswer;
 use crossing::pline_seg_intersect::PlineSegIntr;
 use crossing::pline_seg_intersect::pline_seg_looked_at;
+use plane::pline_seg::ArcRadiusCenter;
+use plane::pline_seg::seg_arc_radius_and_center;
 use plane::pline_vertex::PlineVertex;
+use plane::vector2::Vector2;
 
 // Whether two segments are clearly apart.
 fn clearly_apart(
@@ -58,4 +66,72 @@ pub fn pline_seg_kept(
         return PlineSegIntr::NoIntersect;
     }
     pline_seg_looked_at(v1, v2, circle_of(v), u1, u2, circle_of(u), pos_equal_eps)
+}
+
+// Whether both segments are lines, and clearly apart.
+fn line_pair_apart(
+    v1: PlineVertex,
+    v2: PlineVertex,
+    u1: PlineVertex,
+    u2: PlineVertex,
+    eps: f64,
+) -> bool
+    ensures { λ r. ⌜ r ≡ Glance.linePairApart v1 v2 u1 u2 eps ⌝ }
+{
+    if !v1.bulge_is_zero() {
+        return false;
+    }
+    if !u1.bulge_is_zero() {
+        return false;
+    }
+    lines_apart(v1.pos(), v2.pos(), u1.pos(), u2.pos(), eps)
+}
+
+// The circle of an arc; a line has none, and whatever stands for it is not looked at.
+fn circle_if_arc(v1: PlineVertex, v2: PlineVertex) -> ArcRadiusCenter
+    ensures { λ r. ⌜ r ≡ Circles.circleOf v1 v2 ⌝ }
+{
+    if v1.bulge_is_zero() {
+        return ArcRadiusCenter {
+            radius: 0.0,
+            center: Vector2::new(0.0, 0.0),
+        };
+    }
+    seg_arc_radius_and_center(v1, v2)
+}
+
+// The same as `pline_seg_kept`, of segments of which nothing is kept: for one pair it does not pay to keep a line's root.
+fn pline_seg_once(
+    v1: PlineVertex,
+    v2: PlineVertex,
+    u1: PlineVertex,
+    u2: PlineVertex,
+    pos_equal_eps: f64,
+) -> PlineSegIntr
+    requires { ⌜ PlineSegIntersect.look v1 v2 u1 u2 «pos_equal_eps» ≡ Fine ⌝ }
+    ensures { λ r. ⌜ r ≡ PlineSeg.plineSeg v1 v2 u1 u2 «pos_equal_eps» ⌝ }
+{
+    if line_pair_apart(v1, v2, u1, u2, pos_equal_eps) {
+        return PlineSegIntr::NoIntersect;
+    }
+    let circle1 = circle_if_arc(v1, v2);
+    let circle2 = circle_if_arc(u1, u2);
+    pline_seg_looked_at(v1, v2, circle1, u1, u2, circle2, pos_equal_eps)
+}
+
+// How the segments v1 to v2 and u1 to u2 meet, or the refusal of the first number at fault: the pair call, with a glance at its
+// numbers and at the segments first.
+pub fn pline_seg_intr(
+    v1: PlineVertex,
+    v2: PlineVertex,
+    u1: PlineVertex,
+    u2: PlineVertex,
+    pos_equal_eps: f64,
+) -> PlineSegAnswer
+    ensures { λ r. ⌜ r ≡ PlineSegIntersect.plineSegIntr v1 v2 u1 u2 «pos_equal_eps» ⌝ }
+{
+    if pair_fine(v1, v2, u1, u2, pos_equal_eps) {
+        return PlineSegAnswer::Met(pline_seg_once(v1, v2, u1, u2, pos_equal_eps));
+    }
+    pline_seg_intersect::pline_seg_intr(v1, v2, u1, u2, pos_equal_eps)
 }

@@ -1,6 +1,6 @@
 -- Two segments that are clearly apart: the pair's definition finds no crossing, whatever kinds they are.
 use mathlib.Core.Path.{_≡_, refl, ap, _∙_, subst}
-use mathlib.Core.Bool.{Bool, true, false, cond, _&&_}
+use mathlib.Core.Bool.{Bool, true, false, not, cond, _&&_}
 use lib.Dec.{T}
 use lib.Ieee.{Float, binary64, fits}
 use Rattle.plane.specs.PlineSeg.{segArcRadiusAndCenter}
@@ -17,10 +17,11 @@ use Rattle.crossing.specs.Laws.Apart.{circles-apart}
 use Rattle.crossing.specs.Laws.Circles.{OfArc}
 use Rattle.crossing.specs.declared.circle_circle_intersect.CircleCircleIntr.{CircleCircleIntr}
 use Rattle.crossing.specs.declared.line_circle_intersect.LineCircleIntr.{LineCircleIntr}
+use Rattle.crossing.specs.declared.pline_seg_intersect.PlineSegIntr.{PlineSegIntr}
 use Rattle.crossing.specs.declared.pline_seg_intersect.PlineSegIntr.the-variants.{NoIntersect}
 use Rattle.glance.specs.declared.kept.Kept.{Kept}
 use Rattle.glance.specs.Kept.{keptOf, ofLine, ofArc, circleOf}
-use Rattle.glance.specs.Glance.{linesApart, lineBeside, circlesApart, clearlyApart}
+use Rattle.glance.specs.Glance.{linesApart, lineBeside, circlesApart, clearlyApart, linePairApart}
 use Rattle.glance.specs.Laws.Lines.{apart-lines}
 use Rattle.glance.specs.Laws.Line.{beside-circle}
 
@@ -85,3 +86,16 @@ module _ (v1 v2 u1 u2 : PlineVertex) (eps : Float) (e-fits : T (fits binary64 ep
           apart-arcs v1 v2 u1 u2 eps
           (subst (λ (c : ArcRadiusCenter). T (circlesApart c (segArcRadiusAndCenter u1 u2) eps)) (circle-kept v1 v2)
           (subst (λ (c : ArcRadiusCenter). T (circlesApart (circleOf (ofArc v1 v2)) c eps)) (circle-kept u1 u2) t))
+
+-- ---- two lines, of which nothing is kept
+pub apart-line-pair : (v1 v2 u1 u2 : PlineVertex) (eps : Float) → T (fits binary64 eps) → T (linePairApart v1 v2 u1 u2 eps)
+    → plineSeg v1 v2 u1 u2 eps ≡ NoIntersect
+unfolding linePairApart plineSeg
+apart-line-pair v1 v2 u1 u2 eps e-fits h =
+    go (bulgeIsZero v1) (bulgeIsZero u1) (linesApart (pos v1) (pos v2) (pos u1) (pos u2) eps) _ _ h (apart-lines (pos v1) (pos v2) (pos u1) (pos u2) eps e-fits)
+  where
+    go : (a b l : Bool) (x y : PlineSegIntr) → T (cond (not a) false (cond (not b) false l)) → (T l → x ≡ NoIntersect)
+        → cond (a && b) x y ≡ NoIntersect
+    go true true l x y t f = f t
+    go true false l x y t f = absurd t
+    go false b l x y t f = absurd t

@@ -1,28 +1,22 @@
 -- What a listing's loop asks of its paths: the pair call's look finds no fault at any pair. It follows from the checks of both paths.
-use mathlib.Core.Path.{_≡_, refl, sym, ap, _∙_}
+use mathlib.Core.Path.{_≡_, ap, _∙_}
 use mathlib.Core.Bool.{Bool}
-use mathlib.Core.List.{List, [], _∷_, _++_}
+use mathlib.Core.List.{List}
 use Prim.Native.Nat.{ℕ, _<_, _≤_}
 use native.Mathlib.Omega.{arith}
 use lib.Ieee.{Float}
 use Rattle.checks.specs.declared.fault.Item.the-variants.{Epsilon}
-use Rattle.checks.specs.declared.fault.Checked.{Checked}
 use Rattle.checks.specs.declared.fault.Checked.the-variants.{Fine}
-use Rattle.checks.specs.Fault.{at, later}
+use Rattle.checks.specs.Fault.{at}
 use Rattle.checks.specs.Each
-use Rattle.checks.specs.Arc.{arcChord}
-use Rattle.checks.specs.First.{first}
-use Rattle.checks.specs.Lists.{pointChecks, vertexChecks}
-use Rattle.checks.specs.Laws.Chains as chains
-use Rattle.checks.specs.Laws.Later.{fine-left, fine-right, later-fine}
-use Rattle.plane.specs.declared.pline_vertex.PlineVertex.{PlineVertex}
 use Rattle.crossing.specs.PlineSeg.{plineSeg}
 use Rattle.crossing.specs.PlineSegIntersect as pair
+use Rattle.glance.specs.Laws.Looked.{Sound, look-fine}
 use Rattle.paths.specs.declared.path.Segment.{Segment}
 use Rattle.paths.specs.Path.{vertexCount}
 use Rattle.paths.specs.Segments.{segmentFrom, segmentCount}
 use Rattle.paths.specs.Laws.Segments.{count-within, few-segments}
-use Rattle.paths.specs.Laws.Fine.{VertexFine, SegmentFine, PathFine, arc-fine, segment-fine}
+use Rattle.paths.specs.Laws.Fine.{SegmentFine, PathFine, arc-fine, segment-fine}
 use Rattle.listings.specs.declared.row.Look.{Look}
 use Rattle.listings.specs.declared.order.Job.{Job}
 use Rattle.listings.specs.Row.{lookOf}
@@ -64,45 +58,13 @@ at-segment v first second job i ready h e =
     }
 
 -- ---- what the checks of a listing establish
--- what is fine as a chain is fine as a list
-vertex-list : (v : PlineVertex) (owner index : ℕ) → VertexFine v → first (vertexChecks (v .x) (v .y) (v .bulge) owner index) ≡ Fine
-vertex-list v owner index f =
-    sym (fine-left _)
-    ∙ sym (chains.vertex-first Fine (v .x) (v .y) owner (v .bulge) index)
-    ∙ chains.vertex-fine Fine (v .x) (v .y) owner (v .bulge) index .1 (refl, f)
-
-point-list : (v : PlineVertex) (owner index : ℕ) → VertexFine v → first (pointChecks (v .x) (v .y) owner index) ≡ Fine
-point-list v owner index f =
-    sym (fine-left _)
-    ∙ sym (chains.point-first Fine (v .x) (v .y) owner index)
-    ∙ chains.point-fine Fine (v .x) (v .y) owner index .1 (refl, f .point)
-
-both-fine : (cs ds : List Checked) → first cs ≡ Fine → first ds ≡ Fine → first (cs ++ ds) ≡ Fine
-both-fine cs ds e f = chains.first-append cs ds ∙ later-fine (first cs) (first ds) .1 (e, f)
-
 -- the look of the pair call at two segments that were found fine
 pub pair-fine : (v u : Segment) (epsilon : Float) → Each.epsilon epsilon (at 0 0 Epsilon) ≡ Fine → SegmentFine v → SegmentFine u
     → PairFine v u epsilon
-unfolding pair.look
-pair-fine v u epsilon e fv fu =
-    let eps = Each.epsilon epsilon (at 0 0 Epsilon) in
-    let c0 : List Checked = eps ∷ [] in
-    let c1 = vertexChecks (v .v1 .x) (v .v1 .y) (v .v1 .bulge) 0 0 in
-    let c2 = pointChecks (v .v2 .x) (v .v2 .y) 0 1 in
-    let c3 = vertexChecks (u .v1 .x) (u .v1 .y) (u .v1 .bulge) 1 0 in
-    let c4 = pointChecks (u .v2 .x) (u .v2 .y) 1 1 in
-    let arc-v = arcChord (v .v1) (v .v2) 0 0 in
-    let arc-u = arcChord (u .v1) (u .v2) 1 0 in
-    let c5 : List Checked = arc-v ∷ arc-u ∷ [] in
-    let f0 : first c0 ≡ Fine = fine-right eps ∙ e in
-    let f5 : first c5 ≡ Fine =
-    later-fine arc-v (later arc-u Fine) .1
-    (arc-fine (v .v1) (v .v2) 0 0 .1 (fv .arc), fine-right arc-u ∙ arc-fine (u .v1) (u .v2) 1 0 .1 (fu .arc)) in
-    let f1 = both-fine c0 c1 f0 (vertex-list (v .v1) 0 0 (fv .start)) in
-    let f2 = both-fine (c0 ++ c1) c2 f1 (point-list (v .v2) 0 1 (fv .end)) in
-    let f3 = both-fine (c0 ++ c1 ++ c2) c3 f2 (vertex-list (u .v1) 1 0 (fu .start)) in
-    let f4 = both-fine (c0 ++ c1 ++ c2 ++ c3) c4 f3 (point-list (u .v2) 1 1 (fu .end)) in
-    both-fine (c0 ++ c1 ++ c2 ++ c3 ++ c4) c5 f4 f5
+pair-fine v u epsilon e fv fu = look-fine (v .v1) (v .v2) (u .v1) (u .v2) epsilon e (sound v 0 fv) (sound u 1 fu)
+  where
+    sound : (s : Segment) (owner : ℕ) → SegmentFine s → Sound (s .v1) (s .v2) owner
+    sound s owner f = record { start = f .start; end = f .end .point; arc = arc-fine (s .v1) (s .v2) owner 0 .1 (f .arc) }
 
 -- both paths found fine: every pair is
 pub paths-ready : (first second : List Float) (firstClosed secondClosed : Bool) (job : Job)

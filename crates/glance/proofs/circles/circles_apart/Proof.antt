@@ -1,5 +1,5 @@
+-- `glance::circles::circles_apart` meets its contract: its calls are the definition's, one by one.
 use borrow.Author.Needs.{needs}
-use mathlib.Core.Path.{refl}
 use Rattle.glance.specs.Glance
 use Rattle.glance.proofs.circles.circles_apart.Statement.{statement}
 use Rattle.glance.proofs.circles.circles_apart.Tie as tie

@@ -1,5 +1,5 @@
+-- `glance::kept::circle_of` meets its contract: its calls are the definition's, one by one.
 use borrow.Author.Needs.{needs}
-use mathlib.Core.Path.{refl}
 use Rattle.glance.specs.Kept as keeping
 use Rattle.glance.proofs.kept.circle_of.Statement.{statement}
 use Rattle.glance.proofs.kept.circle_of.Tie as tie

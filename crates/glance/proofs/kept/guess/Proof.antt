@@ -1,3 +1,4 @@
+-- `glance::kept::guess` meets its contract: its calls are the definition's, one by one.
 use borrow.Author.Needs.{needs}
 use mathlib.Core.Path.{refl}
 use Rattle.glance.specs.Kept as keeping

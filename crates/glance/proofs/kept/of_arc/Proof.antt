@@ -1,5 +1,5 @@
+-- `glance::kept::of_arc` meets its contract: its calls are the definition's, one by one.
 use borrow.Author.Needs.{needs}
-use mathlib.Core.Path.{refl}
 use Rattle.glance.specs.Kept as keeping
 use Rattle.glance.proofs.kept.of_arc.Statement.{statement}
 use Rattle.glance.proofs.kept.of_arc.Tie as tie

@@ -1,5 +1,5 @@
+-- `glance::kept::of_line` meets its contract: its calls and tests lead to the definition's ends.
 use borrow.Author.Needs.{needs}
-use mathlib.Core.Path.{refl}
 use Rattle.glance.specs.Kept as keeping
 use Rattle.glance.proofs.kept.of_line.Statement.{statement}
 use Rattle.glance.proofs.kept.of_line.Tie as tie

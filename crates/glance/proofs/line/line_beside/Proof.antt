@@ -1,5 +1,5 @@
+-- `glance::line::line_beside` meets its contract: its calls are the definition's, one by one.
 use borrow.Author.Needs.{needs}
-use mathlib.Core.Path.{refl}
 use Rattle.glance.specs.Glance
 use Rattle.glance.proofs.line.line_beside.Statement.{statement}
 use Rattle.glance.proofs.line.line_beside.Tie as tie

@@ -1,5 +1,5 @@
+-- `glance::lines::crosses_outside` meets its contract: its calls are the definition's, one by one.
 use borrow.Author.Needs.{needs}
-use mathlib.Core.Path.{refl}
 use Rattle.glance.specs.Glance
 use Rattle.glance.proofs.lines.crosses_outside.Statement.{statement}
 use Rattle.glance.proofs.lines.crosses_outside.Tie as tie

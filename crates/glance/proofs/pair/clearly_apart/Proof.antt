@@ -1,5 +1,5 @@
+-- `glance::pair::clearly_apart` meets its contract: its calls and tests lead to the definition's ends.
 use borrow.Author.Needs.{needs}
-use mathlib.Core.Path.{refl}
 use Rattle.glance.specs.Glance
 use Rattle.glance.proofs.pair.clearly_apart.Statement.{statement}
 use Rattle.glance.proofs.pair.clearly_apart.Tie as tie

@@ -1,0 +1,45 @@
+-- `glance::pair::pline_seg_intr` meets its contract: where the glance finds all numbers fine, so does the look, and the answer is how the
+-- segments meet; elsewhere the call itself is asked.
+use mathlib.Core.Path.{_≡_, sym, ap, _∙_}
+use mathlib.Core.Bool.{Bool, true}
+use lib.Ieee.{Float}
+use denote.Floats.{passes}
+use borrow.Author.Needs.{needs}
+use Rattle.plane.specs.declared.pline_vertex.PlineVertex.{PlineVertex}
+use Rattle.checks.specs.declared.fault.Checked.the-variants.{Fine}
+use Rattle.crossing.specs.PlineSeg.{plineSeg}
+use Rattle.crossing.specs.PlineSegIntersect as pair
+use Rattle.crossing.specs.declared.pline_seg_intersect.PlineSegIntr.{PlineSegIntr}
+use Rattle.crossing.specs.declared.pline_seg_intersect.PlineSegAnswer.the-variants.{Met}
+use Rattle.glance.specs.Laws.Looked.{glance-fine}
+use Rattle.glance.proofs.pair.pline_seg_intr.Statement.{statement}
+use Rattle.glance.proofs.pair.pline_seg_intr.Tie as tie
+
+met : (v1 v2 u1 u2 : PlineVertex) (eps : Float) (r : PlineSegIntr) → pair.look v1 v2 u1 u2 eps ≡ Fine → r ≡ plineSeg v1 v2 u1 u2 eps
+    → Met r ≡ pair.plineSegIntr v1 v2 u1 u2 eps
+unfolding pair.plineSegIntr
+met v1 v2 u1 u2 eps r h e = rw h (ap Met e)
+
+pair-fine-requires : tie.Need-pair-fine-requires
+pair-fine-requires c κs = search needs
+
+looked : (c : tie.Then1)
+    → let a = c .before .before .args in
+    pair.look (a .v1) (a .v2) (a .u1) (a .u2) (a .pos-equal-eps) ≡ Fine
+looked c = glance-fine _ _ _ _ _ (passes _ (sym (c .before .pair-fine .ensures) ∙ c .if1 .taken))
+
+pline-seg-once-requires : tie.Need-pline-seg-once-requires
+pline-seg-once-requires c κs = looked c
+
+returns : tie.Need-returns
+returns c = met _ _ _ _ _ _ (looked (c .before)) (c .pline-seg-once .ensures)
+
+pline-seg-intr-requires : tie.Need-pline-seg-intr-requires
+pline-seg-intr-requires c κs = search needs
+
+returns-2 : tie.Need-returns-2
+returns-2 c = search needs
+
+pub pline-seg-intr-spec : {M : Type 1} → statement M
+pline-seg-intr-spec =
+    tie.close (tie.spec pair-fine-requires pline-seg-once-requires returns pline-seg-intr-requires returns-2)

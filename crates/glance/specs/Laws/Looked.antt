@@ -1,0 +1,174 @@
+-- The pair call's look finds no fault: from its numbers one by one, and from the glance at them.
+use mathlib.Core.Path.{_≡_, refl, sym, ap, _∙_}
+use mathlib.Core.Bool.{Bool, true, false, not, cond, _&&_, _||_}
+use mathlib.Core.List.{List, [], _∷_, _++_}
+use Prim.Native.Nat.{ℕ, _+_, _*_, _<_, _≤_}
+use native.Mathlib.Omega.{arith}
+use lib.Dec.{T}
+use lib.IntN.{ℤ}
+use lib.Ieee.{Float, nan, inf, fin, up, down, ofBits, neg, le, lt, eq}
+use lib.Ieee.Bits.{is-true}
+use lib.Ieee.Fits.{down-pos, and-l, and-r}
+use lib.Ieee.Scale.{finite}
+use Rattle.float_laws.specs.Signed.{Diff, ups, downs, own-diff}
+use Rattle.float_laws.specs.Order.{le-diff}
+use Rattle.float_laws.specs.Chains.{between-finite}
+use Rattle.floats.specs.Ops.{_≼_, _≽_}
+use Rattle.floats.specs.F64
+use Rattle.plane.specs.PlineVertex.{pos, bulgeIsZero}
+use Rattle.plane.specs.Vector2 as vector2
+use Rattle.plane.specs.declared.pline_vertex.PlineVertex.{PlineVertex}
+use Rattle.checks.specs.declared.fault.Item.the-variants.{Epsilon}
+use Rattle.checks.specs.declared.fault.Checked.{Checked}
+use Rattle.checks.specs.declared.fault.Checked.the-variants.{Fine}
+use Rattle.checks.specs.Fault.{at, later}
+use Rattle.checks.specs.Limit
+use Rattle.checks.specs.Each
+use Rattle.checks.specs.Arc.{arcChord}
+use Rattle.checks.specs.First.{first}
+use Rattle.checks.specs.Lists.{pointChecks, vertexChecks}
+use Rattle.checks.specs.Laws.Chains as chains
+use Rattle.checks.specs.Laws.Chord.{squareLeast, long-fine}
+use Rattle.checks.specs.Laws.Fine.{Within, Between, epsilon-fine}
+use Rattle.checks.specs.Laws.Later.{fine-left, fine-right, later-fine}
+use Rattle.crossing.specs.PlineSegIntersect as pair
+use Rattle.crossing.specs.Laws.Within.{either}
+use Rattle.glance.specs.Looked.{inside, pointFine, segmentFine, epsilonFine, pairFine}
+
+-- ---- what is fine as a chain is fine as a list
+vertex-list : (v : PlineVertex) (owner index : ℕ) → chains.VertexFine (v .x) (v .y) (v .bulge)
+    → first (vertexChecks (v .x) (v .y) (v .bulge) owner index) ≡ Fine
+vertex-list v owner index f =
+    sym (fine-left _)
+    ∙ sym (chains.vertex-first Fine (v .x) (v .y) owner (v .bulge) index)
+    ∙ chains.vertex-fine Fine (v .x) (v .y) owner (v .bulge) index .1 (refl, f)
+
+point-list : (v : PlineVertex) (owner index : ℕ) → chains.PointFine (v .x) (v .y) → first (pointChecks (v .x) (v .y) owner index) ≡ Fine
+point-list v owner index f =
+    sym (fine-left _)
+    ∙ sym (chains.point-first Fine (v .x) (v .y) owner index)
+    ∙ chains.point-fine Fine (v .x) (v .y) owner index .1 (refl, f)
+
+both-fine : (cs ds : List Checked) → first cs ≡ Fine → first ds ≡ Fine → first (cs ++ ds) ≡ Fine
+both-fine cs ds e f = chains.first-append cs ds ∙ later-fine (first cs) (first ds) .1 (e, f)
+
+-- a segment that is v's or u's
+pub record Sound (v1 v2 : PlineVertex) (owner : ℕ) : Type 0 where
+  pub start : chains.VertexFine (v1 .x) (v1 .y) (v1 .bulge)
+  pub end : chains.PointFine (v2 .x) (v2 .y)
+  pub arc : arcChord v1 v2 owner 0 ≡ Fine
+
+pub look-fine : (v1 v2 u1 u2 : PlineVertex) (epsilon : Float) → Each.epsilon epsilon (at 0 0 Epsilon) ≡ Fine → Sound v1 v2 0 → Sound u1 u2 1
+    → pair.look v1 v2 u1 u2 epsilon ≡ Fine
+unfolding pair.look
+look-fine v1 v2 u1 u2 epsilon e fv fu =
+    let eps = Each.epsilon epsilon (at 0 0 Epsilon) in
+    let c0 : List Checked = eps ∷ [] in
+    let c1 = vertexChecks (v1 .x) (v1 .y) (v1 .bulge) 0 0 in
+    let c2 = pointChecks (v2 .x) (v2 .y) 0 1 in
+    let c3 = vertexChecks (u1 .x) (u1 .y) (u1 .bulge) 1 0 in
+    let c4 = pointChecks (u2 .x) (u2 .y) 1 1 in
+    let arc-v = arcChord v1 v2 0 0 in
+    let arc-u = arcChord u1 u2 1 0 in
+    let c5 : List Checked = arc-v ∷ arc-u ∷ [] in
+    let f0 : first c0 ≡ Fine = fine-right eps ∙ e in
+    let f5 : first c5 ≡ Fine = later-fine arc-v (later arc-u Fine) .1 (fv .arc, fine-right arc-u ∙ fu .arc) in
+    let f1 = both-fine c0 c1 f0 (vertex-list v1 0 0 (fv .start)) in
+    let f2 = both-fine (c0 ++ c1) c2 f1 (point-list v2 0 1 (fv .end)) in
+    let f3 = both-fine (c0 ++ c1 ++ c2) c3 f2 (vertex-list u1 1 0 (fu .start)) in
+    let f4 = both-fine (c0 ++ c1 ++ c2 ++ c3) c4 f3 (point-list u2 1 1 (fu .end)) in
+    both-fine (c0 ++ c1 ++ c2 ++ c3 ++ c4) c5 f4 f5
+
+-- ---- by the glance
+own : (s : Bool) (m : ℕ) (e : ℤ) → Diff (fin s m e) (ups s (m * up e)) (downs s (m * up e)) (down e)
+own s m e = own-diff (fin s m e) s (m * up e) (down e) (refl, refl)
+
+-- |x| <= most, where x <= most and -most <= x
+small : (x most : Float) → T (finite x) → T (finite most) → T (x ≼ most) → T (neg most ≼ x) → T (F64.abs x ≼ most)
+unfolding F64.abs neg
+small nan most f g h k = absurd f
+small (inf s) most f g h k = absurd f
+small (fin s m e) nan f g h k = absurd g
+small (fin s m e) (inf t) f g h k = absurd g
+small (fin s m e) (fin t n d) f g h k =
+    let E = down-pos e in
+    let D = down-pos d in
+    le-diff (fin false m e) (fin t n d) _ _ _ _ _ _ E D (own false m e) (own t n d) .1
+    (sizes s t (m * up e) (down e) (n * up d) (down d)
+    (le-diff (fin s m e) (fin t n d) _ _ _ _ _ _ E D (own s m e) (own t n d) .0 h)
+    (le-diff (fin (not t) n d) (fin s m e) _ _ _ _ _ _ D E (own (not t) n d) (own s m e) .0 k))
+  where
+    sizes : (s t : Bool) (M c N d : ℕ)
+        → ups s M * d + downs t N * c ≤ ups t N * c + downs s M * d
+        → ups (not t) N * c + downs s M * d ≤ ups s M * d + downs (not t) N * c
+        → M * d + downs t N * c ≤ ups t N * c + 0 * d
+    sizes true true M c N d a b = omega arith
+    sizes true false M c N d a b = omega arith
+    sizes false true M c N d a b = omega arith
+    sizes false false M c N d a b = omega arith
+
+inside-within : (most x : Float) → T (finite most) → T (finite (neg most)) → T (inside most x) → Within most x
+inside-within most x f g h =
+    let below = and-l (x ≼ most) (neg most ≼ x) h in
+    let above = and-r (x ≼ most) (neg most ≼ x) h in
+    let number = between-finite (neg most) x most g f above below in
+    record { number = number; small = small x most number f below above }
+
+of-coordinate : (x : Float) → T (inside Limit.coordinate x) → Within Limit.coordinate x
+unfolding ofBits neg
+of-coordinate x h = inside-within Limit.coordinate x tt tt h
+
+of-bulge : (x : Float) → T (inside Limit.bulge x) → Within Limit.bulge x
+unfolding ofBits neg
+of-bulge x h = inside-within Limit.bulge x tt tt h
+
+of-epsilon : (x : Float) → T (epsilonFine x) → Between Limit.epsilonLeast Limit.epsilonMost x
+unfolding ofBits
+of-epsilon x h =
+    let above = and-l (x ≽ Limit.epsilonLeast) (x ≼ Limit.epsilonMost) h in
+    let below = and-r (x ≽ Limit.epsilonLeast) (x ≼ Limit.epsilonMost) h in
+    record { number = between-finite Limit.epsilonLeast x Limit.epsilonMost tt tt above below; above = above; below = below }
+
+of-point : (v : PlineVertex) → T (pointFine v) → chains.PointFine (v .x) (v .y)
+of-point v h =
+    let x = inside Limit.coordinate (v .x) in
+    let y = inside Limit.coordinate (v .y) in
+    record { at-x = of-coordinate (v .x) (and-l x y h); at-y = of-coordinate (v .y) (and-r x y h) }
+
+of-arc : (v1 v2 : PlineVertex) (owner : ℕ)
+    → T (bulgeIsZero v1 || (vector2.dot (vector2.sub (pos v2) (pos v1)) (vector2.sub (pos v2) (pos v1)) ≽ squareLeast))
+    → arcChord v1 v2 owner 0 ≡ Fine
+unfolding arcChord
+of-arc v1 v2 owner h =
+    let chord = vector2.sub (pos v2) (pos v1) in
+    let s = vector2.dot chord chord in
+    go (bulgeIsZero v1) (s ≽ squareLeast) h (λ e. long-fine chord s refl e _)
+  where
+    go : (line long : Bool) {c : Checked} → T (line || long) → (long ≡ true → c ≡ Fine) → cond line Fine c ≡ Fine
+    go true long t f = refl
+    go false long t f = f (is-true long t)
+
+of-segment : (v1 v2 : PlineVertex) (owner : ℕ) → T (segmentFine v1 v2) → Sound v1 v2 owner
+unfolding segmentFine
+of-segment v1 v2 owner h =
+    let chord = vector2.sub (pos v2) (pos v1) in
+    let bulge = inside Limit.bulge (v1 .bulge) in
+    let ends = (pointFine v1 && bulge) && pointFine v2 in
+    let long = bulgeIsZero v1 || (vector2.dot chord chord ≽ squareLeast) in
+    let both = and-l ends long h in
+    let vertex = and-l (pointFine v1 && bulge) (pointFine v2) both in
+    record {
+      start = record { point = of-point v1 (and-l (pointFine v1) bulge vertex); bulge = of-bulge (v1 .bulge) (and-r (pointFine v1) bulge vertex) };
+      end = of-point v2 (and-r (pointFine v1 && bulge) (pointFine v2) both);
+      arc = of-arc v1 v2 owner (and-r ends long h);
+    }
+
+pub glance-fine : (v1 v2 u1 u2 : PlineVertex) (eps : Float) → T (pairFine v1 v2 u1 u2 eps) → pair.look v1 v2 u1 u2 eps ≡ Fine
+unfolding pairFine
+glance-fine v1 v2 u1 u2 eps h =
+    let v = segmentFine v1 v2 in
+    let u = segmentFine u1 u2 in
+    let both = and-r (epsilonFine eps) (v && u) h in
+    look-fine v1 v2 u1 u2 eps
+    (epsilon-fine eps (at 0 0 Epsilon) .1 (of-epsilon eps (and-l (epsilonFine eps) (v && u) h)))
+    (of-segment v1 v2 0 (and-l v u both)) (of-segment u1 u2 1 (and-r v u both))
