@@ -35,9 +35,6 @@ returns c =
 float-to-bits-abs : tie.Need-float-to-bits-abs
 float-to-bits-abs c = off (number _ (c .if1 .left))
 
-abs-requires : tie.Need-abs-requires
-abs-requires c κs = search needs
-
 float-from-bits-result : tie.Need-float-from-bits-result
 float-from-bits-result c =
     let x = c .before .before .args .x in
@@ -53,4 +50,6 @@ returns-2 c =
 
 pub abs-spec : {M : Type 1} → statement M
 abs-spec =
-    tie.close (tie.spec returns float-to-bits-abs abs-requires float-from-bits-result returns-2)
+    tie.close
+    (tie.spec
+    returns float-to-bits-abs (search needs) float-from-bits-result returns-2)

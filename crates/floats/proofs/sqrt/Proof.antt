@@ -17,9 +17,6 @@ held c = subst T (sym (c .good .0 .1)) tt
 float-to-bits-sqrt : tie.Need-float-to-bits-sqrt
 float-to-bits-sqrt c = off (root-number _ (c .if1 .taken) .0)
 
-sqrt-requires : tie.Need-sqrt-requires
-sqrt-requires c κs = search needs
-
 float-from-bits-result : tie.Need-float-from-bits-result
 float-from-bits-result c =
     let x = c .before .before .args .x in
@@ -35,4 +32,7 @@ returns-2 : tie.Need-returns-2
 returns-2 c = no-root _ (held (c .before)) (c .if1 .left)
 
 pub sqrt-spec : {M : Type 1} → statement M
-sqrt-spec = tie.close (tie.spec float-to-bits-sqrt sqrt-requires float-from-bits-result returns returns-2)
+sqrt-spec =
+    tie.close
+    (tie.spec
+    float-to-bits-sqrt (search needs) float-from-bits-result returns returns-2)

@@ -9,17 +9,11 @@ use Rattle.floats.proofs.Choice.{nan-not-below, none-below-nan}
 use Rattle.floats.proofs.bits.below.Statement.{statement}
 use Rattle.floats.proofs.bits.below.Tie as tie
 
-is-nan-requires : tie.Need-is-nan-requires
-is-nan-requires c κs = search needs
-
 returns : tie.Need-returns
 unfolding Bits.below
 returns c =
     let nan = sym (nanBits-is binary64 _) ∙ sym (c .before .is-nan .ensures) ∙ c .if1 .taken in
     sym (nan-not-below _ _ nan)
-
-is-nan-requires-2 : tie.Need-is-nan-requires-2
-is-nan-requires-2 c κs = search needs
 
 returns-2 : tie.Need-returns-2
 unfolding Bits.below
@@ -41,10 +35,4 @@ pub below-spec : {M : Type 1} → statement M
 below-spec =
     tie.close
     (tie.spec
-    is-nan-requires
-    returns
-    is-nan-requires-2
-    returns-2
-    float-from-bits-result
-    float-from-bits-result-2
-    returns-3)
+    (search needs) returns (search needs) returns-2 float-from-bits-result float-from-bits-result-2 returns-3)

@@ -4,12 +4,6 @@ use Rattle.floats.specs.Bits
 use Rattle.floats.proofs.bits.min.Statement.{statement}
 use Rattle.floats.proofs.bits.min.Tie as tie
 
-below-requires : tie.Need-below-requires
-below-requires c κs = search needs
-
-pick-requires : tie.Need-pick-requires
-pick-requires c κs = search needs
-
 returns : tie.Need-returns
 unfolding Bits.min
 returns c =
@@ -20,4 +14,7 @@ returns c =
     )
 
 pub min-spec : {M : Type 1} → statement M
-min-spec = tie.close (tie.spec below-requires pick-requires returns)
+min-spec =
+    tie.close
+    (tie.spec
+    (search needs) (search needs) returns)

@@ -4,12 +4,6 @@ use Rattle.floats.specs.Bits
 use Rattle.floats.proofs.bits.pick.Statement.{statement}
 use Rattle.floats.proofs.bits.pick.Tie as tie
 
-is-nan-requires : tie.Need-is-nan-requires
-is-nan-requires c κs = search needs
-
-is-nan-requires-2 : tie.Need-is-nan-requires-2
-is-nan-requires-2 c κs = search needs
-
 returns : tie.Need-returns
 unfolding Bits.pick
 returns c =
@@ -35,9 +29,6 @@ returns-2 c =
       ← p1 .is-nan2 .ensures,
       c .if2 .left,
     )
-
-is-nan-requires-3 : tie.Need-is-nan-requires-3
-is-nan-requires-3 c κs = search needs
 
 returns-3 : tie.Need-returns-3
 unfolding Bits.pick
@@ -83,4 +74,7 @@ returns-5 c =
     )
 
 pub pick-spec : {M : Type 1} → statement M
-pick-spec = tie.close (tie.spec is-nan-requires is-nan-requires-2 returns returns-2 is-nan-requires-3 returns-3 returns-4 returns-5)
+pick-spec =
+    tie.close
+    (tie.spec
+    (search needs) (search needs) returns returns-2 (search needs) returns-3 returns-4 returns-5)

@@ -15,12 +15,6 @@ own b k e h = subst (λ (z : ℕ). z ≡ Bits.sqrt z) (sym e) h
 returns : tie.Need-returns
 returns c = own _ 0 (c .if1 .taken) root-zero
 
-sqrt-requires : tie.Need-sqrt-requires
-sqrt-requires c κs = search needs
-
-returns-2 : tie.Need-returns-2
-returns-2 c = search needs
-
 returns-3 : tie.Need-returns-3
 returns-3 c = own _ 0x7ff0_0000_0000_0000 (c .if3 .taken) root-inf
 
@@ -33,4 +27,7 @@ returns-5 c =
     root-none (start .args .b) (omega arith) (start .fits .b .fits) (c .if4 .left)
 
 pub sqrt-spec : {M : Type 1} → statement M
-sqrt-spec = tie.close (tie.spec returns sqrt-requires returns-2 returns-3 returns-4 returns-5)
+sqrt-spec =
+    tie.close
+    (tie.spec
+    returns (search needs) (search needs) returns-3 returns-4 returns-5)

@@ -7,29 +7,17 @@ use Rattle.floats.specs.Laws.Guess.{part-most, two-most, both-most, all-
 use Rattle.floats.proofs.guess.first.Statement.{statement}
 use Rattle.floats.proofs.guess.first.Tie as tie
 
-sub-one : tie.Need-sub-one
-sub-one c = search needs
-
 mul-one : tie.Need-mul-one
 mul-one c = omega (arith, part-most 745034555 (c .args .m) (c .pre .0))
 
 sub-one-2 : tie.Need-sub-one-2
 sub-one-2 c = omega (arith, part-most 745034555 (c .args .m) (c .pre .0))
 
-sub-two : tie.Need-sub-two
-sub-two c = search needs
-
 mul-two : tie.Need-mul-two
 mul-two c = omega (arith, part-most 1469493533 (c .args .m) (c .pre .0))
 
 add-two : tie.Need-add-two
 add-two c = omega (arith, two-most (c .args .m) (c .args .odd) (c .pre .0) (c .pre .1))
-
-mul-scale : tie.Need-mul-scale
-mul-scale c = search needs
-
-add-scale : tie.Need-add-scale
-add-scale c = search needs
 
 mul-result : tie.Need-mul-result
 mul-result c = omega (arith, both-most (c .args .m) (c .args .odd) (c .pre .0) (c .pre .1))
@@ -45,14 +33,5 @@ pub first-spec : {M : Type 1} → statement M
 first-spec =
     tie.close
     (tie.spec
-    sub-one
-    mul-one
-    sub-one-2
-    sub-two
-    mul-two
-    add-two
-    mul-scale
-    add-scale
-    mul-result
-    mul-result-2
+    (search needs) mul-one sub-one-2 (search needs) mul-two add-two (search needs) (search needs) mul-result mul-result-2
     returns)

@@ -23,17 +23,8 @@ halves s l = (omega arith, (omega arith, omega arith))
 small : (s : ℕ) → s < 2 ^ 53 → (high s * high s < 2 ^ 52) × ((high s * low s < 2 ^ 53) × (low s * low s < 2 ^ 54))
 small s l = let h = halves s l in products (high s) (low s) (h .1 .0) (h .1 .1)
 
-sub-b : tie.Need-sub-b
-sub-b c = search needs
-
-add-wrapping-sub-u64 : tie.Need-add-wrapping-sub-u64
-add-wrapping-sub-u64 c = search needs
-
 mul-wrapping-sub-u64 : tie.Need-mul-wrapping-sub-u64
 mul-wrapping-sub-u64 c = omega (arith, small (c .args .s) (c .pre .1) .0)
-
-wrapping-sub-u64-requires : tie.Need-wrapping-sub-u64-requires
-wrapping-sub-u64-requires c κs = search needs
 
 returns : tie.Need-returns
 returns c h = absurd (false≢true h)
@@ -41,14 +32,8 @@ returns c h = absurd (false≢true h)
 mul-wrapping-sub-u64-2 : tie.Need-mul-wrapping-sub-u64-2
 mul-wrapping-sub-u64-2 c = let start = c .before .before in omega (arith, small (start .args .s) (start .pre .1) .1 .0)
 
-wrapping-sub-u64-requires-2 : tie.Need-wrapping-sub-u64-requires-2
-wrapping-sub-u64-requires-2 c κs = search needs
-
 returns-2 : tie.Need-returns-2
 returns-2 c h = absurd (false≢true h)
-
-add-wrapping-sub-u64-2 : tie.Need-add-wrapping-sub-u64-2
-add-wrapping-sub-u64-2 c = search needs
 
 mul-wrapping-sub-u64-3 : tie.Need-mul-wrapping-sub-u64-3
 mul-wrapping-sub-u64-3 c =
@@ -59,12 +44,6 @@ add-wrapping-sub-u64-3 : tie.Need-add-wrapping-sub-u64-3
 add-wrapping-sub-u64-3 c =
     let start = c .before .before .before .before in
     omega (arith, small (start .args .s) (start .pre .1) .1 .1)
-
-wrapping-sub-u64-requires-3 : tie.Need-wrapping-sub-u64-requires-3
-wrapping-sub-u64-requires-3 c κs = search needs
-
-add-result : tie.Need-add-result
-add-result c = search needs
 
 returns-3 : tie.Need-returns-3
 returns-3 c h =
@@ -83,17 +62,5 @@ pub fits-spec : {M : Type 1} → statement M
 fits-spec =
     tie.close
     (tie.spec
-    sub-b
-    add-wrapping-sub-u64
-    mul-wrapping-sub-u64
-    wrapping-sub-u64-requires
-    returns
-    mul-wrapping-sub-u64-2
-    wrapping-sub-u64-requires-2
-    returns-2
-    add-wrapping-sub-u64-2
-    mul-wrapping-sub-u64-3
-    add-wrapping-sub-u64-3
-    wrapping-sub-u64-requires-3
-    add-result
-    returns-3)
+    (search needs) (search needs) mul-wrapping-sub-u64 (search needs) returns mul-wrapping-sub-u64-2 (search needs)
+    returns-2 (search needs) mul-wrapping-sub-u64-3 add-wrapping-sub-u64-3 (search needs) (search needs) returns-3)

@@ -33,26 +33,14 @@ guess-is m o f l k e =
     ap (λ (z : ℕ). Root.near (ofBits binary64 z) (ofBits binary64 (f * 2 ^ 27 % 2 ^ 64 + 0x3fe0_0000_0000_0000))) x
     ∙ ap (λ (z : ℕ). Root.near (ofBits binary64 (m + (o + 1022) * 2 ^ 52)) (ofBits binary64 z)) hi
 
-first-requires : tie.Need-first-requires
-first-requires c κs = search needs
-
 add-hi : tie.Need-add-hi
 add-hi c = omega (arith, small c)
 
 float-from-bits-hi : tie.Need-float-from-bits-hi
 float-from-bits-hi c = below-infinity _ (omega (arith, small c))
 
-add-x : tie.Need-add-x
-add-x c = search needs
-
-add-x-2 : tie.Need-add-x-2
-add-x-2 c = search needs
-
 float-from-bits-x : tie.Need-float-from-bits-x
 float-from-bits-x c = below-infinity _ (omega (arith, c .before .pre))
-
-near-requires : tie.Need-near-requires
-near-requires c κs = search needs
 
 returns : tie.Need-returns
 returns c =
@@ -63,11 +51,4 @@ pub guess-spec : {M : Type 1} → statement M
 guess-spec =
     tie.close
     (tie.spec
-    first-requires
-    add-hi
-    float-from-bits-hi
-    add-x
-    add-x-2
-    float-from-bits-x
-    near-requires
-    returns)
+    (search needs) add-hi float-from-bits-hi (search needs) (search needs) float-from-bits-x (search needs) returns)

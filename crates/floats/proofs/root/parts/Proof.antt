@@ -9,23 +9,11 @@ use Rattle.floats.proofs.RootBits.{low-digits, parts-low, parts-high}
 use Rattle.floats.proofs.root.parts.Statement.{statement}
 use Rattle.floats.proofs.root.parts.Tie as tie
 
-sub-t : tie.Need-sub-t
-sub-t c = search needs
-
-raised-requires : tie.Need-raised-requires
-raised-requires c κs = search needs
-
 returns : tie.Need-returns
 returns c =
     let start = c .before .before in
     let b = start .args .b in
     c .raised .ensures ∙ ap Root.raised (low-digits b (start .fits .b .fits)) ∙ parts-low b (c .before .if1 .taken)
-
-add-t4 : tie.Need-add-t4
-add-t4 c = search needs
-
-add-t6 : tie.Need-add-t6
-add-t6 c = search needs
 
 returns-2 : tie.Need-returns-2
 returns-2 c =
@@ -33,4 +21,7 @@ returns-2 c =
     ap (λ (t : ℕ). scaled (t + 2 ^ 52) (b / 2 ^ 52 + 1023)) (low-digits b (c .before .fits .b .fits)) ∙ parts-high b (c .if1 .left)
 
 pub parts-spec : {M : Type 1} → statement M
-parts-spec = tie.close (tie.spec sub-t raised-requires returns add-t4 add-t6 returns-2)
+parts-spec =
+    tie.close
+    (tie.spec
+    (search needs) (search needs) returns (search needs) (search needs) returns-2)

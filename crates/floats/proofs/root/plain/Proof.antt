@@ -8,9 +8,6 @@ use Rattle.floats.proofs.RootBits.{q-small}
 use Rattle.floats.proofs.root.plain.Statement.{statement}
 use Rattle.floats.proofs.root.plain.Tie as tie
 
-digits-requires : tie.Need-digits-requires
-digits-requires c κs = search needs
-
 add-result : tie.Need-add-result
 add-result c = omega (arith, q-small _ _ (c .before .pre) (c .digits .ensures))
 
@@ -19,4 +16,7 @@ unfolding Root.rounded
 returns c = ap (λ (z : ℕ). (z + 1) / 2) (c .digits .ensures)
 
 pub plain-spec : {M : Type 1} → statement M
-plain-spec = tie.close (tie.spec digits-requires add-result returns)
+plain-spec =
+    tie.close
+    (tie.spec
+    (search needs) add-result returns)

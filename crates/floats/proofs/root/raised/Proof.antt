@@ -14,15 +14,6 @@ abbrev μ-loop : tie.MeasureT-loop
 loop-holds : tie.Need-loop-holds Inv-loop μ-loop
 loop-holds c = start (c .args .t) (c .pre .0) (c .pre .1)
 
-add-m : tie.Need-add-m Inv-loop μ-loop
-add-m c = omega arith
-
-sub-e : tie.Need-sub-e Inv-loop μ-loop
-sub-e c = omega arith
-
-loop-less : tie.Need-loop-less Inv-loop μ-loop
-loop-less c = omega arith
-
 loop-again : tie.Need-loop-again Inv-loop μ-loop
 loop-again c = step _ _ _ (c .before .loop .inv) (c .loop-test .taken)
 
@@ -31,4 +22,6 @@ returns c = stop _ _ _ (c .before .loop .inv) (c .loop-test .left)
 
 pub raised-spec : {M : Type 1} → statement M
 raised-spec =
-    tie.close (tie.spec Inv-loop μ-loop loop-holds add-m sub-e loop-less loop-again returns)
+    tie.close
+    (tie.spec
+    Inv-loop μ-loop loop-holds (omega arith) (omega arith) (omega arith) loop-again returns)

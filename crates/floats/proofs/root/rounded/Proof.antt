@@ -8,15 +8,6 @@ use Rattle.floats.proofs.RootBits.{moved, moved-small}
 use Rattle.floats.proofs.root.rounded.Statement.{statement}
 use Rattle.floats.proofs.root.rounded.Tie as tie
 
-add-n : tie.Need-add-n
-add-n c = search needs
-
-shl-n : tie.Need-shl-n
-shl-n c = search needs
-
-guess-requires : tie.Need-guess-requires
-guess-requires c κs = search needs
-
 plain-requires : tie.Need-plain-requires
 plain-requires c κs = let start = c .before .before in moved-small _ _ (start .pre .0) (start .pre .1)
 
@@ -27,9 +18,6 @@ returns c =
 
 float-to-bits-wrapping-sub-u64 : tie.Need-float-to-bits-wrapping-sub-u64
 float-to-bits-wrapping-sub-u64 c = off (number _ (c .if1 .left))
-
-wrapping-sub-u64-requires : tie.Need-wrapping-sub-u64-requires
-wrapping-sub-u64-requires c κs = search needs
 
 plain-requires-2 : tie.Need-plain-requires-2
 plain-requires-2 c κs = let start = c .before .before .before .before in moved-small _ _ (start .pre .0) (start .pre .1)
@@ -62,16 +50,5 @@ pub rounded-spec : {M : Type 1} → statement M
 rounded-spec =
     tie.close
     (tie.spec
-    add-n
-    shl-n
-    guess-requires
-    plain-requires
-    returns
-    float-to-bits-wrapping-sub-u64
-    wrapping-sub-u64-requires
-    plain-requires-2
-    returns-2
-    fits-requires
-    returns-3
-    plain-requires-3
-    returns-4)
+    (search needs) (search needs) (search needs) plain-requires returns float-to-bits-wrapping-sub-u64 (search needs)
+    plain-requires-2 returns-2 fits-requires returns-3 plain-requires-3 returns-4)

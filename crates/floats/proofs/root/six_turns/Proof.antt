@@ -22,9 +22,6 @@ at4 c = let p = c .before .before .before .before .pre in after (p .0) 2 (p .1 .
 at5 : (c : tie.After-turn5) → Turn (c .before .before .before .before .before .pre .0) (1 + c .before .before .before .before .before .pre .1 .0) (c .turn5 .result)
 at5 c = let p = c .before .before .before .before .before .pre in after (p .0) 1 (p .1 .0) _ _ (c .turn5 .ensures) (at4 (c .before))
 
-turn-requires : tie.Need-turn-requires
-turn-requires c κs = search needs
-
 turn-requires-2 : tie.Need-turn-requires-2
 turn-requires-2 c κs = at1 c .fits
 
@@ -56,10 +53,4 @@ pub six-turns-spec : {M : Type 1} → statement M
 six-turns-spec =
     tie.close
     (tie.spec
-    turn-requires
-    turn-requires-2
-    turn-requires-3
-    turn-requires-4
-    turn-requires-5
-    turn-requires-6
-    returns)
+    (search needs) turn-requires-2 turn-requires-3 turn-requires-4 turn-requires-5 turn-requires-6 returns)

@@ -5,15 +5,6 @@ use Rattle.floats.proofs.RootBits.{known, r-small, pattern-is}
 use Rattle.floats.proofs.root.sqrt.Statement.{statement}
 use Rattle.floats.proofs.root.sqrt.Tie as tie
 
-parts-requires : tie.Need-parts-requires
-parts-requires c κs = search needs
-
-sub-odd : tie.Need-sub-odd
-sub-odd c = search needs
-
-sub-odd-2 : tie.Need-sub-odd-2
-sub-odd-2 c = search needs
-
 sub-result : tie.Need-sub-result
 sub-result c =
     let start = c .before in
@@ -36,4 +27,7 @@ returns c =
     pattern-is (start .args .b) (start .pre .0) (start .pre .1) _ _ (c .before .parts .ensures) (c .rounded .ensures)
 
 pub sqrt-spec : {M : Type 1} → statement M
-sqrt-spec = tie.close (tie.spec parts-requires sub-odd sub-odd-2 sub-result rounded-requires add-result returns)
+sqrt-spec =
+    tie.close
+    (tie.spec
+    (search needs) (search needs) (search needs) sub-result rounded-requires add-result returns)

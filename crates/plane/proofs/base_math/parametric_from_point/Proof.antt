@@ -5,12 +5,6 @@ use Rattle.plane.specs.BaseMath
 use Rattle.plane.proofs.base_math.parametric_from_point.Statement.{statement}
 use Rattle.plane.proofs.base_math.parametric_from_point.Tie as tie
 
-abs-requires : tie.Need-abs-requires
-abs-requires c κs = search needs
-
-abs-requires-2 : tie.Need-abs-requires-2
-abs-requires-2 c κs = search needs
-
 returns : tie.Need-returns
 unfolding BaseMath.parametricFromPoint
 returns c =
@@ -28,4 +22,7 @@ returns-2 c =
     simp (← first .abs .ensures, ← second .abs2 .ensures, branch .if1 .left)
 
 pub parametric-from-point-spec : {M : Type 1} → statement M
-parametric-from-point-spec = tie.close (tie.spec abs-requires abs-requires-2 returns returns-2)
+parametric-from-point-spec =
+    tie.close
+    (tie.spec
+    (search needs) (search needs) returns returns-2)

@@ -5,18 +5,12 @@ use Rattle.plane.specs.BaseMath
 use Rattle.plane.proofs.base_math.point_from_parametric.Statement.{statement}
 use Rattle.plane.proofs.base_math.point_from_parametric.Tie as tie
 
-sub-requires : tie.Need-sub-requires
-sub-requires c κs = search needs
-
-scale-requires : tie.Need-scale-requires
-scale-requires c κs = search needs
-
-add-requires : tie.Need-add-requires
-add-requires c κs = search needs
-
 returns : tie.Need-returns
 unfolding BaseMath.pointFromParametric
 returns c = cc
 
 pub point-from-parametric-spec : {M : Type 1} → statement M
-point-from-parametric-spec = tie.close (tie.spec sub-requires scale-requires add-requires returns)
+point-from-parametric-spec =
+    tie.close
+    (tie.spec
+    (search needs) (search needs) (search needs) returns)

@@ -5,39 +5,6 @@ use Rattle.plane.specs.PlineSeg
 use Rattle.plane.proofs.pline_seg.seg_arc_radius_and_center.Statement.{statement}
 use Rattle.plane.proofs.pline_seg.seg_arc_radius_and_center.Tie as tie
 
-pos-requires : tie.Need-pos-requires
-pos-requires c κs = search needs
-
-pos-requires-2 : tie.Need-pos-requires-2
-pos-requires-2 c κs = search needs
-
-sub-requires : tie.Need-sub-requires
-sub-requires c κs = search needs
-
-length-requires : tie.Need-length-requires
-length-requires c κs = search needs
-
-abs-requires : tie.Need-abs-requires
-abs-requires c κs = search needs
-
-pos-requires-3 : tie.Need-pos-requires-3
-pos-requires-3 c κs = search needs
-
-scale-requires : tie.Need-scale-requires
-scale-requires c κs = search needs
-
-add-requires : tie.Need-add-requires
-add-requires c κs = search needs
-
-perp-requires : tie.Need-perp-requires
-perp-requires c κs = search needs
-
-scale-requires-2 : tie.Need-scale-requires-2
-scale-requires-2 c κs = search needs
-
-add-requires-2 : tie.Need-add-requires-2
-add-requires-2 c κs = search needs
-
 returns : tie.Need-returns
 unfolding PlineSeg.segArcRadiusAndCenter
 returns c =
@@ -67,5 +34,7 @@ returns c =
 
 pub seg-arc-radius-and-center-spec : {M : Type 1} → statement M
 seg-arc-radius-and-center-spec =
-    tie.close (tie.spec pos-requires pos-requires-2 sub-requires length-requires abs-requires pos-requires-3
-    scale-requires add-requires perp-requires scale-requires-2 add-requires-2 returns)
+    tie.close
+    (tie.spec
+    (search needs) (search needs) (search needs) (search needs) (search needs) (search needs) (search needs) (search needs)
+    (search needs) (search needs) (search needs) returns)

@@ -4,15 +4,12 @@ use Rattle.plane.specs.Vector2 as vector2
 use Rattle.plane.proofs.vector2.Vector2.length.Statement.{statement}
 use Rattle.plane.proofs.vector2.Vector2.length.Tie as tie
 
-dot-requires : tie.Need-dot-requires
-dot-requires c κs = search needs
-
-sqrt-requires : tie.Need-sqrt-requires
-sqrt-requires c κs = search needs
-
 returns : tie.Need-returns
 unfolding vector2.length
 returns c = cc
 
 pub length-spec : {M : Type 1} → statement M
-length-spec = tie.close (tie.spec dot-requires sqrt-requires returns)
+length-spec =
+    tie.close
+    (tie.spec
+    (search needs) (search needs) returns)
