@@ -13,5 +13,8 @@ of-line-line-spec =
     (tie.spec
     (search needs) (search needs) (search needs) (search needs) (search needs) (search needs) (search needs) (search needs)
     (search needs) (search needs) (search needs)
-    (λ c. search (as-refused ofLineLine)) (λ c. search (as-met ofLineLine Met)) (λ c. search (as-met ofLineLine Met))
+    (λ c. search (as-refused ofLineLine)) (λ c. search (as-met ofLineLine Met))
+    (λ c.
+    let true-intersect = c .before .before in
+    as-met ofLineLine Met _ _ _ _ (true-intersect .before .before .before .answer2 .given .1) (true-intersect .intr .given .1) (c .case2 .ensures))
     (λ c. search (as-met ofLineLine Met)) (λ c. search (as-met ofLineLine Met)))
