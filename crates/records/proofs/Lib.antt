@@ -1,2 +1,3 @@
+mod Chain
 mod Fields
 mod Spelling
