@@ -5,3 +5,4 @@ pub mod Order
 pub mod Within
 pub mod Apart
 pub mod FarLine
+pub mod Branches

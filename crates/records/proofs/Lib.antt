@@ -1,3 +1,2 @@
-mod Chain
 mod Fields
 mod Spelling

@@ -1,7 +1,7 @@
 -- `records::is_right` meets its contract: each return is an end of the definition, by the calls and tests on its way.
 use borrow.Author.Needs.{needs}
+use Rattle.crossing.specs.Laws.Branches.{branches}
 use Rattle.records.specs.Calls.{isRight}
-use Rattle.records.proofs.Chain.{chain}
 use Rattle.records.proofs.is_right.Statement.{statement}
 use Rattle.records.proofs.is_right.Tie as tie
 
@@ -11,5 +11,5 @@ is-right-spec =
     tie.close
     (tie.spec
     (search needs) (search needs) (search needs) (search needs)
-    (λ c. let n = c .before .before .before in simp (← n .before .name .ensures, ← n .numbers .ensures .0) (search chain))
-    (λ c. let n = c .before .before in simp (← n .before .name .ensures, ← n .numbers .ensures .0) (search chain)))
+    (λ c. let n = c .before .before .before in simp (← n .before .name .ensures, ← n .numbers .ensures .0) (search branches))
+    (λ c. let n = c .before .before in simp (← n .before .name .ensures, ← n .numbers .ensures .0) (search branches)))

@@ -1,7 +1,7 @@
 -- `records::calls::is_ours` meets its contract: each return is an end of the definition, by the test and the calls on its way.
 use borrow.Author.Needs.{needs}
+use Rattle.crossing.specs.Laws.Branches.{branches}
 use Rattle.records.specs.Calls.{isOurs}
-use Rattle.records.proofs.Chain.{chain}
 use Rattle.records.proofs.calls.is_ours.Statement.{statement}
 use Rattle.records.proofs.calls.is_ours.Tie as tie
 
@@ -23,4 +23,4 @@ is-ours-spec =
     (λ c.
     let values = c .before in
     simp (← values .before .before .value .ensures, ← values .before .value2 .ensures, ← values .value3 .ensures)
-    (search chain depth 11)))
+    (search branches depth 11)))

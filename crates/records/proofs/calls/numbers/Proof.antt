@@ -1,8 +1,8 @@
 -- `records::calls::numbers` meets its contract: each return is an end of the definition, by the test that led to it.
 -- Assumes nothing.
 use borrow.Author.Needs.{needs}
+use Rattle.crossing.specs.Laws.Branches.{branches}
 use Rattle.records.specs.Calls.{numbersOf}
-use Rattle.records.proofs.Chain.{chain}
 use Rattle.records.proofs.calls.numbers.Statement.{statement}
 use Rattle.records.proofs.calls.numbers.Tie as tie
 
@@ -18,4 +18,4 @@ numbers-spec =
     (λ c. (simp (c .if9 .taken), search needs)) (λ c. (simp (c .if10 .taken), search needs))
     (λ c. (simp (c .if11 .taken), search needs)) (λ c. (simp (c .if12 .taken), search needs))
     (λ c. (simp (c .if13 .taken), search needs))
-    (λ c. (search chain depth 15, search needs)))
+    (λ c. (search branches depth 15, search needs)))

@@ -1,7 +1,7 @@
 -- `records::on_floats::agrees` meets its contract: each test picks its answer in the definition. Assumes nothing.
 use borrow.Author.Needs.{needs}
+use Rattle.crossing.specs.Laws.Branches.{branches, denied}
 use Rattle.records.specs.OnFloats.{agreesOf}
-use Rattle.records.proofs.Chain.{chain, denied}
 use Rattle.records.proofs.on_floats.agrees.Statement.{statement}
 use Rattle.records.proofs.on_floats.agrees.Tie as tie
 
@@ -10,6 +10,6 @@ unfolding agreesOf
 agrees-spec =
     tie.close
     (tie.spec
-    (search needs) (search needs) (λ c. search chain depth 8) (search needs) (λ c. search chain depth 8)
+    (search needs) (search needs) (λ c. search branches depth 8) (search needs) (λ c. search branches depth 8)
     (λ c. search denied) (λ c. search denied)
-    (search needs) (λ c. search chain depth 8) (λ c. search chain depth 8))
+    (search needs) (λ c. search branches depth 8) (λ c. search branches depth 8))

@@ -1,7 +1,7 @@
 -- `records::on_floats::on_numbers` meets its contract: the test that is met picks the call. Assumes nothing.
 use borrow.Author.Needs.{needs}
+use Rattle.crossing.specs.Laws.Branches.{branches}
 use Rattle.records.specs.OnFloats.{onNumbers}
-use Rattle.records.proofs.Chain.{chain}
 use Rattle.records.proofs.on_floats.on_numbers.Statement.{statement}
 use Rattle.records.proofs.on_floats.on_numbers.Tie as tie
 
@@ -14,4 +14,4 @@ on-numbers-spec =
     (search needs) (search needs) (λ c. simp (c .before .before .if2 .taken, ← c .before .min .ensures, ← c .is-answer2 .ensures))
     (search needs) (search needs) (λ c. simp (c .before .before .if3 .taken, ← c .before .max .ensures, ← c .is-answer3 .ensures))
     (search needs) (search needs) (λ c. simp (c .before .before .if4 .taken, ← c .before .sqrt .ensures, ← c .is-answer4 .ensures))
-    (λ c. search chain depth 6))
+    (λ c. search branches depth 6))

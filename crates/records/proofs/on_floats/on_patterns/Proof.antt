@@ -1,7 +1,7 @@
 -- `records::on_floats::on_patterns` meets its contract: the test that is met picks the call. Assumes nothing.
 use borrow.Author.Needs.{needs}
+use Rattle.crossing.specs.Laws.Branches.{branches}
 use Rattle.records.specs.OnFloats.{onPatterns}
-use Rattle.records.proofs.Chain.{chain}
 use Rattle.records.proofs.on_floats.on_patterns.Statement.{statement}
 use Rattle.records.proofs.on_floats.on_patterns.Tie as tie
 
@@ -14,4 +14,4 @@ on-patterns-spec =
     (search needs) (λ c. simp (c .before .if2 .taken, ← c .min .ensures))
     (search needs) (λ c. simp (c .before .if3 .taken, ← c .max .ensures))
     (search needs) (λ c. simp (c .before .if4 .taken, ← c .sqrt .ensures))
-    (λ c. search chain depth 6))
+    (λ c. search branches depth 6))

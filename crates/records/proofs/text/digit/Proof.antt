@@ -1,7 +1,7 @@
 -- `records::text::digit` meets its contract: each arm's tests pick its answer in the definition. Assumes nothing.
 use borrow.Author.Needs.{needs}
+use Rattle.crossing.specs.Laws.Branches.{branches}
 use Rattle.records.specs.Text.{digitOf}
-use Rattle.records.proofs.Chain.{chain}
 use Rattle.records.proofs.text.digit.Statement.{statement}
 use Rattle.records.proofs.text.digit.Tie as tie
 
@@ -11,6 +11,6 @@ digit-spec =
     tie.close
     (tie.spec
     (search needs) (search needs) (search needs) (search needs)
-    (λ c. simp (c .wide .ensures .0) (search chain depth 6))
-    (λ c. simp (c .wide2 .ensures .0) (search chain depth 6))
-    (λ c. search chain depth 6) (λ c. search chain depth 6) (λ c. search chain depth 6))
+    (λ c. simp (c .wide .ensures .0) (search branches depth 6))
+    (λ c. simp (c .wide2 .ensures .0) (search branches depth 6))
+    (λ c. search branches depth 6) (λ c. search branches depth 6) (λ c. search branches depth 6))
