@@ -6,9 +6,6 @@ use Rattle.paths.specs.Segments
 use Rattle.paths.proofs.segments.segment_count.Statement.{statement}
 use Rattle.paths.proofs.segments.segment_count.Tie as tie
 
-refused-requires : tie.Need-refused-requires
-refused-requires c κs = search needs
-
 returns : tie.Need-returns
 unfolding Segments.segmentCount
 returns c =
@@ -17,9 +14,6 @@ returns c =
       ← p1 .refused .ensures,
       c .if1 .taken,
     )
-
-vertex-count-requires : tie.Need-vertex-count-requires
-vertex-count-requires c κs = search needs
 
 returns-2 : tie.Need-returns-2
 unfolding Segments.segmentCount
@@ -49,9 +43,6 @@ returns-3 c =
       c .if3 .taken,
     )
 
-sub-result : tie.Need-sub-result
-sub-result c = search needs
-
 returns-4 : tie.Need-returns-4
 unfolding Segments.segmentCount
 returns-4 c =
@@ -68,4 +59,7 @@ returns-4 c =
     )
 
 pub segment-count-spec : {M : Type 1} → statement M
-segment-count-spec = tie.close (tie.spec refused-requires returns vertex-count-requires returns-2 returns-3 sub-result returns-4)
+segment-count-spec =
+    tie.close
+    (tie.spec
+    (search needs) returns (search needs) returns-2 returns-3 (search needs) returns-4)
