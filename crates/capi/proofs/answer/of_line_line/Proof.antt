@@ -16,5 +16,6 @@ of-line-line-spec =
     (λ c. search (as-refused ofLineLine)) (λ c. search (as-met ofLineLine Met))
     (λ c.
     let true-intersect = c .before .before in
-    as-met ofLineLine Met _ _ _ _ (true-intersect .before .before .before .answer2 .given .1) (true-intersect .intr .given .1) (c .case2 .ensures))
+    as-met ofLineLine Met _ _ _ _ (true-intersect .before .before .before .answer2 .given .1) (true-intersect .intr .given .1)
+    (c .case2 .ensures))
     (λ c. search (as-met ofLineLine Met)) (λ c. search (as-met ofLineLine Met)))

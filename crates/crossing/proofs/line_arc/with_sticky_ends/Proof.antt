@@ -11,5 +11,6 @@ unfolding withStickyEnds
 with-sticky-ends-spec =
     tie.close
     (tie.spec
-    (search needs) (search needs) (search needs) (search needs) (λ c. search branches depth 8) (λ c. search branches depth 8) (λ c. search branches depth 8) (λ c. search branches depth 8)
+    (search needs) (search needs) (search needs) (search needs)
+    (λ c. search branches depth 8) (λ c. search branches depth 8) (λ c. search branches depth 8) (λ c. search branches depth 8)
     (search needs) (search needs) (λ c. search branches depth 8) (λ c. search branches depth 8) (λ c. search branches depth 8))

@@ -42,11 +42,15 @@ parallel-spec =
     (search needs) (search needs) (search needs) (search needs)
     (λ c. said-so _ _ _ _ _ (off-line (c .before)) (c .if1 .taken) refl)
     (search needs) (search needs) (search needs)
-    (λ c. let t = c .before .before .before .before .before in said-not _ _ _ _ _ (off-line (t .before)) (t .if1 .left) (search nested))
+    (λ c. let t = c .before .before .before .before .before in
+    said-not _ _ _ _ _ (off-line (t .before)) (t .if1 .left) (search nested))
     (search needs)
-    (λ c. let t = c .before .before .before .before .before in said-not _ _ _ _ _ (off-line (t .before)) (t .if1 .left) (search nested))
+    (λ c. let t = c .before .before .before .before .before in
+    said-not _ _ _ _ _ (off-line (t .before)) (t .if1 .left) (search nested))
     (search needs)
-    (λ c. let t = c .before .before .before .before .before in said-not _ _ _ _ _ (off-line (t .before)) (t .if1 .left) (search nested))
+    (λ c. let t = c .before .before .before .before .before in
+    said-not _ _ _ _ _ (off-line (t .before)) (t .if1 .left) (search nested))
     (search needs) (search needs) (search needs)
     (λ c. let s = c .before .before in let t = s .before .before .before .before .before in
-    simp (← s .sub .ensures, ← c .before .span-of .ensures) (said-not _ _ _ _ _ (off-line (t .before)) (t .if1 .left) (search nested))))
+    simp (← s .sub .ensures, ← c .before .span-of .ensures)
+    (said-not _ _ _ _ _ (off-line (t .before)) (t .if1 .left) (search nested))))

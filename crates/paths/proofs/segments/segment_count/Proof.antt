@@ -16,7 +16,19 @@ segment-count-spec =
     (λ c. let n = c .before in
     simp (← n .before .before .refused .ensures, n .before .if1 .left, ← n .vertex-count .ensures, lt-ltb _ _ (c .if2 .taken)))
     (λ c. let n = c .before .before in
-    simp (← n .before .before .refused .ensures, n .before .if1 .left, ← n .vertex-count .ensures, le-ltb _ _ (c .before .if2 .left), c .if3 .taken))
+    simp (
+      ← n .before .before .refused .ensures,
+      n .before .if1 .left,
+      ← n .vertex-count .ensures,
+      le-ltb _ _ (c .before .if2 .left),
+      c .if3 .taken,
+    ))
     (search needs)
     (λ c. let n = c .before .before in
-    simp (← n .before .before .refused .ensures, n .before .if1 .left, ← n .vertex-count .ensures, le-ltb _ _ (c .before .if2 .left), c .if3 .left)))
+    simp (
+      ← n .before .before .refused .ensures,
+      n .before .if1 .left,
+      ← n .vertex-count .ensures,
+      le-ltb _ _ (c .before .if2 .left),
+      c .if3 .left,
+    )))
