@@ -1,6 +1,6 @@
 -- The three ends of handing an answer over: there is no room, it is a refusal, or its four values are written.
 use Prim.Native.Nat.{ℕ, _+_, _≤_, _<_}
-use mathlib.Core.Path.{_≡_, sym, subst}
+use mathlib.Core.Path.{_≡_, sym, ap, _∙_, subst}
 use mathlib.Core.Bool.{true, false}
 use mathlib.Core.List.{List, [], _∷_}
 use borrow.Author.Tests.{lt-ltb, le-ltb}
@@ -21,9 +21,11 @@ module _ (f : Flat) (old : List Float) where
       → Handed f (f .number) old (sets old 0 (f .a ∷ f .b ∷ f .c ∷ f .d ∷ []))
   written h e = record { told = simp (le-ltb _ _ h, e); holds = simp (le-ltb _ _ h, e) }
 
--- equal answers are handed over alike
-pub alike : {f g : Flat} {n : ℕ} {old now : List Float} → f ≡ g → Handed f n old now → Handed g n old now
-alike {f} {g} {n} {old} {now} e = subst (λ (h : Flat). Handed h n old now) e
+-- what a call answers, told by `tell` and handed over; and its number is below 256
+module _ {Answer : Type 0} (tell : Answer → Flat) (flat : Flat) (answer called : Answer) where
+  pub handed : (n : ℕ) (old now : List Float) → flat ≡ tell answer → answer ≡ called → Handed flat n old now
+      → Handed (tell called) n old now
+  handed n old now told is = subst (λ (f : Flat). Handed f n old now) (told ∙ ap tell is)
 
-pub number-below : {f g : Flat} → f ≡ g → g .number < 256 → f .number < 256
-number-below {f} {g} e = subst (λ (h : Flat). h .number < 256) (sym e)
+  pub small : flat ≡ tell answer → answer ≡ called → tell called .number < 256 → flat .number < 256
+  small told is = subst (λ (f : Flat). f .number < 256) (sym (told ∙ ap tell is))

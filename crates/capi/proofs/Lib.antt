@@ -1,3 +1,4 @@
 mod Ends
+mod Told
 mod Numbers
 mod ListingNumbers

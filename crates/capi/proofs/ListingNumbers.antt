@@ -103,6 +103,10 @@ self-small path closed eps i p =
     (append c0 (pathChecks path closed 0) (and (epsilon eps (at 0 0 Epsilon)) (and (shape-small path 0) fine)) (path-small path closed 0))
 
 -- ---- the two ends
+module _ (o : Outcome) (a : ListingAnswer) (i : List ℕ) (p : List Float) where
+  pub small : Leaves o a i p → code (o .answer) < 512 → code a < 512
+  small leaves h = rw (leaves .answer) h
+
 module _ (o : Outcome) (c₀ i₀ : List ℕ) (p₀ : List Float) where
   pub no-room : length c₀ < 2 → HandedListing o 512 c₀ c₀ i₀ i₀ p₀ p₀
   no-room h =

@@ -6,3 +6,4 @@ pub mod Within
 pub mod Apart
 pub mod FarLine
 pub mod Circles
+pub mod Branches

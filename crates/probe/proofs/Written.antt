@@ -15,6 +15,7 @@ module _ (numbers old : List Float) where
   pub all : length numbers ≤ length old → Given numbers (length numbers) old (sets old 0 numbers)
   all h = record { told = simp (le-ltb _ _ h); holds = simp (le-ltb _ _ h) }
 
--- equal numbers are handed over alike
-pub alike : {a b old now : List Float} {n : ℕ} → a ≡ b → Given a n old now → Given b n old now
-alike {a} {b} {old} {now} {n} e = subst (λ (numbers : List Float). Given numbers n old now) e
+-- what a call answered, as numbers, handed over
+pub handed : {Answer : Type 0} (numbers : Answer → List Float) (answer called : Answer) (n : ℕ) (old now : List Float)
+    → answer ≡ called → Given (numbers answer) n old now → Given (numbers called) n old now
+handed numbers answer called n old now is = subst (λ (a : _). Given (numbers a) n old now) is

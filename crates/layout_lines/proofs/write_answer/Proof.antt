@@ -19,15 +19,6 @@ returns-3 c =
     let points = c .before in
     no-room _ _ _ _ (rw (le-ltb _ _ (points .before .if1 .left), le-ltb _ _ (points .if2 .left))) (le-leb _ _ (c .if3 .taken))
 
-put-counts-requires : tie.Need-put-counts-requires
-put-counts-requires c κs = search needs
-
-put-rows-requires : tie.Need-put-rows-requires
-put-rows-requires c κs = search needs
-
-same-length : tie.Need-same-length
-same-length c = search needs
-
 returns-4 : tie.Need-returns-4
 unfolding answerText
 returns-4 c =
@@ -43,10 +34,4 @@ pub write-answer-spec : {M : Type 1} → statement M
 write-answer-spec =
     tie.close
     (tie.spec
-    returns
-    returns-2
-    returns-3
-    put-counts-requires
-    put-rows-requires
-    same-length
-    returns-4)
+    returns returns-2 returns-3 (search needs) (search needs) (search needs) returns-4)

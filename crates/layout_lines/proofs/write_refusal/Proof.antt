@@ -11,21 +11,6 @@ use Rattle.layout_lines.proofs.write_refusal.Tie as tie
 returns : tie.Need-returns
 returns c = no-room _ _ _ _ refl (lt-ltb _ _ (c .if1 .taken))
 
-slice-aggregate-put-word : tie.Need-slice-aggregate-put-word
-slice-aggregate-put-word c = search needs
-
-put-word-requires : tie.Need-put-word-requires
-put-word-requires c κs = search needs
-
-put-whole-requires : tie.Need-put-whole-requires
-put-whole-requires c κs = search needs
-
-put-byte-requires : tie.Need-put-byte-requires
-put-byte-requires c κs = search needs
-
-same-length : tie.Need-same-length
-same-length c = search needs
-
 returns-2 : tie.Need-returns-2
 unfolding refusedText
 returns-2 c =
@@ -40,10 +25,4 @@ pub write-refusal-spec : {M : Type 1} → statement M
 write-refusal-spec =
     tie.close
     (tie.spec
-    returns
-    slice-aggregate-put-word
-    put-word-requires
-    put-whole-requires
-    put-byte-requires
-    same-length
-    returns-2)
+    returns (search needs) (search needs) (search needs) (search needs) (search needs) returns-2)

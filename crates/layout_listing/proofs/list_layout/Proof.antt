@@ -32,18 +32,6 @@ returns : tie.Need-returns
 returns c =
     let a = c .before .before .before .args in no-room (answerTo (now (a .text))) (now (a .out)) (c .if1 .taken)
 
-slice-aggregate-read-layout : tie.Need-slice-aggregate-read-layout
-slice-aggregate-read-layout c = search needs
-
-slice-aggregate-read-layout-2 : tie.Need-slice-aggregate-read-layout-2
-slice-aggregate-read-layout-2 c = search needs
-
-read-layout-requires : tie.Need-read-layout-requires
-read-layout-requires c κs = search needs
-
-enum-known-read : tie.Need-enum-known-read
-enum-known-read c = search needs
-
 mul-a : tie.Need-mul-a
 mul-a c = omega (arith, fronts (c .before) .few-first)
 
@@ -64,20 +52,8 @@ slice-aggregate-list-paths-2 : tie.Need-slice-aggregate-list-paths-2
 slice-aggregate-list-paths-2 c =
     let f = fronts (c .before .before .before) in sym (length-take-le _ _ (omega (arith, f .few-second, f .second-long)))
 
-list-paths-requires : tie.Need-list-paths-requires
-list-paths-requires c κs = search needs
-
-enum-known-read-2 : tie.Need-enum-known-read-2
-enum-known-read-2 c = search needs
-
-write-refusal-requires : tie.Need-write-refusal-requires
-write-refusal-requires c κs = search needs
-
 enum-told : tie.Need-enum-told
 enum-told c = search needs
-
-same-length : tie.Need-same-length
-same-length c = search needs
 
 returns-2 : tie.Need-returns-2
 returns-2 c =
@@ -85,9 +61,6 @@ returns-2 c =
     let k = w .before .before .before .before .before in
     let a = start (branch (k .before .before .before .before)) .args in
     listed-answer (now (a .text)) (now (a .out)) _ _ _ _ _ _ (fronts k) (w .list-paths .ensures)
-
-same-length-2 : tie.Need-same-length-2
-same-length-2 c = search needs
 
 returns-3 : tie.Need-returns-3
 returns-3 c =
@@ -109,23 +82,6 @@ pub list-layout-spec : {M : Type 1} → statement M
 list-layout-spec =
     tie.close
     (tie.spec
-    returns
-    slice-aggregate-read-layout
-    slice-aggregate-read-layout-2
-    read-layout-requires
-    enum-known-read
-    mul-a
-    mul-b
-    array-share-prefix-first
-    slice-aggregate-list-paths
-    array-share-prefix-second
-    slice-aggregate-list-paths-2
-    list-paths-requires
-    enum-known-read-2
-    write-refusal-requires
-    enum-told
-    same-length
-    returns-2
-    same-length-2
-    returns-3
-    returns-4)
+    returns (search needs) (search needs) (search needs) (search needs) mul-a mul-b array-share-prefix-first
+    slice-aggregate-list-paths array-share-prefix-second slice-aggregate-list-paths-2 (search needs) (search needs)
+    (search needs) enum-told (search needs) returns-2 (search needs) returns-3 returns-4)

@@ -15,36 +15,6 @@ returns c =
     let a = c .before .before .before .before .args in
     no-room (linesFor (now (a .first)) (now (a .second))) (now (a .out)) (c .if1 .taken)
 
-slice-aggregate-mutual-listing : tie.Need-slice-aggregate-mutual-listing
-slice-aggregate-mutual-listing c = search needs
-
-slice-aggregate-mutual-listing-2 : tie.Need-slice-aggregate-mutual-listing-2
-slice-aggregate-mutual-listing-2 c = search needs
-
-mutual-listing-requires : tie.Need-mutual-listing-requires
-mutual-listing-requires c κs = search needs
-
-enum-known-listed : tie.Need-enum-known-listed
-enum-known-listed c = search needs
-
-write-refusal-requires : tie.Need-write-refusal-requires
-write-refusal-requires c κs = search needs
-
-enum-known-listed-2 : tie.Need-enum-known-listed-2
-enum-known-listed-2 c = search needs
-
-slice-aggregate-write-answer : tie.Need-slice-aggregate-write-answer
-slice-aggregate-write-answer c = search needs
-
-slice-aggregate-write-answer-2 : tie.Need-slice-aggregate-write-answer-2
-slice-aggregate-write-answer-2 c = search needs
-
-write-answer-requires : tie.Need-write-answer-requires
-write-answer-requires c κs = search needs
-
-same-length : tie.Need-same-length
-same-length c = search needs
-
 returns-2 : tie.Need-returns-2
 returns-2 c =
     let w = c .before .before in
@@ -54,9 +24,6 @@ returns-2 c =
     let a = start e .args in
     refused-lines (now (a .first)) (now (a .second)) (now (a .out)) (e .if1 .left) (l .mutual-listing .result) _ _
     (l .mutual-listing .ensures) _ _ _ (k .listed .given .1) (w .write-refusal .ensures)
-
-same-length-2 : tie.Need-same-length-2
-same-length-2 c = search needs
 
 returns-3 : tie.Need-returns-3
 returns-3 c =
@@ -72,17 +39,5 @@ pub list-paths-spec : {M : Type 1} → statement M
 list-paths-spec =
     tie.close
     (tie.spec
-    returns
-    slice-aggregate-mutual-listing
-    slice-aggregate-mutual-listing-2
-    mutual-listing-requires
-    enum-known-listed
-    write-refusal-requires
-    enum-known-listed-2
-    slice-aggregate-write-answer
-    slice-aggregate-write-answer-2
-    write-answer-requires
-    same-length
-    returns-2
-    same-length-2
-    returns-3)
+    returns (search needs) (search needs) (search needs) (search needs) (search needs) (search needs) (search needs)
+    (search needs) (search needs) (search needs) returns-2 (search needs) returns-3)

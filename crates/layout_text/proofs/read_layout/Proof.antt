@@ -11,12 +11,6 @@ returns c = first-short _ _ _ (c .if1 .taken)
 returns-2 : tie.Need-returns-2
 returns-2 c = second-short _ _ _ (c .before .if1 .left) (c .if2 .taken)
 
-shape-of-requires : tie.Need-shape-of-requires
-shape-of-requires c κs = search needs
-
-enum-known-n : tie.Need-enum-known-n
-enum-known-n c = search needs
-
 enum-told : tie.Need-enum-told
 enum-told c = search needs
 
@@ -40,12 +34,6 @@ fill-requires-2 c κs =
     let fit = fits-of _ (shape .shape-of .ensures) (told .n .given .1) in
     omega (arith, fit .m-within, shape .before .if2 .left)
 
-same-length : tie.Need-same-length
-same-length c = search needs
-
-same-length-2 : tie.Need-same-length-2
-same-length-2 c = search needs
-
 returns-4 : tie.Need-returns-4
 returns-4 c =
     let second = c .before .before in
@@ -60,14 +48,5 @@ pub read-layout-spec : {M : Type 1} → statement M
 read-layout-spec =
     tie.close
     (tie.spec
-    returns
-    returns-2
-    shape-of-requires
-    enum-known-n
-    enum-told
-    returns-3
-    fill-requires
-    fill-requires-2
-    same-length
-    same-length-2
-    returns-4)
+    returns returns-2 (search needs) (search needs) enum-told returns-3 fill-requires fill-requires-2 (search needs)
+    (search needs) returns-4)

@@ -3,14 +3,11 @@ use borrow.Author.Needs.{needs}
 use Rattle.records.proofs.numbers.Statement.{statement}
 use Rattle.records.proofs.numbers.Tie as tie
 
-name-requires : tie.Need-name-requires
-name-requires c κs = search needs
-
-numbers-requires : tie.Need-numbers-requires
-numbers-requires c κs = search needs
-
 returns : tie.Need-returns
 returns c = (simp (← c .before .name .ensures, ← c .numbers .ensures .0), c .numbers .ensures .1)
 
 pub numbers-spec : {M : Type 1} → statement M
-numbers-spec = tie.close (tie.spec name-requires numbers-requires returns)
+numbers-spec =
+    tie.close
+    (tie.spec
+    (search needs) (search needs) returns)

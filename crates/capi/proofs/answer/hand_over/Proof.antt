@@ -9,26 +9,14 @@ use Rattle.capi.proofs.answer.hand_over.Tie as tie
 returns : tie.Need-returns
 returns c = no-room _ _ (omega arith)
 
-add-result : tie.Need-add-result
-add-result c = search needs
-
 returns-2 : tie.Need-returns-2
 returns-2 c = refused _ _ (c .before .before .if1 .left) (c .before .if2 .taken)
-
-slice-write-out : tie.Need-slice-write-out
-slice-write-out c = search needs
 
 slice-write-out-2 : tie.Need-slice-write-out-2
 slice-write-out-2 c = simp length-set (omega arith)
 
 slice-write-out-3 : tie.Need-slice-write-out-3
 slice-write-out-3 c = simp length-set (omega arith)
-
-slice-write-out-4 : tie.Need-slice-write-out-4
-slice-write-out-4 c = search needs
-
-same-length : tie.Need-same-length
-same-length c = search needs
 
 returns-3 : tie.Need-returns-3
 returns-3 c = written _ _ (c .before .if1 .left) (c .if2 .left)
@@ -37,12 +25,5 @@ pub hand-over-spec : {M : Type 1} → statement M
 hand-over-spec =
     tie.close
     (tie.spec
-    returns
-    add-result
-    returns-2
-    slice-write-out
-    slice-write-out-2
-    slice-write-out-3
-    slice-write-out-4
-    same-length
+    returns (search needs) returns-2 (search needs) slice-write-out-2 slice-write-out-3 (λ c. search needs) (search needs)
     returns-3)

@@ -1,101 +1,17 @@
--- `capi::answer::of_line_circle` meets its contract: each return is an end of the definition, by what led to it.
+-- `capi::answer::of_line_circle` meets its contract: a refusal is told as one, and each case as that case.
 use borrow.Author.Needs.{needs}
-use Rattle.capi.specs.Handed
+use Rattle.crossing.specs.declared.line_circle_intersect.LineCircleAnswer.the-variants.{Met}
+use Rattle.capi.specs.Handed.{ofLineCircle, refusal, case}
+use Rattle.capi.proofs.Told.{as-refused, as-met}
 use Rattle.capi.proofs.answer.of_line_circle.Statement.{statement}
 use Rattle.capi.proofs.answer.of_line_circle.Tie as tie
 
-enum-known-answer : tie.Need-enum-known-answer
-enum-known-answer c = search needs
-
-refusal-requires : tie.Need-refusal-requires
-refusal-requires c κs = search needs
-
-enum-known-answer-2 : tie.Need-enum-known-answer-2
-enum-known-answer-2 c = search needs
-
-enum-told : tie.Need-enum-told
-enum-told c = search needs
-
-case-requires : tie.Need-case-requires
-case-requires c κs = search needs
-
-enum-known-intr : tie.Need-enum-known-intr
-enum-known-intr c = search needs
-
-case-requires-2 : tie.Need-case-requires-2
-case-requires-2 c κs = search needs
-
-enum-known-intr-2 : tie.Need-enum-known-intr-2
-enum-known-intr-2 c = search needs
-
-case-requires-3 : tie.Need-case-requires-3
-case-requires-3 c κs = search needs
-
-returns : tie.Need-returns
-unfolding Handed.ofLineCircle Handed.refusal
-returns c =
-    let p1 = c .before in
-    let p2 = p1 .before in
-    simp (
-      p2 .answer .given .1,
-      c .refusal .ensures,
-    )
-
-returns-2 : tie.Need-returns-2
-unfolding Handed.ofLineCircle Handed.case
-returns-2 c =
-    let p1 = c .before in
-    let p2 = p1 .before in
-    let p3 = p2 .before in
-    let p4 = p3 .before in
-    simp (
-      p4 .answer2 .given .1,
-      p1 .enum-told .given .1,
-      c .case .ensures,
-    )
-
-returns-3 : tie.Need-returns-3
-unfolding Handed.ofLineCircle Handed.case
-returns-3 c =
-    let p1 = c .before in
-    let p2 = p1 .before in
-    let p3 = p2 .before in
-    let p4 = p3 .before in
-    let p5 = p4 .before in
-    simp (
-      p5 .answer2 .given .1,
-      p2 .intr .given .1,
-      c .case2 .ensures,
-    )
-
-returns-4 : tie.Need-returns-4
-unfolding Handed.ofLineCircle Handed.case
-returns-4 c =
-    let p1 = c .before in
-    let p2 = p1 .before in
-    let p3 = p2 .before in
-    let p4 = p3 .before in
-    let p5 = p4 .before in
-    simp (
-      p5 .answer2 .given .1,
-      p2 .intr2 .given .1,
-      c .case3 .ensures,
-    )
-
 pub of-line-circle-spec : {M : Type 1} → statement M
+unfolding ofLineCircle refusal case
 of-line-circle-spec =
     tie.close
     (tie.spec
-    enum-known-answer
-    refusal-requires
-    enum-known-answer-2
-    enum-told
-    case-requires
-    enum-known-intr
-    case-requires-2
-    enum-known-intr-2
-    case-requires-3
-    returns
-    returns-2
-    returns-3
-    returns-4)
+    (search needs) (search needs) (search needs) (search needs) (search needs) (search needs) (search needs) (search needs)
+    (search needs)
+    (λ c. search (as-refused ofLineCircle)) (λ c. search (as-met ofLineCircle Met)) (λ c. search (as-met ofLineCircle Met))
+    (λ c. search (as-met ofLineCircle Met)))

@@ -4,12 +4,6 @@ use Rattle.checks.specs.Chain.{bulgeAfter}
 use Rattle.checks.proofs.chain.bulge_after.Statement.{statement}
 use Rattle.checks.proofs.chain.bulge_after.Tie as tie
 
-bulge-requires : tie.Need-bulge-requires
-bulge-requires c κs = search needs
-
-later-requires : tie.Need-later-requires
-later-requires c κs = search needs
-
 returns : tie.Need-returns
 unfolding bulgeAfter
 returns c =
@@ -17,4 +11,7 @@ returns c =
     simp (← p1 .bulge .ensures, ← c .later .ensures)
 
 pub bulge-after-spec : {M : Type 1} → statement M
-bulge-after-spec = tie.close (tie.spec bulge-requires later-requires returns)
+bulge-after-spec =
+    tie.close
+    (tie.spec
+    (search needs) (search needs) returns)

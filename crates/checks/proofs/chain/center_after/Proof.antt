@@ -4,12 +4,6 @@ use Rattle.checks.specs.Chain.{centerAfter}
 use Rattle.checks.proofs.chain.center_after.Statement.{statement}
 use Rattle.checks.proofs.chain.center_after.Tie as tie
 
-center-requires : tie.Need-center-requires
-center-requires c κs = search needs
-
-later-requires : tie.Need-later-requires
-later-requires c κs = search needs
-
 returns : tie.Need-returns
 unfolding centerAfter
 returns c =
@@ -17,4 +11,7 @@ returns c =
     simp (← p1 .center .ensures, ← c .later .ensures)
 
 pub center-after-spec : {M : Type 1} → statement M
-center-after-spec = tie.close (tie.spec center-requires later-requires returns)
+center-after-spec =
+    tie.close
+    (tie.spec
+    (search needs) (search needs) returns)

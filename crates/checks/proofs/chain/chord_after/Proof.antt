@@ -4,12 +4,6 @@ use Rattle.checks.specs.Chain.{chordAfter}
 use Rattle.checks.proofs.chain.chord_after.Statement.{statement}
 use Rattle.checks.proofs.chain.chord_after.Tie as tie
 
-chord-requires : tie.Need-chord-requires
-chord-requires c κs = search needs
-
-later-requires : tie.Need-later-requires
-later-requires c κs = search needs
-
 returns : tie.Need-returns
 unfolding chordAfter
 returns c =
@@ -17,4 +11,7 @@ returns c =
     simp (← p1 .chord .ensures, ← c .later .ensures)
 
 pub chord-after-spec : {M : Type 1} → statement M
-chord-after-spec = tie.close (tie.spec chord-requires later-requires returns)
+chord-after-spec =
+    tie.close
+    (tie.spec
+    (search needs) (search needs) returns)

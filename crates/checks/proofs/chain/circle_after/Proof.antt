@@ -4,15 +4,6 @@ use Rattle.checks.specs.Chain.{circleAfter}
 use Rattle.checks.proofs.chain.circle_after.Statement.{statement}
 use Rattle.checks.proofs.chain.circle_after.Tie as tie
 
-radius-after-requires : tie.Need-radius-after-requires
-radius-after-requires c κs = search needs
-
-center-after-requires : tie.Need-center-after-requires
-center-after-requires c κs = search needs
-
-center-after-requires-2 : tie.Need-center-after-requires-2
-center-after-requires-2 c κs = search needs
-
 returns : tie.Need-returns
 unfolding circleAfter
 returns c =
@@ -21,4 +12,7 @@ returns c =
     simp (← p2 .radius-after .ensures, ← p1 .center-after .ensures, ← c .center-after2 .ensures)
 
 pub circle-after-spec : {M : Type 1} → statement M
-circle-after-spec = tie.close (tie.spec radius-after-requires center-after-requires center-after-requires-2 returns)
+circle-after-spec =
+    tie.close
+    (tie.spec
+    (search needs) (search needs) (search needs) returns)

@@ -4,12 +4,6 @@ use Rattle.checks.specs.Chain.{coordinateAfter}
 use Rattle.checks.proofs.chain.coordinate_after.Statement.{statement}
 use Rattle.checks.proofs.chain.coordinate_after.Tie as tie
 
-coordinate-requires : tie.Need-coordinate-requires
-coordinate-requires c κs = search needs
-
-later-requires : tie.Need-later-requires
-later-requires c κs = search needs
-
 returns : tie.Need-returns
 unfolding coordinateAfter
 returns c =
@@ -17,4 +11,7 @@ returns c =
     simp (← p1 .coordinate .ensures, ← c .later .ensures)
 
 pub coordinate-after-spec : {M : Type 1} → statement M
-coordinate-after-spec = tie.close (tie.spec coordinate-requires later-requires returns)
+coordinate-after-spec =
+    tie.close
+    (tie.spec
+    (search needs) (search needs) returns)

@@ -4,12 +4,6 @@ use Rattle.checks.specs.Chain.{radiusAfter}
 use Rattle.checks.proofs.chain.radius_after.Statement.{statement}
 use Rattle.checks.proofs.chain.radius_after.Tie as tie
 
-radius-requires : tie.Need-radius-requires
-radius-requires c κs = search needs
-
-later-requires : tie.Need-later-requires
-later-requires c κs = search needs
-
 returns : tie.Need-returns
 unfolding radiusAfter
 returns c =
@@ -17,4 +11,7 @@ returns c =
     simp (← p1 .radius .ensures, ← c .later .ensures)
 
 pub radius-after-spec : {M : Type 1} → statement M
-radius-after-spec = tie.close (tie.spec radius-requires later-requires returns)
+radius-after-spec =
+    tie.close
+    (tie.spec
+    (search needs) (search needs) returns)

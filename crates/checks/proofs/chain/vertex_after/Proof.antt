@@ -4,12 +4,6 @@ use Rattle.checks.specs.Chain.{vertexAfter}
 use Rattle.checks.proofs.chain.vertex_after.Statement.{statement}
 use Rattle.checks.proofs.chain.vertex_after.Tie as tie
 
-point-after-requires : tie.Need-point-after-requires
-point-after-requires c κs = search needs
-
-bulge-after-requires : tie.Need-bulge-after-requires
-bulge-after-requires c κs = search needs
-
 returns : tie.Need-returns
 unfolding vertexAfter
 returns c =
@@ -17,4 +11,7 @@ returns c =
     simp (← p1 .point-after .ensures, ← c .bulge-after .ensures)
 
 pub vertex-after-spec : {M : Type 1} → statement M
-vertex-after-spec = tie.close (tie.spec point-after-requires bulge-after-requires returns)
+vertex-after-spec =
+    tie.close
+    (tie.spec
+    (search needs) (search needs) returns)

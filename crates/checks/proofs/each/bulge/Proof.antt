@@ -4,18 +4,6 @@ use Rattle.checks.specs.Each.{bulge}
 use Rattle.checks.proofs.each.bulge.Statement.{statement}
 use Rattle.checks.proofs.each.bulge.Tie as tie
 
-finite-requires : tie.Need-finite-requires
-finite-requires c κs = search needs
-
-beyond-requires : tie.Need-beyond-requires
-beyond-requires c κs = search needs
-
-refuse-requires : tie.Need-refuse-requires
-refuse-requires c κs = search needs
-
-later-requires : tie.Need-later-requires
-later-requires c κs = search needs
-
 returns : tie.Need-returns
 unfolding bulge
 returns c =
@@ -25,4 +13,7 @@ returns c =
     simp (← p3 .finite .ensures, ← p2 .beyond .ensures, ← p1 .refuse .ensures, ← c .later .ensures)
 
 pub bulge-spec : {M : Type 1} → statement M
-bulge-spec = tie.close (tie.spec finite-requires beyond-requires refuse-requires later-requires returns)
+bulge-spec =
+    tie.close
+    (tie.spec
+    (search needs) (search needs) (search needs) (search needs) returns)

@@ -4,12 +4,12 @@ use Rattle.checks.specs.Each.{chord}
 use Rattle.checks.proofs.each.chord.Statement.{statement}
 use Rattle.checks.proofs.each.chord.Tie as tie
 
-refuse-requires : tie.Need-refuse-requires
-refuse-requires c κs = search needs
-
 returns : tie.Need-returns
 unfolding chord
 returns c = simp (← c .refuse .ensures)
 
 pub chord-spec : {M : Type 1} → statement M
-chord-spec = tie.close (tie.spec refuse-requires returns)
+chord-spec =
+    tie.close
+    (tie.spec
+    (search needs) returns)

@@ -4,15 +4,6 @@ use Rattle.checks.specs.Each.{epsilon}
 use Rattle.checks.proofs.each.epsilon.Statement.{statement}
 use Rattle.checks.proofs.each.epsilon.Tie as tie
 
-not-finite-requires : tie.Need-not-finite-requires
-not-finite-requires c κs = search needs
-
-outside-requires : tie.Need-outside-requires
-outside-requires c κs = search needs
-
-refuse-requires : tie.Need-refuse-requires
-refuse-requires c κs = search needs
-
 returns : tie.Need-returns
 unfolding epsilon
 returns c =
@@ -21,4 +12,7 @@ returns c =
     simp (← p2 .not-finite .ensures, ← p1 .outside .ensures, ← c .refuse .ensures)
 
 pub epsilon-spec : {M : Type 1} → statement M
-epsilon-spec = tie.close (tie.spec not-finite-requires outside-requires refuse-requires returns)
+epsilon-spec =
+    tie.close
+    (tie.spec
+    (search needs) (search needs) (search needs) returns)

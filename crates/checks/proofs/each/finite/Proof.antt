@@ -4,12 +4,6 @@ use Rattle.checks.specs.Each.{finite}
 use Rattle.checks.proofs.each.finite.Statement.{statement}
 use Rattle.checks.proofs.each.finite.Tie as tie
 
-not-finite-requires : tie.Need-not-finite-requires
-not-finite-requires c κs = search needs
-
-refuse-requires : tie.Need-refuse-requires
-refuse-requires c κs = search needs
-
 returns : tie.Need-returns
 unfolding finite
 returns c =
@@ -17,4 +11,7 @@ returns c =
     simp (← p1 .not-finite .ensures, ← c .refuse .ensures)
 
 pub finite-spec : {M : Type 1} → statement M
-finite-spec = tie.close (tie.spec not-finite-requires refuse-requires returns)
+finite-spec =
+    tie.close
+    (tie.spec
+    (search needs) (search needs) returns)

@@ -4,18 +4,6 @@ use Rattle.checks.specs.Each.{radius}
 use Rattle.checks.proofs.each.radius.Statement.{statement}
 use Rattle.checks.proofs.each.radius.Tie as tie
 
-finite-requires : tie.Need-finite-requires
-finite-requires c κs = search needs
-
-outside-requires : tie.Need-outside-requires
-outside-requires c κs = search needs
-
-refuse-requires : tie.Need-refuse-requires
-refuse-requires c κs = search needs
-
-later-requires : tie.Need-later-requires
-later-requires c κs = search needs
-
 returns : tie.Need-returns
 unfolding radius
 returns c =
@@ -25,4 +13,7 @@ returns c =
     simp (← p3 .finite .ensures, ← p2 .outside .ensures, ← p1 .refuse .ensures, ← c .later .ensures)
 
 pub radius-spec : {M : Type 1} → statement M
-radius-spec = tie.close (tie.spec finite-requires outside-requires refuse-requires later-requires returns)
+radius-spec =
+    tie.close
+    (tie.spec
+    (search needs) (search needs) (search needs) (search needs) returns)

@@ -7,9 +7,6 @@ use Rattle.checks.proofs.fault.later.Tie as tie
 enum-told : tie.Need-enum-told
 enum-told c = search needs
 
-enum-known-earlier : tie.Need-enum-known-earlier
-enum-known-earlier c = search needs
-
 returns : tie.Need-returns
 unfolding later
 returns c = simp (c .enum-told .given .1)
@@ -19,4 +16,7 @@ unfolding later
 returns-2 c = simp (c .before .earlier .given .1)
 
 pub later-spec : {M : Type 1} → statement M
-later-spec = tie.close (tie.spec enum-told enum-known-earlier returns returns-2)
+later-spec =
+    tie.close
+    (tie.spec
+    enum-told (search needs) returns returns-2)

@@ -4,12 +4,12 @@ use Rattle.checks.specs.Number.{beyond}
 use Rattle.checks.proofs.number.beyond.Statement.{statement}
 use Rattle.checks.proofs.number.beyond.Tie as tie
 
-abs-requires : tie.Need-abs-requires
-abs-requires c κs = search needs
-
 returns : tie.Need-returns
 unfolding beyond
 returns c = simp (← c .abs .ensures)
 
 pub beyond-spec : {M : Type 1} → statement M
-beyond-spec = tie.close (tie.spec abs-requires returns)
+beyond-spec =
+    tie.close
+    (tie.spec
+    (search needs) returns)

@@ -6,18 +6,6 @@ use Rattle.layout_lines.specs.Laws.Put.{put-join, hex-after}
 use Rattle.layout_lines.proofs.put.put_number.Statement.{statement}
 use Rattle.layout_lines.proofs.put.put_number.Tie as tie
 
-put-byte-requires : tie.Need-put-byte-requires
-put-byte-requires c κs = search needs
-
-bits-requires : tie.Need-bits-requires
-bits-requires c κs = search needs
-
-put-hex-requires : tie.Need-put-hex-requires
-put-hex-requires c κs = search needs
-
-same-length : tie.Need-same-length
-same-length c = search needs
-
 returns : tie.Need-returns
 unfolding numberText
 returns c =
@@ -28,4 +16,6 @@ returns c =
 
 pub put-number-spec : {M : Type 1} → statement M
 put-number-spec =
-    tie.close (tie.spec put-byte-requires bits-requires put-hex-requires same-length returns)
+    tie.close
+    (tie.spec
+    (search needs) (search needs) (search needs) (search needs) returns)

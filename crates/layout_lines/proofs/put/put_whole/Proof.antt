@@ -11,13 +11,13 @@ put-decimal-requires c κs =
     let start = c .before .before in
     omega (arith, start .pre, decimal-long 19 (start .args .n) (omega arith))
 
-same-length : tie.Need-same-length
-same-length c = search needs
-
 returns : tie.Need-returns
 returns c =
     let called = c .before .before in
     decimal-in _ (omega arith) (called .put-decimal .ensures)
 
 pub put-whole-spec : {M : Type 1} → statement M
-put-whole-spec = tie.close (tie.spec put-decimal-requires same-length returns)
+put-whole-spec =
+    tie.close
+    (tie.spec
+    put-decimal-requires (search needs) returns)

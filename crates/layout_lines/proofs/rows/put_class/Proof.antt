@@ -1,157 +1,56 @@
 -- `layout_lines::rows::put_class` meets its contract: its tests are the definition's. Assumes nothing.
+use Prim.Native.Nat.{ℕ, _≤_}
+use mathlib.Core.Path.{_≡_}
+use mathlib.Core.Bool.{Bool, true, false, cond}
+use mathlib.Core.List.{List}
 use native.Mathlib.Omega.{arith}
 use borrow.Author.Needs.{needs}
-use borrow.Author.Tests.{eq-eqb, ne-eqb}
+use borrow.Author.Tests.{ne-eqb}
+use lib.Dec.{lit≤}
+use lib.ListN.{length}
 use Rattle.layout_lines.specs.Lines.{classText}
+use Rattle.layout_lines.specs.Put.{Put, PutIn}
 use Rattle.layout_lines.specs.Laws.Put.{word-in}
 use Rattle.layout_lines.proofs.rows.put_class.Statement.{statement}
 use Rattle.layout_lines.proofs.rows.put_class.Tie as tie
 
-slice-aggregate-put-word : tie.Need-slice-aggregate-put-word
-slice-aggregate-put-word c = search needs
+-- a class's name has at most seven bytes
+either : (test : Bool) (a b : List ℕ) → length a ≤ 7 → length b ≤ 7 → length (cond test a b) ≤ 7
+either true a b h k = h
+either false a b h k = k
 
-put-word-requires : tie.Need-put-word-requires
-put-word-requires c κs = search needs
-
-same-length : tie.Need-same-length
-same-length c = search needs
-
-returns : tie.Need-returns
+short : (class : ℕ) → length (classText class) ≤ 7
 unfolding classText
-returns c =
-    let called = c .before .before in
-    let test = called .before .before .before in
-    simp (eq-eqb _ 1 (test .if1 .taken)) (word-in 7 (called .put-word .ensures) (omega arith))
+short class = search (either, lit≤) depth 8
 
-slice-aggregate-put-word-2 : tie.Need-slice-aggregate-put-word-2
-slice-aggregate-put-word-2 c = search needs
+-- the name of n, put where the class is n
+named : {class : ℕ} (n : ℕ) → class ≡ n → {old now : List ℕ} {at next : ℕ} → Put (classText n) old at now next
+    → PutIn 7 (classText class) old at now next
+named n e p = rw e (word-in 7 p (short n))
 
-put-word-requires-2 : tie.Need-put-word-requires-2
-put-word-requires-2 c κs = search needs
-
-same-length-2 : tie.Need-same-length-2
-same-length-2 c = search needs
-
-returns-2 : tie.Need-returns-2
+pub put-class-spec : {M : Type 1} → statement M
 unfolding classText
-returns-2 c =
-    let called = c .before .before in
-    let test = called .before .before .before in
-    simp (
-      ne-eqb _ 1 (test .before .if1 .left),
-      eq-eqb _ 2 (test .if2 .taken),
-    ) (word-in 7 (called .put-word2 .ensures) (omega arith))
-
-slice-aggregate-put-word-3 : tie.Need-slice-aggregate-put-word-3
-slice-aggregate-put-word-3 c = search needs
-
-put-word-requires-3 : tie.Need-put-word-requires-3
-put-word-requires-3 c κs = search needs
-
-same-length-3 : tie.Need-same-length-3
-same-length-3 c = search needs
-
-returns-3 : tie.Need-returns-3
-unfolding classText
-returns-3 c =
-    let called = c .before .before in
-    let test = called .before .before .before in
-    simp (
-      ne-eqb _ 1 (test .before .before .if1 .left),
-      ne-eqb _ 2 (test .before .if2 .left),
-      eq-eqb _ 3 (test .if3 .taken),
-    ) (word-in 7 (called .put-word3 .ensures) (omega arith))
-
-slice-aggregate-put-word-4 : tie.Need-slice-aggregate-put-word-4
-slice-aggregate-put-word-4 c = search needs
-
-put-word-requires-4 : tie.Need-put-word-requires-4
-put-word-requires-4 c κs = search needs
-
-same-length-4 : tie.Need-same-length-4
-same-length-4 c = search needs
-
-returns-4 : tie.Need-returns-4
-unfolding classText
-returns-4 c =
-    let called = c .before .before in
-    let test = called .before .before .before in
-    simp (
-      ne-eqb _ 1 (test .before .before .before .if1 .left),
-      ne-eqb _ 2 (test .before .before .if2 .left),
-      ne-eqb _ 3 (test .before .if3 .left),
-      eq-eqb _ 4 (test .if4 .taken),
-    ) (word-in 7 (called .put-word4 .ensures) (omega arith))
-
-slice-aggregate-put-word-5 : tie.Need-slice-aggregate-put-word-5
-slice-aggregate-put-word-5 c = search needs
-
-put-word-requires-5 : tie.Need-put-word-requires-5
-put-word-requires-5 c κs = search needs
-
-same-length-5 : tie.Need-same-length-5
-same-length-5 c = search needs
-
-returns-5 : tie.Need-returns-5
-unfolding classText
-returns-5 c =
-    let called = c .before .before in
-    let test = called .before .before .before in
-    simp (
-      ne-eqb _ 1 (test .before .before .before .before .if1 .left),
-      ne-eqb _ 2 (test .before .before .before .if2 .left),
-      ne-eqb _ 3 (test .before .before .if3 .left),
-      ne-eqb _ 4 (test .before .if4 .left),
-      eq-eqb _ 5 (test .if5 .taken),
-    ) (word-in 7 (called .put-word5 .ensures) (omega arith))
-
-slice-aggregate-put-word-6 : tie.Need-slice-aggregate-put-word-6
-slice-aggregate-put-word-6 c = search needs
-
-put-word-requires-6 : tie.Need-put-word-requires-6
-put-word-requires-6 c κs = search needs
-
-same-length-6 : tie.Need-same-length-6
-same-length-6 c = search needs
-
-returns-6 : tie.Need-returns-6
-unfolding classText
-returns-6 c =
-    let called = c .before .before in
-    let test = called .before .before .before in
+put-class-spec =
+    tie.close
+    (tie.spec
+    (search needs) (search needs) (search needs)
+    (λ c. let put = c .before .before in named 1 (put .before .before .before .if1 .taken) (put .put-word .ensures))
+    (search needs) (search needs) (search needs)
+    (λ c. let put = c .before .before in named 2 (put .before .before .before .if2 .taken) (put .put-word2 .ensures))
+    (search needs) (search needs) (search needs)
+    (λ c. let put = c .before .before in named 3 (put .before .before .before .if3 .taken) (put .put-word3 .ensures))
+    (search needs) (search needs) (search needs)
+    (λ c. let put = c .before .before in named 4 (put .before .before .before .if4 .taken) (put .put-word4 .ensures))
+    (search needs) (search needs) (search needs)
+    (λ c. let put = c .before .before in named 5 (put .before .before .before .if5 .taken) (put .put-word5 .ensures))
+    (search needs) (search needs) (search needs)
+    (λ c.
+    let put = c .before .before in
+    let test = put .before .before .before in
     simp (
       ne-eqb _ 1 (test .before .before .before .before .if1 .left),
       ne-eqb _ 2 (test .before .before .before .if2 .left),
       ne-eqb _ 3 (test .before .before .if3 .left),
       ne-eqb _ 4 (test .before .if4 .left),
       ne-eqb _ 5 (test .if5 .left),
-    ) (word-in 7 (called .put-word6 .ensures) (omega arith))
-
-pub put-class-spec : {M : Type 1} → statement M
-put-class-spec =
-    tie.close
-    (tie.spec
-    slice-aggregate-put-word
-    put-word-requires
-    same-length
-    returns
-    slice-aggregate-put-word-2
-    put-word-requires-2
-    same-length-2
-    returns-2
-    slice-aggregate-put-word-3
-    put-word-requires-3
-    same-length-3
-    returns-3
-    slice-aggregate-put-word-4
-    put-word-requires-4
-    same-length-4
-    returns-4
-    slice-aggregate-put-word-5
-    put-word-requires-5
-    same-length-5
-    returns-5
-    slice-aggregate-put-word-6
-    put-word-requires-6
-    same-length-6
-    returns-6)
+    ) (word-in 7 (put .put-word6 .ensures) (omega arith))))

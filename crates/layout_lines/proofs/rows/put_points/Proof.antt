@@ -12,15 +12,6 @@ returns : tie.Need-returns
 unfolding pointsText
 returns c = rw (lt-ltb _ 1 (c .if1 .taken)) (record { is-put = put-none _ _; short = omega arith })
 
-put-number-requires : tie.Need-put-number-requires
-put-number-requires c κs = search needs
-
-put-number-requires-2 : tie.Need-put-number-requires-2
-put-number-requires-2 c κs = search needs
-
-same-length : tie.Need-same-length
-same-length c = search needs
-
 returns-2 : tie.Need-returns-2
 unfolding pointsText
 returns-2 c =
@@ -32,21 +23,6 @@ returns-2 c =
       is-put = put-join (x1 .put-number .ensures .is-put) (y1 .put-number2 .ensures .is-put);
       short = omega (arith, x1 .put-number .ensures .short, y1 .put-number2 .ensures .short);
     })
-
-put-number-requires-3 : tie.Need-put-number-requires-3
-put-number-requires-3 c κs = search needs
-
-put-number-requires-4 : tie.Need-put-number-requires-4
-put-number-requires-4 c κs = search needs
-
-put-number-requires-5 : tie.Need-put-number-requires-5
-put-number-requires-5 c κs = search needs
-
-put-number-requires-6 : tie.Need-put-number-requires-6
-put-number-requires-6 c κs = search needs
-
-same-length-2 : tie.Need-same-length-2
-same-length-2 c = search needs
 
 returns-3 : tie.Need-returns-3
 unfolding pointsText
@@ -79,15 +55,5 @@ pub put-points-spec : {M : Type 1} → statement M
 put-points-spec =
     tie.close
     (tie.spec
-    returns
-    put-number-requires
-    put-number-requires-2
-    same-length
-    returns-2
-    put-number-requires-3
-    put-number-requires-4
-    put-number-requires-5
-    put-number-requires-6
-    same-length-2
-    returns-3
-    returns-4)
+    returns (search needs) (search needs) (search needs) returns-2 (search needs) (search needs) (search needs)
+    (search needs) (search needs) returns-3 returns-4)

@@ -4,30 +4,6 @@ use Rattle.layout_lines.specs.Laws.Lines.{row-put}
 use Rattle.layout_lines.proofs.rows.put_row.Statement.{statement}
 use Rattle.layout_lines.proofs.rows.put_row.Tie as tie
 
-put-whole-requires : tie.Need-put-whole-requires
-put-whole-requires c κs = search needs
-
-put-byte-requires : tie.Need-put-byte-requires
-put-byte-requires c κs = search needs
-
-put-whole-requires-2 : tie.Need-put-whole-requires-2
-put-whole-requires-2 c κs = search needs
-
-put-byte-requires-2 : tie.Need-put-byte-requires-2
-put-byte-requires-2 c κs = search needs
-
-put-class-requires : tie.Need-put-class-requires
-put-class-requires c κs = search needs
-
-put-points-requires : tie.Need-put-points-requires
-put-points-requires c κs = search needs
-
-put-byte-requires-3 : tie.Need-put-byte-requires-3
-put-byte-requires-3 c κs = search needs
-
-same-length : tie.Need-same-length
-same-length c = search needs
-
 returns : tie.Need-returns
 returns c =
     let end = c .before .before in
@@ -50,12 +26,5 @@ pub put-row-spec : {M : Type 1} → statement M
 put-row-spec =
     tie.close
     (tie.spec
-    put-whole-requires
-    put-byte-requires
-    put-whole-requires-2
-    put-byte-requires-2
-    put-class-requires
-    put-points-requires
-    put-byte-requires-3
-    same-length
+    (search needs) (search needs) (search needs) (search needs) (search needs) (search needs) (search needs) (search needs)
     returns)

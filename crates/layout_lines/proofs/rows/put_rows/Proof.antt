@@ -25,78 +25,6 @@ abbrev μ-loop : tie.MeasureT-loop
 loop-holds : tie.Need-loop-holds Inv-loop μ-loop
 loop-holds c = (omega arith, refl, omega arith, λ now next p. rw sub-zero at p)
 
-mul-i : tie.Need-mul-i Inv-loop μ-loop
-mul-i c = search needs
-
-mul-p : tie.Need-mul-p Inv-loop μ-loop
-mul-p c = search needs
-
-mul-put-row : tie.Need-mul-put-row Inv-loop μ-loop
-mul-put-row c = search needs
-
-shared-slice-read-put-row : tie.Need-shared-slice-read-put-row Inv-loop μ-loop
-shared-slice-read-put-row c = search needs
-
-add-put-row : tie.Need-add-put-row Inv-loop μ-loop
-add-put-row c = search needs
-
-mul-put-row-2 : tie.Need-mul-put-row-2 Inv-loop μ-loop
-mul-put-row-2 c = search needs
-
-shared-slice-read-put-row-2 : tie.Need-shared-slice-read-put-row-2 Inv-loop μ-loop
-shared-slice-read-put-row-2 c = search needs
-
-add-put-row-2 : tie.Need-add-put-row-2 Inv-loop μ-loop
-add-put-row-2 c = search needs
-
-mul-put-row-3 : tie.Need-mul-put-row-3 Inv-loop μ-loop
-mul-put-row-3 c = search needs
-
-shared-slice-read-put-row-3 : tie.Need-shared-slice-read-put-row-3 Inv-loop μ-loop
-shared-slice-read-put-row-3 c = search needs
-
-mul-put-row-4 : tie.Need-mul-put-row-4 Inv-loop μ-loop
-mul-put-row-4 c = search needs
-
-shared-slice-read-put-row-4 : tie.Need-shared-slice-read-put-row-4 Inv-loop μ-loop
-shared-slice-read-put-row-4 c = search needs
-
-add-put-row-3 : tie.Need-add-put-row-3 Inv-loop μ-loop
-add-put-row-3 c = search needs
-
-mul-put-row-5 : tie.Need-mul-put-row-5 Inv-loop μ-loop
-mul-put-row-5 c = search needs
-
-shared-slice-read-put-row-5 : tie.Need-shared-slice-read-put-row-5 Inv-loop μ-loop
-shared-slice-read-put-row-5 c = search needs
-
-add-put-row-4 : tie.Need-add-put-row-4 Inv-loop μ-loop
-add-put-row-4 c = search needs
-
-mul-put-row-6 : tie.Need-mul-put-row-6 Inv-loop μ-loop
-mul-put-row-6 c = search needs
-
-shared-slice-read-put-row-6 : tie.Need-shared-slice-read-put-row-6 Inv-loop μ-loop
-shared-slice-read-put-row-6 c = search needs
-
-add-put-row-5 : tie.Need-add-put-row-5 Inv-loop μ-loop
-add-put-row-5 c = search needs
-
-mul-put-row-7 : tie.Need-mul-put-row-7 Inv-loop μ-loop
-mul-put-row-7 c = search needs
-
-shared-slice-read-put-row-7 : tie.Need-shared-slice-read-put-row-7 Inv-loop μ-loop
-shared-slice-read-put-row-7 c = search needs
-
-put-row-requires : tie.Need-put-row-requires Inv-loop μ-loop
-put-row-requires c κs = search needs
-
-add-k : tie.Need-add-k Inv-loop μ-loop
-add-k c = search needs
-
-loop-less : tie.Need-loop-less Inv-loop μ-loop
-loop-less c = search needs
-
 loop-again : tie.Need-loop-again Inv-loop μ-loop
 unfolding rowAt
 loop-again c =
@@ -111,9 +39,6 @@ loop-again c =
           inv .3 now next (rows-more _ _ _ _ (turn .loop-test .taken) (row .is-put) p),
     )
 
-same-length : tie.Need-same-length Inv-loop μ-loop
-same-length c = search needs
-
 returns : tie.Need-returns Inv-loop μ-loop
 returns c = c .before .loop .inv .3 _ _ (rows-end _ _ _ _ (c .loop-test .left) _ _)
 
@@ -121,33 +46,7 @@ pub put-rows-spec : {M : Type 1} → statement M
 put-rows-spec =
     tie.close
     (tie.spec
-    Inv-loop
-    μ-loop
-    loop-holds
-    mul-i
-    mul-p
-    mul-put-row
-    shared-slice-read-put-row
-    add-put-row
-    mul-put-row-2
-    shared-slice-read-put-row-2
-    add-put-row-2
-    mul-put-row-3
-    shared-slice-read-put-row-3
-    mul-put-row-4
-    shared-slice-read-put-row-4
-    add-put-row-3
-    mul-put-row-5
-    shared-slice-read-put-row-5
-    add-put-row-4
-    mul-put-row-6
-    shared-slice-read-put-row-6
-    add-put-row-5
-    mul-put-row-7
-    shared-slice-read-put-row-7
-    put-row-requires
-    add-k
-    loop-less
-    loop-again
-    same-length
-    returns)
+    Inv-loop μ-loop loop-holds (search needs) (search needs) (search needs) (search needs) (search needs) (search needs)
+    (search needs) (search needs) (search needs) (search needs) (search needs) (search needs) (search needs) (search needs)
+    (search needs) (search needs) (search needs) (search needs) (search needs) (search needs) (search needs) (search needs)
+    (search needs) (search needs) loop-again (search needs) returns)

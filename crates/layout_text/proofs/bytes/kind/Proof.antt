@@ -5,12 +5,6 @@ use Rattle.layout_text.specs.Reader.{kindOf}
 use Rattle.layout_text.proofs.bytes.kind.Statement.{statement}
 use Rattle.layout_text.proofs.bytes.kind.Tie as tie
 
-wide-requires : tie.Need-wide-requires
-wide-requires c κs = search needs
-
-sub-result : tie.Need-sub-result
-sub-result c = search needs
-
 returns : tie.Need-returns
 unfolding kindOf
 returns c = simp (c .match .keys1)
@@ -42,4 +36,5 @@ returns-6 c = simp (le-ltb _ _ (c .before .if1 .left), le-ltb _ _ (c .if2 .left)
 pub kind-spec : {M : Type 1} → statement M
 kind-spec =
     tie.close
-    (tie.spec wide-requires sub-result returns returns-2 returns-3 returns-4 returns-5 returns-6)
+    (tie.spec
+    (search needs) (search needs) returns returns-2 returns-3 returns-4 returns-5 returns-6)

@@ -10,16 +10,13 @@ use Rattle.layout_text.proofs.bytes.kind_at.Tie as tie
 returns : tie.Need-returns
 returns c = (first-past _ _ (c .if1 .taken), λ h. omega arith)
 
-shared-slice-read-kind : tie.Need-shared-slice-read-kind
-shared-slice-read-kind c = search needs
-
-kind-requires : tie.Need-kind-requires
-kind-requires c κs = search needs
-
 returns-2 : tie.Need-returns-2
 returns-2 c =
     let inside = c .before .before .if1 .left in
     (c .kind .ensures ∙ first-at _ _ inside, λ h. inside)
 
 pub kind-at-spec : {M : Type 1} → statement M
-kind-at-spec = tie.close (tie.spec returns shared-slice-read-kind kind-requires returns-2)
+kind-at-spec =
+    tie.close
+    (tie.spec
+    returns (search needs) (search needs) returns-2)

@@ -8,25 +8,16 @@ use Rattle.layout_text.specs.Reader.{countOf}
 use Rattle.layout_text.proofs.number.count.Statement.{statement}
 use Rattle.layout_text.proofs.number.count.Tie as tie
 
-kind-at-requires : tie.Need-kind-at-requires
-kind-at-requires c κs = search needs
-
 add-zero : tie.Need-add-zero
 add-zero c =
     let inside = c .before .kind-at .ensures .1 (omega arith) in
     omega arith
-
-zero-requires : tie.Need-zero-requires
-zero-requires c κs = search needs
 
 returns : tie.Need-returns
 unfolding countOf
 returns c =
     let kind = c .before .before .kind-at .ensures .0 in
     simp (← kind, eq-eqb _ _ (c .before .if1 .taken), drop-drop, c .zero .ensures)
-
-positive-requires : tie.Need-positive-requires
-positive-requires c κs = search needs
 
 returns-2 : tie.Need-returns-2
 unfolding countOf
@@ -35,4 +26,7 @@ returns-2 c =
     simp (← kind, ne-eqb _ _ (c .before .if1 .left), c .positive .ensures)
 
 pub count-spec : {M : Type 1} → statement M
-count-spec = tie.close (tie.spec kind-at-requires add-zero zero-requires returns positive-requires returns-2)
+count-spec =
+    tie.close
+    (tie.spec
+    (search needs) add-zero (search needs) returns (search needs) returns-2)

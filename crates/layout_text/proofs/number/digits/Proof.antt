@@ -21,15 +21,6 @@ abbrev μ-loop : tie.MeasureT-loop
 loop-holds : tie.Need-loop-holds Inv-loop μ-loop
 loop-holds c = (omega arith, refl)
 
-shared-slice-read-kind : tie.Need-shared-slice-read-kind Inv-loop μ-loop
-shared-slice-read-kind c = omega arith
-
-kind-requires : tie.Need-kind-requires Inv-loop μ-loop
-kind-requires c κs = search needs
-
-add-t14 : tie.Need-add-t14 Inv-loop μ-loop
-add-t14 c = omega arith
-
 returns : tie.Need-returns Inv-loop μ-loop
 unfolding shownNumber
 returns c =
@@ -48,12 +39,6 @@ returns-2 c =
     sym (at-other _ _ _ _ _ _ (turn .loop-test .taken) high (λ e. c .if2 .left (told .kind .ensures ∙ e)))
     ∙ turn .before .loop .inv .1
 
-mul-n : tie.Need-mul-n Inv-loop μ-loop
-mul-n c = omega arith
-
-add-n : tie.Need-add-n Inv-loop μ-loop
-add-n c = omega arith
-
 returns-3 : tie.Need-returns-3 Inv-loop μ-loop
 unfolding shownNumber
 returns-3 c =
@@ -62,12 +47,6 @@ returns-3 c =
     let low = rw (told .kind .ensures) at (c .before .if1 .left) in
     let beyond = rw (told .kind .ensures) at (c .if3 .taken) in
     sym (at-beyond _ _ _ _ _ _ (turn .loop-test .taken) low beyond) ∙ turn .before .loop .inv .1
-
-add-i : tie.Need-add-i Inv-loop μ-loop
-add-i c = omega arith
-
-loop-less : tie.Need-loop-less Inv-loop μ-loop
-loop-less c = omega arith
 
 loop-again : tie.Need-loop-again Inv-loop μ-loop
 loop-again c =
@@ -87,18 +66,5 @@ pub digits-spec : {M : Type 1} → statement M
 digits-spec =
     tie.close
     (tie.spec
-    Inv-loop
-    μ-loop
-    loop-holds
-    shared-slice-read-kind
-    kind-requires
-    add-t14
-    returns
-    returns-2
-    mul-n
-    add-n
-    returns-3
-    add-i
-    loop-less
-    loop-again
-    returns-4)
+    Inv-loop μ-loop loop-holds (omega arith) (search needs) (omega arith) returns returns-2 (omega arith) (omega arith)
+    returns-3 (omega arith) (omega arith) loop-again returns-4)

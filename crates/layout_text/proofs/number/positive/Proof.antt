@@ -6,9 +6,6 @@ use Rattle.layout_text.specs.Shown.{shownNumber}
 use Rattle.layout_text.proofs.number.positive.Statement.{statement}
 use Rattle.layout_text.proofs.number.positive.Tie as tie
 
-kind-at-requires : tie.Need-kind-at-requires
-kind-at-requires c κs = search needs
-
 returns : tie.Need-returns
 unfolding positiveOf shownNumber
 returns c = simp (← c .before .kind-at .ensures .0, eq-eqb _ _ (c .if1 .taken))
@@ -16,9 +13,6 @@ returns c = simp (← c .before .kind-at .ensures .0, eq-eqb _ _ (c .if1 .taken)
 returns-2 : tie.Need-returns-2
 unfolding positiveOf shownNumber
 returns-2 c = simp (← c .before .before .kind-at .ensures .0, ne-eqb _ _ (c .before .if1 .left), lt-ltb _ _ (c .if2 .taken))
-
-digits-requires : tie.Need-digits-requires
-digits-requires c κs = search needs
 
 returns-3 : tie.Need-returns-3
 unfolding positiveOf
@@ -28,4 +22,6 @@ returns-3 c =
 
 pub positive-spec : {M : Type 1} → statement M
 positive-spec =
-    tie.close (tie.spec kind-at-requires returns returns-2 digits-requires returns-3)
+    tie.close
+    (tie.spec
+    (search needs) returns returns-2 (search needs) returns-3)

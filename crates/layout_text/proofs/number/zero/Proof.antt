@@ -8,9 +8,6 @@ use Rattle.layout_text.specs.Shown.{shownNumber}
 use Rattle.layout_text.proofs.number.zero.Statement.{statement}
 use Rattle.layout_text.proofs.number.zero.Tie as tie
 
-kind-at-requires : tie.Need-kind-at-requires
-kind-at-requires c κs = search needs
-
 add-t6 : tie.Need-add-t6
 add-t6 c =
     let inside = c .before .kind-at .ensures .1 (omega arith) in
@@ -25,4 +22,7 @@ unfolding zeroOf shownNumber
 returns-2 c = simp (← c .before .kind-at .ensures .0, ne-eqb _ _ (c .if1 .left))
 
 pub zero-spec : {M : Type 1} → statement M
-zero-spec = tie.close (tie.spec kind-at-requires add-t6 returns returns-2)
+zero-spec =
+    tie.close
+    (tie.spec
+    (search needs) add-t6 returns returns-2)

@@ -16,12 +16,6 @@ returns : tie.Need-returns
 returns c =
     too-long _ (c .if1 .taken)
 
-count-requires : tie.Need-count-requires
-count-requires c κs = search needs
-
-enum-known-n : tie.Need-enum-known-n
-enum-known-n c = search needs
-
 enum-told : tie.Need-enum-told
 enum-told c = search needs
 
@@ -30,15 +24,6 @@ returns-2 c =
     let counts = c .before .before in
     no-count _ (counts .before .if1 .left) (no-number _ (counts .count .ensures) (c .enum-told .given .1))
 
-count-requires-2 : tie.Need-count-requires-2
-count-requires-2 c κs = search needs
-
-enum-known-m : tie.Need-enum-known-m
-enum-known-m c = search needs
-
-enum-told-2 : tie.Need-enum-told-2
-enum-told-2 c = search needs
-
 returns-3 : tie.Need-returns-3
 returns-3 c =
     let m = c .before .before in
@@ -46,15 +31,6 @@ returns-3 c =
     let start = n .before .before in
     let cn = counted _ (omega arith) (start .count .ensures) (n .n .given .1) in
     no-count-2 _ (start .before .if1 .left) cn (no-number _ (m .count2 .ensures) (c .enum-told2 .given .1))
-
-skip-requires : tie.Need-skip-requires
-skip-requires c κs = search needs
-
-enum-known-second : tie.Need-enum-known-second
-enum-known-second c = search needs
-
-enum-told-3 : tie.Need-enum-told-3
-enum-told-3 c = search needs
 
 returns-4 : tie.Need-returns-4
 returns-4 c =
@@ -65,15 +41,6 @@ returns-4 c =
     let cn = counted _ (omega arith) (start .count .ensures) (n .n .given .1) in
     let cm = counted _ (omega arith) (m .before .before .count2 .ensures) (m .m .given .1) in
     no-first _ (start .before .if1 .left) cn cm (no-place _ (first .skip .ensures) (c .enum-told3 .given .1))
-
-skip-requires-2 : tie.Need-skip-requires-2
-skip-requires-2 c κs = search needs
-
-enum-known-end : tie.Need-enum-known-end
-enum-known-end c = search needs
-
-enum-told-4 : tie.Need-enum-told-4
-enum-told-4 c = search needs
 
 returns-5 : tie.Need-returns-5
 returns-5 c =
@@ -126,22 +93,6 @@ pub shape-of-spec : {M : Type 1} → statement M
 shape-of-spec =
     tie.close
     (tie.spec
-    returns
-    count-requires
-    enum-known-n
-    enum-told
-    returns-2
-    count-requires-2
-    enum-known-m
-    enum-told-2
-    returns-3
-    skip-requires
-    enum-known-second
-    enum-told-3
-    returns-4
-    skip-requires-2
-    enum-known-end
-    enum-told-4
-    returns-5
-    returns-6
+    returns (search needs) (search needs) enum-told returns-2 (search needs) (search needs) (search needs) returns-3
+    (search needs) (search needs) (search needs) returns-4 (search needs) (search needs) (search needs) returns-5 returns-6
     returns-7)

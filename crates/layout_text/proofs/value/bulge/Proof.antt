@@ -4,12 +4,12 @@ use Rattle.layout_text.specs.Numbers.{coordinate, bulge}
 use Rattle.layout_text.proofs.value.bulge.Statement.{statement}
 use Rattle.layout_text.proofs.value.bulge.Tie as tie
 
-coordinate-requires : tie.Need-coordinate-requires
-coordinate-requires c κs = search needs
-
 returns : tie.Need-returns
 unfolding coordinate bulge
 returns c = simp (c .coordinate .ensures)
 
 pub bulge-spec : {M : Type 1} → statement M
-bulge-spec = tie.close (tie.spec coordinate-requires returns)
+bulge-spec =
+    tie.close
+    (tie.spec
+    (search needs) returns)

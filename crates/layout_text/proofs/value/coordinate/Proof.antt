@@ -6,9 +6,6 @@ use Rattle.layout_text.specs.Laws.Signs.{zero-value, plain-value, minus-
 use Rattle.layout_text.proofs.value.coordinate.Statement.{statement}
 use Rattle.layout_text.proofs.value.coordinate.Tie as tie
 
-nearest-u64-to-f64-requires : tie.Need-nearest-u64-to-f64-requires
-nearest-u64-to-f64-requires c κs = search needs
-
 returns : tie.Need-returns
 returns c = c .before .nearest-u64-to-f64 .ensures ∙ zero-value _ (c .before .before .args .negative) (c .if1 .taken)
 
@@ -21,4 +18,7 @@ returns-3 : tie.Need-returns-3
 returns-3 c = rw (c .if2 .left) (c .before .before .nearest-u64-to-f64 .ensures ∙ plain-value _)
 
 pub coordinate-spec : {M : Type 1} → statement M
-coordinate-spec = tie.close (tie.spec nearest-u64-to-f64-requires returns returns-2 returns-3)
+coordinate-spec =
+    tie.close
+    (tie.spec
+    (search needs) returns returns-2 returns-3)

@@ -21,9 +21,6 @@ abbrev μ-loop : tie.MeasureT-loop
 loop-holds : tie.Need-loop-holds Inv-loop μ-loop
 loop-holds c = rw sub-zero
 
-vertex-requires : tie.Need-vertex-requires Inv-loop μ-loop
-vertex-requires c κs = search needs
-
 enum-told : tie.Need-enum-told Inv-loop μ-loop
 enum-told c = search needs
 
@@ -34,15 +31,6 @@ returns c =
     let turn = read .before in
     let none = no-line _ (read .vertex .ensures) (c .enum-told .given .1) in
     sym (ap passed (lines-broken _ _ _ (turn .loop-test .taken) none)) ∙ turn .before .loop .inv
-
-enum-known-v : tie.Need-enum-known-v Inv-loop μ-loop
-enum-known-v c = search needs
-
-add-i : tie.Need-add-i Inv-loop μ-loop
-add-i c = omega arith
-
-loop-less : tie.Need-loop-less Inv-loop μ-loop
-loop-less c = omega arith
 
 loop-again : tie.Need-loop-again Inv-loop μ-loop
 loop-again c =
@@ -59,14 +47,5 @@ pub skip-spec : {M : Type 1} → statement M
 skip-spec =
     tie.close
     (tie.spec
-    Inv-loop
-    μ-loop
-    loop-holds
-    vertex-requires
-    enum-told
-    returns
-    enum-known-v
-    add-i
-    loop-less
-    loop-again
+    Inv-loop μ-loop loop-holds (search needs) enum-told returns (search needs) (omega arith) (omega arith) loop-again
     returns-2)

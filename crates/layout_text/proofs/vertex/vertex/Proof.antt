@@ -7,27 +7,12 @@ use Rattle.layout_text.proofs.Told.{no-number, a-number}
 use Rattle.layout_text.proofs.vertex.vertex.Statement.{statement}
 use Rattle.layout_text.proofs.vertex.vertex.Tie as tie
 
-whole-requires : tie.Need-whole-requires
-whole-requires c κs = search needs
-
-enum-known-x-minus : tie.Need-enum-known-x-minus
-enum-known-x-minus c = search needs
-
 enum-told : tie.Need-enum-told
 enum-told c = search needs
 
 returns : tie.Need-returns
 unfolding vertexOf numbersOf shownVertex
 returns c = simp (no-number _ (c .before .before .whole .ensures) (c .enum-told .given .1))
-
-whole-requires-2 : tie.Need-whole-requires-2
-whole-requires-2 c κs = search needs
-
-enum-known-y-minus : tie.Need-enum-known-y-minus
-enum-known-y-minus c = search needs
-
-enum-told-2 : tie.Need-enum-told-2
-enum-told-2 c = search needs
 
 returns-2 : tie.Need-returns-2
 unfolding vertexOf numbersOf shownVertex
@@ -38,15 +23,6 @@ returns-2 c =
       a-number _ (x .before .before .whole .ensures) (x .x-minus .given .1),
       no-number _ (y .whole2 .ensures) (c .enum-told2 .given .1),
     )
-
-whole-requires-3 : tie.Need-whole-requires-3
-whole-requires-3 c κs = search needs
-
-enum-known-b-minus : tie.Need-enum-known-b-minus
-enum-known-b-minus c = search needs
-
-enum-told-3 : tie.Need-enum-told-3
-enum-told-3 c = search needs
 
 returns-3 : tie.Need-returns-3
 unfolding vertexOf numbersOf shownVertex
@@ -59,15 +35,6 @@ returns-3 c =
       a-number _ (y .before .before .whole2 .ensures) (y .y-minus .given .1),
       no-number _ (b .whole3 .ensures) (c .enum-told3 .given .1),
     )
-
-coordinate-requires : tie.Need-coordinate-requires
-coordinate-requires c κs = search needs
-
-coordinate-requires-2 : tie.Need-coordinate-requires-2
-coordinate-requires-2 c κs = search needs
-
-bulge-requires : tie.Need-bulge-requires
-bulge-requires c κs = search needs
 
 returns-4 : tie.Need-returns-4
 unfolding vertexOf numbersOf shownVertex
@@ -89,19 +56,5 @@ pub vertex-spec : {M : Type 1} → statement M
 vertex-spec =
     tie.close
     (tie.spec
-    whole-requires
-    enum-known-x-minus
-    enum-told
-    returns
-    whole-requires-2
-    enum-known-y-minus
-    enum-told-2
-    returns-2
-    whole-requires-3
-    enum-known-b-minus
-    enum-told-3
-    returns-3
-    coordinate-requires
-    coordinate-requires-2
-    bulge-requires
-    returns-4)
+    (search needs) (search needs) enum-told returns (search needs) (search needs) (search needs) returns-2 (search needs)
+    (search needs) (search needs) returns-3 (search needs) (search needs) (search needs) returns-4)

@@ -22,20 +22,11 @@ Inv-loop path closed owner n g₀ i₀ g i =
 abbrev μ-loop : tie.MeasureT-loop
 μ-loop path closed owner n g₀ i₀ g i = segmentCount path closed - i
 
-segment-count-requires : tie.Need-segment-count-requires Inv-loop μ-loop
-segment-count-requires c κs = search needs
-
 loop-holds : tie.Need-loop-holds Inv-loop μ-loop
 unfolding checkArcs
 loop-holds c =
     let a = c .before .before .args in
     along-start (ofSegment (now (a .path)) (a .owner)) (segmentCount (now (a .path)) (a .closed)) (a .f)
-
-enum-told : tie.Need-enum-told Inv-loop μ-loop
-enum-told c = search needs
-
-enum-known-g : tie.Need-enum-known-g Inv-loop μ-loop
-enum-known-g c = search needs
 
 returns : tie.Need-returns Inv-loop μ-loop
 returns c =
@@ -47,18 +38,6 @@ segment-from-requires c κs =
     let s = c .before .before .before in
     let a = s .before .before .before .args in
     omega (arith, count-within (now (a .path)) (a .closed))
-
-arc-chord-requires : tie.Need-arc-chord-requires Inv-loop μ-loop
-arc-chord-requires c κs = search needs
-
-later-requires : tie.Need-later-requires Inv-loop μ-loop
-later-requires c κs = search needs
-
-add-i : tie.Need-add-i Inv-loop μ-loop
-add-i c = search needs
-
-loop-less : tie.Need-loop-less Inv-loop μ-loop
-loop-less c = search needs
 
 loop-again : tie.Need-loop-again Inv-loop μ-loop
 loop-again c =
@@ -83,17 +62,5 @@ pub check-arcs-spec : {M : Type 1} → statement M
 check-arcs-spec =
     tie.close
     (tie.spec
-    Inv-loop
-    μ-loop
-    segment-count-requires
-    loop-holds
-    enum-told
-    enum-known-g
-    returns
-    segment-from-requires
-    arc-chord-requires
-    later-requires
-    add-i
-    loop-less
-    loop-again
-    returns-2)
+    Inv-loop μ-loop (search needs) loop-holds (search needs) (search needs) returns segment-from-requires (search needs)
+    (search needs) (search needs) (search needs) loop-again returns-2)

@@ -8,12 +8,6 @@ use Rattle.paths.specs.Laws.Steps.{path-chain}
 use Rattle.paths.proofs.check.check_path.Statement.{statement}
 use Rattle.paths.proofs.check.check_path.Tie as tie
 
-check-vertices-requires : tie.Need-check-vertices-requires
-check-vertices-requires c κs = search needs
-
-check-arcs-requires : tie.Need-check-arcs-requires
-check-arcs-requires c κs = search needs
-
 returns : tie.Need-returns
 returns c =
     let a = c .before .before .before .args in
@@ -21,4 +15,7 @@ returns c =
     c .check-arcs .ensures ∙ first ∙ path-chain (a .f) (now (a .path)) (a .closed) (a .owner)
 
 pub check-path-spec : {M : Type 1} → statement M
-check-path-spec = tie.close (tie.spec check-vertices-requires check-arcs-requires returns)
+check-path-spec =
+    tie.close
+    (tie.spec
+    (search needs) (search needs) returns)

@@ -20,37 +20,16 @@ Inv-loop path owner n g₀ i₀ g i =
 abbrev μ-loop : tie.MeasureT-loop
 μ-loop path owner n g₀ i₀ g i = vertexCount path - i
 
-vertex-count-requires : tie.Need-vertex-count-requires Inv-loop μ-loop
-vertex-count-requires c κs = search needs
-
 loop-holds : tie.Need-loop-holds Inv-loop μ-loop
 unfolding checkVertices
 loop-holds c =
     let s = c .before .before in
     along-start (ofVertex (now (s .args .path)) (s .args .owner)) (vertexCount (now (s .args .path))) (s .args .f)
 
-enum-told : tie.Need-enum-told Inv-loop μ-loop
-enum-told c = search needs
-
-enum-known-g : tie.Need-enum-known-g Inv-loop μ-loop
-enum-known-g c = search needs
-
 returns : tie.Need-returns Inv-loop μ-loop
 returns c =
     let s = c .before .before .before .before in
     sym (fault-stays (s .loop .g) _ _ (c .before .g .given .1)) ∙ s .loop .inv
-
-vertex-requires : tie.Need-vertex-requires Inv-loop μ-loop
-vertex-requires c κs = search needs
-
-vertex-after-requires : tie.Need-vertex-after-requires Inv-loop μ-loop
-vertex-after-requires c κs = search needs
-
-add-i : tie.Need-add-i Inv-loop μ-loop
-add-i c = search needs
-
-loop-less : tie.Need-loop-less Inv-loop μ-loop
-loop-less c = search needs
 
 loop-again : tie.Need-loop-again Inv-loop μ-loop
 loop-again c =
@@ -71,16 +50,5 @@ pub check-vertices-spec : {M : Type 1} → statement M
 check-vertices-spec =
     tie.close
     (tie.spec
-    Inv-loop
-    μ-loop
-    vertex-count-requires
-    loop-holds
-    enum-told
-    enum-known-g
-    returns
-    vertex-requires
-    vertex-after-requires
-    add-i
-    loop-less
-    loop-again
-    returns-2)
+    Inv-loop μ-loop (search needs) loop-holds (search needs) (search needs) returns (search needs) (search needs)
+    (search needs) (search needs) loop-again returns-2)

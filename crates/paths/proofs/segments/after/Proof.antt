@@ -5,15 +5,6 @@ use Rattle.paths.specs.Segments
 use Rattle.paths.proofs.segments.after.Statement.{statement}
 use Rattle.paths.proofs.segments.after.Tie as tie
 
-add-if1 : tie.Need-add-if1
-add-if1 c = search needs
-
-vertex-count-requires : tie.Need-vertex-count-requires
-vertex-count-requires c κs = search needs
-
-add-result : tie.Need-add-result
-add-result c = search needs
-
 returns : tie.Need-returns
 unfolding Segments.after
 returns c =
@@ -33,4 +24,7 @@ returns-2 c =
     )
 
 pub after-spec : {M : Type 1} → statement M
-after-spec = tie.close (tie.spec add-if1 vertex-count-requires add-result returns returns-2)
+after-spec =
+    tie.close
+    (tie.spec
+    (search needs) (search needs) (search needs) returns returns-2)

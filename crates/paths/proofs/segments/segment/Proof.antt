@@ -8,9 +8,6 @@ use Rattle.paths.specs.Laws.Segments.{count-within}
 use Rattle.paths.proofs.segments.segment.Statement.{statement}
 use Rattle.paths.proofs.segments.segment.Tie as tie
 
-segment-count-requires : tie.Need-segment-count-requires
-segment-count-requires c κs = search needs
-
 segment-from-requires : tie.Need-segment-from-requires
 segment-from-requires c κs =
     let s = c .before .before .before in
@@ -37,4 +34,7 @@ returns-2 c =
     )
 
 pub segment-spec : {M : Type 1} → statement M
-segment-spec = tie.close (tie.spec segment-count-requires segment-from-requires returns returns-2)
+segment-spec =
+    tie.close
+    (tie.spec
+    (search needs) segment-from-requires returns returns-2)

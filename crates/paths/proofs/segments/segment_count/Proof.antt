@@ -6,66 +6,29 @@ use Rattle.paths.specs.Segments
 use Rattle.paths.proofs.segments.segment_count.Statement.{statement}
 use Rattle.paths.proofs.segments.segment_count.Tie as tie
 
-refused-requires : tie.Need-refused-requires
-refused-requires c κs = search needs
-
-returns : tie.Need-returns
-unfolding Segments.segmentCount
-returns c =
-    let p1 = c .before in
-    simp (
-      ← p1 .refused .ensures,
-      c .if1 .taken,
-    )
-
-vertex-count-requires : tie.Need-vertex-count-requires
-vertex-count-requires c κs = search needs
-
-returns-2 : tie.Need-returns-2
-unfolding Segments.segmentCount
-returns-2 c =
-    let p1 = c .before in
-    let p2 = p1 .before in
-    let p3 = p2 .before in
-    simp (
-      ← p3 .refused .ensures,
-      p2 .if1 .left,
-      ← p1 .vertex-count .ensures,
-      lt-ltb _ _ (c .if2 .taken),
-    )
-
-returns-3 : tie.Need-returns-3
-unfolding Segments.segmentCount
-returns-3 c =
-    let p1 = c .before in
-    let p2 = p1 .before in
-    let p3 = p2 .before in
-    let p4 = p3 .before in
-    simp (
-      ← p4 .refused .ensures,
-      p3 .if1 .left,
-      ← p2 .vertex-count .ensures,
-      le-ltb _ _ (p1 .if2 .left),
-      c .if3 .taken,
-    )
-
-sub-result : tie.Need-sub-result
-sub-result c = search needs
-
-returns-4 : tie.Need-returns-4
-unfolding Segments.segmentCount
-returns-4 c =
-    let p1 = c .before in
-    let p2 = p1 .before in
-    let p3 = p2 .before in
-    let p4 = p3 .before in
-    simp (
-      ← p4 .refused .ensures,
-      p3 .if1 .left,
-      ← p2 .vertex-count .ensures,
-      le-ltb _ _ (p1 .if2 .left),
-      c .if3 .left,
-    )
-
 pub segment-count-spec : {M : Type 1} → statement M
-segment-count-spec = tie.close (tie.spec refused-requires returns vertex-count-requires returns-2 returns-3 sub-result returns-4)
+unfolding Segments.segmentCount
+segment-count-spec =
+    tie.close
+    (tie.spec
+    (search needs) (λ c. simp (← c .before .refused .ensures, c .if1 .taken))
+    (search needs)
+    (λ c. let n = c .before in
+    simp (← n .before .before .refused .ensures, n .before .if1 .left, ← n .vertex-count .ensures, lt-ltb _ _ (c .if2 .taken)))
+    (λ c. let n = c .before .before in
+    simp (
+      ← n .before .before .refused .ensures,
+      n .before .if1 .left,
+      ← n .vertex-count .ensures,
+      le-ltb _ _ (c .before .if2 .left),
+      c .if3 .taken,
+    ))
+    (search needs)
+    (λ c. let n = c .before .before in
+    simp (
+      ← n .before .before .refused .ensures,
+      n .before .if1 .left,
+      ← n .vertex-count .ensures,
+      le-ltb _ _ (c .before .if2 .left),
+      c .if3 .left,
+    )))

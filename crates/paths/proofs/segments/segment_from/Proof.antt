@@ -7,12 +7,6 @@ use Rattle.paths.specs.Laws.Segments.{after-within}
 use Rattle.paths.proofs.segments.segment_from.Statement.{statement}
 use Rattle.paths.proofs.segments.segment_from.Tie as tie
 
-vertex-requires : tie.Need-vertex-requires
-vertex-requires c κs = search needs
-
-after-requires : tie.Need-after-requires
-after-requires c κs = search needs
-
 vertex-requires-2 : tie.Need-vertex-requires-2
 vertex-requires-2 c κs =
     let s = c .before .before .before in
@@ -30,4 +24,7 @@ returns c =
     )
 
 pub segment-from-spec : {M : Type 1} → statement M
-segment-from-spec = tie.close (tie.spec vertex-requires after-requires vertex-requires-2 returns)
+segment-from-spec =
+    tie.close
+    (tie.spec
+    (search needs) (search needs) vertex-requires-2 returns)

@@ -4,12 +4,6 @@ use Rattle.paths.specs.Shape
 use Rattle.paths.proofs.shape.refused.Statement.{statement}
 use Rattle.paths.proofs.shape.refused.Tie as tie
 
-broken-requires : tie.Need-broken-requires
-broken-requires c κs = search needs
-
-too-long-requires : tie.Need-too-long-requires
-too-long-requires c κs = search needs
-
 returns : tie.Need-returns
 unfolding Shape.refused
 returns c =
@@ -20,4 +14,7 @@ returns c =
     )
 
 pub refused-spec : {M : Type 1} → statement M
-refused-spec = tie.close (tie.spec broken-requires too-long-requires returns)
+refused-spec =
+    tie.close
+    (tie.spec
+    (search needs) (search needs) returns)

@@ -4,21 +4,6 @@ use Rattle.paths.specs.Shape
 use Rattle.paths.proofs.shape.shape.Statement.{statement}
 use Rattle.paths.proofs.shape.shape.Tie as tie
 
-broken-requires : tie.Need-broken-requires
-broken-requires c κs = search needs
-
-refuse-requires : tie.Need-refuse-requires
-refuse-requires c κs = search needs
-
-too-long-requires : tie.Need-too-long-requires
-too-long-requires c κs = search needs
-
-refuse-requires-2 : tie.Need-refuse-requires-2
-refuse-requires-2 c κs = search needs
-
-later-requires : tie.Need-later-requires
-later-requires c κs = search needs
-
 returns : tie.Need-returns
 unfolding Shape.shape
 returns c =
@@ -35,4 +20,7 @@ returns c =
     )
 
 pub shape-spec : {M : Type 1} → statement M
-shape-spec = tie.close (tie.spec broken-requires refuse-requires too-long-requires refuse-requires-2 later-requires returns)
+shape-spec =
+    tie.close
+    (tie.spec
+    (search needs) (search needs) (search needs) (search needs) (search needs) returns)

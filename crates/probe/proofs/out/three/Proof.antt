@@ -9,20 +9,14 @@ use Rattle.probe.proofs.out.three.Tie as tie
 returns : tie.Need-returns
 returns c = none _ _ (omega arith)
 
-slice-write-out : tie.Need-slice-write-out
-slice-write-out c = search needs
-
 slice-write-out-2 : tie.Need-slice-write-out-2
 slice-write-out-2 c = simp length-set (omega arith)
-
-slice-write-out-3 : tie.Need-slice-write-out-3
-slice-write-out-3 c = search needs
-
-same-length : tie.Need-same-length
-same-length c = search needs
 
 returns-2 : tie.Need-returns-2
 returns-2 c = all _ _ (c .if1 .left)
 
 pub three-spec : {M : Type 1} → statement M
-three-spec = tie.close (tie.spec returns slice-write-out slice-write-out-2 slice-write-out-3 same-length returns-2)
+three-spec =
+    tie.close
+    (tie.spec
+    returns (search needs) slice-write-out-2 (λ c. search needs) (search needs) returns-2)

@@ -8,17 +8,11 @@ use Rattle.probe.proofs.out.two.Tie as tie
 returns : tie.Need-returns
 returns c = none _ _ (omega arith)
 
-slice-write-out : tie.Need-slice-write-out
-slice-write-out c = search needs
-
-slice-write-out-2 : tie.Need-slice-write-out-2
-slice-write-out-2 c = search needs
-
-same-length : tie.Need-same-length
-same-length c = search needs
-
 returns-2 : tie.Need-returns-2
 returns-2 c = all _ _ (c .if1 .left)
 
 pub two-spec : {M : Type 1} → statement M
-two-spec = tie.close (tie.spec returns slice-write-out slice-write-out-2 same-length returns-2)
+two-spec =
+    tie.close
+    (tie.spec
+    returns (search needs) (λ c. search needs) (search needs) returns-2)

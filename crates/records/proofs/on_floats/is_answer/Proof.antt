@@ -19,9 +19,6 @@ alike nan h = h
 alike (inf s) h = refl
 alike (fin s m e) h = refl
 
-is-nan-requires : tie.Need-is-nan-requires
-is-nan-requires c κs = search needs
-
 returns : tie.Need-returns
 unfolding isAnswer
 returns c = simp (differs _ (c .before .if1 .taken), ← c .is-nan .ensures)
@@ -34,4 +31,7 @@ unfolding isAnswer
 returns-2 c = simp (alike _ (c .if1 .left))
 
 pub is-answer-spec : {M : Type 1} → statement M
-is-answer-spec = tie.close (tie.spec is-nan-requires returns float-to-bits-result returns-2)
+is-answer-spec =
+    tie.close
+    (tie.spec
+    (search needs) returns float-to-bits-result returns-2)

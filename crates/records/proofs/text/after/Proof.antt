@@ -5,9 +5,6 @@ use Rattle.records.specs.Text.{afterOf}
 use Rattle.records.proofs.text.after.Statement.{statement}
 use Rattle.records.proofs.text.after.Tie as tie
 
-add-if1 : tie.Need-add-if1
-add-if1 c = search needs
-
 returns : tie.Need-returns
 unfolding afterOf
 returns c = simp (eq-eqb _ _ (c .if1 .taken))
@@ -17,4 +14,7 @@ unfolding afterOf
 returns-2 c = simp (ne-eqb _ _ (c .if1 .left))
 
 pub after-spec : {M : Type 1} → statement M
-after-spec = tie.close (tie.spec add-if1 returns returns-2)
+after-spec =
+    tie.close
+    (tie.spec
+    (search needs) returns returns-2)

@@ -18,9 +18,6 @@ Inv-loop body n i₀ i = (i ≤ n) × (length body ≡ n * 17) × (fieldsFrom n 
 abbrev μ-loop : tie.MeasureT-loop
 μ-loop body n i₀ i = n - i
 
-mul-if1 : tie.Need-mul-if1 Inv-loop μ-loop
-mul-if1 c = search needs
-
 returns : tie.Need-returns Inv-loop μ-loop
 unfolding isLine
 returns c = simp (ne-eqb _ _ (c .if1 .taken))
@@ -31,36 +28,12 @@ loop-holds c =
     let whole = c .if1 .left in
     (search needs, whole, simp (eq-eqb _ _ whole, sub-zero))
 
-mul-if2 : tie.Need-mul-if2 Inv-loop μ-loop
-mul-if2 c = omega arith
-
-add-if2 : tie.Need-add-if2 Inv-loop μ-loop
-add-if2 c = omega arith
-
-shared-slice-read-if2 : tie.Need-shared-slice-read-if2 Inv-loop μ-loop
-shared-slice-read-if2 c = omega arith
-
-after-requires : tie.Need-after-requires Inv-loop μ-loop
-after-requires c κs = search needs
-
 returns-2 : tie.Need-returns-2 Inv-loop μ-loop
 returns-2 c =
     let called = c .before in
     let turn = called .before .before in
     let other = at-other _ _ _ (turn .loop-test .taken) (λ e. c .if2 .taken (e ∙ sym (called .after .ensures))) in
     sym other ∙ turn .before .loop .inv .2
-
-field-at-requires : tie.Need-field-at-requires Inv-loop μ-loop
-field-at-requires c κs = omega arith
-
-is-number-requires : tie.Need-is-number-requires Inv-loop μ-loop
-is-number-requires c κs = search needs
-
-add-i : tie.Need-add-i Inv-loop μ-loop
-add-i c = omega arith
-
-loop-less : tie.Need-loop-less Inv-loop μ-loop
-loop-less c = omega arith
 
 loop-again : tie.Need-loop-again Inv-loop μ-loop
 loop-again c =
@@ -92,20 +65,5 @@ pub is-line-spec : {M : Type 1} → statement M
 is-line-spec =
     tie.close
     (tie.spec
-    Inv-loop
-    μ-loop
-    mul-if1
-    returns
-    loop-holds
-    mul-if2
-    add-if2
-    shared-slice-read-if2
-    after-requires
-    returns-2
-    field-at-requires
-    is-number-requires
-    add-i
-    loop-less
-    loop-again
-    returns-3
-    returns-4)
+    Inv-loop μ-loop (search needs) returns loop-holds (omega arith) (omega arith) (omega arith) (search needs) returns-2
+    (omega arith) (search needs) (omega arith) (omega arith) loop-again returns-3 returns-4)

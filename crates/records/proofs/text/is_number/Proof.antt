@@ -7,9 +7,6 @@ use Rattle.records.proofs.text.is_number.Tie as tie
 enum-told : tie.Need-enum-told
 enum-told c = search needs
 
-enum-told-2 : tie.Need-enum-told-2
-enum-told-2 c = search needs
-
 returns : tie.Need-returns
 unfolding isNumber
 returns c =
@@ -21,4 +18,7 @@ returns-2 c =
     simp (c .enum-told2 .given .1)
 
 pub is-number-spec : {M : Type 1} → statement M
-is-number-spec = tie.close (tie.spec enum-told enum-told-2 returns returns-2)
+is-number-spec =
+    tie.close
+    (tie.spec
+    enum-told (search needs) returns returns-2)

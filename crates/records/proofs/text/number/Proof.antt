@@ -1,11 +1,12 @@
 -- `records::text::number` meets its contract: a NaN's pattern is read as the one NaN, which 0/0 is. Assumes nothing.
 use Prim.Native.Nat.{ℕ}
 use mathlib.Core.Path.{_≡_, refl, sym, ap, _∙_, subst}
-use mathlib.Core.Bool.{Bool, true, false, not}
+use mathlib.Core.Bool.{true}
 use borrow.Author.Needs.{needs}
 use lib.Dec.{T}
 use lib.Ieee.{Float, nan, inf, fin, binary64, isNan, nanBits, ofBits, ofFields, div}
 use lib.Ieee.Bits.{nanBits-is}
+use Rattle.crossing.specs.Laws.Branches.{denied}
 use Rattle.records.specs.Text.{numberAt}
 use Rattle.records.proofs.text.number.Statement.{statement}
 use Rattle.records.proofs.text.number.Tie as tie
@@ -20,12 +21,6 @@ none : div binary64 (ofBits binary64 0) (ofBits binary64 0) ≡ nan
 unfolding div ofBits ofFields
 none = refl
 
-value-requires : tie.Need-value-requires
-value-requires c κs = search needs
-
-is-nan-requires : tie.Need-is-nan-requires
-is-nan-requires c κs = search needs
-
 returns : tie.Need-returns
 unfolding numberAt
 returns c =
@@ -33,14 +28,12 @@ returns c =
     let is = sym (nanBits-is binary64 _) ∙ sym (told .is-nan .ensures) ∙ c .if1 .taken in
     none ∙ only _ is ∙ ap (ofBits binary64) (told .before .value .ensures)
 
-float-from-bits-result : tie.Need-float-from-bits-result
-float-from-bits-result c =
-    subst (λ (z : Bool). T (not z)) (sym (sym (c .before .is-nan .ensures) ∙ c .if1 .left)) tt
-
 returns-2 : tie.Need-returns-2
 unfolding numberAt
 returns-2 c = simp (← c .before .before .value .ensures)
 
 pub number-spec : {M : Type 1} → statement M
 number-spec =
-    tie.close (tie.spec value-requires is-nan-requires returns float-from-bits-result returns-2)
+    tie.close
+    (tie.spec
+    (search needs) (search needs) returns (λ c. search denied) returns-2)

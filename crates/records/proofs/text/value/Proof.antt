@@ -4,12 +4,6 @@ use Rattle.records.specs.Text.{valueOf}
 use Rattle.records.proofs.text.value.Statement.{statement}
 use Rattle.records.proofs.text.value.Tie as tie
 
-field-at-requires : tie.Need-field-at-requires
-field-at-requires c κs = search needs
-
-enum-known-f : tie.Need-enum-known-f
-enum-known-f c = search needs
-
 enum-told : tie.Need-enum-told
 enum-told c = search needs
 
@@ -24,4 +18,7 @@ unfolding valueOf
 returns-2 c = simp (← c .before .before .field-at .ensures, c .enum-told .given .1)
 
 pub value-spec : {M : Type 1} → statement M
-value-spec = tie.close (tie.spec field-at-requires enum-known-f enum-told returns returns-2)
+value-spec =
+    tie.close
+    (tie.spec
+    (search needs) (search needs) enum-told returns returns-2)
