@@ -184,6 +184,9 @@ uint64_t vj_pair(double v1x, double v1y, double v1_bulge,
  * the first path's vertices in order, each x, y and bulge, an open path's last
  * bulge too; then its arcs in order, 5; the second path's likewise; last, 8 if
  * there are more rows than fit.
+ *
+ * A listing needs some 212 KiB of stack: rows held back until it is known that
+ * all fit, and three numbers of each segment of the second path.
  */
 
 /* Every segment of the first path with every segment of the second. */
