@@ -8,6 +8,7 @@
 
 mod chords;
 mod circles;
+mod limits;
 mod line_and_circle;
 mod lines;
 mod way;
@@ -23,9 +24,15 @@ use way::Way;
 
 /// An input is beside an edge if the two numbers differ by at most so much of the edge's size: some 1e-9.
 const NEAR: f64 = 1.0 / (1u64 << 30) as f64;
-/// Of one in so many ways over an edge some inputs are also listed; of more where one side is refused, since these are fewer pairs.
+/// Of one in so many ways over an edge some inputs are also listed; of more where a listing decides by what it keeps, and where one
+/// side is refused, since these are fewer pairs.
 const LISTED: usize = 12;
+const LISTED_BY_WHAT_IS_KEPT: usize = 3;
 const LISTED_WHERE_REFUSED: usize = 2;
+
+/// How many numbers a vertex has, and a segment.
+const VERTEX: usize = 3;
+const SEGMENT: usize = 6;
 
 /// What two numbers are compared of an input.
 type Compared = Box<dyn Fn(&[f64]) -> Beside>;
@@ -40,6 +47,10 @@ pub struct Edge {
     by_kernels: bool,
     /// Of how many inputs the edge gets one: more at an edge of the Rust's own, that no shortcut is about.
     one_of: u64,
+    /// Of how many ways one is listed too.
+    listed_of: usize,
+    /// Of how many inputs a side one must come up in a listing too; none is asked for.
+    listed_least: Option<u64>,
 }
 
 /// A number, what it is compared with, and the size by which their difference is judged.
@@ -61,6 +72,8 @@ impl Edge {
             refuses: false,
             by_kernels: true,
             one_of: 1,
+            listed_of: LISTED,
+            listed_least: None,
         }
     }
 
@@ -81,9 +94,29 @@ impl Edge {
         }
     }
 
+    /// Where a glance decides that comes first in the pair call and in a listing, but in no kernel.
+    fn at_a_glance(self) -> Edge {
+        Edge {
+            by_kernels: false,
+            listed_least: Some(32),
+            ..self
+        }
+    }
+
+    /// Where a listing decides by what it keeps of each segment: half as many pairs are listed as are given to the pair call.
+    fn by_what_is_kept(self) -> Edge {
+        Edge {
+            by_kernels: false,
+            listed_of: LISTED_BY_WHAT_IS_KEPT,
+            listed_least: Some(2),
+            ..self
+        }
+    }
+
     fn refusing(self) -> Edge {
         Edge {
             refuses: true,
+            listed_of: LISTED_WHERE_REFUSED,
             ..self
         }
     }
@@ -118,6 +151,7 @@ fn table() -> Vec<Edge> {
         circles::edges(),
         line_and_circle::edges(),
         chords::edges(),
+        limits::edges(),
     ]
     .into_iter()
     .flatten()
@@ -150,8 +184,9 @@ struct Run<'a> {
     sides: Vec<[u64; 3]>,
     ways: usize,
     listings: u64,
-    /// Pairs in them.
+    /// Pairs in them, and how many of these are below, at and above, by the first comparison.
     listed: u64,
+    listed_sides: [u64; 3],
     wrong_listings: u64,
 }
 
@@ -165,6 +200,7 @@ impl Run<'_> {
             ways: 0,
             listings: 0,
             listed: 0,
+            listed_sides: [0; 3],
             wrong_listings: 0,
         }
     }
@@ -196,9 +232,14 @@ impl Run<'_> {
         self
     }
 
+    /// How many inputs the side has that has least, by calls or, times what is asked for, in listings.
     fn least(&self) -> u64 {
         let least = |[below, _, above]: &[u64; 3]| *below.min(above);
-        self.sides.iter().map(least).min().unwrap_or(0)
+        let called = self.sides.iter().map(least).min().unwrap_or(0);
+        match self.edge.listed_least {
+            Some(part) => called.min(part * least(&self.listed_sides)),
+            None => called,
+        }
     }
 
     /// A pair goes to the pair call, or by turns to the kernel that it comes down to.
@@ -223,12 +264,11 @@ impl Run<'_> {
     /// Lists some inputs of a way: all first segments are about alike, and all second ones, so that most pairs are beside the edge.
     /// Where one side is refused, an input is listed by itself.
     fn list(&mut self, inputs: &[Numbers]) {
-        let refuses = self.edge.refuses;
-        let one_of = if refuses {
-            LISTED_WHERE_REFUSED
-        } else {
-            LISTED
-        };
+        let Edge {
+            refuses,
+            listed_of: one_of,
+            ..
+        } = *self.edge;
         if self.ways % one_of != 0 || inputs[0].len() < MOST {
             return;
         }
@@ -238,13 +278,44 @@ impl Run<'_> {
         } else {
             &inputs[..4]
         };
-        let (pairs, wrong) = listings::wrong_on_pairs(inputs, turn % 2 == 0);
+        let mut inputs = inputs.to_vec();
+        if self.edge.listed_least.is_some() {
+            inputs.iter_mut().for_each(go_back);
+        }
+        let (pairs, wrong) = listings::wrong_on_pairs(&inputs, turn % 2 == 0);
         self.listings += 1;
         self.listed += pairs;
+        // of a listing that is refused no pair is looked at
+        if pairs > 0 || refuses {
+            self.count_listed(&inputs);
+        }
         if let Some(what) = wrong {
             self.wrong_listings += 1;
             if self.wrong_listings == 1 {
                 println!("listing at the edge {}: {what}", self.edge.name());
+            }
+        }
+    }
+
+    /// Each segment of the first path meets each of the second, by the first input's epsilon.
+    fn count_listed(&mut self, inputs: &[Numbers]) {
+        let (_, beside) = &self.edge.compared[0];
+        let path = |first: usize| -> Vec<f64> {
+            let segment = |n: &Numbers| n[first..first + SEGMENT].to_vec();
+            inputs.iter().flat_map(segment).collect()
+        };
+        let (first, second) = (path(0), path(SEGMENT));
+        let segments = |path: &[f64]| (0..path.len() - VERTEX).step_by(VERTEX);
+        let mut pair = inputs[0];
+        for v in segments(&first) {
+            for u in segments(&second) {
+                for place in 0..SEGMENT {
+                    pair.put(place, first[v + place]);
+                    pair.put(SEGMENT + place, second[u + place]);
+                }
+                if let Some(side) = beside(&pair).side() {
+                    self.listed_sides[side] += 1;
+                }
             }
         }
     }
@@ -264,8 +335,9 @@ impl Run<'_> {
         let met: Vec<String> = calls.map(Score::met).collect();
         let differences: u64 = self.scores.iter().map(Score::differences).sum();
         let differences = differences + self.wrong_listings;
+        let [below, at, above] = self.listed_sides;
         println!(
-            "edge {}; {}; {} listings of {} pairs; {differences} differences",
+            "edge {}; {}; {} listings of {} pairs ({below}, {at} and {above} of them beside the edge); {differences} differences",
             counts.join("; "),
             met.join("; "),
             self.listings,
@@ -276,6 +348,13 @@ impl Run<'_> {
             println!("edge {}: TOO FEW ON A SIDE", self.edge.name());
         }
         differences + short
+    }
+}
+
+/// Gives the second vertices the bulges that lead back, so that in a path of such pairs every segment is about alike, or its reverse.
+fn go_back(pair: &mut Numbers) {
+    for bulge in [2, SEGMENT + 2] {
+        pair.put(bulge + VERTEX, -pair[bulge]);
     }
 }
 
@@ -306,7 +385,8 @@ mod tests {
         let mut rng = Rng::new(3);
         for edge in table() {
             let run = Run::new(&edge).until(500, &mut rng);
-            assert!(run.least() >= 500, "{}: {:?}", edge.name(), run.sides);
+            let sides = (&run.sides, run.listed_sides);
+            assert!(run.least() >= 500, "{}: {sides:?}", edge.name());
         }
     }
 }

@@ -60,10 +60,7 @@ const ENTRIES: [Entry; 7] = [
         of_shortcut: true,
         stand: |rng| outside(true, rng),
         compared: &[
-            ("(r1 + r2 + eps)^2 at d^2", |c| {
-                let reach = c.sum + c.epsilon;
-                Beside::new(reach * reach, c.d2)
-            }),
+            ("(r1 + r2 + eps)^2 at d^2", square_at_d2),
             ("r1 + r2 + eps at d", reach_at_d),
         ],
     },
@@ -111,6 +108,11 @@ const ENTRIES: [Entry; 7] = [
     },
 ];
 
+fn square_at_d2(c: Circles) -> Beside {
+    let reach = c.sum + c.epsilon;
+    Beside::new(reach * reach, c.d2)
+}
+
 fn reach_at_d(c: Circles) -> Beside {
     Beside::new(c.sum + c.epsilon, c.d)
 }
@@ -132,7 +134,13 @@ pub fn edges() -> Vec<Edge> {
             edge.by_the_way()
         }
     };
-    ENTRIES.iter().map(edge).collect()
+    let at_a_glance = Edge::new(
+        "(r1 + r2 + eps)^2 at d^2, two arcs at a glance",
+        |rng| arcs(outside(true, rng), rng),
+        |n| square_at_d2(Circles::of(n)),
+    );
+    let all = ENTRIES.iter().map(edge);
+    all.chain([at_a_glance.by_what_is_kept()]).collect()
 }
 
 /// As two arcs, or as circles by themselves.

@@ -9,8 +9,9 @@ use cavalier_contours::core::math::{line_circle_intr, LineCircleIntr, Vector2};
 use super::circles::{arc_about, some_number};
 use super::lines::PARAMETERS;
 use super::{operands, some_epsilon, Beside, Edge, Way};
-use crate::crossing::calls::at;
+use crate::crossing::calls::{at, CALLS};
 use crate::crossing::faults::two_to;
+use crate::crossing::PAIRS;
 use crate::inputs::shapes::{line, near, unit, Circle};
 use crate::inputs::values::power;
 use crate::inputs::{Pair, Point, Segment};
@@ -74,6 +75,23 @@ impl Meeting {
         self.reach() * (129.0 / 128.0) * root
     }
 
+    /// What the glance holds |c| against: likewise, with a better guess. It tells nothing of a line that is a point.
+    fn glanced(&self) -> f64 {
+        let q = self.square();
+        let sides = self.a.abs() + self.b.abs();
+        let first = (sides + q / sides) * 0.5;
+        let root = (first + q / first) * (513.0 / 1024.0);
+        if self.from.fuzzy_eq_eps(self.to, self.epsilon) {
+            f64::NAN
+        } else {
+            self.reach() * (129.0 / 128.0) * root
+        }
+    }
+
+    fn is_upright(&self) -> bool {
+        self.b == 0.0
+    }
+
     /// The parameter of a point where the line meets the circle: the one nearer to a given one.
     fn t_near(&self, given: f64) -> f64 {
         let answer = line_circle_intr(self.from, self.to, self.radius, self.center, self.epsilon);
@@ -102,7 +120,7 @@ struct Entry {
     beside: fn(Meeting) -> Beside,
 }
 
-const ENTRIES: [Entry; 3] = [
+const ENTRIES: [Entry; 2] = [
     Entry {
         name: "|c| at the shortcut's guess",
         far: |radius, epsilon, rng| (radius + epsilon) * rng.between(1.005, 1.08),
@@ -112,11 +130,6 @@ const ENTRIES: [Entry; 3] = [
         name: "distance at r + eps",
         far: |radius, epsilon, _| radius + epsilon,
         beside: |m| Beside::new(m.distance(), m.reach()),
-    },
-    Entry {
-        name: "distance at r",
-        far: |radius, _, _| radius,
-        beside: |m| Beside::new(m.distance(), m.radius),
     },
 ];
 
@@ -129,6 +142,16 @@ pub fn edges() -> Vec<Edge> {
         )
     };
     let mut all: Vec<Edge> = ENTRIES.iter().map(edge).collect();
+    // which no shortcut is about
+    let touching = Edge::new(
+        "distance at r",
+        |rng| drawn(|radius, _, _| radius, rng),
+        |n| {
+            let meeting = Meeting::of(n);
+            Beside::new(meeting.distance(), meeting.radius)
+        },
+    );
+    all.push(touching.by_the_way());
     // the shortcut's own limit, where no line is far
     let through = Edge::new("|c| at 2^-100", through_centre, |n| {
         Beside::new(Meeting::of(n).c.abs(), two_to(-100))
@@ -164,7 +187,73 @@ pub fn edges() -> Vec<Edge> {
             Beside::new(meeting.t_near(1.0) * length, length + meeting.epsilon)
         },
     ));
+    for line_first in [true, false] {
+        all.extend([false, true].map(|upright| at_a_glance(upright, line_first)));
+        all.extend(near_zero(line_first).map(|edge| edge.of_pairs_only().by_the_way()));
+    }
     all
+}
+
+fn order(line_first: bool) -> &'static str {
+    if line_first {
+        "line and arc"
+    } else {
+        "arc and line"
+    }
+}
+
+/// The meeting of a pair of segments in this order. Of another pair it is beside no edge.
+fn in_order(line_first: bool, n: &[f64]) -> Option<Meeting> {
+    (line_first == (n[2].abs() < 1e-8)).then(|| Meeting::of(n))
+}
+
+const NOWHERE: Beside = Beside {
+    number: f64::NAN,
+    edge: f64::NAN,
+    size: f64::NAN,
+};
+
+fn at_a_glance(upright: bool, line_first: bool) -> Edge {
+    let line = if upright { "upright" } else { "slanted" };
+    let edge = Edge::new(
+        format!("|c| at the glance's guess, {line}, {}", order(line_first)),
+        move |rng| glanced(upright, line_first, rng),
+        move |n| match in_order(line_first, n) {
+            Some(m) if m.is_upright() == upright => Beside::new(m.c.abs(), m.glanced()),
+            _ => NOWHERE,
+        },
+    );
+    let edge = edge.by_what_is_kept();
+    // the guess of an upright line's root is always the same
+    if upright {
+        edge.by_the_way()
+    } else {
+        edge
+    }
+}
+
+/// A line beside an arc that is upright but for the default epsilon, and one that is a point but for the epsilon.
+fn near_zero(line_first: bool) -> [Edge; 2] {
+    let upright = Edge::new(
+        format!("|dx| at 1e-8, {}", order(line_first)),
+        move |rng| upright_beside_arc(line_first, rng),
+        move |n| match in_order(line_first, n) {
+            Some(m) => Beside::new((m.to.x - m.from.x).abs(), 1e-8),
+            None => NOWHERE,
+        },
+    );
+    let point = Edge::new(
+        format!("the line's longer side at eps, {}", order(line_first)),
+        move |rng| point_beside_arc(line_first, rng),
+        move |n| match in_order(line_first, n) {
+            Some(m) => {
+                let way = m.to - m.from;
+                Beside::new(way.x.abs().max(way.y.abs()), m.epsilon)
+            }
+            None => NOWHERE,
+        },
+    );
+    [upright, point]
 }
 
 fn some_circle(rng: &mut Rng) -> Circle {
@@ -225,13 +314,67 @@ fn arc(far: Far, rng: &mut Rng) -> Way {
 /// The line and an arc about this direction, either first.
 fn beside_arc(circle: &Circle, way: Point, line: Segment, epsilon: f64, rng: &mut Rng) -> Way {
     let arc = arc_about(circle, way, rng);
-    let (v, u, bulge) = if rng.one_in(2) {
+    let (pair, bulge) = ordered(rng.one_in(2), line, arc, epsilon);
+    let step = arc.chord().length() / 8.0;
+    some_number(pair, step, [bulge; 2], rng)
+}
+
+/// A line and an arc in this order, and the place of the arc's bulge.
+fn ordered(line_first: bool, line: Segment, arc: Segment, epsilon: f64) -> (Pair, usize) {
+    let (v, u, bulge) = if line_first {
         (line, arc, 8)
     } else {
         (arc, line, 2)
     };
+    (Pair { v, u, epsilon }, bulge)
+}
+
+/// A line so far from an arc's circle that the glance hardly tells it to be beside.
+fn glanced(upright: bool, line_first: bool, rng: &mut Rng) -> Way {
+    let circle = some_circle(rng);
+    let epsilon = some_epsilon(rng);
+    let way = if upright {
+        Point {
+            x: rng.sign(),
+            y: 0.0,
+        }
+    } else {
+        across_slanted(rng)
+    };
+    let far = (circle.radius + epsilon) * rng.between(1.0095, 1.0118);
+    let [from, mut to] = line_at(&circle, way, far, rng);
+    if upright {
+        to.x += rng.pick(&[0.0, 0.0, 1e-9, -9e-9]);
+    }
+    let arc = arc_about(&circle, way, rng);
+    let (pair, bulge) = ordered(line_first, line(from, to, rng), arc, epsilon);
     let step = arc.chord().length() / 8.0;
-    some_number(Pair { v, u, epsilon }, step, [bulge; 2], rng)
+    if !upright {
+        return some_number(pair, step, [bulge; 2], rng);
+    }
+    // an end of the line that moves may make it slanted
+    let numbers = (CALLS[PAIRS].operands)(&pair, rng);
+    let first = bulge - 2;
+    match rng.below(8) {
+        0 => Way::in_parts(numbers, bulge, 1.0 / 16.0),
+        _ => Way::new(numbers, first + rng.pick(&[0, 1, 3, 4]), step),
+    }
+}
+
+/// A way from a centre to a line that is not upright, but now and then all but that.
+fn across_slanted(rng: &mut Rng) -> Point {
+    if rng.one_in(8) {
+        return Point {
+            x: rng.sign(),
+            y: rng.sign() * power(rng, -24, -4),
+        };
+    }
+    loop {
+        let way = unit(rng);
+        if way.y != 0.0 {
+            return way;
+        }
+    }
 }
 
 /// A line along an axis, all but through the circle's centre at the origin.
@@ -265,6 +408,56 @@ fn hardly_upright(rng: &mut Rng) -> Way {
     };
     let numbers: Numbers = [x, y, to, end, circle.radius, center.x, center.y, epsilon].into();
     Way::new(numbers, rng.pick(&[0, 2]), 1e-9)
+}
+
+/// The same beside an arc.
+fn upright_beside_arc(line_first: bool, rng: &mut Rng) -> Way {
+    let drawn = some_circle(rng);
+    let any = rng.unit();
+    let center = Point {
+        x: drawn.radius * rng.pick(&[1.0, -1.0, 0.5, 1.5, any]),
+        y: drawn.center.y,
+    };
+    let circle = Circle { center, ..drawn };
+    let x = rng.pick(&[0.0, 1e-9, 1e-8, -3e-8]);
+    let [y, end] = [0; 2].map(|_| center.y + rng.between(-2.0, 2.0) * circle.radius);
+    let to = Point {
+        x: x + rng.sign() * 1e-8,
+        y: end,
+    };
+    let line = line(Point { x, y }, to, rng);
+    let arc = arc_about(&circle, unit(rng), rng);
+    let epsilon = some_epsilon(rng).min(1e-5);
+    let (pair, bulge) = ordered(line_first, line, arc, epsilon);
+    let numbers = (CALLS[PAIRS].operands)(&pair, rng);
+    Way::new(numbers, 8 - bulge + rng.pick(&[0, 3]), 1e-9)
+}
+
+/// A line whose longer side is an epsilon, about where its distance from the centre decides: on the circle or an epsilon beside it.
+fn point_beside_arc(line_first: bool, rng: &mut Rng) -> Way {
+    let epsilon = some_epsilon(rng);
+    let drawn = some_circle(rng);
+    let way = unit(rng);
+    let any = rng.between(-2.0, 2.0);
+    let aside = epsilon * rng.pick(&[0.0, 1.0, -1.0, any]);
+    // the circle's point is at the origin, where floats are fine enough for the line
+    let center = Point::default().along(way, -drawn.radius - aside);
+    let circle = Circle { center, ..drawn };
+    let any = rng.unit();
+    let [longer, shorter] = [rng.sign(), rng.pick(&[0.0, any])].map(|part| part * epsilon);
+    let along_y = rng.one_in(2);
+    let [x, y] = if along_y {
+        [shorter, longer]
+    } else {
+        [longer, shorter]
+    };
+    let from = near(Point::default(), rng.pick(&[0.0, epsilon]), rng);
+    let line = line(from, from.along(Point { x, y }, 1.0), rng);
+    let arc = arc_about(&circle, way, rng);
+    let (pair, bulge) = ordered(line_first, line, arc, epsilon);
+    let numbers = (CALLS[PAIRS].operands)(&pair, rng);
+    let place = 8 - bulge + rng.pick(&[0, 3]) + usize::from(along_y);
+    Way::new(numbers, place, epsilon / 64.0)
 }
 
 /// A line whose crossing of the circle is at a parameter, for its length and the epsilon.

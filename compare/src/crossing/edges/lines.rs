@@ -31,11 +31,13 @@ pub fn edges() -> Vec<Edge> {
     let mut all = Vec::new();
     for (which, name) in ["seg1", "seg2"].into_iter().enumerate() {
         for (place, t) in PARAMETERS {
-            all.push(Edge::new(
+            let edge = Edge::new(
                 format!("{name}_t at {place}"),
                 move |rng| crossing(which, t, rng),
                 move |n| Beside::sized(Lines::of(n).usual_t(which), t, 1.0),
-            ));
+            );
+            // at a segment's end nothing is decided
+            all.push(if t == 1.0 { edge.by_the_way() } else { edge });
         }
         all.push(Edge::new(
             format!("{name}_t * length at -eps"),
@@ -75,15 +77,85 @@ pub fn edges() -> Vec<Edge> {
             |rng| by_size_of_epsilon(-40, rng),
             |n| Beside::new(Lines::of(n).epsilon, two_to(-40)),
         )
-        .refusing(),
+        .refusing()
+        .by_the_way(),
     );
-    let parallel = Edge::new("|v perp u| at eps", nearly_parallel, |n| {
-        let lines = Lines::of(n);
-        Beside::new(lines.perp().abs(), lines.epsilon)
-    });
+    let parallel = Edge::new(
+        "|v perp u| at eps",
+        |rng| nearly_parallel(rng.sign(), rng),
+        |n| {
+            let lines = Lines::of(n);
+            Beside::new(lines.perp().abs(), lines.epsilon)
+        },
+    );
     all.push(parallel.by_the_way());
     all.extend(of_points().map(Edge::by_the_way));
+    all.extend(at_a_glance());
+    all.extend(near_zero().map(Edge::by_the_way));
     all
+}
+
+/// The glance asks for no quotient n / d but holds n against d's product with a limit, either above both limits' products or below.
+fn at_a_glance() -> Vec<Edge> {
+    let limits = [PARAMETERS[0], PARAMETERS[4]];
+    let mut all = Vec::new();
+    for (which, name) in ["u perp w", "v perp w"].into_iter().enumerate() {
+        for (place, limit) in limits {
+            for (sign, of_d) in [(1.0, "above"), (-1.0, "below")] {
+                let edge = Edge::new(
+                    format!("{name} at d * {place}, d {of_d} 0"),
+                    move |rng| clearly_off(which, limit, sign, rng),
+                    move |n| {
+                        let lines = Lines::of(n);
+                        let (number, d) = lines.usual_quotient(which);
+                        let d = if d * sign > 0.0 { d } else { f64::NAN };
+                        Beside::new(number, d * limit)
+                    },
+                );
+                all.push(edge.at_a_glance());
+            }
+        }
+    }
+    all
+}
+
+/// What is near zero by an epsilon: the ways' product, of either sign, in the pair call, where it decides before a glance does;
+/// what parallel lines are apart; and a line that is a point.
+fn near_zero() -> impl Iterator<Item = Edge> {
+    let signs = [(1.0, "v perp u at eps"), (-1.0, "v perp u at -eps")];
+    let product = signs.map(|(sign, name)| {
+        let edge = Edge::new(
+            format!("{name}, a pair's"),
+            move |rng| nearly_parallel(sign, rng),
+            move |n| {
+                let lines = Lines::of(n);
+                Beside::new(lines.perp(), sign * lines.epsilon)
+            },
+        );
+        edge.of_pairs_only()
+    });
+    let sides = [(0, "v"), (1, "u")];
+    let apart = sides.map(|(which, name)| {
+        Edge::new(
+            format!("|{name} perp w| at eps, v perp u below it"),
+            move |rng| parallel(which, rng),
+            move |n| {
+                let lines = Lines::of(n);
+                Beside::new(lines.apart(which).abs(), lines.epsilon)
+            },
+        )
+    });
+    let point = sides.map(|(which, name)| {
+        Edge::new(
+            format!("{name}'s longer side at eps, v perp u below it"),
+            move |rng| hardly_a_line(which, rng),
+            move |n| {
+                let lines = Lines::of(n);
+                Beside::new(lines.longer_side(which), lines.epsilon)
+            },
+        )
+    });
+    product.into_iter().chain(apart).chain(point)
 }
 
 /// A segment that is a point, and the other one.
@@ -141,17 +213,56 @@ impl Lines {
         self.ways[0].perp_dot(self.ways[1])
     }
 
-    /// Where the lines cross, as a parameter of the first segment or of the second.
-    fn t(&self, which: usize) -> f64 {
+    /// The way of the first segment, or of the second, and from one start to the other.
+    fn with_w(&self, which: usize) -> f64 {
         let w = self.starts[0] - self.starts[1];
-        self.ways[1 - which].perp_dot(w) / self.perp()
+        self.ways[which].perp_dot(w)
     }
 
-    /// The same where a shortcut may decide by it: the segment and epsilon are of usual sizes. Else it is beside no edge.
-    fn usual_t(&self, which: usize) -> f64 {
+    /// Where the lines cross, as a parameter of the first segment or of the second.
+    fn t(&self, which: usize) -> f64 {
+        self.with_w(1 - which) / self.perp()
+    }
+
+    /// Whether a shortcut may decide by it: the segment and epsilon are of usual sizes.
+    fn is_usual(&self, which: usize) -> bool {
         let is_long = self.ways[which].length_squared() >= two_to(-10);
-        if is_long && self.epsilon <= two_to(-10) {
+        is_long && self.epsilon <= two_to(-10)
+    }
+
+    /// The parameter where a shortcut may decide by it. Else it is beside no edge.
+    fn usual_t(&self, which: usize) -> f64 {
+        if self.is_usual(which) {
             self.t(which)
+        } else {
+            f64::NAN
+        }
+    }
+
+    /// The same as two numbers, not divided, and only of lines that are not parallel.
+    fn usual_quotient(&self, which: usize) -> (f64, f64) {
+        let d = self.perp();
+        if self.is_usual(which) && d.abs() >= self.epsilon {
+            (self.with_w(1 - which), d)
+        } else {
+            (f64::NAN, f64::NAN)
+        }
+    }
+
+    /// How far parallel lines are apart, times a segment's length. Of lines that are not parallel it is beside no edge.
+    fn apart(&self, which: usize) -> f64 {
+        if self.perp().abs() < self.epsilon {
+            self.with_w(which)
+        } else {
+            f64::NAN
+        }
+    }
+
+    /// A segment is a point if its longer side is below epsilon. Of lines that are not parallel nobody asks.
+    fn longer_side(&self, which: usize) -> f64 {
+        let way = self.ways[which];
+        if self.perp().abs() < self.epsilon {
+            way.x.abs().max(way.y.abs())
         } else {
             f64::NAN
         }
@@ -319,12 +430,32 @@ fn by_size_of_epsilon(exponent: i32, rng: &mut Rng) -> Way {
     Way::in_parts(numbers, EPSILON, 1.0 / 64.0)
 }
 
-fn nearly_parallel(rng: &mut Rng) -> Way {
+/// The crossing lies where a parameter is just clear, the segment's length half of the time as short as a usual one's, with the
+/// largest usual epsilon: there what is clear begins where the segment ends.
+fn clearly_off(which: usize, t: f64, sign: f64, rng: &mut Rng) -> Way {
+    let mut ways = ways(rng);
+    let mut epsilon = some_epsilon(rng).min(two_to(-10));
+    if rng.one_in(2) {
+        let longer = rng.pick(&[0.0, two_to(-52), two_to(-50), two_to(-30)]);
+        ways.from = near(Point::default(), rng.pick(&[0.0, 0.1]), rng);
+        ways.ways[which] = Point::default().along(unit(rng), two_to(-5) * (1.0 + longer));
+        epsilon = two_to(-10);
+    }
+    let [v, u] = ways.ways;
+    if (v.x * u.y - v.y * u.x) * sign < 0.0 {
+        ways.ways[1] = Point::default().along(u, -1.0);
+    }
+    let numbers = ways.crossed(with_other(which, t, rng), epsilon, rng);
+    some_coordinate(numbers, ways.ways[which].length(), rng)
+}
+
+/// Two ways whose product is epsilon, or its opposite.
+fn nearly_parallel(sign: f64, rng: &mut Rng) -> Way {
     let mut ways = ways(rng);
     let epsilon = some_epsilon(rng);
     let size = power(rng, -3, 6);
     let way = Point::default().along(unit(rng), size);
-    let aside = epsilon / size * rng.sign();
+    let aside = epsilon / size * sign;
     let far = rng.pick(&[0.0, size]);
     ways.from = near(Point::default(), far, rng);
     let along = rng.between(-2.0, 2.0);
@@ -333,6 +464,53 @@ fn nearly_parallel(rng: &mut Rng) -> Way {
     let t = deciding_t(size, epsilon, rng);
     let numbers = ways.crossed(with_other(0, t, rng), epsilon, rng);
     Way::new(numbers, rng.pick(&COORDINATES), 2.0 * aside.abs())
+}
+
+/// Two lines of one way, of which the one that is given is apart from the other by an epsilon, divided by its length.
+fn parallel(which: usize, rng: &mut Rng) -> Way {
+    let epsilon = some_epsilon(rng);
+    let size = power(rng, -3, 6);
+    let way = Point::default().along(unit(rng), size);
+    let from = near(Point::default(), rng.pick(&[0.0, size]), rng);
+    let aside = rng.sign() * epsilon / (size * size);
+    let [start, shorter] = [rng.between(-1.5, 1.5), rng.between(0.1, 1.0)];
+    let other = from.along(way, start).along(way.turned(), aside);
+    let given = line(from, from.along(way, 1.0), rng);
+    let other = line(other, other.along(way, shorter * rng.sign()), rng);
+    let (v, u) = if which == 0 {
+        (given, other)
+    } else {
+        (other, given)
+    };
+    let numbers = numbers(v, u, epsilon, rng);
+    Way::new(numbers, rng.pick(&COORDINATES), epsilon / size / 8.0)
+}
+
+/// A line whose longer side is an epsilon, about another one.
+fn hardly_a_line(which: usize, rng: &mut Rng) -> Way {
+    let epsilon = some_epsilon(rng);
+    let any = rng.unit();
+    let [along, aside] = [epsilon * rng.sign(), rng.pick(&[0.0, any]) * epsilon];
+    let along_y = rng.one_in(2);
+    let [x, y] = if along_y {
+        [aside, along]
+    } else {
+        [along, aside]
+    };
+    let way = Point::default().along(unit(rng), power(rng, -10, 0).max(epsilon));
+    let from = near(Point::default(), rng.pick(&[0.0, epsilon]), rng);
+    let short = line(from, from.along(Point { x, y }, 1.0), rng);
+    let start = near(from, rng.pick(&[0.0, epsilon]), rng);
+    let start = start.along(way, -rng.pick(&[0.0, 0.5, 1.0]));
+    let other = line(start, start.along(way, 1.0), rng);
+    let (v, u) = if which == 0 {
+        (short, other)
+    } else {
+        (other, short)
+    };
+    let numbers = numbers(v, u, epsilon, rng);
+    let place = 4 * which + 2 * rng.below(2) as usize + usize::from(along_y);
+    Way::new(numbers, COORDINATES[place], epsilon / 64.0)
 }
 
 /// A line, and one that is a point but for less than an epsilon, at a parameter of the first.
