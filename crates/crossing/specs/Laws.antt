@@ -4,6 +4,8 @@ pub mod Bulges
 pub mod Order
 pub mod Within
 pub mod Apart
+pub mod Nested
+pub mod Ends
 pub mod FarLine
 pub mod Circles
 pub mod Branches

@@ -2,6 +2,7 @@
 // Ends are sticky here too: an end of one arc that lies on the other stands for a crossing near it.
 ghost use mathlib.Core.Path.{_≡_};
 ghost use Rattle.crossing.specs.ArcArc;
+ghost use Rattle.crossing.specs.Laws.Ends;
 ghost use Rattle.plane.specs.PlineSeg.{segArcRadiusAndCenter};
 use super::arc_geometry::ArcGeometry;
 use super::arc_sweep::ArcSweep;
@@ -225,6 +226,45 @@ fn two_arc_arc(
     ends_or(first, second, PlineSegIntr::NoIntersect)
 }
 
+// Whether no end of either arc is as far from the other's centre as that arc.
+fn ends_clear(
+    v1: Vector2,
+    v2: Vector2,
+    u1: Vector2,
+    u2: Vector2,
+    arc1: ArcGeometry,
+    arc2: ArcGeometry,
+) -> bool
+    ensures { λ r. ⌜ r ≡ Ends.endsClear v1 v2 u1 u2 arc1 arc2 ⌝ }
+{
+    (arc1.point_off_circle(u1) & arc1.point_off_circle(u2))
+        & (arc2.point_off_circle(v1) & arc2.point_off_circle(v2))
+}
+
+// Two arcs whose circles cross at two points. Most often no end lies on the other arc, which four distances tell: then there are no
+// end points to collect.
+fn crossing_arcs(
+    v1: Vector2,
+    v2: Vector2,
+    u1: Vector2,
+    u2: Vector2,
+    point1: Vector2,
+    point2: Vector2,
+    arc1: ArcGeometry,
+    arc2: ArcGeometry,
+    pos_equal_eps: f64,
+) -> PlineSegIntr
+    ensures { λ r. ⌜
+        r ≡ ArcArc.twoArcArc point1 point2 (ArcArc.collectEndPoints v1 v2 u1 u2 arc1 arc2 «pos_equal_eps») arc1 arc2 ⌝ }
+{
+    if ends_clear(v1, v2, u1, u2, arc1, arc2) {
+        let none = [Slot::Empty, Slot::Empty];
+        return two_arc_arc(point1, point2, none, arc1, arc2);
+    }
+    let end_point_intrs = collect_end_points(v1, v2, u1, u2, arc1, arc2, pos_equal_eps);
+    two_arc_arc(point1, point2, end_point_intrs, arc1, arc2)
+}
+
 // Whether two arcs are the same to the bit, run the same way or the other.
 fn same_arc(v1: PlineVertex, v2: PlineVertex, u1: PlineVertex, u2: PlineVertex) -> bool
     ensures { λ r. ⌜ r ≡ ArcArc.sameArc v1 v2 u1 u2 ⌝ }
@@ -418,16 +458,17 @@ pub fn arc_arc(
         CircleCircleIntr::TwoIntersects { point1, point2 } => {
             let arc1 = ArcGeometry::of_segment(v1, v2, circle1, pos_equal_eps);
             let arc2 = ArcGeometry::of_segment(u1, u2, circle2, pos_equal_eps);
-            let end_point_intrs = collect_end_points(
+            crossing_arcs(
                 v1.pos(),
                 v2.pos(),
                 u1.pos(),
                 u2.pos(),
+                point1,
+                point2,
                 arc1,
                 arc2,
                 pos_equal_eps,
-            );
-            two_arc_arc(point1, point2, end_point_intrs, arc1, arc2)
+            )
         }
         CircleCircleIntr::Overlapping => {
             overlapping_arc_arc(v1, v2, u1, u2, circle1, circle2, pos_equal_eps)

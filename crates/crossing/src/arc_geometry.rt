@@ -1,6 +1,7 @@
 // An arc as the sticky-end rules see it: its sweep, and how far from its centre a point may lie.
 ghost use mathlib.Core.Path.{_≡_};
 ghost use Rattle.crossing.specs.ArcGeometry as geometry;
+ghost use Rattle.crossing.specs.Laws.Ends;
 use super::arc_sweep::ArcSweep;
 use plane::base_math::dist_squared;
 use plane::pline_seg::ArcRadiusCenter;
@@ -78,5 +79,15 @@ impl ArcGeometry {
             return self.sweeps(point);
         }
         false
+    }
+    // Whether the point is not as far from the centre as the arc, so that it lies on no part of it.
+    pub fn point_off_circle(self, point: Vector2) -> bool
+        ensures { λ r. ⌜ r ≡ Ends.pointOffCircle self point ⌝ }
+    {
+        let sweep = self.sweep;
+        let distance_squared = dist_squared(point, sweep.center);
+        !((distance_squared < self.radius_upper_bound_squared)
+            & ((self.radius_lower_bound < 0.0)
+                | (distance_squared > self.radius_lower_bound_squared)))
     }
 }

@@ -2,6 +2,7 @@
 ghost use mathlib.Core.Path.{_≡_};
 ghost use Rattle.crossing.specs.CircleCircle;
 ghost use Rattle.crossing.specs.Laws.Apart;
+ghost use Rattle.crossing.specs.Laws.Nested;
 use super::circle_circle_intersect::CircleCircleIntr;
 use plane::fuzzy::fuzzy_eq_eps;
 use plane::fuzzy::fuzzy_eq_zero_eps;
@@ -67,6 +68,15 @@ fn apart(d2: f64, reach: f64, eps: f64) -> bool
     ((reach >= 0.0) & (reach >= eps)) & (reach * reach < d2)
 }
 
+// Whether one circle lies well inside the other: `gap` is the difference of their radii, and d2 the square of the distance of their
+// centres.
+fn nested(d2: f64, gap: f64, eps: f64) -> bool
+    ensures { λ r. ⌜ r ≡ Nested.nested d2 gap eps ⌝ }
+{
+    let s = gap - (eps + eps);
+    ((gap >= eps) & (s >= 0.0)) & ((s + eps < gap) & ((d2 >= 0.0) & (d2 < s * s)))
+}
+
 // How two circles meet, for any numbers, by the distance of their centres.
 fn by_distance(
     radius1: f64,
@@ -92,7 +102,7 @@ fn by_distance(
     meeting(radius1, center1, radius2, cv, d2, d, epsilon)
 }
 
-// How two circles meet, for any numbers. Where they are far apart no root is taken.
+// How two circles meet, for any numbers. Where they are far apart, or one is well inside the other, no root is taken.
 pub fn circle_circle(
     radius1: f64,
     center1: Vector2,
@@ -103,7 +113,11 @@ pub fn circle_circle(
     ensures { λ r. ⌜ r ≡ CircleCircle.circleCircle radius1 center1 radius2 center2 epsilon ⌝ }
 {
     let cv = center2.sub(center1);
-    if apart(cv.dot(cv), radius1 + radius2 + epsilon, epsilon) {
+    let d2 = cv.dot(cv);
+    if apart(d2, radius1 + radius2 + epsilon, epsilon) {
+        return CircleCircleIntr::NoIntersect;
+    }
+    if nested(d2, floats::abs(radius1 - radius2), epsilon) {
         return CircleCircleIntr::NoIntersect;
     }
     by_distance(radius1, center1, radius2, center2, epsilon)

@@ -11,6 +11,7 @@ use Rattle.plane.specs.declared.vector2.Vector2.{Vector2}
 use Rattle.plane.specs.declared.pline_vertex.PlineVertex.{PlineVertex}
 use Rattle.plane.specs.declared.pline_seg.ArcRadiusCenter.{ArcRadiusCenter}
 use Rattle.crossing.specs.Laws.Apart.{apart}
+use Rattle.crossing.specs.Laws.Nested.{nested}
 use Rattle.crossing.specs.Laws.FarLine.{moderate, huge}
 use Rattle.crossing.specs.Laws.Within.{usual, afterEnd}
 use Rattle.glance.specs.declared.kept.Kept.{Kept}
@@ -67,7 +68,8 @@ lineBeside p0 p1 kept circle eps =
 unfoldable pub circlesApart : ArcRadiusCenter → ArcRadiusCenter → Float → Bool
 circlesApart circle1 circle2 eps =
     let cv = vector2.sub (circle2 .center) (circle1 .center) in
-    apart (vector2.dot cv cv) (circle1 .radius ⊕ circle2 .radius ⊕ eps) eps
+    let d2 = vector2.dot cv cv in
+    apart d2 (circle1 .radius ⊕ circle2 .radius ⊕ eps) eps || nested d2 (F64.abs (circle1 .radius ⊖ circle2 .radius)) eps
 
 -- ---- two segments
 unfoldable pub clearlyApart : PlineVertex → PlineVertex → Kept → PlineVertex → PlineVertex → Kept → Float → Bool

@@ -5,7 +5,7 @@ use Prim.Native.Nat.{ℕ, _+_, _*_, _^_, _<_}
 use native.Mathlib.Omega.{arith}
 use mathlib.Core.Bool.{Bool, true, false, cond}
 use lib.Dec.{T}
-use lib.Ieee.{Float, nan, inf, fin, Format, low, lt, isNan}
+use lib.Ieee.{Float, nan, inf, fin, Format, binary64, low, fits, lt, isNan}
 use lib.Ieee.Exact.{HasValue}
 use Rattle.float_laws.specs.Signed.{Diff, SizeOf, signed-of, diff-of}
 use Rattle.float_laws.specs.Order.{lt-diff}
@@ -18,6 +18,12 @@ unfolding F64.abs
 abs-value nan s X c h = absurd h
 abs-value (inf t) s X c h = absurd h
 abs-value (fin t m e) s X c h = (refl, h .1)
+
+pub abs-fits : (x : Float) → T (fits binary64 x) → T (fits binary64 (F64.abs x))
+unfolding F64.abs fits
+abs-fits nan h = h
+abs-fits (inf t) h = tt
+abs-fits (fin t m e) h = h
 
 pub abs-within : (f : Format) (K : ℕ) (x : Float) → Within f K x → Within f K (F64.abs x)
 abs-within f K x w =

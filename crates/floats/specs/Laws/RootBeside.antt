@@ -1,31 +1,42 @@
--- A root beside a float s, by the square of s as floats compute it: where the rounded s * s is below x, the root of x is at least s.
--- No margin is needed: a product that rounds to less than the float x is less than x, and a root is not rounded across the float s.
+-- A root beside a float s, by the square of s as floats compute it: where the rounded s * s is below x, the root of x is at least s, and
+-- where it is above x, at most s. No margin is needed: a product that rounds to less than the float x is less than x, and a root is not
+-- rounded across the float s.
 use mathlib.Core.Path.{_≡_, refl, sym, ap, subst}
-use Prim.Native.Nat.{ℕ, _+_, _-_, _*_, _^_, _≤_, _<_}
-use native.Mathlib.Nat.{mul-pos, mul-le-mul-right, lt-of-mul-lt-mul-right, lt-of-not-le}
+use Prim.Native.Nat.{ℕ, zero, suc, _+_, _-_, _*_, _^_, _≤_, _<_}
+use native.Mathlib.Nat.{mul-pos, mul-le-mul-right, lt-of-mul-lt-mul-right, lt-of-not-le, zero-lt-suc, eq-or-lt-of-le}
 use native.Mathlib.Omega.{arith}
 use mathlib.Core.Bool.{Bool, true, false, not}
+use mathlib.Core.Logic.{_⊎_, inl, inr}
 use lib.Dec.{T}
-use lib.Ieee.{Float, nan, inf, fin, binary64, low, ofBits, fits, lt, le, mul}
+use lib.Ieee.{Float, nan, inf, fin, binary64, low, up, down, ofBits, fits, lt, le, mul}
 use lib.Ieee.Exact.{HasValue}
-use lib.Ieee.Fits.{mul-fits}
+use lib.Ieee.Fits.{mul-fits, up-pos}
 use lib.Ieee.Scale.{finite}
 use Rattle.float_laws.specs.Count.{counted}
 use Rattle.float_laws.specs.Signed.{Diff, ups, downs, own-diff, size-above}
 use Rattle.float_laws.specs.Order.{le-over}
 use Rattle.float_laws.specs.Chains.{le-not-lt, from-above, above-any}
 use Rattle.float_laws.specs.Rounded.{Rounded, mul-rounded}
-use Rattle.float_laws.specs.Roundings.{rounded-ge}
+use Rattle.float_laws.specs.Roundings.{rounded-le, rounded-ge}
 use Rattle.float_laws.specs.Best.{Held}
 use Rattle.float_laws.specs.Binary64.{unit, unit-is, unit-pos, units64}
 use Rattle.floats.specs.Ops.{_⊗_, _≺_, _≽_, f0}
 use Rattle.floats.specs.F64
+use Rattle.floats.specs.Laws.Root.{rootOf-fits}
 use Rattle.floats.specs.Laws.RootPowers.{root64}
+use Rattle.floats.specs.Laws.Sqrt.{sqrt-is}
 
 -- d is at least s, and has no sign
 pub record Beyond (s d : Float) : Type 0 where
   pub least : T (le s d)
   pub unsigned : F64.abs d ≡ d
+
+pub root-fits : (x : Float) → T (fits binary64 x) → T (fits binary64 (F64.sqrt x))
+root-fits x h = subst (λ (z : Float). T (fits binary64 z)) (sym (sqrt-is x)) (rootOf-fits binary64 x h)
+
+never : (b : Bool) → T b → T (not b) → ⊥
+never true y z = z
+never false y z = y
 
 unsigned-value : (d : Float) (R c : ℕ) → HasValue d false R c → F64.abs d ≡ d
 unfolding F64.abs
@@ -50,10 +61,6 @@ module _ (s x : Float) (t : Bool) (S p n : ℕ) (held : Held 53 S) (s-value : Ha
           ≤ (ups t S * ups t S + downs t S * downs t S) * L + n * (L * L)
       scaled true L y = omega arith
       scaled false L y = omega arith
-
-      never : (b : Bool) → T b → T (not b) → ⊥
-      never true y z = z
-      never false y z = y
 
       clash : p * (unit * unit) ≤ S * S * unit + n * (unit * unit) → ⊥
       clash y =
@@ -117,3 +124,108 @@ root-beyond s x s-fits x-fits lo h =
 
     finite-s : T (finite s) → T (s ⊗ s ≺ x) → Beyond s (F64.sqrt x)
     finite-s f y = above-any (λ (z : Float). Beyond s (F64.sqrt z)) (s ⊗ s) x y (below-inf s f) (λ g. finite-both f g y)
+
+-- ---- a zero's root is the zero itself
+zero-diff : Diff f0 0 0 unit
+unfolding ofBits
+zero-diff = omega arith
+
+root-of-zero : (x : Float) (n c : ℕ) → 0 < c → Diff x n n c → F64.sqrt x ≡ x
+unfolding F64.sqrt
+root-of-zero nan n c C h = absurd h
+root-of-zero (inf s) n c C h = absurd h
+root-of-zero (fin s zero e) n c C h = refl
+root-of-zero (fin true (suc m) e) n c C h = absurd (some (suc m * up e * c) (n * down e) (mul-pos (mul-pos (zero-lt-suc m) (up-pos e)) C) h)
+  where
+    some : (a b : ℕ) → 0 < a → a + b ≡ b → ⊥
+    some a b l e = omega arith
+root-of-zero (fin false (suc m) e) n c C h = absurd (some (suc m * up e * c) (n * down e) (mul-pos (mul-pos (zero-lt-suc m) (up-pos e)) C) h)
+  where
+    some : (a b : ℕ) → 0 < a → a + b ≡ b → ⊥
+    some a b l e = omega arith
+
+-- ---- at most s: both finite, as above
+plain : {a b : ℕ} → 0 + a ≤ b + 0 → a ≤ b
+plain h = omega arith
+
+module _ (s x : Float) (t : Bool) (S p n : ℕ) (held : Held 53 S) (s-value : HasValue s t S unit)
+    (x-fits : T (fits binary64 x)) (x-is : Diff x p n unit) (s-least : T (s ≽ f0)) (x-least : T (x ≽ f0)) (h : T (x ≺ s ⊗ s)) where
+  s-diff : Diff s (ups t S) (downs t S) unit
+  s-diff = own-diff s t S unit s-value
+
+  square : Rounded binary64 (s ⊗ s) (ups t S * ups t S + downs t S * downs t S) (ups t S * downs t S + downs t S * ups t S) (unit * unit)
+  square = mul-rounded binary64 s s (ups t S) (downs t S) (ups t S) (downs t S) unit unit unit-pos unit-pos s-diff s-diff
+
+  above : p * (unit * unit) < S * S * unit + n * (unit * unit)
+  above = lt-of-not-le (λ (y : S * S * unit + n * (unit * unit) ≤ p * (unit * unit)). clash y)
+    where
+      scaled : (t : Bool) (L : ℕ) → S * S * L + n * (L * L) ≤ p * (L * L)
+          → (ups t S * ups t S + downs t S * downs t S) * L + n * (L * L)
+          ≤ p * (L * L) + (ups t S * downs t S + downs t S * ups t S) * L
+      scaled true L y = omega arith
+      scaled false L y = omega arith
+
+      clash : S * S * unit + n * (unit * unit) ≤ p * (unit * unit) → ⊥
+      clash y =
+          never (x ≺ s ⊗ s) h
+          (le-not-lt (s ⊗ s) x (rounded-le binary64 (s ⊗ s) _ _ (unit * unit) square (mul-pos unit-pos unit-pos) x p n unit unit-pos
+          x-fits x-is (scaled t unit y)))
+
+  unsigned-s : downs t S ≤ ups t S
+  unsigned-s = plain (le-over f0 s 0 0 (ups t S) (downs t S) unit unit-pos zero-diff s-diff .0 s-least)
+
+  unsigned-x : n ≤ p
+  unsigned-x = plain (le-over f0 x 0 0 p n unit unit-pos zero-diff x-is .0 x-least)
+
+  within-finite : T (le (F64.sqrt x) s)
+  within-finite = go (eq-or-lt-of-le unsigned-x)
+    where
+      none : (t : Bool) (n : ℕ) → downs t S ≤ ups t S → n + downs t S ≤ ups t S + n
+      none t n l = omega arith
+
+      zero : n ≡ p → T (le (F64.sqrt x) s)
+      zero e =
+          let x-zero : Diff x n n unit = subst (λ (z : ℕ). Diff x z n unit) (sym e) x-is in
+          subst (λ (z : Float). T (le z s)) (sym (root-of-zero x n unit unit-pos x-zero))
+          (le-over x s n n (ups t S) (downs t S) unit unit-pos x-zero s-diff .1 (none t n unsigned-s))
+
+      inside : (p n L : ℕ) → n < p → p * (L * L) < S * S * L + n * (L * L) → (p - n) * (L * L) ≤ S * S * L
+      inside p n L l y =
+          let split : p ≡ p - n + n = omega arith in
+          let e : p * (L * L) ≡ (p - n + n) * (L * L) = ap (λ (z : ℕ). z * (L * L)) split in
+          omega arith
+
+      some : (p n : ℕ) → n < p → 0 < p - n
+      some p n l = omega arith
+
+      signed : (t : Bool) (R : ℕ) → downs t S ≤ ups t S → R ≤ S → R + downs t S ≤ ups t S + 0
+      signed true R l m = omega arith
+      signed false R l m = omega arith
+
+      positive : n < p → T (le (F64.sqrt x) s)
+      positive l =
+          let r = root64 x (p - n) x-fits (some p n l) (size-above x p n unit l x-is) in
+          let d = F64.sqrt x in
+          le-over d s (r .R) 0 (ups t S) (downs t S) unit unit-pos (own-diff d false (r .R) unit (r .value)) s-diff .1
+          (signed t (r .R) unsigned-s (r .most S held (inside p n unit l above)))
+
+      go : (n ≡ p) ⊎ (n < p) → T (le (F64.sqrt x) s)
+      go (inl e) = zero e
+      go (inr l) = positive l
+
+-- ---- for all floats
+none-above : (y : Float) → T (inf false ≺ y) → ⊥
+unfolding lt
+none-above nan t = t
+none-above (inf s) t = t
+none-above (fin s m e) t = t
+
+pub root-within : (s x : Float) → T (fits binary64 s) → T (fits binary64 x) → T (finite s) → T (s ≽ f0) → T (x ≽ f0) → T (x ≺ s ⊗ s)
+    → T (le (F64.sqrt x) s)
+root-within s x s-fits x-fits f lo least h =
+    let c = counted binary64 s f s-fits in
+    from-above (λ (z : Float). T (z ≺ s ⊗ s) → T (le (F64.sqrt z) s)) f0 x zero-finite least (λ y. absurd (none-above (s ⊗ s) y))
+    (λ g y.
+    let u = units64 x g x-fits in
+    within-finite s x (c .s) (c .count) (u .p) (u .n) (c .held)
+    (subst (λ (L : ℕ). HasValue s (c .s) (c .count) L) (sym unit-is) (c .value)) x-fits (u .is) lo least y) h

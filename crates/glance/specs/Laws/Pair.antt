@@ -1,8 +1,10 @@
 -- Two segments that are clearly apart: the pair's definition finds no crossing, whatever kinds they are.
 use mathlib.Core.Path.{_≡_, refl, ap, _∙_, subst}
-use mathlib.Core.Bool.{Bool, true, false, not, cond, _&&_}
+use mathlib.Core.Bool.{Bool, true, false, not, cond, _&&_, _||_}
 use lib.Dec.{T}
 use lib.Ieee.{Float, binary64, fits}
+use Rattle.floats.specs.F64
+use Rattle.floats.specs.Ops.{_⊕_, _⊖_}
 use Rattle.plane.specs.PlineSeg.{segArcRadiusAndCenter}
 use Rattle.plane.specs.PlineVertex.{pos, bulgeIsZero}
 use Rattle.plane.specs.Vector2 as vector2
@@ -13,7 +15,8 @@ use Rattle.crossing.specs.ArcGeometry.{ofSegment}
 use Rattle.crossing.specs.ArcArc.{arcArc, arcArcOf}
 use Rattle.crossing.specs.LineArc.{processLineArcIntr, lineArcOf}
 use Rattle.crossing.specs.PlineSeg.{plineSeg, processLineLineIntr}
-use Rattle.crossing.specs.Laws.Apart.{circles-apart}
+use Rattle.crossing.specs.Laws.Apart.{apart, circles-apart}
+use Rattle.crossing.specs.Laws.Nested.{nested, circles-nested}
 use Rattle.crossing.specs.Laws.Circles.{OfArc}
 use Rattle.crossing.specs.declared.circle_circle_intersect.CircleCircleIntr.{CircleCircleIntr}
 use Rattle.crossing.specs.declared.line_circle_intersect.LineCircleIntr.{LineCircleIntr}
@@ -39,14 +42,22 @@ circle-given v1 v2 v circle eps e f arc = f ∙ ap circleOf (e ∙ arc-kept (bul
     arc-kept : (line : Bool) (x y : Kept) → line ≡ false → cond line x y ≡ y
     arc-kept line x y h = rw h
 
-apart-arcs : (v1 v2 u1 u2 : PlineVertex) (eps : Float)
+either : {A : Type 0} (a b : Bool) → T (a || b) → (T a → A) → (T b → A) → A
+either true b t f g = f tt
+either false b t f g = g t
+
+apart-arcs : (v1 v2 u1 u2 : PlineVertex) (eps : Float) → T (fits binary64 eps)
     → T (circlesApart (segArcRadiusAndCenter v1 v2) (segArcRadiusAndCenter u1 u2) eps) → arcArc v1 v2 u1 u2 eps ≡ NoIntersect
 unfolding circlesApart arcArc
-apart-arcs v1 v2 u1 u2 eps h =
+apart-arcs v1 v2 u1 u2 eps e-fits h =
     let c = segArcRadiusAndCenter v1 v2 in
     let d = segArcRadiusAndCenter u1 u2 in
+    let cv = vector2.sub (d .center) (c .center) in
+    let d2 = vector2.dot cv cv in
     ap (λ (r : CircleCircleIntr). arcArcOf r v1 v2 u1 u2 c d eps)
-    (circles-apart (c .radius) (c .center) (d .radius) (d .center) eps h)
+    (either (apart d2 (c .radius ⊕ d .radius ⊕ eps) eps) (nested d2 (F64.abs (c .radius ⊖ d .radius)) eps) h
+    (circles-apart (c .radius) (c .center) (d .radius) (d .center) eps)
+    (circles-nested (c .radius) (c .center) (d .radius) (d .center) eps e-fits))
 
 beside-arc : (p0 p1 : Vector2) (a1 a2 : PlineVertex) (b : Bool) (eps : Float)
     → T (lineBeside p0 p1 (ofLine p0 p1 eps) (segArcRadiusAndCenter a1 a2) eps) → processLineArcIntr p0 p1 a1 a2 b eps ≡ NoIntersect
@@ -83,7 +94,7 @@ module _ (v1 v2 u1 u2 : PlineVertex) (eps : Float) (e-fits : T (fits binary64 ep
           beside-arc (pos u1) (pos u2) v1 v2 true eps
           (subst (λ (c : ArcRadiusCenter). T (lineBeside (pos u1) (pos u2) (ofLine (pos u1) (pos u2) eps) c eps)) (circle-kept v1 v2) t)
       go false false t =
-          apart-arcs v1 v2 u1 u2 eps
+          apart-arcs v1 v2 u1 u2 eps e-fits
           (subst (λ (c : ArcRadiusCenter). T (circlesApart c (segArcRadiusAndCenter u1 u2) eps)) (circle-kept v1 v2)
           (subst (λ (c : ArcRadiusCenter). T (circlesApart (circleOf (ofArc v1 v2)) c eps)) (circle-kept u1 u2) t))
 

@@ -56,11 +56,8 @@ pos-requires-7 c κs = search needs
 pos-requires-8 : tie.Need-pos-requires-8
 pos-requires-8 c κs = search needs
 
-collect-end-points-requires : tie.Need-collect-end-points-requires
-collect-end-points-requires c κs = search needs
-
-two-arc-arc-requires : tie.Need-two-arc-arc-requires
-two-arc-arc-requires c κs = search needs
+crossing-arcs-requires : tie.Need-crossing-arcs-requires
+crossing-arcs-requires c κs = search needs
 
 enum-told-2 : tie.Need-enum-told-2
 enum-told-2 c = search needs
@@ -115,23 +112,21 @@ returns-3 c =
     let p4 = p3 .before in
     let p5 = p4 .before in
     let p6 = p5 .before in
-    let p7 = p6 .before in
+    let p7 = p6 .before .before in
     let p8 = p7 .before .before in
-    let p9 = p8 .before .before in
-    let p10 = p9 .before in
+    let p9 = p8 .before in
     simp (
-      ← p10 .pre .0,
-      ← p10 .pre .1,
-      ← p9 .circle-circle .ensures,
-      p8 .intr-result2 .given .1,
-      ← p7 .of-segment3 .ensures,
-      ← p6 .of-segment4 .ensures,
-      ← p5 .pos5 .ensures,
-      ← p4 .pos6 .ensures,
-      ← p3 .pos7 .ensures,
-      ← p2 .pos8 .ensures,
-      ← p1 .collect-end-points .ensures,
-      ← c .two-arc-arc .ensures,
+      ← p9 .pre .0,
+      ← p9 .pre .1,
+      ← p8 .circle-circle .ensures,
+      p7 .intr-result2 .given .1,
+      ← p6 .of-segment3 .ensures,
+      ← p5 .of-segment4 .ensures,
+      ← p4 .pos5 .ensures,
+      ← p3 .pos6 .ensures,
+      ← p2 .pos7 .ensures,
+      ← p1 .pos8 .ensures,
+      ← c .crossing-arcs .ensures,
     )
 
 returns-4 : tie.Need-returns-4
@@ -153,5 +148,5 @@ arc-arc-spec =
     tie.close (tie.spec circle-circle-requires
     enum-told enum-known-intr-result of-segment-requires of-segment-requires-2 pos-requires pos-requires-2
     pos-requires-3 pos-requires-4 tangent-arc-arc-requires enum-known-intr-result-2 of-segment-requires-3
-    of-segment-requires-4 pos-requires-5 pos-requires-6 pos-requires-7 pos-requires-8 collect-end-points-requires
-    two-arc-arc-requires enum-told-2 overlapping-arc-arc-requires returns returns-2 returns-3 returns-4)
+    of-segment-requires-4 pos-requires-5 pos-requires-6 pos-requires-7 pos-requires-8 crossing-arcs-requires
+    enum-told-2 overlapping-arc-arc-requires returns returns-2 returns-3 returns-4)
