@@ -5,12 +5,6 @@ use Rattle.crossing.specs.ArcArc
 use Rattle.crossing.proofs.arc_arc.end_for_nearer.Statement.{statement}
 use Rattle.crossing.proofs.arc_arc.end_for_nearer.Tie as tie
 
-dist-squared-requires : tie.Need-dist-squared-requires
-dist-squared-requires c κs = search needs
-
-dist-squared-requires-2 : tie.Need-dist-squared-requires-2
-dist-squared-requires-2 c κs = search needs
-
 returns : tie.Need-returns
 unfolding ArcArc.endForNearer
 returns c =
@@ -34,4 +28,4 @@ returns-2 c =
     )
 
 pub end-for-nearer-spec : {M : Type 1} → statement M
-end-for-nearer-spec = tie.close (tie.spec dist-squared-requires dist-squared-requires-2 returns returns-2)
+end-for-nearer-spec = tie.close (tie.spec (search needs) (search needs) returns returns-2)

@@ -5,24 +5,6 @@ use Rattle.crossing.specs.ArcArc
 use Rattle.crossing.proofs.arc_arc.ends_or.Statement.{statement}
 use Rattle.crossing.proofs.arc_arc.ends_or.Tie as tie
 
-enum-told : tie.Need-enum-told
-enum-told c = search needs
-
-enum-told-2 : tie.Need-enum-told-2
-enum-told-2 c = search needs
-
-enum-known-second : tie.Need-enum-known-second
-enum-known-second c = search needs
-
-enum-known-first : tie.Need-enum-known-first
-enum-known-first c = search needs
-
-enum-told-3 : tie.Need-enum-told-3
-enum-told-3 c = search needs
-
-enum-known-second-2 : tie.Need-enum-known-second-2
-enum-known-second-2 c = search needs
-
 returns : tie.Need-returns
 returns c =
     let p1 = c .before .before in
@@ -59,5 +41,7 @@ returns-4 c =
 
 pub ends-or-spec : {M : Type 1} → statement M
 ends-or-spec =
-    tie.close (tie.spec enum-told enum-told-2 enum-known-second enum-known-first enum-told-3 enum-known-second-2 returns
-    returns-2 returns-3 returns-4)
+    tie.close
+    (tie.spec
+    (search needs) (search needs) (search needs) (search needs) (search needs) (search needs) returns returns-2
+    returns-3 returns-4)

@@ -4,30 +4,6 @@ use Rattle.crossing.specs.ArcArc
 use Rattle.crossing.proofs.arc_arc.same_arc.Statement.{statement}
 use Rattle.crossing.proofs.arc_arc.same_arc.Tie as tie
 
-pos-requires : tie.Need-pos-requires
-pos-requires c κs = search needs
-
-pos-requires-2 : tie.Need-pos-requires-2
-pos-requires-2 c κs = search needs
-
-pos-requires-3 : tie.Need-pos-requires-3
-pos-requires-3 c κs = search needs
-
-pos-requires-4 : tie.Need-pos-requires-4
-pos-requires-4 c κs = search needs
-
-eq-requires : tie.Need-eq-requires
-eq-requires c κs = search needs
-
-eq-requires-2 : tie.Need-eq-requires-2
-eq-requires-2 c κs = search needs
-
-eq-requires-3 : tie.Need-eq-requires-3
-eq-requires-3 c κs = search needs
-
-eq-requires-4 : tie.Need-eq-requires-4
-eq-requires-4 c κs = search needs
-
 returns : tie.Need-returns
 unfolding ArcArc.sameArc
 returns c =
@@ -52,5 +28,7 @@ returns c =
 
 pub same-arc-spec : {M : Type 1} → statement M
 same-arc-spec =
-    tie.close (tie.spec pos-requires pos-requires-2 pos-requires-3 pos-requires-4 eq-requires eq-requires-2
-    eq-requires-3 eq-requires-4 returns)
+    tie.close
+    (tie.spec
+    (search needs) (search needs) (search needs) (search needs) (search needs) (search needs) (search needs)
+    (search needs) returns)

@@ -5,12 +5,6 @@ use Rattle.crossing.specs.ArcArc
 use Rattle.crossing.proofs.arc_arc.shared_sweep.Statement.{statement}
 use Rattle.crossing.proofs.arc_arc.shared_sweep.Tie as tie
 
-contains-requires : tie.Need-contains-requires
-contains-requires c κs = search needs
-
-contains-requires-2 : tie.Need-contains-requires-2
-contains-requires-2 c κs = search needs
-
 returns : tie.Need-returns
 unfolding ArcArc.sharedSweep
 returns c =
@@ -23,9 +17,6 @@ returns c =
       p1 .if1 .taken,
       c .if2 .taken,
     )
-
-overlap-by-direction-requires : tie.Need-overlap-by-direction-requires
-overlap-by-direction-requires c κs = search needs
 
 returns-2 : tie.Need-returns-2
 unfolding ArcArc.sharedSweep
@@ -42,9 +33,6 @@ returns-2 c =
       ← c .overlap-by-direction .ensures,
     )
 
-overlap-by-direction-requires-2 : tie.Need-overlap-by-direction-requires-2
-overlap-by-direction-requires-2 c κs = search needs
-
 returns-3 : tie.Need-returns-3
 unfolding ArcArc.sharedSweep
 returns-3 c =
@@ -59,12 +47,6 @@ returns-3 c =
       p1 .if3 .taken,
       ← c .overlap-by-direction2 .ensures,
     )
-
-contains-requires-3 : tie.Need-contains-requires-3
-contains-requires-3 c κs = search needs
-
-overlap-by-direction-requires-3 : tie.Need-overlap-by-direction-requires-3
-overlap-by-direction-requires-3 c κs = search needs
 
 returns-4 : tie.Need-returns-4
 unfolding ArcArc.sharedSweep
@@ -104,5 +86,7 @@ returns-5 c =
 
 pub shared-sweep-spec : {M : Type 1} → statement M
 shared-sweep-spec =
-    tie.close (tie.spec contains-requires contains-requires-2 returns overlap-by-direction-requires returns-2
-    overlap-by-direction-requires-2 returns-3 contains-requires-3 overlap-by-direction-requires-3 returns-4 returns-5)
+    tie.close
+    (tie.spec
+    (search needs) (search needs) returns (search needs) returns-2 (search needs) returns-3 (search needs)
+    (search needs) returns-4 returns-5)

@@ -20,15 +20,6 @@ told b v w x r e h a d s =
     let own : T (apart (vector2.dot v v) r e) = subst (λ (z : Float). T (apart z r e)) d yes in
     subst (λ (z : Vector2). T (apart (vector2.dot z z) r e)) s own
 
-sub-requires : tie.Need-sub-requires
-sub-requires c κs = search needs
-
-dot-requires : tie.Need-dot-requires
-dot-requires c κs = search needs
-
-apart-requires : tie.Need-apart-requires
-apart-requires c κs = search needs
-
 returns : tie.Need-returns
 returns c =
     let p1 = c .before in
@@ -36,12 +27,8 @@ returns c =
     let p3 = p2 .before in
     sym (circles-apart _ _ _ _ _ (told _ _ _ _ _ _ (c .if1 .taken) (p1 .apart .ensures) (p2 .dot .ensures) (p3 .sub .ensures)))
 
-by-distance-requires : tie.Need-by-distance-requires
-by-distance-requires c κs = search needs
-
-returns-2 : tie.Need-returns-2
-returns-2 c = search needs
-
 pub circle-circle-spec : {M : Type 1} → statement M
 circle-circle-spec =
-    tie.close (tie.spec sub-requires dot-requires apart-requires returns by-distance-requires returns-2)
+    tie.close
+    (tie.spec
+    (search needs) (search needs) (search needs) returns (search needs) (λ c. search needs))

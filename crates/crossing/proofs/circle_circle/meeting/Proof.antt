@@ -5,12 +5,6 @@ use Rattle.crossing.specs.CircleCircle
 use Rattle.crossing.proofs.circle_circle.meeting.Statement.{statement}
 use Rattle.crossing.proofs.circle_circle.meeting.Tie as tie
 
-scale-requires : tie.Need-scale-requires
-scale-requires c κs = search needs
-
-add-requires : tie.Need-add-requires
-add-requires c κs = search needs
-
 returns : tie.Need-returns
 unfolding CircleCircle.meeting
 returns c =
@@ -21,12 +15,6 @@ returns c =
       ← p1 .add .ensures,
       c .if1 .taken,
     )
-
-sqrt-requires : tie.Need-sqrt-requires
-sqrt-requires c κs = search needs
-
-two-sides-requires : tie.Need-two-sides-requires
-two-sides-requires c κs = search needs
 
 returns-2 : tie.Need-returns-2
 unfolding CircleCircle.meeting
@@ -44,4 +32,4 @@ returns-2 c =
     )
 
 pub meeting-spec : {M : Type 1} → statement M
-meeting-spec = tie.close (tie.spec scale-requires add-requires returns sqrt-requires two-sides-requires returns-2)
+meeting-spec = tie.close (tie.spec (search needs) (search needs) returns (search needs) (search needs) returns-2)

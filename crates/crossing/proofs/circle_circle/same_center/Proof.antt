@@ -5,9 +5,6 @@ use Rattle.crossing.specs.CircleCircle
 use Rattle.crossing.proofs.circle_circle.same_center.Statement.{statement}
 use Rattle.crossing.proofs.circle_circle.same_center.Tie as tie
 
-fuzzy-eq-eps-requires : tie.Need-fuzzy-eq-eps-requires
-fuzzy-eq-eps-requires c κs = search needs
-
 returns : tie.Need-returns
 unfolding CircleCircle.sameCenter
 returns c =
@@ -27,4 +24,4 @@ returns-2 c =
     )
 
 pub same-center-spec : {M : Type 1} → statement M
-same-center-spec = tie.close (tie.spec fuzzy-eq-eps-requires returns returns-2)
+same-center-spec = tie.close (tie.spec (search needs) returns returns-2)

@@ -5,15 +5,6 @@ use Rattle.crossing.specs.CircleCircle
 use Rattle.crossing.proofs.circle_circle.two_sides.Statement.{statement}
 use Rattle.crossing.proofs.circle_circle.two_sides.Tie as tie
 
-new-requires : tie.Need-new-requires
-new-requires c κs = search needs
-
-new-requires-2 : tie.Need-new-requires-2
-new-requires-2 c κs = search needs
-
-fuzzy-eq-eps-requires : tie.Need-fuzzy-eq-eps-requires
-fuzzy-eq-eps-requires c κs = search needs
-
 returns : tie.Need-returns
 unfolding CircleCircle.twoSides
 returns c =
@@ -41,4 +32,4 @@ returns-2 c =
     )
 
 pub two-sides-spec : {M : Type 1} → statement M
-two-sides-spec = tie.close (tie.spec new-requires new-requires-2 fuzzy-eq-eps-requires returns returns-2)
+two-sides-spec = tie.close (tie.spec (search needs) (search needs) (search needs) returns returns-2)

@@ -5,18 +5,6 @@ use Rattle.crossing.specs.CircleCircleIntersect
 use Rattle.crossing.proofs.circle_circle_intersect.circle_circle_intr.Statement.{statement}
 use Rattle.crossing.proofs.circle_circle_intersect.circle_circle_intr.Tie as tie
 
-look-requires : tie.Need-look-requires
-look-requires c κs = search needs
-
-enum-told : tie.Need-enum-told
-enum-told c = search needs
-
-circle-circle-requires : tie.Need-circle-circle-requires
-circle-circle-requires c κs = search needs
-
-enum-known-looked : tie.Need-enum-known-looked
-enum-known-looked c = search needs
-
 returns : tie.Need-returns
 unfolding CircleCircleIntersect.circleCircleIntr
 returns c =
@@ -40,4 +28,6 @@ returns-2 c =
 
 pub circle-circle-intr-spec : {M : Type 1} → statement M
 circle-circle-intr-spec =
-    tie.close (tie.spec look-requires enum-told circle-circle-requires enum-known-looked returns returns-2)
+    tie.close
+    (tie.spec
+    (search needs) (search needs) (search needs) (search needs) returns returns-2)

@@ -6,15 +6,6 @@ use Rattle.crossing.specs.CircleCircleIntersect
 use Rattle.crossing.proofs.circle_circle_intersect.look.Statement.{statement}
 use Rattle.crossing.proofs.circle_circle_intersect.look.Tie as tie
 
-epsilon-requires : tie.Need-epsilon-requires
-epsilon-requires c κs = search needs
-
-circle-after-requires : tie.Need-circle-after-requires
-circle-after-requires c κs = search needs
-
-circle-after-requires-2 : tie.Need-circle-after-requires-2
-circle-after-requires-2 c κs = search needs
-
 returns : tie.Need-returns
 unfolding CircleCircleIntersect.look
 returns c =
@@ -30,4 +21,4 @@ returns c =
     )
 
 pub look-spec : {M : Type 1} → statement M
-look-spec = tie.close (tie.spec epsilon-requires circle-after-requires circle-after-requires-2 returns)
+look-spec = tie.close (tie.spec (search needs) (search needs) (search needs) returns)

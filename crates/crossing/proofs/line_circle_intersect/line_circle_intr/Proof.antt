@@ -5,18 +5,6 @@ use Rattle.crossing.specs.LineCircleIntersect
 use Rattle.crossing.proofs.line_circle_intersect.line_circle_intr.Statement.{statement}
 use Rattle.crossing.proofs.line_circle_intersect.line_circle_intr.Tie as tie
 
-look-requires : tie.Need-look-requires
-look-requires c κs = search needs
-
-enum-told : tie.Need-enum-told
-enum-told c = search needs
-
-line-circle-requires : tie.Need-line-circle-requires
-line-circle-requires c κs = search needs
-
-enum-known-looked : tie.Need-enum-known-looked
-enum-known-looked c = search needs
-
 returns : tie.Need-returns
 unfolding LineCircleIntersect.lineCircleIntr
 returns c =
@@ -40,4 +28,6 @@ returns-2 c =
 
 pub line-circle-intr-spec : {M : Type 1} → statement M
 line-circle-intr-spec =
-    tie.close (tie.spec look-requires enum-told line-circle-requires enum-known-looked returns returns-2)
+    tie.close
+    (tie.spec
+    (search needs) (search needs) (search needs) (search needs) returns returns-2)

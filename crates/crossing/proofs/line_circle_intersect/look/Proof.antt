@@ -6,18 +6,6 @@ use Rattle.crossing.specs.LineCircleIntersect
 use Rattle.crossing.proofs.line_circle_intersect.look.Statement.{statement}
 use Rattle.crossing.proofs.line_circle_intersect.look.Tie as tie
 
-epsilon-requires : tie.Need-epsilon-requires
-epsilon-requires c κs = search needs
-
-point-after-requires : tie.Need-point-after-requires
-point-after-requires c κs = search needs
-
-point-after-requires-2 : tie.Need-point-after-requires-2
-point-after-requires-2 c κs = search needs
-
-circle-after-requires : tie.Need-circle-after-requires
-circle-after-requires c κs = search needs
-
 returns : tie.Need-returns
 unfolding LineCircleIntersect.look
 returns c =
@@ -36,5 +24,4 @@ returns c =
     )
 
 pub look-spec : {M : Type 1} → statement M
-look-spec =
-    tie.close (tie.spec epsilon-requires point-after-requires point-after-requires-2 circle-after-requires returns)
+look-spec = tie.close (tie.spec (search needs) (search needs) (search needs) (search needs) returns)

@@ -5,12 +5,6 @@ use Rattle.crossing.specs.LineLine
 use Rattle.crossing.proofs.line_line.first_point.Statement.{statement}
 use Rattle.crossing.proofs.line_line.first_point.Tie as tie
 
-parametric-from-point-requires : tie.Need-parametric-from-point-requires
-parametric-from-point-requires c κs = search needs
-
-within-requires : tie.Need-within-requires
-within-requires c κs = search needs
-
 returns : tie.Need-returns
 unfolding LineLine.firstPoint
 returns c =
@@ -34,4 +28,4 @@ returns-2 c =
     )
 
 pub first-point-spec : {M : Type 1} → statement M
-first-point-spec = tie.close (tie.spec parametric-from-point-requires within-requires returns returns-2)
+first-point-spec = tie.close (tie.spec (search needs) (search needs) returns returns-2)

@@ -5,24 +5,6 @@ use Rattle.crossing.specs.LineLine
 use Rattle.crossing.proofs.line_line.line_line.Statement.{statement}
 use Rattle.crossing.proofs.line_line.line_line.Tie as tie
 
-sub-requires : tie.Need-sub-requires
-sub-requires c κs = search needs
-
-sub-requires-2 : tie.Need-sub-requires-2
-sub-requires-2 c κs = search needs
-
-perp-dot-requires : tie.Need-perp-dot-requires
-perp-dot-requires c κs = search needs
-
-sub-requires-3 : tie.Need-sub-requires-3
-sub-requires-3 c κs = search needs
-
-fuzzy-eq-zero-eps-requires : tie.Need-fuzzy-eq-zero-eps-requires
-fuzzy-eq-zero-eps-requires c κs = search needs
-
-crossing-requires : tie.Need-crossing-requires
-crossing-requires c κs = search needs
-
 returns : tie.Need-returns
 unfolding LineLine.lineLine
 returns c =
@@ -41,9 +23,6 @@ returns c =
       p1 .if1 .taken,
       ← c .crossing .ensures,
     )
-
-parallel-requires : tie.Need-parallel-requires
-parallel-requires c κs = search needs
 
 returns-2 : tie.Need-returns-2
 unfolding LineLine.lineLine
@@ -66,5 +45,7 @@ returns-2 c =
 
 pub line-line-spec : {M : Type 1} → statement M
 line-line-spec =
-    tie.close (tie.spec sub-requires sub-requires-2 perp-dot-requires sub-requires-3 fuzzy-eq-zero-eps-requires
-    crossing-requires returns parallel-requires returns-2)
+    tie.close
+    (tie.spec
+    (search needs) (search needs) (search needs) (search needs) (search needs) (search needs) returns (search needs)
+    returns-2)

@@ -5,12 +5,6 @@ use Rattle.crossing.specs.LineLine
 use Rattle.crossing.proofs.line_line.touching_end.Statement.{statement}
 use Rattle.crossing.proofs.line_line.touching_end.Tie as tie
 
-fuzzy-eq-eps-requires : tie.Need-fuzzy-eq-eps-requires
-fuzzy-eq-eps-requires c κs = search needs
-
-fuzzy-eq-eps-requires-2 : tie.Need-fuzzy-eq-eps-requires-2
-fuzzy-eq-eps-requires-2 c κs = search needs
-
 returns : tie.Need-returns
 unfolding LineLine.touchingEnd
 returns c =
@@ -34,4 +28,4 @@ returns-2 c =
     )
 
 pub touching-end-spec : {M : Type 1} → statement M
-touching-end-spec = tie.close (tie.spec fuzzy-eq-eps-requires fuzzy-eq-eps-requires-2 returns returns-2)
+touching-end-spec = tie.close (tie.spec (search needs) (search needs) returns returns-2)

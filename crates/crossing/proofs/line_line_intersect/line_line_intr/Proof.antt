@@ -5,18 +5,6 @@ use Rattle.crossing.specs.LineLineIntersect
 use Rattle.crossing.proofs.line_line_intersect.line_line_intr.Statement.{statement}
 use Rattle.crossing.proofs.line_line_intersect.line_line_intr.Tie as tie
 
-look-requires : tie.Need-look-requires
-look-requires c κs = search needs
-
-enum-told : tie.Need-enum-told
-enum-told c = search needs
-
-line-line-requires : tie.Need-line-line-requires
-line-line-requires c κs = search needs
-
-enum-known-looked : tie.Need-enum-known-looked
-enum-known-looked c = search needs
-
 returns : tie.Need-returns
 unfolding LineLineIntersect.lineLineIntr
 returns c =
@@ -40,4 +28,6 @@ returns-2 c =
 
 pub line-line-intr-spec : {M : Type 1} → statement M
 line-line-intr-spec =
-    tie.close (tie.spec look-requires enum-told line-line-requires enum-known-looked returns returns-2)
+    tie.close
+    (tie.spec
+    (search needs) (search needs) (search needs) (search needs) returns returns-2)

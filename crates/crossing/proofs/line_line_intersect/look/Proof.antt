@@ -6,21 +6,6 @@ use Rattle.crossing.specs.LineLineIntersect
 use Rattle.crossing.proofs.line_line_intersect.look.Statement.{statement}
 use Rattle.crossing.proofs.line_line_intersect.look.Tie as tie
 
-epsilon-requires : tie.Need-epsilon-requires
-epsilon-requires c κs = search needs
-
-point-after-requires : tie.Need-point-after-requires
-point-after-requires c κs = search needs
-
-point-after-requires-2 : tie.Need-point-after-requires-2
-point-after-requires-2 c κs = search needs
-
-point-after-requires-3 : tie.Need-point-after-requires-3
-point-after-requires-3 c κs = search needs
-
-point-after-requires-4 : tie.Need-point-after-requires-4
-point-after-requires-4 c κs = search needs
-
 returns : tie.Need-returns
 unfolding LineLineIntersect.look
 returns c =
@@ -40,6 +25,4 @@ returns c =
     )
 
 pub look-spec : {M : Type 1} → statement M
-look-spec =
-    tie.close (tie.spec epsilon-requires point-after-requires point-after-requires-2 point-after-requires-3
-    point-after-requires-4 returns)
+look-spec = tie.close (tie.spec (search needs) (search needs) (search needs) (search needs) (search needs) returns)

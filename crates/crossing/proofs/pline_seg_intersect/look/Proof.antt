@@ -18,33 +18,6 @@ use Rattle.crossing.specs.Laws.Order.{in-order}
 use Rattle.crossing.proofs.pline_seg_intersect.look.Statement.{statement}
 use Rattle.crossing.proofs.pline_seg_intersect.look.Tie as tie
 
-epsilon-requires : tie.Need-epsilon-requires
-epsilon-requires c κs = search needs
-
-vertex-after-requires : tie.Need-vertex-after-requires
-vertex-after-requires c κs = search needs
-
-point-after-requires : tie.Need-point-after-requires
-point-after-requires c κs = search needs
-
-vertex-after-requires-2 : tie.Need-vertex-after-requires-2
-vertex-after-requires-2 c κs = search needs
-
-point-after-requires-2 : tie.Need-point-after-requires-2
-point-after-requires-2 c κs = search needs
-
-arc-chord-requires : tie.Need-arc-chord-requires
-arc-chord-requires c κs = search needs
-
-later-requires : tie.Need-later-requires
-later-requires c κs = search needs
-
-arc-chord-requires-2 : tie.Need-arc-chord-requires-2
-arc-chord-requires-2 c κs = search needs
-
-later-requires-2 : tie.Need-later-requires-2
-later-requires-2 c κs = search needs
-
 -- what each call of the chain has added, by what came before it
 module _ {f g r : Checked} (e : f ≡ g) where
   with-vertex : (v : PlineVertex) (o i : ℕ) → r ≡ Chain.vertexAfter f (v .x) (v .y) (v .bulge) o i
@@ -106,13 +79,5 @@ pub look-spec : {M : Type 1} → statement M
 look-spec =
     tie.close
     (tie.spec
-    epsilon-requires
-    vertex-after-requires
-    point-after-requires
-    vertex-after-requires-2
-    point-after-requires-2
-    arc-chord-requires
-    later-requires
-    arc-chord-requires-2
-    later-requires-2
-    returns)
+    (search needs) (search needs) (search needs) (search needs) (search needs) (search needs) (search needs)
+    (search needs) (search needs) returns)

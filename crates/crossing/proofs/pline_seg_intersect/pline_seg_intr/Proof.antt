@@ -5,18 +5,6 @@ use Rattle.crossing.specs.PlineSegIntersect
 use Rattle.crossing.proofs.pline_seg_intersect.pline_seg_intr.Statement.{statement}
 use Rattle.crossing.proofs.pline_seg_intersect.pline_seg_intr.Tie as tie
 
-look-requires : tie.Need-look-requires
-look-requires c κs = search needs
-
-enum-told : tie.Need-enum-told
-enum-told c = search needs
-
-pline-seg-requires : tie.Need-pline-seg-requires
-pline-seg-requires c κs = search needs
-
-enum-known-looked : tie.Need-enum-known-looked
-enum-known-looked c = search needs
-
 returns : tie.Need-returns
 unfolding PlineSegIntersect.plineSegIntr
 returns c =
@@ -40,4 +28,6 @@ returns-2 c =
 
 pub pline-seg-intr-spec : {M : Type 1} → statement M
 pline-seg-intr-spec =
-    tie.close (tie.spec look-requires enum-told pline-seg-requires enum-known-looked returns returns-2)
+    tie.close
+    (tie.spec
+    (search needs) (search needs) (search needs) (search needs) returns returns-2)

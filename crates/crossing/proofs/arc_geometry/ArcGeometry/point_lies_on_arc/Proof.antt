@@ -5,12 +5,6 @@ use Rattle.crossing.specs.ArcGeometry as geometry
 use Rattle.crossing.proofs.arc_geometry.ArcGeometry.point_lies_on_arc.Statement.{statement}
 use Rattle.crossing.proofs.arc_geometry.ArcGeometry.point_lies_on_arc.Tie as tie
 
-dist-squared-requires : tie.Need-dist-squared-requires
-dist-squared-requires c κs = search needs
-
-sweeps-requires : tie.Need-sweeps-requires
-sweeps-requires c κs = search needs
-
 returns : tie.Need-returns
 unfolding geometry.pointLiesOnArc
 returns c =
@@ -32,4 +26,4 @@ returns-2 c =
     )
 
 pub point-lies-on-arc-spec : {M : Type 1} → statement M
-point-lies-on-arc-spec = tie.close (tie.spec dist-squared-requires sweeps-requires returns returns-2)
+point-lies-on-arc-spec = tie.close (tie.spec (search needs) (search needs) returns returns-2)
