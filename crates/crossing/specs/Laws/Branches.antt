@@ -2,7 +2,7 @@
 -- call denied.
 use Prim.Native.Nat.{ℕ, _≤_, _<_}
 use mathlib.Core.Path.{_≡_}
-use mathlib.Core.Bool.{Bool, true, false, cond, not}
+use mathlib.Core.Bool.{Bool, true, false, cond, not, _&&_, _||_}
 use borrow.Author.Tests.{ne-eqb, lt-ltb, le-ltb}
 use lib.Dec.{T, eqb, ltb}
 use lib.Ieee.{Float, lt}
@@ -42,6 +42,19 @@ module _ {A : Type 0} (n k : ℕ) (x y r : A) where
   above h e = rw (le-ltb n k h) e
 
 pub ruleset branches = (holds, fails, said-so, said-not, less, not-less, other, below, above)
+
+-- two tests, one in the other in the code, asked at once in the definition
+module _ {A : Type 0} (t u a b : Bool) (x y r : A) where
+  pub both : a ≡ t → b ≡ u → a ≡ true → b ≡ true → r ≡ x → r ≡ cond (t && u) x y
+  both p q h k e = rw (← p, ← q, h, k) e
+
+  pub first : a ≡ t → b ≡ u → a ≡ true → b ≡ false → r ≡ y → r ≡ cond (t && u) x y
+  first p q h k e = rw (← p, ← q, h, k) e
+
+  pub neither : a ≡ t → a ≡ false → r ≡ y → r ≡ cond (t && u) x y
+  neither p h e = rw (← p, h) e
+
+pub ruleset nested = (both, first, neither, branches)
 
 pub denied : (test said : Bool) → said ≡ test → said ≡ false → T (not test)
 denied test said is h = rw (← is, h) tt

@@ -5,15 +5,6 @@ use Rattle.crossing.specs.ArcArc
 use Rattle.crossing.proofs.arc_arc.arcs_of_one_circle.Statement.{statement}
 use Rattle.crossing.proofs.arc_arc.arcs_of_one_circle.Tie as tie
 
-arc2-ends-requires : tie.Need-arc2-ends-requires
-arc2-ends-requires c κs = search needs
-
-dist-squared-requires : tie.Need-dist-squared-requires
-dist-squared-requires c κs = search needs
-
-dist-squared-requires-2 : tie.Need-dist-squared-requires-2
-dist-squared-requires-2 c κs = search needs
-
 returns : tie.Need-returns
 unfolding ArcArc.arcsOfOneCircle
 returns c =
@@ -78,15 +69,6 @@ returns-4 c =
     )
     (simp (c .if4 .left))
 
-new-requires : tie.Need-new-requires
-new-requires c κs = search needs
-
-new-requires-2 : tie.Need-new-requires-2
-new-requires-2 c κs = search needs
-
-shared-sweep-requires : tie.Need-shared-sweep-requires
-shared-sweep-requires c κs = search needs
-
 returns-5 : tie.Need-returns-5
 unfolding ArcArc.arcsOfOneCircle
 returns-5 c =
@@ -110,5 +92,7 @@ returns-5 c =
 
 pub arcs-of-one-circle-spec : {M : Type 1} → statement M
 arcs-of-one-circle-spec =
-    tie.close (tie.spec arc2-ends-requires dist-squared-requires dist-squared-requires-2 returns returns-2 returns-3
-    returns-4 new-requires new-requires-2 shared-sweep-requires returns-5)
+    tie.close
+    (tie.spec
+    (search needs) (search needs) (search needs) returns returns-2 returns-3 returns-4 (search needs) (search needs)
+    (search needs) returns-5)

@@ -1,37 +1,11 @@
 -- `crossing::arc_arc::ends_for_both` meets its contract: each return is an end of the definition, by the calls and tests on
 -- its way.
 use borrow.Author.Needs.{needs}
-use Rattle.crossing.specs.ArcArc
+use Rattle.crossing.specs.ArcArc.{endsForBoth}
+use Rattle.crossing.specs.Laws.Branches.{branches}
 use Rattle.crossing.proofs.arc_arc.ends_for_both.Statement.{statement}
 use Rattle.crossing.proofs.arc_arc.ends_for_both.Tie as tie
 
-dist-squared-requires : tie.Need-dist-squared-requires
-dist-squared-requires c κs = search needs
-
-dist-squared-requires-2 : tie.Need-dist-squared-requires-2
-dist-squared-requires-2 c κs = search needs
-
-returns : tie.Need-returns
-unfolding ArcArc.endsForBoth
-returns c =
-    let p1 = c .before in
-    let p2 = p1 .before in
-    simp (
-      ← p2 .dist-squared .ensures,
-      ← p1 .dist-squared2 .ensures,
-      c .if1 .taken,
-    )
-
-returns-2 : tie.Need-returns-2
-unfolding ArcArc.endsForBoth
-returns-2 c =
-    let p1 = c .before in
-    let p2 = p1 .before in
-    simp (
-      ← p2 .dist-squared .ensures,
-      ← p1 .dist-squared2 .ensures,
-      c .if1 .left,
-    )
-
 pub ends-for-both-spec : {M : Type 1} → statement M
-ends-for-both-spec = tie.close (tie.spec dist-squared-requires dist-squared-requires-2 returns returns-2)
+unfolding endsForBoth
+ends-for-both-spec = tie.close (tie.spec (search needs) (search needs) (λ c. search branches) (λ c. search branches))

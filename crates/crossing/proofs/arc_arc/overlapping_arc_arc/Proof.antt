@@ -5,15 +5,6 @@ use Rattle.crossing.specs.ArcArc
 use Rattle.crossing.proofs.arc_arc.overlapping_arc_arc.Statement.{statement}
 use Rattle.crossing.proofs.arc_arc.overlapping_arc_arc.Tie as tie
 
-same-arc-requires : tie.Need-same-arc-requires
-same-arc-requires c κs = search needs
-
-pos-requires : tie.Need-pos-requires
-pos-requires c κs = search needs
-
-pos-requires-2 : tie.Need-pos-requires-2
-pos-requires-2 c κs = search needs
-
 returns : tie.Need-returns
 unfolding ArcArc.overlappingArcArc
 returns c =
@@ -26,27 +17,6 @@ returns c =
       ← p1 .pos .ensures,
       ← c .pos2 .ensures,
     )
-
-pos-requires-3 : tie.Need-pos-requires-3
-pos-requires-3 c κs = search needs
-
-pos-requires-4 : tie.Need-pos-requires-4
-pos-requires-4 c κs = search needs
-
-pos-requires-5 : tie.Need-pos-requires-5
-pos-requires-5 c κs = search needs
-
-pos-requires-6 : tie.Need-pos-requires-6
-pos-requires-6 c κs = search needs
-
-bulge-is-neg-requires : tie.Need-bulge-is-neg-requires
-bulge-is-neg-requires c κs = search needs
-
-bulge-is-neg-requires-2 : tie.Need-bulge-is-neg-requires-2
-bulge-is-neg-requires-2 c κs = search needs
-
-arcs-of-one-circle-requires : tie.Need-arcs-of-one-circle-requires
-arcs-of-one-circle-requires c κs = search needs
 
 returns-2 : tie.Need-returns-2
 unfolding ArcArc.overlappingArcArc
@@ -73,5 +43,7 @@ returns-2 c =
 
 pub overlapping-arc-arc-spec : {M : Type 1} → statement M
 overlapping-arc-arc-spec =
-    tie.close (tie.spec same-arc-requires pos-requires pos-requires-2 returns pos-requires-3 pos-requires-4
-    pos-requires-5 pos-requires-6 bulge-is-neg-requires bulge-is-neg-requires-2 arcs-of-one-circle-requires returns-2)
+    tie.close
+    (tie.spec
+    (search needs) (search needs) (search needs) returns (search needs) (search needs) (search needs) (search needs)
+    (search needs) (search needs) (search needs) returns-2)

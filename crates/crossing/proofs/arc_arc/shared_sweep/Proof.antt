@@ -1,108 +1,17 @@
 -- `crossing::arc_arc::shared_sweep` meets its contract: each return is an end of the definition, by the calls and tests on
 -- its way.
 use borrow.Author.Needs.{needs}
-use Rattle.crossing.specs.ArcArc
+use Rattle.crossing.specs.ArcArc.{sharedSweep}
+use Rattle.crossing.specs.Laws.Branches.{nested}
 use Rattle.crossing.proofs.arc_arc.shared_sweep.Statement.{statement}
 use Rattle.crossing.proofs.arc_arc.shared_sweep.Tie as tie
 
-contains-requires : tie.Need-contains-requires
-contains-requires c κs = search needs
-
-contains-requires-2 : tie.Need-contains-requires-2
-contains-requires-2 c κs = search needs
-
-returns : tie.Need-returns
-unfolding ArcArc.sharedSweep
-returns c =
-    let p1 = c .before in
-    let p2 = p1 .before in
-    let p3 = p2 .before in
-    simp (
-      ← p3 .contains .ensures,
-      ← p2 .contains2 .ensures,
-      p1 .if1 .taken,
-      c .if2 .taken,
-    )
-
-overlap-by-direction-requires : tie.Need-overlap-by-direction-requires
-overlap-by-direction-requires c κs = search needs
-
-returns-2 : tie.Need-returns-2
-unfolding ArcArc.sharedSweep
-returns-2 c =
-    let p1 = c .before in
-    let p2 = p1 .before in
-    let p3 = p2 .before in
-    let p4 = p3 .before in
-    simp (
-      ← p4 .contains .ensures,
-      ← p3 .contains2 .ensures,
-      p2 .if1 .taken,
-      p1 .if2 .left,
-      ← c .overlap-by-direction .ensures,
-    )
-
-overlap-by-direction-requires-2 : tie.Need-overlap-by-direction-requires-2
-overlap-by-direction-requires-2 c κs = search needs
-
-returns-3 : tie.Need-returns-3
-unfolding ArcArc.sharedSweep
-returns-3 c =
-    let p1 = c .before in
-    let p2 = p1 .before in
-    let p3 = p2 .before in
-    let p4 = p3 .before in
-    simp (
-      ← p4 .contains .ensures,
-      ← p3 .contains2 .ensures,
-      p2 .if1 .left,
-      p1 .if3 .taken,
-      ← c .overlap-by-direction2 .ensures,
-    )
-
-contains-requires-3 : tie.Need-contains-requires-3
-contains-requires-3 c κs = search needs
-
-overlap-by-direction-requires-3 : tie.Need-overlap-by-direction-requires-3
-overlap-by-direction-requires-3 c κs = search needs
-
-returns-4 : tie.Need-returns-4
-unfolding ArcArc.sharedSweep
-returns-4 c =
-    let p1 = c .before in
-    let p2 = p1 .before in
-    let p3 = p2 .before in
-    let p4 = p3 .before in
-    let p5 = p4 .before in
-    let p6 = p5 .before in
-    simp (
-      ← p6 .contains .ensures,
-      ← p5 .contains2 .ensures,
-      p4 .if1 .left,
-      p3 .if3 .left,
-      ← p2 .contains3 .ensures,
-      p1 .if4 .taken,
-      ← c .overlap-by-direction3 .ensures,
-    )
-
-returns-5 : tie.Need-returns-5
-unfolding ArcArc.sharedSweep
-returns-5 c =
-    let p1 = c .before in
-    let p2 = p1 .before in
-    let p3 = p2 .before in
-    let p4 = p3 .before in
-    let p5 = p4 .before in
-    simp (
-      ← p5 .contains .ensures,
-      ← p4 .contains2 .ensures,
-      p3 .if1 .left,
-      p2 .if3 .left,
-      ← p1 .contains3 .ensures,
-      c .if4 .left,
-    )
-
 pub shared-sweep-spec : {M : Type 1} → statement M
+unfolding sharedSweep
 shared-sweep-spec =
-    tie.close (tie.spec contains-requires contains-requires-2 returns overlap-by-direction-requires returns-2
-    overlap-by-direction-requires-2 returns-3 contains-requires-3 overlap-by-direction-requires-3 returns-4 returns-5)
+    tie.close
+    (tie.spec
+    (search needs) (search needs) (λ c. search nested depth 8)
+    (search needs) (λ c. search nested depth 8)
+    (search needs) (λ c. search nested depth 8)
+    (search needs) (search needs) (λ c. search nested depth 8) (λ c. search nested depth 8))

@@ -5,72 +5,15 @@ use Rattle.crossing.specs.ArcArc
 use Rattle.crossing.proofs.arc_arc.two_in_sweep.Statement.{statement}
 use Rattle.crossing.proofs.arc_arc.two_in_sweep.Tie as tie
 
-enum-told : tie.Need-enum-told
-enum-told c = search needs
-
-enum-told-2 : tie.Need-enum-told-2
-enum-told-2 c = search needs
-
-enum-known-second : tie.Need-enum-known-second
-enum-known-second c = search needs
-
-end-for-nearer-requires : tie.Need-end-for-nearer-requires
-end-for-nearer-requires c κs = search needs
-
-enum-known-first : tie.Need-enum-known-first
-enum-known-first c = search needs
-
-enum-told-3 : tie.Need-enum-told-3
-enum-told-3 c = search needs
-
-end-for-nearer-requires-2 : tie.Need-end-for-nearer-requires-2
-end-for-nearer-requires-2 c κs = search needs
-
-enum-known-second-2 : tie.Need-enum-known-second-2
-enum-known-second-2 c = search needs
-
-ends-for-both-requires : tie.Need-ends-for-both-requires
-ends-for-both-requires c κs = search needs
-
-returns : tie.Need-returns
-returns c =
-    let p1 = c .before .before in
-    simp (
-      p1 .enum-told .given .1,
-      c .enum-told2 .given .1,
-    )
-
-returns-2 : tie.Need-returns-2
-returns-2 c =
-    let p1 = c .before .before in
-    let p2 = p1 .before .before in
-    simp (
-      p2 .enum-told .given .1,
-      p1 .second .given .1,
-      ← c .end-for-nearer .ensures,
-    )
-
-returns-3 : tie.Need-returns-3
-returns-3 c =
-    let p1 = c .before in
-    let p2 = p1 .before .before .before in
-    simp (
-      p2 .first .given .1,
-      p1 .enum-told3 .given .1,
-      ← c .end-for-nearer2 .ensures,
-    )
-
-returns-4 : tie.Need-returns-4
-returns-4 c =
-    let p1 = c .before .before in
-    let p2 = p1 .before .before .before in
-    simp (
-      p2 .first .given .1,
-      p1 .second2 .given .1,
-      ← c .ends-for-both .ensures,
-    )
-
 pub two-in-sweep-spec : {M : Type 1} → statement M
 two-in-sweep-spec =
-    tie.close (tie.spec enum-told enum-told-2 enum-known-second end-for-nearer-requires enum-known-first enum-told-3
-    end-for-nearer-requires-2 enum-known-second-2 ends-for-both-requires returns returns-2 returns-3 returns-4)
+    tie.close
+    (tie.spec
+    (search needs) (search needs) (search needs) (search needs) (search needs) (search needs) (search needs) (search needs) (search needs)
+    (λ c. simp (c .before .before .enum-told .given .1, c .enum-told2 .given .1))
+    (λ c. let s = c .before .before in
+    simp (s .before .before .enum-told .given .1, s .second .given .1, ← c .end-for-nearer .ensures))
+    (λ c. let s = c .before in
+    simp (s .before .before .before .first .given .1, s .enum-told3 .given .1, ← c .end-for-nearer2 .ensures))
+    (λ c. let s = c .before .before in
+    simp (s .before .before .before .first .given .1, s .second2 .given .1, ← c .ends-for-both .ensures)))

@@ -4,12 +4,5 @@ use Rattle.crossing.specs.ArcSweep as sweep
 use Rattle.crossing.proofs.arc_sweep.beside.Statement.{statement}
 use Rattle.crossing.proofs.arc_sweep.beside.Tie as tie
 
-dot-requires : tie.Need-dot-requires
-dot-requires c κs = search needs
-
-returns : tie.Need-returns
-returns c =
-    simp (← c .dot .ensures)
-
 pub beside-spec : {M : Type 1} → statement M
-beside-spec = tie.close (tie.spec dot-requires returns)
+beside-spec = tie.close (tie.spec (search needs) (λ c. cc))

@@ -5,21 +5,6 @@ use Rattle.crossing.specs.CircleCircle
 use Rattle.crossing.proofs.circle_circle.by_distance.Statement.{statement}
 use Rattle.crossing.proofs.circle_circle.by_distance.Tie as tie
 
-sub-requires : tie.Need-sub-requires
-sub-requires c κs = search needs
-
-dot-requires : tie.Need-dot-requires
-dot-requires c κs = search needs
-
-sqrt-requires : tie.Need-sqrt-requires
-sqrt-requires c κs = search needs
-
-fuzzy-eq-zero-eps-requires : tie.Need-fuzzy-eq-zero-eps-requires
-fuzzy-eq-zero-eps-requires c κs = search needs
-
-same-center-requires : tie.Need-same-center-requires
-same-center-requires c κs = search needs
-
 returns : tie.Need-returns
 unfolding CircleCircle.circleCircle
 returns c =
@@ -36,15 +21,6 @@ returns c =
       p1 .if1 .taken,
       ← c .same-center .ensures,
     )
-
-fuzzy-lt-eps-requires : tie.Need-fuzzy-lt-eps-requires
-fuzzy-lt-eps-requires c κs = search needs
-
-abs-requires : tie.Need-abs-requires
-abs-requires c κs = search needs
-
-fuzzy-gt-eps-requires : tie.Need-fuzzy-gt-eps-requires
-fuzzy-gt-eps-requires c κs = search needs
 
 returns-2 : tie.Need-returns-2
 unfolding CircleCircle.circleCircle
@@ -68,9 +44,6 @@ returns-2 c =
       ← p1 .fuzzy-gt-eps .ensures,
       c .if2 .taken,
     )
-
-meeting-requires : tie.Need-meeting-requires
-meeting-requires c κs = search needs
 
 returns-3 : tie.Need-returns-3
 unfolding CircleCircle.circleCircle
@@ -99,5 +72,7 @@ returns-3 c =
 
 pub by-distance-spec : {M : Type 1} → statement M
 by-distance-spec =
-    tie.close (tie.spec sub-requires dot-requires sqrt-requires fuzzy-eq-zero-eps-requires same-center-requires returns
-    fuzzy-lt-eps-requires abs-requires fuzzy-gt-eps-requires returns-2 meeting-requires returns-3)
+    tie.close
+    (tie.spec
+    (search needs) (search needs) (search needs) (search needs) (search needs) returns (search needs) (search needs)
+    (search needs) returns-2 (search needs) returns-3)

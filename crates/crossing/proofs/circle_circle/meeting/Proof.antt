@@ -1,47 +1,18 @@
 -- `crossing::circle_circle::meeting` meets its contract: each return is an end of the definition, by the calls and tests on
 -- its way.
 use borrow.Author.Needs.{needs}
-use Rattle.crossing.specs.CircleCircle
+use Rattle.crossing.specs.CircleCircle.{meeting}
+use Rattle.crossing.specs.Laws.Branches.{branches}
 use Rattle.crossing.proofs.circle_circle.meeting.Statement.{statement}
 use Rattle.crossing.proofs.circle_circle.meeting.Tie as tie
 
-scale-requires : tie.Need-scale-requires
-scale-requires c κs = search needs
-
-add-requires : tie.Need-add-requires
-add-requires c κs = search needs
-
-returns : tie.Need-returns
-unfolding CircleCircle.meeting
-returns c =
-    let p1 = c .before in
-    let p2 = p1 .before in
-    simp (
-      ← p2 .scale .ensures,
-      ← p1 .add .ensures,
-      c .if1 .taken,
-    )
-
-sqrt-requires : tie.Need-sqrt-requires
-sqrt-requires c κs = search needs
-
-two-sides-requires : tie.Need-two-sides-requires
-two-sides-requires c κs = search needs
-
-returns-2 : tie.Need-returns-2
-unfolding CircleCircle.meeting
-returns-2 c =
-    let p1 = c .before in
-    let p2 = p1 .before in
-    let p3 = p2 .before in
-    let p4 = p3 .before in
-    simp (
-      ← p4 .scale .ensures,
-      ← p3 .add .ensures,
-      p2 .if1 .left,
-      ← p1 .sqrt .ensures,
-      ← c .two-sides .ensures,
-    )
-
 pub meeting-spec : {M : Type 1} → statement M
-meeting-spec = tie.close (tie.spec scale-requires add-requires returns sqrt-requires two-sides-requires returns-2)
+unfolding meeting
+meeting-spec =
+    tie.close
+    (tie.spec
+    (search needs) (search needs)
+    (λ c. simp (← c .before .before .scale .ensures, ← c .before .add .ensures) (search branches))
+    (search needs) (search needs)
+    (λ c. let p = c .before .before .before in
+    simp (← p .before .scale .ensures, ← p .add .ensures, ← c .before .sqrt .ensures) (search branches)))

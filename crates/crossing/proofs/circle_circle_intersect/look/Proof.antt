@@ -1,33 +1,17 @@
 -- `crossing::circle_circle_intersect::look` meets its contract: the chain of its calls is the first fault of the list.
 use borrow.Author.Needs.{needs}
-use Rattle.checks.specs.Laws.Later.{later-assoc, fine-right}
-use Rattle.checks.specs.Laws.Chains.{circle-first}
 use Rattle.crossing.specs.CircleCircleIntersect
+use Rattle.crossing.specs.Laws.Order.{alone, with-circle}
 use Rattle.crossing.proofs.circle_circle_intersect.look.Statement.{statement}
 use Rattle.crossing.proofs.circle_circle_intersect.look.Tie as tie
-
-epsilon-requires : tie.Need-epsilon-requires
-epsilon-requires c κs = search needs
-
-circle-after-requires : tie.Need-circle-after-requires
-circle-after-requires c κs = search needs
-
-circle-after-requires-2 : tie.Need-circle-after-requires-2
-circle-after-requires-2 c κs = search needs
 
 returns : tie.Need-returns
 unfolding CircleCircleIntersect.look
 returns c =
-    let p1 = c .before in
-    let p2 = p1 .before in
-    simp (
-      c .circle-after2 .ensures,
-      p1 .circle-after .ensures,
-      p2 .epsilon .ensures,
-      circle-first,
-      later-assoc,
-      fine-right,
-    )
+    let a0 = alone (c .before .before .epsilon .ensures) in
+    let a1 = with-circle a0 _ _ _ _ (c .before .circle-after .ensures) in
+    with-circle a1 _ _ _ _ (c .circle-after2 .ensures) .is
 
 pub look-spec : {M : Type 1} → statement M
-look-spec = tie.close (tie.spec epsilon-requires circle-after-requires circle-after-requires-2 returns)
+look-spec =
+    tie.close (tie.spec (search needs) (search needs) (search needs) returns)

@@ -1,43 +1,15 @@
 -- `crossing::line_circle_intersect::line_circle_intr` meets its contract: each return is an end of the definition, by the
 -- calls and tests on its way.
 use borrow.Author.Needs.{needs}
-use Rattle.crossing.specs.LineCircleIntersect
+use Rattle.crossing.specs.LineCircleIntersect.{lineCircleIntr}
 use Rattle.crossing.proofs.line_circle_intersect.line_circle_intr.Statement.{statement}
 use Rattle.crossing.proofs.line_circle_intersect.line_circle_intr.Tie as tie
 
-look-requires : tie.Need-look-requires
-look-requires c κs = search needs
-
-enum-told : tie.Need-enum-told
-enum-told c = search needs
-
-line-circle-requires : tie.Need-line-circle-requires
-line-circle-requires c κs = search needs
-
-enum-known-looked : tie.Need-enum-known-looked
-enum-known-looked c = search needs
-
-returns : tie.Need-returns
-unfolding LineCircleIntersect.lineCircleIntr
-returns c =
-    let p1 = c .before in
-    let p2 = p1 .before .before in
-    simp (
-      ← p2 .look .ensures,
-      p1 .enum-told .given .1,
-      ← c .line-circle .ensures,
-    )
-
-returns-2 : tie.Need-returns-2
-unfolding LineCircleIntersect.lineCircleIntr
-returns-2 c =
-    let p1 = c .before in
-    let p2 = p1 .before .before in
-    simp (
-      ← p2 .look .ensures,
-      p1 .looked .given .1,
-    )
-
 pub line-circle-intr-spec : {M : Type 1} → statement M
+unfolding lineCircleIntr
 line-circle-intr-spec =
-    tie.close (tie.spec look-requires enum-told line-circle-requires enum-known-looked returns returns-2)
+    tie.close
+    (tie.spec
+    (search needs) (search needs) (search needs) (search needs)
+    (λ c. let t = c .before in simp (← t .before .before .look .ensures, t .enum-told .given .1, ← c .line-circle .ensures))
+    (λ c. let t = c .before in simp (← t .before .before .look .ensures, t .looked .given .1)))

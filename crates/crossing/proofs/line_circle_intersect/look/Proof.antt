@@ -1,40 +1,19 @@
 -- `crossing::line_circle_intersect::look` meets its contract: the chain of its calls is the first fault of the list.
 use borrow.Author.Needs.{needs}
-use Rattle.checks.specs.Laws.Later.{later-assoc, fine-right}
-use Rattle.checks.specs.Laws.Chains.{point-first, circle-first}
 use Rattle.crossing.specs.LineCircleIntersect
+use Rattle.crossing.specs.Laws.Order.{alone, with-point, with-circle}
 use Rattle.crossing.proofs.line_circle_intersect.look.Statement.{statement}
 use Rattle.crossing.proofs.line_circle_intersect.look.Tie as tie
-
-epsilon-requires : tie.Need-epsilon-requires
-epsilon-requires c κs = search needs
-
-point-after-requires : tie.Need-point-after-requires
-point-after-requires c κs = search needs
-
-point-after-requires-2 : tie.Need-point-after-requires-2
-point-after-requires-2 c κs = search needs
-
-circle-after-requires : tie.Need-circle-after-requires
-circle-after-requires c κs = search needs
 
 returns : tie.Need-returns
 unfolding LineCircleIntersect.look
 returns c =
     let p1 = c .before in
-    let p2 = p1 .before in
-    let p3 = p2 .before in
-    simp (
-      c .circle-after .ensures,
-      p1 .point-after2 .ensures,
-      p2 .point-after .ensures,
-      p3 .epsilon .ensures,
-      point-first,
-      circle-first,
-      later-assoc,
-      fine-right,
-    )
+    let a0 = alone (p1 .before .before .epsilon .ensures) in
+    let a1 = with-point a0 _ _ _ _ (p1 .before .point-after .ensures) in
+    let a2 = with-point a1 _ _ _ _ (p1 .point-after2 .ensures) in
+    with-circle a2 _ _ _ _ (c .circle-after .ensures) .is
 
 pub look-spec : {M : Type 1} → statement M
 look-spec =
-    tie.close (tie.spec epsilon-requires point-after-requires point-after-requires-2 circle-after-requires returns)
+    tie.close (tie.spec (search needs) (search needs) (search needs) (search needs) returns)

@@ -5,9 +5,6 @@ use Rattle.crossing.specs.LineLine
 use Rattle.crossing.proofs.line_line.both_points.Statement.{statement}
 use Rattle.crossing.proofs.line_line.both_points.Tie as tie
 
-fuzzy-eq-eps-requires : tie.Need-fuzzy-eq-eps-requires
-fuzzy-eq-eps-requires c κs = search needs
-
 returns : tie.Need-returns
 unfolding LineLine.bothPoints
 returns c =
@@ -27,4 +24,4 @@ returns-2 c =
     )
 
 pub both-points-spec : {M : Type 1} → statement M
-both-points-spec = tie.close (tie.spec fuzzy-eq-eps-requires returns returns-2)
+both-points-spec = tie.close (tie.spec (search needs) returns returns-2)

@@ -5,15 +5,6 @@ use Rattle.crossing.specs.LineLine
 use Rattle.crossing.proofs.line_line.crossing.Statement.{statement}
 use Rattle.crossing.proofs.line_line.crossing.Tie as tie
 
-perp-dot-requires : tie.Need-perp-dot-requires
-perp-dot-requires c κs = search needs
-
-perp-dot-requires-2 : tie.Need-perp-dot-requires-2
-perp-dot-requires-2 c κs = search needs
-
-within-requires : tie.Need-within-requires
-within-requires c κs = search needs
-
 returns : tie.Need-returns
 unfolding LineLine.crossing
 returns c =
@@ -26,9 +17,6 @@ returns c =
       ← p1 .within .ensures,
       c .if1 .taken,
     )
-
-within-requires-2 : tie.Need-within-requires-2
-within-requires-2 c κs = search needs
 
 returns-2 : tie.Need-returns-2
 unfolding LineLine.crossing
@@ -66,5 +54,6 @@ returns-3 c =
 
 pub crossing-spec : {M : Type 1} → statement M
 crossing-spec =
-    tie.close (tie.spec perp-dot-requires perp-dot-requires-2 within-requires returns within-requires-2 returns-2
-    returns-3)
+    tie.close
+    (tie.spec
+    (search needs) (search needs) (search needs) returns (search needs) returns-2 returns-3)

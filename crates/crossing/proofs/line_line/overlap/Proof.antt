@@ -5,15 +5,6 @@ use Rattle.crossing.specs.LineLine
 use Rattle.crossing.proofs.line_line.overlap.Statement.{statement}
 use Rattle.crossing.proofs.line_line.overlap.Tie as tie
 
-length-requires : tie.Need-length-requires
-length-requires c κs = search needs
-
-fuzzy-lt-eps-requires : tie.Need-fuzzy-lt-eps-requires
-fuzzy-lt-eps-requires c κs = search needs
-
-fuzzy-gt-eps-requires : tie.Need-fuzzy-gt-eps-requires
-fuzzy-gt-eps-requires c κs = search needs
-
 returns : tie.Need-returns
 unfolding LineLine.overlap
 returns c =
@@ -26,18 +17,6 @@ returns c =
       ← p1 .fuzzy-gt-eps .ensures,
       c .if1 .taken,
     )
-
-max-requires : tie.Need-max-requires
-max-requires c κs = search needs
-
-min-requires : tie.Need-min-requires
-min-requires c κs = search needs
-
-fuzzy-eq-zero-eps-requires : tie.Need-fuzzy-eq-zero-eps-requires
-fuzzy-eq-zero-eps-requires c κs = search needs
-
-touching-end-requires : tie.Need-touching-end-requires
-touching-end-requires c κs = search needs
 
 returns-2 : tie.Need-returns-2
 unfolding LineLine.overlap
@@ -85,5 +64,7 @@ returns-3 c =
 
 pub overlap-spec : {M : Type 1} → statement M
 overlap-spec =
-    tie.close (tie.spec length-requires fuzzy-lt-eps-requires fuzzy-gt-eps-requires returns max-requires min-requires
-    fuzzy-eq-zero-eps-requires touching-end-requires returns-2 returns-3)
+    tie.close
+    (tie.spec
+    (search needs) (search needs) (search needs) returns (search needs) (search needs) (search needs) (search needs)
+    returns-2 returns-3)

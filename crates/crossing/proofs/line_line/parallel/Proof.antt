@@ -5,7 +5,7 @@ use borrow.Author.Needs.{needs}
 use Rattle.plane.specs.Fuzzy.{fuzzyEqZeroEps}
 use Rattle.plane.specs.Vector2.{perpDot}
 use Rattle.crossing.specs.LineLine.{parallel}
-use Rattle.crossing.specs.Laws.Branches.{said-so, said-not, branches}
+use Rattle.crossing.specs.Laws.Branches.{said-so, said-not, nested}
 use Rattle.crossing.proofs.line_line.parallel.Statement.{statement}
 use Rattle.crossing.proofs.line_line.parallel.Tie as tie
 
@@ -21,18 +21,6 @@ off-line c =
       ← c .fuzzy-eq-zero-eps2 .ensures,
     )
 
--- two tests, one in the other
-module _ {A : Type 0} (t u a b : Bool) (x y r : A) where
-  both : a ≡ t → b ≡ u → a ≡ true → b ≡ true → r ≡ x → r ≡ cond (t && u) x y
-  both p q h k e = rw (← p, ← q, h, k) e
-
-  first : a ≡ t → b ≡ u → a ≡ true → b ≡ false → r ≡ y → r ≡ cond (t && u) x y
-  first p q h k e = rw (← p, ← q, h, k) e
-
-  neither : a ≡ t → a ≡ false → r ≡ y → r ≡ cond (t && u) x y
-  neither p h e = rw (← p, h) e
-
-ruleset nested = (both, first, neither, branches)
 
 pub parallel-spec : {M : Type 1} → statement M
 unfolding parallel

@@ -5,12 +5,6 @@ use Rattle.crossing.specs.LineLine
 use Rattle.crossing.proofs.line_line.span_of.Statement.{statement}
 use Rattle.crossing.proofs.line_line.span_of.Tie as tie
 
-fuzzy-eq-zero-eps-requires : tie.Need-fuzzy-eq-zero-eps-requires
-fuzzy-eq-zero-eps-requires c κs = search needs
-
-rising-requires : tie.Need-rising-requires
-rising-requires c κs = search needs
-
 returns : tie.Need-returns
 unfolding LineLine.spanOf
 returns c =
@@ -21,9 +15,6 @@ returns c =
       p1 .if1 .taken,
       ← c .rising .ensures,
     )
-
-rising-requires-2 : tie.Need-rising-requires-2
-rising-requires-2 c κs = search needs
 
 returns-2 : tie.Need-returns-2
 unfolding LineLine.spanOf
@@ -37,4 +28,4 @@ returns-2 c =
     )
 
 pub span-of-spec : {M : Type 1} → statement M
-span-of-spec = tie.close (tie.spec fuzzy-eq-zero-eps-requires rising-requires returns rising-requires-2 returns-2)
+span-of-spec = tie.close (tie.spec (search needs) (search needs) returns (search needs) returns-2)

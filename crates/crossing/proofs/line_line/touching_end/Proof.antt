@@ -1,37 +1,15 @@
 -- `crossing::line_line::touching_end` meets its contract: each return is an end of the definition, by the calls and tests on
 -- its way.
 use borrow.Author.Needs.{needs}
-use Rattle.crossing.specs.LineLine
+use Rattle.crossing.specs.LineLine.{touchingEnd}
 use Rattle.crossing.proofs.line_line.touching_end.Statement.{statement}
 use Rattle.crossing.proofs.line_line.touching_end.Tie as tie
 
-fuzzy-eq-eps-requires : tie.Need-fuzzy-eq-eps-requires
-fuzzy-eq-eps-requires c κs = search needs
-
-fuzzy-eq-eps-requires-2 : tie.Need-fuzzy-eq-eps-requires-2
-fuzzy-eq-eps-requires-2 c κs = search needs
-
-returns : tie.Need-returns
-unfolding LineLine.touchingEnd
-returns c =
-    let p1 = c .before in
-    let p2 = p1 .before in
-    simp (
-      ← p2 .fuzzy-eq-eps .ensures,
-      ← p1 .fuzzy-eq-eps2 .ensures,
-      c .if1 .taken,
-    )
-
-returns-2 : tie.Need-returns-2
-unfolding LineLine.touchingEnd
-returns-2 c =
-    let p1 = c .before in
-    let p2 = p1 .before in
-    simp (
-      ← p2 .fuzzy-eq-eps .ensures,
-      ← p1 .fuzzy-eq-eps2 .ensures,
-      c .if1 .left,
-    )
-
 pub touching-end-spec : {M : Type 1} → statement M
-touching-end-spec = tie.close (tie.spec fuzzy-eq-eps-requires fuzzy-eq-eps-requires-2 returns returns-2)
+unfolding touchingEnd
+touching-end-spec =
+    tie.close
+    (tie.spec
+    (search needs) (search needs)
+    (λ c. simp (← c .before .before .fuzzy-eq-eps .ensures, ← c .before .fuzzy-eq-eps2 .ensures, c .if1 .taken))
+    (λ c. simp (← c .before .before .fuzzy-eq-eps .ensures, ← c .before .fuzzy-eq-eps2 .ensures, c .if1 .left)))

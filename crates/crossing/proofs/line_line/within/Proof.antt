@@ -23,21 +23,6 @@ at-sizes b x y e h u d = subst (λ (z : Float). T (usual z e)) d (subst T u (kep
 said : (b a : Bool) → b ≡ true → b ≡ a → T a
 said b a h e = subst T (sym h ∙ e) tt
 
-length-squared-requires : tie.Need-length-squared-requires
-length-squared-requires c κs = search needs
-
-usual-requires : tie.Need-usual-requires
-usual-requires c κs = search needs
-
-within-length-requires : tie.Need-within-length-requires
-within-length-requires c κs = search needs
-
-returns : tie.Need-returns
-returns c = search needs
-
-inside-requires : tie.Need-inside-requires
-inside-requires c κs = search needs
-
 sizes : (c : tie.Else1) → T (usual (vector2.dot (c .before .before .before .args .segment) (c .before .before .before .args .segment))
     (c .before .before .before .args .eps))
 sizes c = at-sizes _ _ _ _ (c .if1 .left) (c .before .usual .ensures) (c .before .before .length-squared .ensures)
@@ -50,9 +35,6 @@ returns-2 c =
     sym (within-inside _ _ _ (passes _ (start .good .0 .1)) (passes _ (start .good .1 .1 .0 .1)) (sizes p2)
     (said _ _ (c .if2 .taken) (p1 .inside .ensures)))
 
-outside-requires : tie.Need-outside-requires
-outside-requires c κs = search needs
-
 returns-3 : tie.Need-returns-3
 returns-3 c =
     let p1 = c .before in
@@ -61,13 +43,9 @@ returns-3 c =
     sym (within-outside _ _ _ (passes _ (start .good .0 .1)) (passes _ (start .good .1 .1 .0 .1)) (sizes p2)
     (said _ _ (c .if3 .taken) (p1 .outside .ensures)))
 
-within-length-requires-2 : tie.Need-within-length-requires-2
-within-length-requires-2 c κs = search needs
-
-returns-4 : tie.Need-returns-4
-returns-4 c = search needs
-
 pub within-spec : {M : Type 1} → statement M
 within-spec =
-    tie.close (tie.spec length-squared-requires usual-requires within-length-requires returns inside-requires returns-2
-    outside-requires returns-3 within-length-requires-2 returns-4)
+    tie.close
+    (tie.spec
+    (search needs) (search needs) (search needs) (λ c. search needs) (search needs) returns-2 (search needs) returns-3
+    (search needs) (λ c. search needs))

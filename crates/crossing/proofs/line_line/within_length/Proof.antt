@@ -4,12 +4,6 @@ use Rattle.crossing.specs.LineLine
 use Rattle.crossing.proofs.line_line.within_length.Statement.{statement}
 use Rattle.crossing.proofs.line_line.within_length.Tie as tie
 
-length-requires : tie.Need-length-requires
-length-requires c κs = search needs
-
-fuzzy-in-range-eps-requires : tie.Need-fuzzy-in-range-eps-requires
-fuzzy-in-range-eps-requires c κs = search needs
-
 returns : tie.Need-returns
 unfolding LineLine.within
 returns c =
@@ -20,4 +14,4 @@ returns c =
     )
 
 pub within-length-spec : {M : Type 1} → statement M
-within-length-spec = tie.close (tie.spec length-requires fuzzy-in-range-eps-requires returns)
+within-length-spec = tie.close (tie.spec (search needs) (search needs) returns)

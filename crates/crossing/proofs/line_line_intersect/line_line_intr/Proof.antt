@@ -1,43 +1,15 @@
 -- `crossing::line_line_intersect::line_line_intr` meets its contract: each return is an end of the definition, by the calls
 -- and tests on its way.
 use borrow.Author.Needs.{needs}
-use Rattle.crossing.specs.LineLineIntersect
+use Rattle.crossing.specs.LineLineIntersect.{lineLineIntr}
 use Rattle.crossing.proofs.line_line_intersect.line_line_intr.Statement.{statement}
 use Rattle.crossing.proofs.line_line_intersect.line_line_intr.Tie as tie
 
-look-requires : tie.Need-look-requires
-look-requires c κs = search needs
-
-enum-told : tie.Need-enum-told
-enum-told c = search needs
-
-line-line-requires : tie.Need-line-line-requires
-line-line-requires c κs = search needs
-
-enum-known-looked : tie.Need-enum-known-looked
-enum-known-looked c = search needs
-
-returns : tie.Need-returns
-unfolding LineLineIntersect.lineLineIntr
-returns c =
-    let p1 = c .before in
-    let p2 = p1 .before .before in
-    simp (
-      ← p2 .look .ensures,
-      p1 .enum-told .given .1,
-      ← c .line-line .ensures,
-    )
-
-returns-2 : tie.Need-returns-2
-unfolding LineLineIntersect.lineLineIntr
-returns-2 c =
-    let p1 = c .before in
-    let p2 = p1 .before .before in
-    simp (
-      ← p2 .look .ensures,
-      p1 .looked .given .1,
-    )
-
 pub line-line-intr-spec : {M : Type 1} → statement M
+unfolding lineLineIntr
 line-line-intr-spec =
-    tie.close (tie.spec look-requires enum-told line-line-requires enum-known-looked returns returns-2)
+    tie.close
+    (tie.spec
+    (search needs) (search needs) (search needs) (search needs)
+    (λ c. let t = c .before in simp (← t .before .before .look .ensures, t .enum-told .given .1, ← c .line-line .ensures))
+    (λ c. let t = c .before in simp (← t .before .before .look .ensures, t .looked .given .1)))

@@ -1,45 +1,20 @@
 -- `crossing::line_line_intersect::look` meets its contract: the chain of its calls is the first fault of the list.
 use borrow.Author.Needs.{needs}
-use Rattle.checks.specs.Laws.Later.{later-assoc, fine-right}
-use Rattle.checks.specs.Laws.Chains.{point-first}
 use Rattle.crossing.specs.LineLineIntersect
+use Rattle.crossing.specs.Laws.Order.{alone, with-point}
 use Rattle.crossing.proofs.line_line_intersect.look.Statement.{statement}
 use Rattle.crossing.proofs.line_line_intersect.look.Tie as tie
-
-epsilon-requires : tie.Need-epsilon-requires
-epsilon-requires c κs = search needs
-
-point-after-requires : tie.Need-point-after-requires
-point-after-requires c κs = search needs
-
-point-after-requires-2 : tie.Need-point-after-requires-2
-point-after-requires-2 c κs = search needs
-
-point-after-requires-3 : tie.Need-point-after-requires-3
-point-after-requires-3 c κs = search needs
-
-point-after-requires-4 : tie.Need-point-after-requires-4
-point-after-requires-4 c κs = search needs
 
 returns : tie.Need-returns
 unfolding LineLineIntersect.look
 returns c =
-    let p1 = c .before in
-    let p2 = p1 .before in
-    let p3 = p2 .before in
-    let p4 = p3 .before in
-    simp (
-      c .point-after4 .ensures,
-      p1 .point-after3 .ensures,
-      p2 .point-after2 .ensures,
-      p3 .point-after .ensures,
-      p4 .epsilon .ensures,
-      point-first,
-      later-assoc,
-      fine-right,
-    )
+    let p2 = c .before .before in
+    let a0 = alone (p2 .before .before .epsilon .ensures) in
+    let a1 = with-point a0 _ _ _ _ (p2 .before .point-after .ensures) in
+    let a2 = with-point a1 _ _ _ _ (p2 .point-after2 .ensures) in
+    let a3 = with-point a2 _ _ _ _ (c .before .point-after3 .ensures) in
+    with-point a3 _ _ _ _ (c .point-after4 .ensures) .is
 
 pub look-spec : {M : Type 1} → statement M
 look-spec =
-    tie.close (tie.spec epsilon-requires point-after-requires point-after-requires-2 point-after-requires-3
-    point-after-requires-4 returns)
+    tie.close (tie.spec (search needs) (search needs) (search needs) (search needs) (search needs) returns)

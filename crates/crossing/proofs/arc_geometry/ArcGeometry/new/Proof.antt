@@ -4,13 +4,6 @@ use Rattle.crossing.specs.ArcGeometry as geometry
 use Rattle.crossing.proofs.arc_geometry.ArcGeometry.new.Statement.{statement}
 use Rattle.crossing.proofs.arc_geometry.ArcGeometry.new.Tie as tie
 
-new-requires : tie.Need-new-requires
-new-requires c κs = search needs
-
-returns : tie.Need-returns
-unfolding geometry.new
-returns c =
-    simp (← c .new .ensures)
-
 pub new-spec : {M : Type 1} → statement M
-new-spec = tie.close (tie.spec new-requires returns)
+unfolding geometry.new
+new-spec = tie.close (tie.spec (search needs) (λ c. cc))

@@ -4,30 +4,6 @@ use Rattle.crossing.specs.ArcGeometry as geometry
 use Rattle.crossing.proofs.arc_geometry.ArcGeometry.of_segment.Statement.{statement}
 use Rattle.crossing.proofs.arc_geometry.ArcGeometry.of_segment.Tie as tie
 
-pos-requires : tie.Need-pos-requires
-pos-requires c κs = search needs
-
-pos-requires-2 : tie.Need-pos-requires-2
-pos-requires-2 c κs = search needs
-
-bulge-is-neg-requires : tie.Need-bulge-is-neg-requires
-bulge-is-neg-requires c κs = search needs
-
-new-requires : tie.Need-new-requires
-new-requires c κs = search needs
-
-returns : tie.Need-returns
-unfolding geometry.ofSegment
-returns c =
-    let p1 = c .before in
-    let p2 = p1 .before in
-    let p3 = p2 .before in
-    simp (
-      ← p3 .pos .ensures,
-      ← p2 .pos2 .ensures,
-      ← p1 .bulge-is-neg .ensures,
-      ← c .new .ensures,
-    )
-
 pub of-segment-spec : {M : Type 1} → statement M
-of-segment-spec = tie.close (tie.spec pos-requires pos-requires-2 bulge-is-neg-requires new-requires returns)
+unfolding geometry.ofSegment
+of-segment-spec = tie.close (tie.spec (search needs) (search needs) (search needs) (search needs) (λ c. cc))

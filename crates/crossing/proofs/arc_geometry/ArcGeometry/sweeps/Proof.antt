@@ -4,13 +4,6 @@ use Rattle.crossing.specs.ArcGeometry as geometry
 use Rattle.crossing.proofs.arc_geometry.ArcGeometry.sweeps.Statement.{statement}
 use Rattle.crossing.proofs.arc_geometry.ArcGeometry.sweeps.Tie as tie
 
-contains-requires : tie.Need-contains-requires
-contains-requires c κs = search needs
-
-returns : tie.Need-returns
-unfolding geometry.sweeps
-returns c =
-    simp (← c .contains .ensures)
-
 pub sweeps-spec : {M : Type 1} → statement M
-sweeps-spec = tie.close (tie.spec contains-requires returns)
+unfolding geometry.sweeps
+sweeps-spec = tie.close (tie.spec (search needs) (λ c. cc))

@@ -5,40 +5,13 @@ use Rattle.crossing.specs.Laws.Sweep.{contains-is-yes}
 use Rattle.crossing.proofs.arc_sweep.ArcSweep.contains.Statement.{statement}
 use Rattle.crossing.proofs.arc_sweep.ArcSweep.contains.Tie as tie
 
-finding-requires : tie.Need-finding-requires
-finding-requires c κs = search needs
-
-enum-told : tie.Need-enum-told
-enum-told c = search needs
-
-enum-told-2 : tie.Need-enum-told-2
-enum-told-2 c = search needs
-
-enum-told-3 : tie.Need-enum-told-3
-enum-told-3 c = search needs
-
-enum-told-4 : tie.Need-enum-told-4
-enum-told-4 c = search needs
-
-enum-told-5 : tie.Need-enum-told-5
-enum-told-5 c = search needs
-
-returns : tie.Need-returns
-returns c = simp (contains-is-yes, ← c .before .before .finding .ensures, c .enum-told .given .1)
-
-returns-2 : tie.Need-returns-2
-returns-2 c = simp (contains-is-yes, ← c .before .before .finding .ensures, c .enum-told2 .given .1)
-
-returns-3 : tie.Need-returns-3
-returns-3 c = simp (contains-is-yes, ← c .before .before .finding .ensures, c .enum-told3 .given .1)
-
-returns-4 : tie.Need-returns-4
-returns-4 c = simp (contains-is-yes, ← c .before .before .finding .ensures, c .enum-told4 .given .1)
-
-returns-5 : tie.Need-returns-5
-returns-5 c = simp (contains-is-yes, ← c .before .before .finding .ensures, c .enum-told5 .given .1)
-
 pub contains-spec : {M : Type 1} → statement M
 contains-spec =
-    tie.close (tie.spec finding-requires enum-told enum-told-2 enum-told-3 enum-told-4 enum-told-5 returns returns-2
-    returns-3 returns-4 returns-5)
+    tie.close
+    (tie.spec
+    (search needs) (search needs) (search needs) (search needs) (search needs) (search needs)
+    (λ c. simp (contains-is-yes, ← c .before .before .finding .ensures, c .enum-told .given .1))
+    (λ c. simp (contains-is-yes, ← c .before .before .finding .ensures, c .enum-told2 .given .1))
+    (λ c. simp (contains-is-yes, ← c .before .before .finding .ensures, c .enum-told3 .given .1))
+    (λ c. simp (contains-is-yes, ← c .before .before .finding .ensures, c .enum-told4 .given .1))
+    (λ c. simp (contains-is-yes, ← c .before .before .finding .ensures, c .enum-told5 .given .1)))

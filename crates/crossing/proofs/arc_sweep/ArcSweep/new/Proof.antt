@@ -4,30 +4,6 @@ use Rattle.crossing.specs.ArcSweep as sweep
 use Rattle.crossing.proofs.arc_sweep.ArcSweep.new.Statement.{statement}
 use Rattle.crossing.proofs.arc_sweep.ArcSweep.new.Tie as tie
 
-sub-requires : tie.Need-sub-requires
-sub-requires c κs = search needs
-
-sub-requires-2 : tie.Need-sub-requires-2
-sub-requires-2 c κs = search needs
-
-length-squared-requires : tie.Need-length-squared-requires
-length-squared-requires c κs = search needs
-
-length-squared-requires-2 : tie.Need-length-squared-requires-2
-length-squared-requires-2 c κs = search needs
-
-returns : tie.Need-returns
-unfolding sweep.new
-returns c =
-    let p1 = c .before in
-    let p2 = p1 .before in
-    let p3 = p2 .before in
-    simp (
-      ← p3 .sub .ensures,
-      ← p2 .sub2 .ensures,
-      ← p1 .length-squared .ensures,
-      ← c .length-squared2 .ensures,
-    )
-
 pub new-spec : {M : Type 1} → statement M
-new-spec = tie.close (tie.spec sub-requires sub-requires-2 length-squared-requires length-squared-requires-2 returns)
+unfolding sweep.new
+new-spec = tie.close (tie.spec (search needs) (search needs) (search needs) (search needs) (λ c. cc))
