@@ -1,25 +1,41 @@
 -- Values on the front of a list: stored one after the other, copied, and stored after others that stand there.
 use mathlib.Core.Path.{_≡_, refl, sym, ap, _∙_}
 use mathlib.Core.List.{List, [], _∷_, _++_, append-assoc, append-nil}
-use Prim.Native.Nat.{ℕ, suc, _+_, _*_, _<_, _≤_}
+use Prim.Native.Nat.{ℕ, suc, _+_, _*_, _<_, _≤_, zero-le}
 use native.Mathlib.Nat.{zero-add, add-zero, add-mul}
 use native.Mathlib.Numerals.{add-one}
 use native.Mathlib.Omega.{arith}
-use lib.ListN.{length, length-append, set, getD, take, drop}
-use lib.Seq.{paste, paste-suc, sets, sets-eq, take-at, take-length, drop-length}
+use lib.ListN.{length, length-append, length-set, set, getD, take, drop}
+use lib.Seq.{paste, paste-zero, paste-suc, sets, sets-eq, take-at, take-length, drop-length}
 use Rattle.listings.specs.declared.row.Row.{Row}
 use Rattle.listings.specs.Row.{flat}
 use Rattle.listings.specs.Listing.{over}
 
+-- ---- a loop that copies to the front: after k turns the first k of n are copied
+pub record Copied {A : Type 0} (from : List A) (n : ℕ) (before now : List A) (k : ℕ) : Type 0 where
+  pub front : now ≡ paste before 0 from k
+  pub within : k ≤ n
+  pub long : length now ≡ length before
+
 module _ {A : Type 0} where
-  -- ---- one turn of a loop that copies to the front
-  pub copied : (d s t : List A) (k : ℕ) (z : A) → t ≡ paste d 0 s k → k < length d → k < length s
-      → set t k (getD s k z) ≡ paste d 0 s (k + 1)
-  copied d s t k z e inside from =
-      ap (λ (l : List A). set l k (getD s k z)) e
-      ∙ ap (λ (i : ℕ). set (paste d 0 s k) i (getD s k z)) (sym (zero-add k))
-      ∙ paste-suc d 0 s k z (rw (zero-add k) inside) from
-      ∙ ap (paste d 0 s) (sym (add-one k))
+  pub copy-starts : (from to : List A) (n : ℕ) → Copied from n to to 0
+  copy-starts from to n = record { front = paste-zero to 0 from; within = zero-le; long = refl }
+
+  pub copy-turn : {from before now : List A} {n k : ℕ} (z : A) → Copied from n before now k → k < n → n ≤ length from
+      → n ≤ length before → Copied from n before (set now k (getD from k z)) (k + 1)
+  copy-turn {from} {before} {now} {n} {k} z s below enough room = record {
+    front =
+        ap (λ (l : List A). set l k (getD from k z)) (s .front)
+        ∙ ap (λ (i : ℕ). set (paste before 0 from k) i (getD from k z)) (sym (zero-add k))
+        ∙ paste-suc before 0 from k z (omega arith) (omega arith)
+        ∙ ap (paste before 0 from) (sym (add-one k));
+    within = omega arith;
+    long = length-set now k (getD from k z) ∙ s .long;
+  }
+
+  pub copy-ends : {from before now : List A} {n k : ℕ} → Copied from n before now k → n ≤ k → now ≡ paste before 0 from n
+  copy-ends {from} {before} {now} {n} {k} s done =
+      let all : k ≡ n = omega arith in s .front ∙ ap (paste before 0 from) all
 
   -- ---- stores
   pub sets-append : (l : List A) (i : ℕ) (vs ws : List A) → sets (sets l i vs) (i + length vs) ws ≡ sets l i (vs ++ ws)

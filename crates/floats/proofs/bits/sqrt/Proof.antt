@@ -12,15 +12,6 @@ use Rattle.floats.proofs.bits.sqrt.Tie as tie
 own : (b k : ℕ) → b ≡ k → k ≡ Bits.sqrt k → b ≡ Bits.sqrt b
 own b k e h = subst (λ (z : ℕ). z ≡ Bits.sqrt z) (sym e) h
 
-returns : tie.Need-returns
-returns c = own _ 0 (c .if1 .taken) root-zero
-
-returns-3 : tie.Need-returns-3
-returns-3 c = own _ 0x7ff0_0000_0000_0000 (c .if3 .taken) root-inf
-
-returns-4 : tie.Need-returns-4
-returns-4 c = own _ 0x8000_0000_0000_0000 (c .if4 .taken) root-neg-zero
-
 returns-5 : tie.Need-returns-5
 returns-5 c =
     let start = c .before .before .before .before in
@@ -30,4 +21,8 @@ pub sqrt-spec : {M : Type 1} → statement M
 sqrt-spec =
     tie.close
     (tie.spec
-    returns (search needs) (search needs) returns-3 returns-4 returns-5)
+    (λ c. own _ 0 (c .if1 .taken) root-zero)
+    (search needs) (search needs)
+    (λ c. own _ 0x7ff0_0000_0000_0000 (c .if3 .taken) root-inf)
+    (λ c. own _ 0x8000_0000_0000_0000 (c .if4 .taken) root-neg-zero)
+    returns-5)

@@ -4,14 +4,6 @@ use Rattle.glance.specs.Kept as keeping
 use Rattle.glance.proofs.kept.circle_of.Statement.{statement}
 use Rattle.glance.proofs.kept.circle_of.Tie as tie
 
-new-requires : tie.Need-new-requires
-new-requires c κs = search needs
-
-returns : tie.Need-returns
-unfolding keeping.circleOf
-returns c =
-    simp (
-    ← c .new .ensures)
-
 pub circle-of-spec : {M : Type 1} → statement M
-circle-of-spec = tie.close (tie.spec new-requires returns)
+unfolding keeping.circleOf
+circle-of-spec = tie.close (tie.spec (search needs) (λ c. cc))

@@ -1,4 +1,5 @@
--- `listings::buffer::list` meets its contract: what is kept is that of the second path's segments, and the listing is that of `list_kept`.
+-- `listings::buffer::list` meets its contract: what is kept is that of the second path's segments, and the listing is that
+-- of `list_kept`.
 use mathlib.Core.Path.{_≡_}
 use native.Mathlib.Omega.{arith}
 use denote.Ref.{now}
@@ -13,28 +14,16 @@ use Rattle.listings.proofs.buffer.list.Tie as tie
 long : length (let z : Float = ofBits binary64 0 in replicate 12288 z) ≡ 12288
 long = let z : Float = ofBits binary64 0 in length-replicate 12288 z
 
-slice-aggregate-keep : tie.Need-slice-aggregate-keep
-slice-aggregate-keep c = search needs
-
 keep-requires : tie.Need-keep-requires
 keep-requires c κs =
     let ready = c .before .before .before .before .before .pre in
     (ready .m-within, (ready .few-second, omega (arith, long, ready .few-second)))
-
-slice-aggregate-list-kept : tie.Need-slice-aggregate-list-kept
-slice-aggregate-list-kept c = search needs
 
 list-kept-requires : tie.Need-list-kept-requires
 list-kept-requires c κs =
     let k = c .before .before .before .before in
     let s = k .before .before .before .before .before .before in
     kept-ready _ _ _ _ _ (s .pre) (omega (arith, long, s .pre .few-second)) (k .keep .ensures)
-
-same-length : tie.Need-same-length
-same-length c = search needs
-
-same-length-2 : tie.Need-same-length-2
-same-length-2 c = search needs
 
 returns : tie.Need-returns
 returns c = search needs
@@ -43,10 +32,5 @@ pub list-spec : {M : Type 1} → statement M
 list-spec =
     tie.close
     (tie.spec
-    slice-aggregate-keep
-    keep-requires
-    slice-aggregate-list-kept
-    list-kept-requires
-    same-length
-    same-length-2
+    (search needs) keep-requires (search needs) list-kept-requires (search needs) (search needs)
     returns)

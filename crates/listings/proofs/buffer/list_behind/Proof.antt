@@ -87,12 +87,6 @@ add-t29 c =
     let more = few-on-page F (a .job) (a .i) (a .j) (a .room - 2048) (ready .few) (ready .few-second) in
     omega (arith, held .pairs, few, k .fill2 .ensures .pairs, more)
 
-same-length : tie.Need-same-length
-same-length c = search needs
-
-same-length-2 : tie.Need-same-length-2
-same-length-2 c = search needs
-
 returns : tie.Need-returns
 returns c =
     let g = c .before .before .before .before .before in
@@ -107,12 +101,6 @@ returns c =
     behind-listed F (a .job) 2048 (a .i) (a .j) (a .pairs) (now (a .held-indices)) (now (a .held-points)) (h .1 .1)
     (now (a .indices)) (now (a .points)) (omega (arith, h .0, h .1 .0)) (sym counted ∙ t .if1 .taken) _ _ _ _ _ _
     (done .rows) (ap (λ (n : ℕ). a .pairs + n) (done .pairs)) (copied-indices k) (copied-points k) (done .indices) (done .points)
-
-same-length-3 : tie.Need-same-length-3
-same-length-3 c = search needs
-
-same-length-4 : tie.Need-same-length-4
-same-length-4 c = search needs
 
 returns-2 : tie.Need-returns-2
 returns-2 c =
@@ -129,13 +117,5 @@ pub list-behind-spec : {M : Type 1} → statement M
 list-behind-spec =
     tie.close
     (tie.spec
-    fill-requires
-    copy-rows-requires
-    fill-requires-2
-    add-t29
-    same-length
-    same-length-2
-    returns
-    same-length-3
-    same-length-4
-    returns-2)
+    fill-requires copy-rows-requires fill-requires-2 add-t29 (search needs) (search needs) returns
+    (search needs) (search needs) returns-2)

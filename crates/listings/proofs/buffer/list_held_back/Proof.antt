@@ -70,29 +70,11 @@ long-indices c = ap length (done c .indices) ∙ length-sets no-indices 0 (flat 
 long-points : (c : tie.After-fill) → length (c .fill .last .1 .1 .1 .1 .1 .1 .1 .1 .1 .1 .0) ≡ 8192
 long-points c = ap length (done c .points) ∙ length-sets no-points 0 (flat pointsOf (held c)) ∙ long-no-points
 
-from-requires : tie.Need-from-requires
-from-requires c κs = search needs
-
-lesser-requires : tie.Need-lesser-requires
-lesser-requires c κs = search needs
-
-slice-aggregate-fill : tie.Need-slice-aggregate-fill
-slice-aggregate-fill c = search needs
-
-slice-aggregate-fill-2 : tie.Need-slice-aggregate-fill-2
-slice-aggregate-fill-2 c = search needs
-
 fill-requires : tie.Need-fill-requires
 fill-requires c κs =
     let e = c .before .before .lesser .ensures in
     let s = c .before .before .before .before .before .before .before .before .before in
     (s .pre .0, (omega arith, (omega arith, (omega (arith, e), omega (arith, e)))))
-
-slice-aggregate-copy-rows : tie.Need-slice-aggregate-copy-rows
-slice-aggregate-copy-rows c = search needs
-
-slice-aggregate-copy-rows-2 : tie.Need-slice-aggregate-copy-rows-2
-slice-aggregate-copy-rows-2 c = search needs
 
 copy-rows-requires : tie.Need-copy-rows-requires
 copy-rows-requires c κs =
@@ -102,12 +84,6 @@ copy-rows-requires c κs =
       (omega (arith, long-indices f, few f, e), omega (arith, long-points f, few f, e)),
       (omega (arith, few f, e, h), omega (arith, few f, e, h)),
     )
-
-same-length : tie.Need-same-length
-same-length c = search needs
-
-same-length-2 : tie.Need-same-length-2
-same-length-2 c = search needs
 
 returns : tie.Need-returns
 returns c =
@@ -134,12 +110,6 @@ returns-2 c =
     let e = f .before .before .before .lesser .ensures in
     is-refused F ps (now (a .indices)) (now (a .points)) (omega (arith, more, e, start f .pre .1, c .if2 .taken)) _ _ refl refl
 
-slice-aggregate-list-behind : tie.Need-slice-aggregate-list-behind
-slice-aggregate-list-behind c = search needs
-
-slice-aggregate-list-behind-2 : tie.Need-slice-aggregate-list-behind-2
-slice-aggregate-list-behind-2 c = search needs
-
 list-behind-requires : tie.Need-list-behind-requires
 list-behind-requires c κs =
     let o = c .before .before .before .before in
@@ -151,34 +121,10 @@ list-behind-requires c κs =
     long-no-indices long-no-points in
     (start f .pre .0, (start f .pre .1, (omega (arith, o .if2 .left), behind)))
 
-same-length-3 : tie.Need-same-length-3
-same-length-3 c = search needs
-
-same-length-4 : tie.Need-same-length-4
-same-length-4 c = search needs
-
-returns-3 : tie.Need-returns-3
-returns-3 c = search needs
-
 pub list-held-back-spec : {M : Type 1} → statement M
 list-held-back-spec =
     tie.close
     (tie.spec
-    from-requires
-    lesser-requires
-    slice-aggregate-fill
-    slice-aggregate-fill-2
-    fill-requires
-    slice-aggregate-copy-rows
-    slice-aggregate-copy-rows-2
-    copy-rows-requires
-    same-length
-    same-length-2
-    returns
-    returns-2
-    slice-aggregate-list-behind
-    slice-aggregate-list-behind-2
-    list-behind-requires
-    same-length-3
-    same-length-4
-    returns-3)
+    (search needs) (search needs) (search needs) (search needs) fill-requires (search needs) (search needs)
+    copy-rows-requires (search needs) (search needs) returns returns-2 (search needs) (search needs)
+    list-behind-requires (search needs) (search needs) (λ c. search needs))

@@ -12,16 +12,10 @@ use Rattle.listings.specs.Laws.Outcome.{filled-first, no-more, on-one-pa
 use Rattle.listings.proofs.buffer.list_kept.Statement.{statement}
 use Rattle.listings.proofs.buffer.list_kept.Tie as tie
 
-lesser-requires : tie.Need-lesser-requires
-lesser-requires c κs = search needs
-
 mul-if1 : tie.Need-mul-if1
 mul-if1 c =
     let ready = c .before .before .before .before .before .before .before .pre .pairs in
     omega (arith, mul-le-mul (ready .few) (ready .few-second))
-
-from-requires : tie.Need-from-requires
-from-requires c κs = search needs
 
 fill-requires : tie.Need-fill-requires
 fill-requires c κs =
@@ -29,12 +23,6 @@ fill-requires c κs =
     let s = n .before .before .before .before .before .before in
     let e = n .lesser .ensures in
     (s .pre, (omega arith, (omega arith, (omega (arith, e), omega (arith, e)))))
-
-same-length : tie.Need-same-length
-same-length c = search needs
-
-same-length-2 : tie.Need-same-length-2
-same-length-2 c = search needs
 
 returns : tie.Need-returns
 returns c =
@@ -50,30 +38,9 @@ returns c =
     on-one-page F ps (now (a .indices)) (now (a .points)) room (page F ps room) (joins F ps room) (omega (arith, n .lesser .ensures))
     (no-more F (a .job) room (t .if1 .taken)) _ _ _ _ (done .rows) (done .pairs) (done .indices) (done .points)
 
-list-held-back-requires : tie.Need-list-held-back-requires
-list-held-back-requires c κs = search needs
-
-same-length-3 : tie.Need-same-length-3
-same-length-3 c = search needs
-
-same-length-4 : tie.Need-same-length-4
-same-length-4 c = search needs
-
-returns-2 : tie.Need-returns-2
-returns-2 c = search needs
-
 pub list-kept-spec : {M : Type 1} → statement M
 list-kept-spec =
     tie.close
     (tie.spec
-    lesser-requires
-    mul-if1
-    from-requires
-    fill-requires
-    same-length
-    same-length-2
-    returns
-    list-held-back-requires
-    same-length-3
-    same-length-4
-    returns-2)
+    (search needs) mul-if1 (search needs) fill-requires (search needs) (search needs) returns
+    (λ c. search needs) (search needs) (search needs) (λ c. search needs))

@@ -78,15 +78,6 @@ loop-holds c =
     starts (look (now (a .first)) (now (a .second)) (a .job .epsilon)) (a .job) (a .write) (a .at) (a .room) (a .start-i) (a .start-j)
     (now (a .indices)) (now (a .points)) (search needs) (search needs)
 
-segment-from-requires : tie.Need-segment-from-requires Inv-loop2 μ-loop2 Inv-loop μ-loop
-segment-from-requires c κs = search needs
-
-kept-of-requires : tie.Need-kept-of-requires Inv-loop2 μ-loop2 Inv-loop μ-loop
-kept-of-requires c κs = search needs
-
-to-requires : tie.Need-to-requires Inv-loop2 μ-loop2 Inv-loop μ-loop
-to-requires c κs = search needs
-
 loop2-holds : tie.Need-loop2-holds Inv-loop2 μ-loop2 Inv-loop μ-loop
 loop2-holds c = λ x y s. s
 
@@ -105,15 +96,6 @@ look-requires c κs =
       ),
     )
 
-enum-told : tie.Need-enum-told Inv-loop2 μ-loop2 Inv-loop μ-loop
-enum-told c = search needs
-
-add-j : tie.Need-add-j Inv-loop2 μ-loop2 Inv-loop μ-loop
-add-j c = search needs
-
-loop2-less : tie.Need-loop2-less Inv-loop2 μ-loop2 Inv-loop μ-loop
-loop2-less c = search needs
-
 loop2-again : tie.Need-loop2-again Inv-loop2 μ-loop2 Inv-loop μ-loop
 loop2-again c =
     let k = c .before .before in
@@ -121,17 +103,8 @@ loop2-again c =
     λ x y s.
     passes (p .loop2 .inv x y s) (p .before .before .before .before .if1 .taken) (below (k .before)) (seen k ∙ c .enum-told .given .1)
 
-enum-told-2 : tie.Need-enum-told-2 Inv-loop2 μ-loop2 Inv-loop μ-loop
-enum-told-2 c = search needs
-
 add-pairs : tie.Need-add-pairs Inv-loop2 μ-loop2 Inv-loop μ-loop
 add-pairs c = omega (arith, few-pairs (c .before .before .before .before))
-
-add-j-2 : tie.Need-add-j-2 Inv-loop2 μ-loop2 Inv-loop μ-loop
-add-j-2 c = search needs
-
-loop2-less-2 : tie.Need-loop2-less-2 Inv-loop2 μ-loop2 Inv-loop μ-loop
-loop2-less-2 c = search needs
 
 loop2-again-2 : tie.Need-loop2-again-2 Inv-loop2 μ-loop2 Inv-loop μ-loop
 loop2-again-2 c =
@@ -139,9 +112,6 @@ loop2-again-2 c =
     let p = k .before .before in
     λ x y s.
     looks (p .loop2 .inv x y s) (p .before .before .before .before .if1 .taken) (below (k .before)) (seen k ∙ c .enum-told2 .given .1)
-
-enum-known-seen : tie.Need-enum-known-seen Inv-loop2 μ-loop2 Inv-loop μ-loop
-enum-known-seen c = search needs
 
 same-length : tie.Need-same-length Inv-loop2 μ-loop2 Inv-loop μ-loop
 same-length c = inner (c .before .before .before .before .before .before) .indices
@@ -173,12 +143,6 @@ add-pairs-2 c =
     let e = c .before .before .before .before .before .before .before in
     omega (arith, few-pairs (e .before .before .before .before .before .before))
 
-add-j-3 : tie.Need-add-j-3 Inv-loop2 μ-loop2 Inv-loop μ-loop
-add-j-3 c = search needs
-
-loop2-less-3 : tie.Need-loop2-less-3 Inv-loop2 μ-loop2 Inv-loop μ-loop
-loop2-less-3 c = search needs
-
 loop2-again-3 : tie.Need-loop2-again-3 Inv-loop2 μ-loop2 Inv-loop μ-loop
 loop2-again-3 c =
     let w = c .before .before .before .before .put-row .ensures in
@@ -190,27 +154,12 @@ loop2-again-3 c =
     rw (w .0, w .1)
     (makes (p .loop2 .inv x y s) (p .before .before .before .before .if1 .taken) (below (k .before)) _ (seen k ∙ m .seen .given .1) (e .if2 .left))
 
-add-i : tie.Need-add-i Inv-loop2 μ-loop2 Inv-loop μ-loop
-add-i c = search needs
-
-from-requires : tie.Need-from-requires Inv-loop2 μ-loop2 Inv-loop μ-loop
-from-requires c κs = search needs
-
-loop-less : tie.Need-loop-less Inv-loop2 μ-loop2 Inv-loop μ-loop
-loop-less c = search needs
-
 loop-again : tie.Need-loop-again Inv-loop2 μ-loop2 Inv-loop μ-loop
 loop-again c =
     let p = c .before .before in
     let o = outer p in
     let i = p .before .before .before .before .if1 .taken in
     rw (c .from .ensures) (next-i (inner p) i (rw (← p .before .to .ensures) (c .before .loop2-test .left)))
-
-same-length-3 : tie.Need-same-length-3 Inv-loop2 μ-loop2 Inv-loop μ-loop
-same-length-3 c = search needs
-
-same-length-4 : tie.Need-same-length-4 Inv-loop2 μ-loop2 Inv-loop μ-loop
-same-length-4 c = search needs
 
 returns-2 : tie.Need-returns-2 Inv-loop2 μ-loop2 Inv-loop μ-loop
 returns-2 c = ends (c .before .before .loop .inv) (c .if1 .left)
@@ -219,39 +168,8 @@ pub fill-spec : {M : Type 1} → statement M
 fill-spec =
     tie.close
     (tie.spec
-    Inv-loop2
-    μ-loop2
-    Inv-loop
-    μ-loop
-    loop-holds
-    segment-from-requires
-    kept-of-requires
-    to-requires
-    loop2-holds
-    look-requires
-    enum-told
-    add-j
-    loop2-less
-    loop2-again
-    enum-told-2
-    add-pairs
-    add-j-2
-    loop2-less-2
-    loop2-again-2
-    enum-known-seen
-    same-length
-    same-length-2
-    returns
-    put-row-requires
-    add-rows
-    add-pairs-2
-    add-j-3
-    loop2-less-3
-    loop2-again-3
-    add-i
-    from-requires
-    loop-less
-    loop-again
-    same-length-3
-    same-length-4
-    returns-2)
+    Inv-loop2 μ-loop2 Inv-loop μ-loop loop-holds (search needs) (search needs) (search needs) loop2-holds
+    look-requires (search needs) (search needs) (search needs) loop2-again (search needs) add-pairs
+    (search needs) (search needs) loop2-again-2 (search needs) same-length same-length-2 returns
+    put-row-requires add-rows add-pairs-2 (search needs) (search needs) loop2-again-3 (search needs)
+    (search needs) (search needs) loop-again (search needs) (search needs) returns-2)

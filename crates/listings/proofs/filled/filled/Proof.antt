@@ -8,9 +8,6 @@ use Rattle.listings.specs.Filled.{filled}
 use Rattle.listings.proofs.filled.filled.Statement.{statement}
 use Rattle.listings.proofs.filled.filled.Tie as tie
 
-mul-end : tie.Need-mul-end
-mul-end c = search needs
-
 slice-aggregate-result : tie.Need-slice-aggregate-result
 slice-aggregate-result c = sym (length-take-le _ _ (omega arith))
 
@@ -18,12 +15,9 @@ returns : tie.Need-returns
 unfolding filled
 returns c = simp (le-leb _ _ (c .before .if1 .taken))
 
-slice-aggregate-result-2 : tie.Need-slice-aggregate-result-2
-slice-aggregate-result-2 c = search needs
-
 returns-2 : tie.Need-returns-2
 unfolding filled
 returns-2 c = simp (lt-leb _ _ (c .before .if1 .left))
 
 pub filled-spec : {M : Type 1} → statement M
-filled-spec = tie.close (tie.spec mul-end slice-aggregate-result returns slice-aggregate-result-2 returns-2)
+filled-spec = tie.close (tie.spec (search needs) slice-aggregate-result returns (search needs) returns-2)

@@ -19,44 +19,11 @@ loop-holds : tie.Need-loop-holds Inv-loop μ-loop
 unfolding keep
 loop-holds c = (refl, zero-le, refl)
 
-segment-from-requires : tie.Need-segment-from-requires Inv-loop μ-loop
-segment-from-requires c κs = search needs
-
-kept-of-requires : tie.Need-kept-of-requires Inv-loop μ-loop
-kept-of-requires c κs = search needs
-
-mul-at : tie.Need-mul-at Inv-loop μ-loop
-mul-at c = search needs
-
-mul-kept : tie.Need-mul-kept Inv-loop μ-loop
-mul-kept c = search needs
-
-slice-write-kept : tie.Need-slice-write-kept Inv-loop μ-loop
-slice-write-kept c = search needs
-
-add-kept : tie.Need-add-kept Inv-loop μ-loop
-add-kept c = search needs
-
-mul-kept-2 : tie.Need-mul-kept-2 Inv-loop μ-loop
-mul-kept-2 c = search needs
-
 slice-write-kept-2 : tie.Need-slice-write-kept-2 Inv-loop μ-loop
 slice-write-kept-2 c = simp length-set (omega arith)
 
-add-kept-2 : tie.Need-add-kept-2 Inv-loop μ-loop
-add-kept-2 c = search needs
-
-mul-kept-3 : tie.Need-mul-kept-3 Inv-loop μ-loop
-mul-kept-3 c = search needs
-
 slice-write-kept-3 : tie.Need-slice-write-kept-3 Inv-loop μ-loop
 slice-write-kept-3 c = simp length-set (omega arith)
-
-add-j : tie.Need-add-j Inv-loop μ-loop
-add-j c = search needs
-
-loop-less : tie.Need-loop-less Inv-loop μ-loop
-loop-less c = search needs
 
 loop-again : tie.Need-loop-again Inv-loop μ-loop
 loop-again c =
@@ -66,9 +33,6 @@ loop-again c =
     let more = keep-more (now (a .path)) (now (a .kept)) (s .loop .kept) (s .loop .j) (a .epsilon)
     (f .segment-from .result) (c .kept-of .result) (s .loop .inv .0) (f .segment-from .ensures) (c .kept-of .ensures) in
     (more, search needs, ap length more ∙ keep-length (now (a .path)) _ (a .epsilon) (now (a .kept)))
-
-same-length : tie.Need-same-length Inv-loop μ-loop
-same-length c = search needs
 
 returns : tie.Need-returns Inv-loop μ-loop
 returns c =
@@ -81,22 +45,6 @@ pub keep-spec : {M : Type 1} → statement M
 keep-spec =
     tie.close
     (tie.spec
-    Inv-loop
-    μ-loop
-    loop-holds
-    segment-from-requires
-    kept-of-requires
-    mul-at
-    mul-kept
-    slice-write-kept
-    add-kept
-    mul-kept-2
-    slice-write-kept-2
-    add-kept-2
-    mul-kept-3
-    slice-write-kept-3
-    add-j
-    loop-less
-    loop-again
-    same-length
-    returns)
+    Inv-loop μ-loop loop-holds (search needs) (search needs) (search needs) (search needs) (search needs)
+    (search needs) (search needs) slice-write-kept-2 (search needs) (search needs) slice-write-kept-3
+    (search needs) (search needs) loop-again (search needs) returns)

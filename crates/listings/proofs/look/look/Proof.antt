@@ -8,9 +8,6 @@ use Rattle.listings.specs.Laws.Ready.{lookOn}
 use Rattle.listings.proofs.look.look.Statement.{statement}
 use Rattle.listings.proofs.look.look.Tie as tie
 
-segment-from-requires : tie.Need-segment-from-requires
-segment-from-requires c κs = search needs
-
 kept-at-requires : tie.Need-kept-at-requires
 kept-at-requires c κs =
     let s = c .before .before .before in
@@ -29,9 +26,6 @@ pline-seg-kept-requires c κs =
       ),
     )
 
-look-of-requires : tie.Need-look-of-requires
-look-of-requires c κs = search needs
-
 returns : tie.Need-returns
 unfolding lookOn
 returns c =
@@ -40,4 +34,7 @@ returns c =
     simp (c .look-of .ensures, p1 .pline-seg-kept .ensures, p2 .segment-from .ensures)
 
 pub look-spec : {M : Type 1} → statement M
-look-spec = tie.close (tie.spec segment-from-requires kept-at-requires pline-seg-kept-requires look-of-requires returns)
+look-spec =
+    tie.close
+    (tie.spec
+    (search needs) kept-at-requires pline-seg-kept-requires (search needs) returns)

@@ -5,27 +5,6 @@ use Rattle.listings.specs.Laws.Entry.{mutual-chain}
 use Rattle.listings.proofs.mutual_listing.check_mutual.Statement.{statement}
 use Rattle.listings.proofs.mutual_listing.check_mutual.Tie as tie
 
-epsilon-requires : tie.Need-epsilon-requires
-epsilon-requires c κs = search needs
-
-shape-requires : tie.Need-shape-requires
-shape-requires c κs = search needs
-
-later-requires : tie.Need-later-requires
-later-requires c κs = search needs
-
-shape-requires-2 : tie.Need-shape-requires-2
-shape-requires-2 c κs = search needs
-
-later-requires-2 : tie.Need-later-requires-2
-later-requires-2 c κs = search needs
-
-check-path-requires : tie.Need-check-path-requires
-check-path-requires c κs = search needs
-
-check-path-requires-2 : tie.Need-check-path-requires-2
-check-path-requires-2 c κs = search needs
-
 returns : tie.Need-returns
 returns c =
     let p1 = c .before in
@@ -50,11 +29,5 @@ pub check-mutual-spec : {M : Type 1} → statement M
 check-mutual-spec =
     tie.close
     (tie.spec
-    epsilon-requires
-    shape-requires
-    later-requires
-    shape-requires-2
-    later-requires-2
-    check-path-requires
-    check-path-requires-2
+    (search needs) (search needs) (search needs) (search needs) (search needs) (search needs) (search needs)
     returns)

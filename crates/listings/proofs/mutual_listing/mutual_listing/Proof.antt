@@ -18,18 +18,6 @@ fine : (c : tie.After-enum-told)
     checkMutual (now (a .first)) (a .first-closed) (now (a .second)) (a .second-closed) (a .epsilon) ≡ Fine
 fine c = sym (c .before .before .check-mutual .ensures) ∙ c .enum-told .given .1
 
-check-mutual-requires : tie.Need-check-mutual-requires
-check-mutual-requires c κs = search needs
-
-enum-told : tie.Need-enum-told
-enum-told c = search needs
-
-segment-count-requires : tie.Need-segment-count-requires
-segment-count-requires c κs = search needs
-
-segment-count-requires-2 : tie.Need-segment-count-requires-2
-segment-count-requires-2 c κs = search needs
-
 list-requires : tie.Need-list-requires
 list-requires c κs =
     let m = c .before .before in
@@ -38,15 +26,6 @@ list-requires c κs =
     let a = start (t .before .before) .args in
     mutual-ready (now (a .first)) (a .first-closed) (now (a .second)) (a .second-closed) (a .epsilon) (fine t)
     _ refl (n .segment-count .ensures) (m .segment-count2 .ensures)
-
-enum-known-looked : tie.Need-enum-known-looked
-enum-known-looked c = search needs
-
-same-length : tie.Need-same-length
-same-length c = search needs
-
-same-length-2 : tie.Need-same-length-2
-same-length-2 c = search needs
 
 returns : tie.Need-returns
 returns c =
@@ -70,13 +49,5 @@ pub mutual-listing-spec : {M : Type 1} → statement M
 mutual-listing-spec =
     tie.close
     (tie.spec
-    check-mutual-requires
-    enum-told
-    segment-count-requires
-    segment-count-requires-2
-    list-requires
-    enum-known-looked
-    same-length
-    same-length-2
-    returns
-    returns-2)
+    (search needs) (search needs) (search needs) (search needs) list-requires (search needs) (search needs)
+    (search needs) returns returns-2)

@@ -4,9 +4,6 @@ use Rattle.listings.specs.Laws.Job.{from}
 use Rattle.listings.proofs.order.from.Statement.{statement}
 use Rattle.listings.proofs.order.from.Tie as tie
 
-add-result : tie.Need-add-result
-add-result c = search needs
-
 returns : tie.Need-returns
 unfolding from
 returns c = simp (c .if1 .taken)
@@ -16,4 +13,4 @@ unfolding from
 returns-2 c = simp (c .if1 .left)
 
 pub from-spec : {M : Type 1} → statement M
-from-spec = tie.close (tie.spec add-result returns returns-2)
+from-spec = tie.close (tie.spec (search needs) returns returns-2)

@@ -8,9 +8,6 @@ returns : tie.Need-returns
 unfolding to
 returns c = simp (c .before .before .if1 .taken, c .if2 .taken)
 
-sub-result : tie.Need-sub-result
-sub-result c = search needs
-
 returns-2 : tie.Need-returns-2
 unfolding to
 returns-2 c = simp (c .before .before .before .if1 .taken)
@@ -20,4 +17,4 @@ unfolding to
 returns-3 c = simp (c .if1 .left)
 
 pub to-spec : {M : Type 1} → statement M
-to-spec = tie.close (tie.spec returns sub-result returns-2 returns-3)
+to-spec = tie.close (tie.spec returns (search needs) returns-2 returns-3)

@@ -5,18 +5,6 @@ use Rattle.listings.specs.Laws.Entry.{self-chain}
 use Rattle.listings.proofs.self_listing.check_self.Statement.{statement}
 use Rattle.listings.proofs.self_listing.check_self.Tie as tie
 
-epsilon-requires : tie.Need-epsilon-requires
-epsilon-requires c κs = search needs
-
-shape-requires : tie.Need-shape-requires
-shape-requires c κs = search needs
-
-later-requires : tie.Need-later-requires
-later-requires c κs = search needs
-
-check-path-requires : tie.Need-check-path-requires
-check-path-requires c κs = search needs
-
 returns : tie.Need-returns
 returns c =
     let p1 = c .before in
@@ -32,5 +20,4 @@ returns c =
     )
 
 pub check-self-spec : {M : Type 1} → statement M
-check-self-spec =
-    tie.close (tie.spec epsilon-requires shape-requires later-requires check-path-requires returns)
+check-self-spec = tie.close (tie.spec (search needs) (search needs) (search needs) (search needs) returns)

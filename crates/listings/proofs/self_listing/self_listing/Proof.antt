@@ -17,30 +17,12 @@ fine : (c : tie.After-enum-told)
     → let a = start (c .before .before) .args in checkSelf (now (a .path)) (a .closed) (a .epsilon) ≡ Fine
 fine c = sym (c .before .before .check-self .ensures) ∙ c .enum-told .given .1
 
-check-self-requires : tie.Need-check-self-requires
-check-self-requires c κs = search needs
-
-enum-told : tie.Need-enum-told
-enum-told c = search needs
-
-segment-count-requires : tie.Need-segment-count-requires
-segment-count-requires c κs = search needs
-
 list-requires : tie.Need-list-requires
 list-requires c κs =
     let n = c .before .before in
     let t = n .before in
     let a = start (t .before .before) .args in
     self-ready (now (a .path)) (a .closed) (a .epsilon) (fine t) _ refl (n .segment-count .ensures) (n .segment-count .ensures)
-
-enum-known-looked : tie.Need-enum-known-looked
-enum-known-looked c = search needs
-
-same-length : tie.Need-same-length
-same-length c = search needs
-
-same-length-2 : tie.Need-same-length-2
-same-length-2 c = search needs
 
 returns : tie.Need-returns
 returns c =
@@ -62,12 +44,5 @@ pub self-listing-spec : {M : Type 1} → statement M
 self-listing-spec =
     tie.close
     (tie.spec
-    check-self-requires
-    enum-told
-    segment-count-requires
-    list-requires
-    enum-known-looked
-    same-length
-    same-length-2
-    returns
-    returns-2)
+    (search needs) (search needs) (search needs) list-requires (search needs) (search needs) (search needs)
+    returns returns-2)
