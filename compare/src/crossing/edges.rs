@@ -45,8 +45,6 @@ pub struct Edge {
     refuses: bool,
     /// Whether the kernels take part: they know no chords.
     by_kernels: bool,
-    /// Of how many inputs the edge gets one: more at an edge of the Rust's own, that no shortcut is about.
-    one_of: u64,
     /// Of how many ways one is listed too.
     listed_of: usize,
     /// Of how many inputs a side one must come up in a listing too; none is asked for.
@@ -71,7 +69,6 @@ impl Edge {
             compared: vec![(name.into(), Box::new(beside))],
             refuses: false,
             by_kernels: true,
-            one_of: 1,
             listed_of: LISTED,
             listed_least: None,
         }
@@ -81,10 +78,6 @@ impl Edge {
     fn and(mut self, name: impl Into<String>, beside: impl Fn(&[f64]) -> Beside + 'static) -> Edge {
         self.compared.push((name.into(), Box::new(beside)));
         self
-    }
-
-    fn by_the_way(self) -> Edge {
-        Edge { one_of: 4, ..self }
     }
 
     fn of_pairs_only(self) -> Edge {
@@ -164,15 +157,11 @@ pub fn check(count: u64, seed: u64) -> u64 {
     let mut rng = Rng::new(seed);
     let table = table();
     let half = count / 2;
-    let by_the_way = table.iter().filter(|edge| edge.one_of > 1).count();
     println!(
-        "on {} edges, at least {half} inputs just below each and just above, a quarter of it on {by_the_way} of them",
+        "on {} edges, at least {half} inputs just below each and just above",
         table.len()
     );
-    let run = |edge: &Edge| {
-        let half = half / edge.one_of;
-        Run::new(edge).until(half, &mut rng).report(half)
-    };
+    let run = |edge: &Edge| Run::new(edge).until(half, &mut rng).report(half);
     table.iter().map(run).sum()
 }
 

@@ -47,17 +47,14 @@ impl Circles {
 }
 
 struct Entry {
-    /// Whether a shortcut decides about here.
-    of_shortcut: bool,
     stand: fn(&mut Rng) -> Stand,
     compared: &'static [(&'static str, Compare)],
 }
 
 type Compare = fn(Circles) -> Beside;
 
-const ENTRIES: [Entry; 7] = [
+const ENTRIES: [Entry; 8] = [
     Entry {
-        of_shortcut: true,
         stand: |rng| outside(true, rng),
         compared: &[
             ("(r1 + r2 + eps)^2 at d^2", square_at_d2),
@@ -65,17 +62,14 @@ const ENTRIES: [Entry; 7] = [
         ],
     },
     Entry {
-        of_shortcut: false,
         stand: |rng| outside(false, rng),
         compared: &[("r1 + r2 at d", |c| Beside::new(c.sum, c.d))],
     },
     Entry {
-        of_shortcut: true,
         stand: smallest,
         compared: &[("r1 + r2 + eps at d, radii from 2^-40 on", reach_at_d)],
     },
     Entry {
-        of_shortcut: true,
         stand: |rng| nested(-1.0, rng),
         compared: &[
             ("(|r1 - r2| - eps)^2 at d^2", |c| {
@@ -88,19 +82,20 @@ const ENTRIES: [Entry; 7] = [
         ],
     },
     Entry {
-        of_shortcut: true,
+        stand: |rng| nested(-2.0, rng),
+        compared: &[("(|r1 - r2| - 2 eps)^2 at d^2", inside_at_d2)],
+    },
+    Entry {
         stand: |rng| nested(1.0, rng),
         compared: &[("|r1 - r2| at d - eps", |c| {
             Beside::new(c.difference, c.d - c.epsilon)
         })],
     },
     Entry {
-        of_shortcut: false,
         stand: |rng| about_one_centre(true, rng),
         compared: &[("d at eps", |c| Beside::new(c.d, c.epsilon))],
     },
     Entry {
-        of_shortcut: false,
         stand: |rng| about_one_centre(false, rng),
         compared: &[("|r1 - r2| at eps, d below it", |c| {
             Beside::new(c.difference, c.epsilon)
@@ -111,6 +106,11 @@ const ENTRIES: [Entry; 7] = [
 fn square_at_d2(c: Circles) -> Beside {
     let reach = c.sum + c.epsilon;
     Beside::new(reach * reach, c.d2)
+}
+
+fn inside_at_d2(c: Circles) -> Beside {
+    let inner = c.difference - (c.epsilon + c.epsilon);
+    Beside::new(inner * inner, c.d2)
 }
 
 fn reach_at_d(c: Circles) -> Beside {
@@ -125,22 +125,24 @@ pub fn edges() -> Vec<Edge> {
             |rng| drawn((entry.stand)(rng), rng),
             |n| first(Circles::of(n)),
         );
-        let edge = entry.compared[1..].iter().fold(edge, |edge, (name, more)| {
+        entry.compared[1..].iter().fold(edge, |edge, (name, more)| {
             edge.and(*name, |n| more(Circles::of(n)))
-        });
-        if entry.of_shortcut {
-            edge
-        } else {
-            edge.by_the_way()
-        }
+        })
     };
-    let at_a_glance = Edge::new(
-        "(r1 + r2 + eps)^2 at d^2, two arcs at a glance",
-        |rng| arcs(outside(true, rng), rng),
-        |n| square_at_d2(Circles::of(n)),
-    );
+    let at_a_glance = [
+        Edge::new(
+            "(r1 + r2 + eps)^2 at d^2, two arcs at a glance",
+            |rng| arcs(outside(true, rng), rng),
+            |n| square_at_d2(Circles::of(n)),
+        ),
+        Edge::new(
+            "(|r1 - r2| - 2 eps)^2 at d^2, two arcs at a glance",
+            |rng| arcs(nested(-2.0, rng), rng),
+            |n| inside_at_d2(Circles::of(n)),
+        ),
+    ];
     let all = ENTRIES.iter().map(edge);
-    all.chain([at_a_glance.by_what_is_kept()]).collect()
+    all.chain(at_a_glance.map(Edge::by_what_is_kept)).collect()
 }
 
 /// As two arcs, or as circles by themselves.
@@ -186,7 +188,7 @@ fn smallest(rng: &mut Rng) -> Stand {
     }
 }
 
-/// One in the other, touching it but for an epsilon outwards (1) or inwards (-1).
+/// One in the other, touching it but for so many epsilons outwards, or inwards if below zero.
 fn nested(outwards: f64, rng: &mut Rng) -> Stand {
     let first = radius(rng);
     let any = rng.between(0.01, 0.95);

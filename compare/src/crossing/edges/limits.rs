@@ -65,7 +65,6 @@ fn edge(name: String, place: usize, limit: f64, pair: fn(&mut Rng) -> Pair) -> E
     Edge::new(name, draw, move |n| Beside::new(n[place].abs(), limit))
         .refusing()
         .of_pairs_only()
-        .by_the_way()
 }
 
 fn any(rng: &mut Rng) -> Pair {

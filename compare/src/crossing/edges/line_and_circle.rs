@@ -151,17 +151,17 @@ pub fn edges() -> Vec<Edge> {
             Beside::new(meeting.distance(), meeting.radius)
         },
     );
-    all.push(touching.by_the_way());
+    all.push(touching);
     // the shortcut's own limit, where no line is far
     let through = Edge::new("|c| at 2^-100", through_centre, |n| {
         Beside::new(Meeting::of(n).c.abs(), two_to(-100))
     });
-    all.push(through.by_the_way());
+    all.push(through);
     let upright = Edge::new("|dx| at 1e-8", hardly_upright, |n| {
         let meeting = Meeting::of(n);
         Beside::new((meeting.to.x - meeting.from.x).abs(), 1e-8)
     });
-    all.push(upright.by_the_way());
+    all.push(upright);
     for (place, t) in [PARAMETERS[0], PARAMETERS[2], PARAMETERS[4]] {
         all.push(Edge::new(
             format!("t on a line beside an arc at {place}"),
@@ -189,7 +189,7 @@ pub fn edges() -> Vec<Edge> {
     ));
     for line_first in [true, false] {
         all.extend([false, true].map(|upright| at_a_glance(upright, line_first)));
-        all.extend(near_zero(line_first).map(|edge| edge.of_pairs_only().by_the_way()));
+        all.extend(near_zero(line_first).map(Edge::of_pairs_only));
     }
     all
 }
@@ -223,13 +223,7 @@ fn at_a_glance(upright: bool, line_first: bool) -> Edge {
             _ => NOWHERE,
         },
     );
-    let edge = edge.by_what_is_kept();
-    // the guess of an upright line's root is always the same
-    if upright {
-        edge.by_the_way()
-    } else {
-        edge
-    }
+    edge.by_what_is_kept()
 }
 
 /// A line beside an arc that is upright but for the default epsilon, and one that is a point but for the epsilon.

@@ -31,13 +31,11 @@ pub fn edges() -> Vec<Edge> {
     let mut all = Vec::new();
     for (which, name) in ["seg1", "seg2"].into_iter().enumerate() {
         for (place, t) in PARAMETERS {
-            let edge = Edge::new(
+            all.push(Edge::new(
                 format!("{name}_t at {place}"),
                 move |rng| crossing(which, t, rng),
                 move |n| Beside::sized(Lines::of(n).usual_t(which), t, 1.0),
-            );
-            // at a segment's end nothing is decided
-            all.push(if t == 1.0 { edge.by_the_way() } else { edge });
+            ));
         }
         all.push(Edge::new(
             format!("{name}_t * length at -eps"),
@@ -77,8 +75,7 @@ pub fn edges() -> Vec<Edge> {
             |rng| by_size_of_epsilon(-40, rng),
             |n| Beside::new(Lines::of(n).epsilon, two_to(-40)),
         )
-        .refusing()
-        .by_the_way(),
+        .refusing(),
     );
     let parallel = Edge::new(
         "|v perp u| at eps",
@@ -88,10 +85,10 @@ pub fn edges() -> Vec<Edge> {
             Beside::new(lines.perp().abs(), lines.epsilon)
         },
     );
-    all.push(parallel.by_the_way());
-    all.extend(of_points().map(Edge::by_the_way));
+    all.push(parallel);
+    all.extend(of_points());
     all.extend(at_a_glance());
-    all.extend(near_zero().map(Edge::by_the_way));
+    all.extend(near_zero());
     all
 }
 
