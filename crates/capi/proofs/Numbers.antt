@@ -34,8 +34,8 @@ use Rattle.crossing.specs.declared.circle_circle_intersect.CircleCircleIntr.{Ci
 use Rattle.crossing.specs.declared.circle_circle_intersect.CircleCircleIntr.the-variants as circleCircleIs
 use Rattle.crossing.specs.declared.circle_circle_intersect.CircleCircleAnswer.{CircleCircleAnswer}
 use Rattle.crossing.specs.declared.circle_circle_intersect.CircleCircleAnswer.the-variants as ofCircles
-use Rattle.crossing.specs.declared.pline_seg_intersect.PlineSegIntr.{PlineSegIntr}
-use Rattle.crossing.specs.declared.pline_seg_intersect.PlineSegIntr.the-variants as plineSegIs
+use Rattle.arcs.specs.declared.pline_seg_intr.PlineSegIntr.{PlineSegIntr}
+use Rattle.arcs.specs.declared.pline_seg_intr.PlineSegIntr.the-variants as plineSegIs
 use Rattle.crossing.specs.declared.pline_seg_intersect.PlineSegAnswer.{PlineSegAnswer}
 use Rattle.crossing.specs.declared.pline_seg_intersect.PlineSegAnswer.the-variants as ofPairs
 use Rattle.capi.specs.Handed.{ofLineLine, ofLineCircle, ofCircleCircle, ofPlineSeg}

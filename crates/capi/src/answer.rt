@@ -2,6 +2,7 @@
 ghost use Prim.Native.Nat.{_<_};
 ghost use mathlib.Core.Path.{_≡_};
 ghost use Rattle.capi.specs.Handed;
+use arcs::pline_seg_intr::PlineSegIntr;
 use crossing::circle_circle_intersect::CircleCircleAnswer;
 use crossing::circle_circle_intersect::CircleCircleIntr;
 use crossing::line_circle_intersect::LineCircleAnswer;
@@ -9,7 +10,6 @@ use crossing::line_circle_intersect::LineCircleIntr;
 use crossing::line_line_intersect::LineLineAnswer;
 use crossing::line_line_intersect::LineLineIntr;
 use crossing::pline_seg_intersect::PlineSegAnswer;
-use crossing::pline_seg_intersect::PlineSegIntr;
 
 // A refusal and its number, or the number of the case and four values, those that it lacks +0.
 pub struct Flat {

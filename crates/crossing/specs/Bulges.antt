@@ -7,7 +7,7 @@ use Rattle.plane.specs.declared.pline_vertex.PlineVertex.{PlineVertex}
 use Rattle.checks.specs.Arc.{arcChord}
 use Rattle.crossing.specs.Settle.{settle}
 use Rattle.crossing.specs.PlineSegIntersect.{look, plineSegIntr}
-use Rattle.crossing.specs.declared.pline_seg_intersect.PlineSegIntr.{PlineSegIntr}
+use Rattle.arcs.specs.declared.pline_seg_intr.PlineSegIntr.{PlineSegIntr}
 use Rattle.crossing.specs.declared.pline_seg_intersect.PlineSegAnswer.the-variants.{Refused, Met}
 use Rattle.crossing.specs.Laws.Bulges.{withBulge, second-bulges}
 

@@ -1,11 +1,8 @@
-pub mod Sweep
 pub mod Answers
 pub mod Bulges
 pub mod Order
 pub mod Within
 pub mod Apart
 pub mod Nested
-pub mod Ends
 pub mod FarLine
 pub mod Circles
-pub mod Branches

@@ -1,8 +1,6 @@
 pub mod LineLine
 pub mod LineCircle
 pub mod CircleCircle
-pub mod ArcSweep
-pub mod ArcGeometry
 pub mod PlineSegIntr
 pub mod LineArc
 pub mod ArcArc

@@ -2,8 +2,8 @@
 use Prim.Native.Nat.{ℕ}
 use Rattle.floats.specs.Ops.{f0}
 use Rattle.plane.specs.declared.vector2.Vector2.{Vector2}
-use Rattle.crossing.specs.declared.pline_seg_intersect.PlineSegIntr.{PlineSegIntr}
-use Rattle.crossing.specs.declared.pline_seg_intersect.PlineSegIntr.the-variants.{
+use Rattle.arcs.specs.declared.pline_seg_intr.PlineSegIntr.{PlineSegIntr}
+use Rattle.arcs.specs.declared.pline_seg_intr.PlineSegIntr.the-variants.{
   NoIntersect,
   TangentIntersect,
   OneIntersect,

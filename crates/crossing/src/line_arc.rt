@@ -1,33 +1,20 @@
-// A line segment and an arc segment, for any numbers: pline_seg_intersect.rs, lines 208-339.
-// Ends are sticky: where an end of the line lies on the arc, that end is the answer's point. A line that nearly follows the arc
-// meets its circle a little before and a little after such an end, while what meets the line at that end says the end itself; so
-// answers about one place agree.
+// A line segment and an arc segment, for any numbers: pline_seg_intersect.rs, lines 208-339. What sticky ends are is told in
+// `arcs::line_and_arc`.
 ghost use mathlib.Core.Path.{_≡_};
 ghost use Rattle.crossing.specs.LineArc;
 ghost use Rattle.plane.specs.PlineSeg.{segArcRadiusAndCenter};
 ghost use Rattle.plane.specs.Vector2.{sub, length};
-use super::arc_geometry::ArcGeometry;
 use super::line_circle::line_circle;
 use super::line_circle_intersect::LineCircleIntr;
 use super::line_line::within;
-use super::pline_seg_intersect::PlineSegIntr;
-use plane::base_math::dist_squared;
+use arcs::arc_geometry::ArcGeometry;
+use arcs::line_and_arc::PointInSweep;
+use arcs::line_and_arc::crossings_line_arc;
+use arcs::pline_seg_intr::PlineSegIntr;
 use plane::base_math::point_from_parametric;
 use plane::pline_seg::ArcRadiusCenter;
 use plane::pline_vertex::PlineVertex;
 use plane::vector2::Vector2;
-
-// A point of the line that lies on the segment and in the arc's sweep, or none.
-pub enum PointInSweep {
-    Nothing,
-    At(Vector2),
-}
-
-// Two points, the first first.
-pub struct TwoPoints {
-    pub point1: Vector2,
-    pub point2: Vector2,
-}
 
 // The point at t of the line p0 to p1, if it lies on that segment and in the arc's sweep. Its place is judged along the segment,
 // so that epsilon is a distance.
@@ -72,102 +59,6 @@ fn tangent_line_arc(
     } else {
         PlineSegIntr::NoIntersect
     }
-}
-
-// One crossing, at an end of the line that lies on the arc, or else at the point found.
-fn one_line_arc(point: Vector2, p0: Vector2, p1: Vector2, arc_geometry: ArcGeometry) -> PlineSegIntr
-    ensures { λ r. ⌜ r ≡ LineArc.oneLineArc point p0 p1 «arc_geometry» ⌝ }
-{
-    if arc_geometry.point_lies_on_arc(p0) {
-        return PlineSegIntr::OneIntersect { point: p0 };
-    }
-    if arc_geometry.point_lies_on_arc(p1) {
-        return PlineSegIntr::OneIntersect { point: p1 };
-    }
-    PlineSegIntr::OneIntersect { point }
-}
-
-// The two points found, with each end of the line that lies on the arc in the place of the one that it is nearer to.
-fn with_sticky_ends(
-    point1: Vector2,
-    point2: Vector2,
-    p0: Vector2,
-    p1: Vector2,
-    arc_geometry: ArcGeometry,
-) -> TwoPoints
-    ensures { λ r. ⌜ r ≡ LineArc.withStickyEnds point1 point2 p0 p1 «arc_geometry» ⌝ }
-{
-    let p0_on_arc = arc_geometry.point_lies_on_arc(p0);
-    let p1_on_arc = arc_geometry.point_lies_on_arc(p1);
-    if p0_on_arc {
-        let p0_nearer_point1 = dist_squared(p0, point1) < dist_squared(p0, point2);
-        if p1_on_arc {
-            if p0_nearer_point1 {
-                return TwoPoints {
-                    point1: p0,
-                    point2: p1,
-                };
-            }
-            return TwoPoints {
-                point1: p1,
-                point2: p0,
-            };
-        }
-        if p0_nearer_point1 {
-            return TwoPoints { point1: p0, point2 };
-        }
-        return TwoPoints { point1, point2: p0 };
-    }
-    if p1_on_arc {
-        if dist_squared(p1, point1) < dist_squared(p1, point2) {
-            return TwoPoints { point1: p1, point2 };
-        }
-        return TwoPoints { point1, point2: p1 };
-    }
-    TwoPoints { point1, point2 }
-}
-
-// Two crossings in the second segment's order: as found if u is the line, else by the distance to the arc's start.
-fn in_order(points: TwoPoints, arc_start: Vector2, u_is_line: bool) -> PlineSegIntr
-    ensures { λ r. ⌜ r ≡ LineArc.inOrder points «arc_start» «u_is_line» ⌝ }
-{
-    let point1 = points.point1;
-    let point2 = points.point2;
-    if u_is_line | (dist_squared(point1, arc_start) < dist_squared(point2, arc_start)) {
-        return PlineSegIntr::TwoIntersects { point1, point2 };
-    }
-    PlineSegIntr::TwoIntersects {
-        point1: point2,
-        point2: point1,
-    }
-}
-
-// What a line that crosses the circle twice has in common with the arc, by which of the two points are in its sweep.
-fn crossings_line_arc(
-    t0_point: PointInSweep,
-    t1_point: PointInSweep,
-    p0: Vector2,
-    p1: Vector2,
-    arc_start: Vector2,
-    arc_geometry: ArcGeometry,
-    u_is_line: bool,
-) -> PlineSegIntr
-    ensures { λ r. ⌜ r ≡ LineArc.crossingsLineArc «t0_point» «t1_point» p0 p1 «arc_start» «arc_geometry» «u_is_line» ⌝ }
-{
-    let PointInSweep::At(point1) = t0_point else {
-        let PointInSweep::At(point) = t1_point else {
-            return PlineSegIntr::NoIntersect;
-        };
-        return one_line_arc(point, p0, p1, arc_geometry);
-    };
-    let PointInSweep::At(point2) = t1_point else {
-        return one_line_arc(point1, p0, p1, arc_geometry);
-    };
-    in_order(
-        with_sticky_ends(point1, point2, p0, p1, arc_geometry),
-        arc_start,
-        u_is_line,
-    )
 }
 
 // How the line p0 to p1 and the arc a1 to a2 on the circle `arc` meet; `u_is_line` says that the line is the second segment.

@@ -6,7 +6,7 @@ use super::arc_arc::arc_arc;
 use super::line_arc::process_line_arc_intr;
 use super::line_line::line_line;
 use super::line_line_intersect::LineLineIntr;
-use super::pline_seg_intersect::PlineSegIntr;
+use arcs::pline_seg_intr::PlineSegIntr;
 use plane::base_math::point_from_parametric;
 use plane::pline_seg::ArcRadiusCenter;
 use plane::pline_seg::seg_arc_radius_and_center;

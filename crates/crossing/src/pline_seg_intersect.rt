@@ -6,6 +6,7 @@ ghost use Rattle.crossing.specs.Laws.Circles;
 ghost use Rattle.checks.specs.declared.fault.Checked.the-variants.{Fine};
 use super::pline_seg::pline_seg;
 use super::pline_seg::pline_seg_on;
+use arcs::pline_seg_intr::PlineSegIntr;
 use checks::arc;
 use checks::chain;
 use checks::each;
@@ -15,23 +16,6 @@ use checks::fault::Place;
 use checks::fault::later;
 use plane::pline_seg::ArcRadiusCenter;
 use plane::pline_vertex::PlineVertex;
-use plane::vector2::Vector2;
-
-// How two segments meet. Two points come in the order in which the second segment runs by them, but for two arcs on two circles.
-pub enum PlineSegIntr {
-    // Apart.
-    NoIntersect,
-    // They touch at one point and don't cross there.
-    TangentIntersect { point: Vector2 },
-    // One point that both have.
-    OneIntersect { point: Vector2 },
-    // Two points that both have.
-    TwoIntersects { point1: Vector2, point2: Vector2 },
-    // Both are lines, and from the first point to the second they are one.
-    OverlappingLines { point1: Vector2, point2: Vector2 },
-    // Both are arcs, and from the first point to the second they are one.
-    OverlappingArcs { point1: Vector2, point2: Vector2 },
-}
 
 // What the call answers: how they meet, or the number of the refusal.
 pub enum PlineSegAnswer {

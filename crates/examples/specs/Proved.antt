@@ -36,8 +36,11 @@ use Rattle.crossing.specs.Told.{Told}
 use Rattle.crossing.specs.LineLine
 use Rattle.crossing.specs.LineCircle
 use Rattle.crossing.specs.CircleCircle
-use Rattle.crossing.specs.ArcSweep
-use Rattle.crossing.specs.ArcGeometry
+use Rattle.arcs.specs.ArcSweep
+use Rattle.arcs.specs.ArcGeometry
+use Rattle.arcs.specs.LineAndArc
+use Rattle.arcs.specs.TwoArcs
+use Rattle.arcs.specs.OneCircle
 use Rattle.crossing.specs.LineArc
 use Rattle.crossing.specs.ArcArc
 use Rattle.crossing.specs.PlineSeg
@@ -65,11 +68,11 @@ unfolding
     CircleCircle.sameCenter CircleCircle.twoSides CircleCircle.meeting CircleCircle.circleCircle
     ArcSweep.new ArcSweep.exactlyWithinSweep ArcSweep.contains ArcSweep.finding
     ArcGeometry.new ArcGeometry.ofSegment ArcGeometry.sweeps ArcGeometry.pointLiesOnArc
-    LineArc.pointInSweep LineArc.tangentLineArc LineArc.oneLineArc LineArc.withStickyEnds LineArc.inOrder
+    LineArc.pointInSweep LineArc.tangentLineArc LineAndArc.oneLineArc LineAndArc.withStickyEnds LineAndArc.inOrder
     LineArc.processLineArcIntr
-    ArcArc.bothSweep ArcArc.tangentArcArc ArcArc.tryAddEndPointIntr ArcArc.addIfOnArc ArcArc.collectEndPoints
-    ArcArc.endForNearer ArcArc.endsForBoth ArcArc.twoArcArc ArcArc.sameArc ArcArc.arc2Ends ArcArc.overlapByDirection
-    ArcArc.sharedSweep ArcArc.arcsOfOneCircle ArcArc.overlappingArcArc ArcArc.arcArc
+    TwoArcs.bothSweep TwoArcs.tangentArcArc TwoArcs.tryAddEndPointIntr TwoArcs.addIfOnArc TwoArcs.collectEndPoints
+    TwoArcs.endForNearer TwoArcs.endsForBoth TwoArcs.twoArcArc OneCircle.sameArc OneCircle.arc2Ends OneCircle.overlapByDirection
+    OneCircle.sharedSweep OneCircle.arcsOfOneCircle OneCircle.overlappingArcArc ArcArc.arcArc
     PlineSeg.processLineLineIntr PlineSeg.plineSeg
     vector2.new vector2.add vector2.sub vector2.scale vector2.perp vector2.length vector2.fuzzyEqEps
     vertex.new vertex.pos

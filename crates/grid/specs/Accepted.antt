@@ -26,7 +26,7 @@ use Rattle.checks.specs.FirstFault.{AllFine, none, one, first-fine}
 use Rattle.checks.specs.Limit
 use Rattle.checks.specs.Laws.Fine.{Within, Between, epsilon-fine, coordinate-fine, bulge-fine}
 use Rattle.crossing.specs.PlineSeg.{plineSeg, processLineLineIntr}
-use Rattle.crossing.specs.declared.pline_seg_intersect.PlineSegIntr.{PlineSegIntr}
+use Rattle.arcs.specs.declared.pline_seg_intr.PlineSegIntr.{PlineSegIntr}
 use Rattle.crossing.specs.PlineSegIntersect.{checks, look, plineSegIntr}
 use Rattle.crossing.specs.Settle.{settle}
 use Rattle.crossing.specs.declared.pline_seg_intersect.PlineSegAnswer.the-variants.{Refused, Met}

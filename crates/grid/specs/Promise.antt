@@ -12,8 +12,8 @@ use Rattle.plane.specs.PlineVertex.{bulgeIsZero}
 use Rattle.plane.specs.declared.vector2.Vector2.{Vector2}
 use Rattle.plane.specs.declared.pline_vertex.PlineVertex.{PlineVertex}
 use Rattle.crossing.specs.PlineSegIntersect.{plineSegIntr}
-use Rattle.crossing.specs.declared.pline_seg_intersect.PlineSegIntr.{PlineSegIntr}
-use Rattle.crossing.specs.declared.pline_seg_intersect.PlineSegIntr.the-variants.{NoIntersect, OneIntersect, OverlappingLines}
+use Rattle.arcs.specs.declared.pline_seg_intr.PlineSegIntr.{PlineSegIntr}
+use Rattle.arcs.specs.declared.pline_seg_intr.PlineSegIntr.the-variants.{NoIntersect, OneIntersect, OverlappingLines}
 use Rattle.crossing.specs.declared.pline_seg_intersect.PlineSegAnswer.the-variants.{Met}
 use Rattle.paths.specs.declared.path.Segment.{Segment}
 use Rattle.paths.specs.Segments.{segmentFrom, segmentCount}

@@ -14,8 +14,8 @@ use Rattle.crossing.specs.declared.line_line_intersect.LineLineIntr.{LineLineIn
 use Rattle.plane.specs.PlineVertex.{bulgeIsZero}
 use Rattle.plane.specs.declared.pline_vertex.PlineVertex.{PlineVertex}
 use Rattle.crossing.specs.PlineSegIntr.{classOf}
-use Rattle.crossing.specs.declared.pline_seg_intersect.PlineSegIntr.{PlineSegIntr}
-use Rattle.crossing.specs.declared.pline_seg_intersect.PlineSegIntr.the-variants.{
+use Rattle.arcs.specs.declared.pline_seg_intr.PlineSegIntr.{PlineSegIntr}
+use Rattle.arcs.specs.declared.pline_seg_intr.PlineSegIntr.the-variants.{
   NoIntersect,
   TangentIntersect,
   OneIntersect,

@@ -1,7 +1,7 @@
 // A row of a listing: two segments that meet, how, and where. And what looking at a pair of segments gives.
 ghost use mathlib.Core.Path.{_≡_};
 ghost use Rattle.listings.specs.Row as row;
-use crossing::pline_seg_intersect::PlineSegIntr;
+use arcs::pline_seg_intr::PlineSegIntr;
 
 // how many whole numbers and how many floats of a row stand in the two lent slices
 pub const INDICES: usize = 3;

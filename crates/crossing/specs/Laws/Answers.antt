@@ -4,8 +4,8 @@ use mathlib.Core.Path.{_≡_, refl, sym, _∙_}
 use mathlib.Core.Bool.{cond}
 use lib.Dec.{eqb}
 use Rattle.plane.specs.declared.vector2.Vector2.{Vector2}
-use Rattle.crossing.specs.declared.pline_seg_intersect.PlineSegIntr.{PlineSegIntr}
-use Rattle.crossing.specs.declared.pline_seg_intersect.PlineSegIntr.the-variants.{
+use Rattle.arcs.specs.declared.pline_seg_intr.PlineSegIntr.{PlineSegIntr}
+use Rattle.arcs.specs.declared.pline_seg_intr.PlineSegIntr.the-variants.{
   NoIntersect,
   TangentIntersect,
   OneIntersect,

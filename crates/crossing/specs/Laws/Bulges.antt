@@ -5,8 +5,9 @@ use Rattle.plane.specs.PlineSeg.{segArcRadiusAndCenter}
 use Rattle.plane.specs.PlineVertex.{pos}
 use Rattle.plane.specs.declared.pline_seg.ArcRadiusCenter.{ArcRadiusCenter}
 use Rattle.plane.specs.declared.pline_vertex.PlineVertex.{PlineVertex}
-use Rattle.crossing.specs.ArcArc.{arcArc, arcArcOf, overlappingArcArc, sameArc}
-use Rattle.crossing.specs.ArcGeometry.{ofSegment}
+use Rattle.arcs.specs.OneCircle.{overlappingArcArc, sameArc}
+use Rattle.crossing.specs.ArcArc.{arcArc, arcArcOf}
+use Rattle.arcs.specs.ArcGeometry.{ofSegment}
 use Rattle.crossing.specs.CircleCircle.{circleCircle}
 use Rattle.crossing.specs.declared.circle_circle_intersect.CircleCircleIntr.{CircleCircleIntr}
 use Rattle.crossing.specs.declared.circle_circle_intersect.CircleCircleIntr.the-variants.{

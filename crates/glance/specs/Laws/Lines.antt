@@ -38,7 +38,7 @@ use Rattle.crossing.specs.Laws.Within.{
   within-outside,
 }
 use Rattle.crossing.specs.declared.line_line_intersect.LineLineIntr.{LineLineIntr}
-use Rattle.crossing.specs.declared.pline_seg_intersect.PlineSegIntr.the-variants.{NoIntersect}
+use Rattle.arcs.specs.declared.pline_seg_intr.PlineSegIntr.the-variants.{NoIntersect}
 use Rattle.glance.specs.Glance.{beforeStart, quotientOutside, crossesOutside, linesApart}
 
 beforeStart-is : Diff beforeStart 0 1 32

@@ -11,7 +11,7 @@ use Rattle.plane.specs.Vector2 as vector2
 use Rattle.plane.specs.declared.vector2.Vector2.{Vector2}
 use Rattle.plane.specs.declared.pline_vertex.PlineVertex.{PlineVertex}
 use Rattle.plane.specs.declared.pline_seg.ArcRadiusCenter.{ArcRadiusCenter}
-use Rattle.crossing.specs.ArcGeometry.{ofSegment}
+use Rattle.arcs.specs.ArcGeometry.{ofSegment}
 use Rattle.crossing.specs.ArcArc.{arcArc, arcArcOf}
 use Rattle.crossing.specs.LineArc.{processLineArcIntr, lineArcOf}
 use Rattle.crossing.specs.PlineSeg.{plineSeg, processLineLineIntr}
@@ -20,8 +20,8 @@ use Rattle.crossing.specs.Laws.Nested.{nested, circles-nested}
 use Rattle.crossing.specs.Laws.Circles.{OfArc}
 use Rattle.crossing.specs.declared.circle_circle_intersect.CircleCircleIntr.{CircleCircleIntr}
 use Rattle.crossing.specs.declared.line_circle_intersect.LineCircleIntr.{LineCircleIntr}
-use Rattle.crossing.specs.declared.pline_seg_intersect.PlineSegIntr.{PlineSegIntr}
-use Rattle.crossing.specs.declared.pline_seg_intersect.PlineSegIntr.the-variants.{NoIntersect}
+use Rattle.arcs.specs.declared.pline_seg_intr.PlineSegIntr.{PlineSegIntr}
+use Rattle.arcs.specs.declared.pline_seg_intr.PlineSegIntr.the-variants.{NoIntersect}
 use Rattle.glance.specs.declared.kept.Kept.{Kept}
 use Rattle.glance.specs.Kept.{keptOf, ofLine, ofArc, circleOf}
 use Rattle.glance.specs.Glance.{linesApart, lineBeside, circlesApart, clearlyApart, linePairApart}

@@ -5,7 +5,7 @@ use borrow.Author.Needs.{needs}
 use Rattle.plane.specs.Fuzzy.{fuzzyEqZeroEps}
 use Rattle.plane.specs.Vector2.{perpDot}
 use Rattle.crossing.specs.LineLine.{parallel}
-use Rattle.crossing.specs.Laws.Branches.{said-so, said-not, nested}
+use Rattle.arcs.specs.Laws.Branches.{said-so, said-not, nested}
 use Rattle.crossing.proofs.line_line.parallel.Statement.{statement}
 use Rattle.crossing.proofs.line_line.parallel.Tie as tie
 
@@ -20,7 +20,6 @@ off-line c =
       ← c .before .perp-dot2 .ensures,
       ← c .fuzzy-eq-zero-eps2 .ensures,
     )
-
 
 pub parallel-spec : {M : Type 1} → statement M
 unfolding parallel

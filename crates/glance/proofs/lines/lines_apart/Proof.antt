@@ -4,7 +4,7 @@ use mathlib.Core.Bool.{true, _||_}
 use borrow.Author.Needs.{needs}
 use Rattle.plane.specs.Fuzzy.{fuzzyEqZeroEps}
 use Rattle.plane.specs.Vector2.{sub, perpDot}
-use Rattle.crossing.specs.Laws.Branches.{said-so, said-not}
+use Rattle.arcs.specs.Laws.Branches.{said-so, said-not}
 use Rattle.glance.specs.Glance.{linesApart, crossesOutside}
 use Rattle.glance.proofs.lines.lines_apart.Statement.{statement}
 use Rattle.glance.proofs.lines.lines_apart.Tie as tie

@@ -9,7 +9,7 @@ use Rattle.plane.specs.declared.pline_vertex.PlineVertex.{PlineVertex}
 use Rattle.checks.specs.declared.fault.Checked.the-variants.{Fine}
 use Rattle.crossing.specs.PlineSeg.{plineSeg}
 use Rattle.crossing.specs.PlineSegIntersect as pair
-use Rattle.crossing.specs.declared.pline_seg_intersect.PlineSegIntr.{PlineSegIntr}
+use Rattle.arcs.specs.declared.pline_seg_intr.PlineSegIntr.{PlineSegIntr}
 use Rattle.crossing.specs.declared.pline_seg_intersect.PlineSegAnswer.the-variants.{Met}
 use Rattle.glance.specs.Laws.Looked.{glance-fine}
 use Rattle.glance.proofs.pair.pline_seg_intr.Statement.{statement}

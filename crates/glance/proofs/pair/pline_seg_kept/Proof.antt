@@ -8,7 +8,7 @@ use denote.Floats.{passes}
 use borrow.Author.Needs.{needs}
 use Rattle.plane.specs.declared.pline_vertex.PlineVertex.{PlineVertex}
 use Rattle.crossing.specs.PlineSeg.{plineSeg}
-use Rattle.crossing.specs.declared.pline_seg_intersect.PlineSegIntr.the-variants.{NoIntersect}
+use Rattle.arcs.specs.declared.pline_seg_intr.PlineSegIntr.the-variants.{NoIntersect}
 use Rattle.glance.specs.declared.kept.Kept.{Kept}
 use Rattle.glance.specs.Kept.{keptOf}
 use Rattle.glance.specs.Glance.{clearlyApart}

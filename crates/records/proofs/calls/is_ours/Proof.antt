@@ -1,6 +1,6 @@
 -- `records::calls::is_ours` meets its contract: each return is an end of the definition, by the test and the calls on its way.
 use borrow.Author.Needs.{needs}
-use Rattle.crossing.specs.Laws.Branches.{branches}
+use Rattle.arcs.specs.Laws.Branches.{branches}
 use Rattle.records.specs.Calls.{isOurs}
 use Rattle.records.proofs.calls.is_ours.Statement.{statement}
 use Rattle.records.proofs.calls.is_ours.Tie as tie

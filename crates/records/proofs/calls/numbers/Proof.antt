@@ -1,7 +1,7 @@
 -- `records::calls::numbers` meets its contract: each return is an end of the definition, by the test that led to it.
 -- Assumes nothing.
 use borrow.Author.Needs.{needs}
-use Rattle.crossing.specs.Laws.Branches.{branches}
+use Rattle.arcs.specs.Laws.Branches.{branches}
 use Rattle.records.specs.Calls.{numbersOf}
 use Rattle.records.proofs.calls.numbers.Statement.{statement}
 use Rattle.records.proofs.calls.numbers.Tie as tie

@@ -6,7 +6,7 @@ use borrow.Author.Needs.{needs}
 use lib.Dec.{T}
 use lib.Ieee.{Float, nan, inf, fin, binary64, isNan, nanBits, ofBits, ofFields, div}
 use lib.Ieee.Bits.{nanBits-is}
-use Rattle.crossing.specs.Laws.Branches.{denied}
+use Rattle.arcs.specs.Laws.Branches.{denied}
 use Rattle.records.specs.Text.{numberAt}
 use Rattle.records.proofs.text.number.Statement.{statement}
 use Rattle.records.proofs.text.number.Tie as tie

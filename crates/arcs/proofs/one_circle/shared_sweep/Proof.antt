@@ -1,0 +1,17 @@
+-- `arcs::one_circle::shared_sweep` meets its contract: each return is an end of the definition, by the calls and tests on
+-- its way.
+use borrow.Author.Needs.{needs}
+use Rattle.arcs.specs.OneCircle.{sharedSweep}
+use Rattle.arcs.specs.Laws.Branches.{nested}
+use Rattle.arcs.proofs.one_circle.shared_sweep.Statement.{statement}
+use Rattle.arcs.proofs.one_circle.shared_sweep.Tie as tie
+
+pub shared-sweep-spec : {M : Type 1} → statement M
+unfolding sharedSweep
+shared-sweep-spec =
+    tie.close
+    (tie.spec
+    (search needs) (search needs) (λ c. search nested depth 8)
+    (search needs) (λ c. search nested depth 8)
+    (search needs) (λ c. search nested depth 8)
+    (search needs) (search needs) (λ c. search nested depth 8) (λ c. search nested depth 8))

@@ -1,0 +1,16 @@
+-- `arcs::two_arcs::tangent_arc_arc` meets its contract: each return is an end of the definition, by the calls and tests
+-- on its way.
+use borrow.Author.Needs.{needs}
+use Rattle.arcs.specs.TwoArcs.{tangentArcArc}
+use Rattle.arcs.specs.Laws.Branches.{branches}
+use Rattle.arcs.proofs.two_arcs.tangent_arc_arc.Statement.{statement}
+use Rattle.arcs.proofs.two_arcs.tangent_arc_arc.Tie as tie
+
+pub tangent-arc-arc-spec : {M : Type 1} → statement M
+unfolding tangentArcArc
+tangent-arc-arc-spec =
+    tie.close
+    (tie.spec
+    (search needs) (λ c. search branches depth 8) (search needs) (λ c. search branches depth 8)
+    (search needs) (λ c. search branches depth 8) (search needs) (λ c. search branches depth 8)
+    (search needs) (λ c. search branches depth 8) (λ c. search branches depth 8))

@@ -1,0 +1,63 @@
+-- The sweep of an arc: `ArcSweep` of pline_seg_intersect.rs, line for line. A reader holds the two side by side.
+use mathlib.Core.Bool.{Bool, true, cond, _&&_, _||_}
+use lib.Ieee.{Float}
+use Rattle.floats.specs.Ops.{_⊗_, _≺_, _≼_, _≽_, f0}
+use Rattle.plane.specs.Vector2.{sub, dot, perpDot, lengthSquared}
+use Rattle.plane.specs.declared.vector2.Vector2.{Vector2}
+use Rattle.arcs.specs.declared.arc_sweep.ArcSweep.{ArcSweep}
+use Rattle.arcs.specs.declared.arc_sweep.SweepFinding.{SweepFinding}
+use Rattle.arcs.specs.declared.arc_sweep.SweepFinding.the-variants.{Outside, NearCenter, Inside, NearStart, NearEnd}
+
+-- lines 31-50
+unfoldable pub new : Vector2 → Vector2 → Vector2 → Bool → Float → ArcSweep
+new center start end isClockwise epsilon =
+    let startVector = sub start center in
+    let endVector = sub end center in
+    let epsilonSquared = epsilon ⊗ epsilon in
+    record {
+      center = center;
+      «start_vector» = startVector;
+      «end_vector» = endVector;
+      «is_clockwise» = isClockwise;
+      «epsilon_squared» = epsilonSquared;
+      «start_fuzzy_limit» = epsilonSquared ⊗ lengthSquared startVector;
+      «end_fuzzy_limit» = epsilonSquared ⊗ lengthSquared endVector;
+    }
+
+-- lines 61-65
+unfoldable pub exactlyWithinSweep : Bool → Float → Float → Bool
+exactlyWithinSweep isClockwise startCross endCross =
+    cond isClockwise ((startCross ≼ f0) && (endCross ≽ f0)) ((startCross ≽ f0) && (endCross ≼ f0))
+
+-- lines 70-71, and for the other edge 72-73
+abbrev pub beside : Vector2 → Vector2 → Float → Float → Bool
+beside edge pointVector cross fuzzyLimit = (dot edge pointVector ≽ f0) && (cross ⊗ cross ≺ fuzzyLimit)
+
+-- lines 53-74
+unfoldable pub contains : ArcSweep → Vector2 → Bool
+contains self point =
+    let pointVector = sub point (self .center) in
+    let startCross = perpDot (self .«start_vector») pointVector in
+    let endCross = perpDot (self .«end_vector») pointVector in
+    cond (lengthSquared pointVector ≺ self .«epsilon_squared»)
+    true
+    (cond (exactlyWithinSweep (self .«is_clockwise») startCross endCross)
+    true
+    (beside (self .«start_vector») pointVector startCross (self .«start_fuzzy_limit»)
+    || beside (self .«end_vector») pointVector endCross (self .«end_fuzzy_limit»)))
+
+-- Ours: the same rules in the same order, with the one that says yes. `Laws.Sweep` has that `contains` is this not being Outside.
+unfoldable pub finding : ArcSweep → Vector2 → SweepFinding
+finding self point =
+    let pointVector = sub point (self .center) in
+    let startCross = perpDot (self .«start_vector») pointVector in
+    let endCross = perpDot (self .«end_vector») pointVector in
+    cond (lengthSquared pointVector ≺ self .«epsilon_squared»)
+    NearCenter
+    (cond (exactlyWithinSweep (self .«is_clockwise») startCross endCross)
+    Inside
+    (cond (beside (self .«start_vector») pointVector startCross (self .«start_fuzzy_limit»))
+    NearStart
+    (cond (beside (self .«end_vector») pointVector endCross (self .«end_fuzzy_limit»))
+    NearEnd
+    Outside)))

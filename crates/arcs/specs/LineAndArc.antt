@@ -1,0 +1,53 @@
+-- A line and an arc whose circle it crosses twice: pline_seg_intersect.rs, lines 271-336, line for line.
+use mathlib.Core.Bool.{Bool, cond, _||_}
+use Rattle.floats.specs.Ops.{_≺_}
+use Rattle.plane.specs.BaseMath.{distSquared}
+use Rattle.plane.specs.declared.vector2.Vector2.{Vector2}
+use Rattle.arcs.specs.ArcGeometry.{pointLiesOnArc}
+use Rattle.arcs.specs.declared.arc_geometry.ArcGeometry.{ArcGeometry}
+use Rattle.arcs.specs.declared.line_and_arc.PointInSweep.{PointInSweep}
+use Rattle.arcs.specs.declared.line_and_arc.PointInSweep.the-variants.{Nothing, At}
+use Rattle.arcs.specs.declared.line_and_arc.TwoPoints.{TwoPoints}
+use Rattle.arcs.specs.declared.pline_seg_intr.PlineSegIntr.{PlineSegIntr}
+use Rattle.arcs.specs.declared.pline_seg_intr.PlineSegIntr.the-variants.{NoIntersect, OneIntersect, TwoIntersects}
+
+-- lines 274-282
+unfoldable pub oneLineArc : Vector2 → Vector2 → Vector2 → ArcGeometry → PlineSegIntr
+oneLineArc point p0 p1 arcGeometry =
+    cond (pointLiesOnArc arcGeometry p0)
+    (OneIntersect p0)
+    (cond (pointLiesOnArc arcGeometry p1)
+    (OneIntersect p1)
+    (OneIntersect point))
+
+-- lines 287-322
+unfoldable pub withStickyEnds : Vector2 → Vector2 → Vector2 → Vector2 → ArcGeometry → TwoPoints
+withStickyEnds point1 point2 p0 p1 arcGeometry =
+    cond (pointLiesOnArc arcGeometry p0)
+    (cond (pointLiesOnArc arcGeometry p1)
+    (cond (distSquared p0 point1 ≺ distSquared p0 point2)
+    (record { point1 = p0; point2 = p1 })
+    (record { point1 = p1; point2 = p0 }))
+    (cond (distSquared p0 point1 ≺ distSquared p0 point2)
+    (record { point1 = p0; point2 = point2 })
+    (record { point1 = point1; point2 = p0 })))
+    (cond (pointLiesOnArc arcGeometry p1)
+    (cond (distSquared p1 point1 ≺ distSquared p1 point2)
+    (record { point1 = p1; point2 = point2 })
+    (record { point1 = point1; point2 = p1 }))
+    (record { point1 = point1; point2 = point2 }))
+
+-- lines 324-334
+unfoldable pub inOrder : TwoPoints → Vector2 → Bool → PlineSegIntr
+inOrder points arcStart uIsLine =
+    cond (uIsLine || (distSquared (points .point1) arcStart ≺ distSquared (points .point2) arcStart))
+    (TwoIntersects (points .point1) (points .point2))
+    (TwoIntersects (points .point2) (points .point1))
+
+-- lines 271-336
+abbrev pub crossingsLineArc : PointInSweep → PointInSweep → Vector2 → Vector2 → Vector2 → ArcGeometry → Bool → PlineSegIntr
+crossingsLineArc Nothing Nothing p0 p1 arcStart arcGeometry uIsLine = NoIntersect
+crossingsLineArc Nothing (At point) p0 p1 arcStart arcGeometry uIsLine = oneLineArc point p0 p1 arcGeometry
+crossingsLineArc (At point) Nothing p0 p1 arcStart arcGeometry uIsLine = oneLineArc point p0 p1 arcGeometry
+crossingsLineArc (At point1) (At point2) p0 p1 arcStart arcGeometry uIsLine =
+    inOrder (withStickyEnds point1 point2 p0 p1 arcGeometry) arcStart uIsLine

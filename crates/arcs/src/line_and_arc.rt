@@ -1,0 +1,118 @@
+// A line and an arc whose circle it crosses twice, for any numbers: pline_seg_intersect.rs, lines 271-336.
+// Ends are sticky: where an end of the line lies on the arc, that end is the answer's point. A line that nearly follows the arc
+// meets its circle a little before and a little after such an end, while what meets the line at that end says the end itself; so
+// answers about one place agree.
+ghost use mathlib.Core.Path.{_≡_};
+ghost use Rattle.arcs.specs.LineAndArc;
+use super::arc_geometry::ArcGeometry;
+use super::pline_seg_intr::PlineSegIntr;
+use plane::base_math::dist_squared;
+use plane::vector2::Vector2;
+
+// A point of the line that lies on the segment and in the arc's sweep, or none.
+pub enum PointInSweep {
+    Nothing,
+    At(Vector2),
+}
+
+// Two points, the first first.
+pub struct TwoPoints {
+    pub point1: Vector2,
+    pub point2: Vector2,
+}
+
+// One crossing, at an end of the line that lies on the arc, or else at the point found.
+fn one_line_arc(point: Vector2, p0: Vector2, p1: Vector2, arc_geometry: ArcGeometry) -> PlineSegIntr
+    ensures { λ r. ⌜ r ≡ LineAndArc.oneLineArc point p0 p1 «arc_geometry» ⌝ }
+{
+    if arc_geometry.point_lies_on_arc(p0) {
+        return PlineSegIntr::OneIntersect { point: p0 };
+    }
+    if arc_geometry.point_lies_on_arc(p1) {
+        return PlineSegIntr::OneIntersect { point: p1 };
+    }
+    PlineSegIntr::OneIntersect { point }
+}
+
+// The two points found, with each end of the line that lies on the arc in the place of the one that it is nearer to.
+fn with_sticky_ends(
+    point1: Vector2,
+    point2: Vector2,
+    p0: Vector2,
+    p1: Vector2,
+    arc_geometry: ArcGeometry,
+) -> TwoPoints
+    ensures { λ r. ⌜ r ≡ LineAndArc.withStickyEnds point1 point2 p0 p1 «arc_geometry» ⌝ }
+{
+    let p0_on_arc = arc_geometry.point_lies_on_arc(p0);
+    let p1_on_arc = arc_geometry.point_lies_on_arc(p1);
+    if p0_on_arc {
+        let p0_nearer_point1 = dist_squared(p0, point1) < dist_squared(p0, point2);
+        if p1_on_arc {
+            if p0_nearer_point1 {
+                return TwoPoints {
+                    point1: p0,
+                    point2: p1,
+                };
+            }
+            return TwoPoints {
+                point1: p1,
+                point2: p0,
+            };
+        }
+        if p0_nearer_point1 {
+            return TwoPoints { point1: p0, point2 };
+        }
+        return TwoPoints { point1, point2: p0 };
+    }
+    if p1_on_arc {
+        if dist_squared(p1, point1) < dist_squared(p1, point2) {
+            return TwoPoints { point1: p1, point2 };
+        }
+        return TwoPoints { point1, point2: p1 };
+    }
+    TwoPoints { point1, point2 }
+}
+
+// Two crossings in the second segment's order: as found if u is the line, else by the distance to the arc's start.
+fn in_order(points: TwoPoints, arc_start: Vector2, u_is_line: bool) -> PlineSegIntr
+    ensures { λ r. ⌜ r ≡ LineAndArc.inOrder points «arc_start» «u_is_line» ⌝ }
+{
+    let point1 = points.point1;
+    let point2 = points.point2;
+    if u_is_line | (dist_squared(point1, arc_start) < dist_squared(point2, arc_start)) {
+        return PlineSegIntr::TwoIntersects { point1, point2 };
+    }
+    PlineSegIntr::TwoIntersects {
+        point1: point2,
+        point2: point1,
+    }
+}
+
+// What a line that crosses the circle twice has in common with the arc, by which of the two points are in its sweep.
+pub fn crossings_line_arc(
+    t0_point: PointInSweep,
+    t1_point: PointInSweep,
+    p0: Vector2,
+    p1: Vector2,
+    arc_start: Vector2,
+    arc_geometry: ArcGeometry,
+    u_is_line: bool,
+) -> PlineSegIntr
+    ensures { λ r. ⌜ r ≡ LineAndArc.crossingsLineArc «t0_point» «t1_point» p0 p1 «arc_start» «arc_geometry» «u_is_line» ⌝ }
+{
+    let PointInSweep::At(point1) = t0_point else {
+        let PointInSweep::At(point) = t1_point else {
+            return PlineSegIntr::NoIntersect;
+        };
+        return one_line_arc(point, p0, p1, arc_geometry);
+    };
+    let PointInSweep::At(point2) = t1_point else {
+        return one_line_arc(point1, p0, p1, arc_geometry);
+    };
+    in_order(
+        with_sticky_ends(point1, point2, p0, p1, arc_geometry),
+        arc_start,
+        u_is_line,
+    )
+}

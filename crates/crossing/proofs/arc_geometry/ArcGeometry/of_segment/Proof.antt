@@ -1,9 +1,0 @@
--- `crossing::arc_geometry::ArcGeometry::of_segment` meets its contract: its calls are the definition's.
-use borrow.Author.Needs.{needs}
-use Rattle.crossing.specs.ArcGeometry as geometry
-use Rattle.crossing.proofs.arc_geometry.ArcGeometry.of_segment.Statement.{statement}
-use Rattle.crossing.proofs.arc_geometry.ArcGeometry.of_segment.Tie as tie
-
-pub of-segment-spec : {M : Type 1} → statement M
-unfolding geometry.ofSegment
-of-segment-spec = tie.close (tie.spec (search needs) (search needs) (search needs) (search needs) (λ c. cc))

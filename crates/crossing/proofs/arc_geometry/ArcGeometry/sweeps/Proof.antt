@@ -1,9 +1,0 @@
--- `crossing::arc_geometry::ArcGeometry::sweeps` meets its contract: its calls are the definition's.
-use borrow.Author.Needs.{needs}
-use Rattle.crossing.specs.ArcGeometry as geometry
-use Rattle.crossing.proofs.arc_geometry.ArcGeometry.sweeps.Statement.{statement}
-use Rattle.crossing.proofs.arc_geometry.ArcGeometry.sweeps.Tie as tie
-
-pub sweeps-spec : {M : Type 1} → statement M
-unfolding geometry.sweeps
-sweeps-spec = tie.close (tie.spec (search needs) (λ c. cc))

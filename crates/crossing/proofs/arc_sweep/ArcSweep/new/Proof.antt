@@ -1,9 +1,0 @@
--- `crossing::arc_sweep::ArcSweep::new` meets its contract: its calls are the definition's.
-use borrow.Author.Needs.{needs}
-use Rattle.crossing.specs.ArcSweep as sweep
-use Rattle.crossing.proofs.arc_sweep.ArcSweep.new.Statement.{statement}
-use Rattle.crossing.proofs.arc_sweep.ArcSweep.new.Tie as tie
-
-pub new-spec : {M : Type 1} → statement M
-unfolding sweep.new
-new-spec = tie.close (tie.spec (search needs) (search needs) (search needs) (search needs) (λ c. cc))
