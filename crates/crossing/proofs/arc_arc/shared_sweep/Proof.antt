@@ -2,7 +2,7 @@
 -- its way.
 use borrow.Author.Needs.{needs}
 use Rattle.crossing.specs.ArcArc.{sharedSweep}
-use Rattle.crossing.specs.Laws.Branches.{nested}
+use Rattle.crossing.specs.Laws.Branches.{pairs}
 use Rattle.crossing.proofs.arc_arc.shared_sweep.Statement.{statement}
 use Rattle.crossing.proofs.arc_arc.shared_sweep.Tie as tie
 
@@ -11,7 +11,7 @@ unfolding sharedSweep
 shared-sweep-spec =
     tie.close
     (tie.spec
-    (search needs) (search needs) (λ c. search nested depth 8)
-    (search needs) (λ c. search nested depth 8)
-    (search needs) (λ c. search nested depth 8)
-    (search needs) (search needs) (λ c. search nested depth 8) (λ c. search nested depth 8))
+    (search needs) (search needs) (λ c. search pairs depth 8)
+    (search needs) (λ c. search pairs depth 8)
+    (search needs) (λ c. search pairs depth 8)
+    (search needs) (search needs) (λ c. search pairs depth 8) (λ c. search pairs depth 8))
