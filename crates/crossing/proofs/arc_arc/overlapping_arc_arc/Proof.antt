@@ -15,6 +15,14 @@ overlapping-arc-arc-spec =
     simp (← t .before .same-arc .ensures, t .if1 .taken, ← c .before .pos .ensures, ← c .pos2 .ensures))
     (search needs) (search needs) (search needs) (search needs) (search needs) (search needs) (search needs)
     (λ c. let b = c .before .before in let p = b .before .before .before .before in
-    simp (← p .before .before .same-arc .ensures, p .before .if1 .left, ← p .pos3 .ensures, ← b .before .before .before .pos4 .ensures,
-    ← b .before .before .pos5 .ensures, ← b .before .pos6 .ensures, ← b .bulge-is-neg .ensures, ← c .before .bulge-is-neg2 .ensures,
-    ← c .arcs-of-one-circle .ensures)))
+    simp (
+      ← p .before .before .same-arc .ensures,
+      p .before .if1 .left,
+      ← p .pos3 .ensures,
+      ← b .before .before .before .pos4 .ensures,
+      ← b .before .before .pos5 .ensures,
+      ← b .before .pos6 .ensures,
+      ← b .bulge-is-neg .ensures,
+      ← c .before .bulge-is-neg2 .ensures,
+      ← c .arcs-of-one-circle .ensures,
+    )))

@@ -28,6 +28,12 @@ crossing-spec =
     simp (← p .before .perp-dot .ensures, ← p .perp-dot2 .ensures, ← c .before .within .ensures, c .if1 .taken))
     (search needs)
     (λ c. let w = c .before .before .before in
-    simp (← w .before .before .perp-dot .ensures, ← w .before .perp-dot2 .ensures, ← w .within .ensures,
-    c .before .before .if1 .left, ← c .before .within2 .ensures, c .if2 .taken))
+    simp (
+      ← w .before .before .perp-dot .ensures,
+      ← w .before .perp-dot2 .ensures,
+      ← w .within .ensures,
+      c .before .before .if1 .left,
+      ← c .before .within2 .ensures,
+      c .if2 .taken,
+    ))
     returns-3)

@@ -12,9 +12,23 @@ line-line-spec =
     (tie.spec
     (search needs) (search needs) (search needs) (search needs) (search needs) (search needs)
     (λ c. let f = c .before .before in let p = f .before .before in
-    simp (← p .before .before .sub .ensures, ← p .before .sub2 .ensures, ← p .perp-dot .ensures, ← f .before .sub3 .ensures,
-    ← f .fuzzy-eq-zero-eps .ensures, c .before .if1 .taken, ← c .crossing .ensures))
+    simp (
+      ← p .before .before .sub .ensures,
+      ← p .before .sub2 .ensures,
+      ← p .perp-dot .ensures,
+      ← f .before .sub3 .ensures,
+      ← f .fuzzy-eq-zero-eps .ensures,
+      c .before .if1 .taken,
+      ← c .crossing .ensures,
+    ))
     (search needs)
     (λ c. let f = c .before .before in let p = f .before .before in
-    simp (← p .before .before .sub .ensures, ← p .before .sub2 .ensures, ← p .perp-dot .ensures, ← f .before .sub3 .ensures,
-    ← f .fuzzy-eq-zero-eps .ensures, c .before .if1 .left, ← c .parallel .ensures)))
+    simp (
+      ← p .before .before .sub .ensures,
+      ← p .before .sub2 .ensures,
+      ← p .perp-dot .ensures,
+      ← f .before .sub3 .ensures,
+      ← f .fuzzy-eq-zero-eps .ensures,
+      c .before .if1 .left,
+      ← c .parallel .ensures,
+    )))

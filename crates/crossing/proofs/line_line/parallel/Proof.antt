@@ -17,8 +17,13 @@ on-line : (c : tie.Else1) (r y : LineLineIntr) → r ≡ y → let a = c .before
     NoIntersect y
 on-line c r y e =
     let p = c .before .before .before in
-    simp (← p .before .perp-dot .ensures, ← p .fuzzy-eq-zero-eps .ensures, ← c .before .before .perp-dot2 .ensures,
-    ← c .before .fuzzy-eq-zero-eps2 .ensures, c .if1 .left) e
+    simp (
+      ← p .before .perp-dot .ensures,
+      ← p .fuzzy-eq-zero-eps .ensures,
+      ← c .before .before .perp-dot2 .ensures,
+      ← c .before .fuzzy-eq-zero-eps2 .ensures,
+      c .if1 .left,
+    ) e
 
 pub parallel-spec : {M : Type 1} → statement M
 unfolding parallel
@@ -27,8 +32,13 @@ parallel-spec =
     (tie.spec
     (search needs) (search needs) (search needs) (search needs)
     (λ c. let p = c .before .before .before in
-    simp (← p .before .perp-dot .ensures, ← p .fuzzy-eq-zero-eps .ensures, ← c .before .before .perp-dot2 .ensures,
-    ← c .before .fuzzy-eq-zero-eps2 .ensures, c .if1 .taken))
+    simp (
+      ← p .before .perp-dot .ensures,
+      ← p .fuzzy-eq-zero-eps .ensures,
+      ← c .before .before .perp-dot2 .ensures,
+      ← c .before .fuzzy-eq-zero-eps2 .ensures,
+      c .if1 .taken,
+    ))
     (search needs) (search needs) (search needs)
     (λ c. on-line (c .before .before .before .before .before) _ _ (search pairs)) (search needs)
     (λ c. on-line (c .before .before .before .before .before) _ _ (search pairs)) (search needs)
