@@ -43,7 +43,7 @@ module _ {A : Type 0} (n k : ℕ) (x y r : A) where
 
 pub ruleset branches = (holds, fails, said-so, said-not, less, not-less, other, below, above)
 
--- two tests, one in the other in the code, asked at once in the definition
+-- two tests that the definition asks at once: one in the other in the code, or both denied
 module _ {A : Type 0} (t u a b : Bool) (x y r : A) where
   pub both : a ≡ t → b ≡ u → a ≡ true → b ≡ true → r ≡ x → r ≡ cond (t && u) x y
   both p q h k e = rw (← p, ← q, h, k) e
@@ -54,7 +54,13 @@ module _ {A : Type 0} (t u a b : Bool) (x y r : A) where
   pub neither : a ≡ t → a ≡ false → r ≡ y → r ≡ cond (t && u) x y
   neither p h e = rw (← p, h) e
 
-pub ruleset nested = (both, first, neither, branches)
+  pub one-not : a ≡ t → b ≡ u → (not a || not b) ≡ true → r ≡ x → r ≡ cond (not t || not u) x y
+  one-not p q h e = rw (← p, ← q, h) e
+
+  pub none-not : a ≡ t → b ≡ u → (not a || not b) ≡ false → r ≡ y → r ≡ cond (not t || not u) x y
+  none-not p q h e = rw (← p, ← q, h) e
+
+pub ruleset pairs = (both, first, neither, one-not, none-not, branches)
 
 pub denied : (test said : Bool) → said ≡ test → said ≡ false → T (not test)
 denied test said is h = rw (← is, h) tt

@@ -2,7 +2,7 @@
 -- its way.
 use borrow.Author.Needs.{needs}
 use Rattle.arcs.specs.OneCircle.{sharedSweep}
-use Rattle.arcs.specs.Laws.Branches.{nested}
+use Rattle.arcs.specs.Laws.Branches.{pairs}
 use Rattle.arcs.proofs.one_circle.shared_sweep.Statement.{statement}
 use Rattle.arcs.proofs.one_circle.shared_sweep.Tie as tie
 
@@ -11,7 +11,7 @@ unfolding sharedSweep
 shared-sweep-spec =
     tie.close
     (tie.spec
-    (search needs) (search needs) (λ c. search nested depth 8)
-    (search needs) (λ c. search nested depth 8)
-    (search needs) (λ c. search nested depth 8)
-    (search needs) (search needs) (λ c. search nested depth 8) (λ c. search nested depth 8))
+    (search needs) (search needs) (λ c. search pairs depth 8)
+    (search needs) (λ c. search pairs depth 8)
+    (search needs) (λ c. search pairs depth 8)
+    (search needs) (search needs) (λ c. search pairs depth 8) (λ c. search pairs depth 8))

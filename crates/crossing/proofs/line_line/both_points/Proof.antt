@@ -7,21 +7,11 @@ use Rattle.crossing.proofs.line_line.both_points.Tie as tie
 
 returns : tie.Need-returns
 unfolding LineLine.bothPoints
-returns c =
-    let p1 = c .before in
-    simp (
-      ← p1 .fuzzy-eq-eps .ensures,
-      c .if1 .taken,
-    )
+returns c = simp (← c .before .fuzzy-eq-eps .ensures, c .if1 .taken)
 
 returns-2 : tie.Need-returns-2
 unfolding LineLine.bothPoints
-returns-2 c =
-    let p1 = c .before in
-    simp (
-      ← p1 .fuzzy-eq-eps .ensures,
-      c .if1 .left,
-    )
+returns-2 c = simp (← c .before .fuzzy-eq-eps .ensures, c .if1 .left)
 
 pub both-points-spec : {M : Type 1} → statement M
 both-points-spec = tie.close (tie.spec (search needs) returns returns-2)

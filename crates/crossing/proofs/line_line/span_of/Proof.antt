@@ -8,24 +8,14 @@ use Rattle.crossing.proofs.line_line.span_of.Tie as tie
 returns : tie.Need-returns
 unfolding LineLine.spanOf
 returns c =
-    let p1 = c .before .before .before .before .before in
-    let p2 = p1 .before in
-    simp (
-      ← p2 .fuzzy-eq-zero-eps .ensures,
-      p1 .if1 .taken,
-      ← c .rising .ensures,
-    )
+    let t = c .before .before .before .before .before in
+    simp (← t .before .fuzzy-eq-zero-eps .ensures, t .if1 .taken, ← c .rising .ensures)
 
 returns-2 : tie.Need-returns-2
 unfolding LineLine.spanOf
 returns-2 c =
-    let p1 = c .before .before .before .before .before in
-    let p2 = p1 .before in
-    simp (
-      ← p2 .fuzzy-eq-zero-eps .ensures,
-      p1 .if1 .left,
-      ← c .rising2 .ensures,
-    )
+    let t = c .before .before .before .before .before in
+    simp (← t .before .fuzzy-eq-zero-eps .ensures, t .if1 .left, ← c .rising2 .ensures)
 
 pub span-of-spec : {M : Type 1} → statement M
 span-of-spec = tie.close (tie.spec (search needs) (search needs) returns (search needs) returns-2)

@@ -6,12 +6,7 @@ use Rattle.crossing.proofs.line_line.within_length.Tie as tie
 
 returns : tie.Need-returns
 unfolding LineLine.within
-returns c =
-    let p1 = c .before in
-    simp (
-      ← p1 .length .ensures,
-      ← c .fuzzy-in-range-eps .ensures,
-    )
+returns c = simp (← c .before .length .ensures, ← c .fuzzy-in-range-eps .ensures)
 
 pub within-length-spec : {M : Type 1} → statement M
 within-length-spec = tie.close (tie.spec (search needs) (search needs) returns)
