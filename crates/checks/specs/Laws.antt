@@ -3,3 +3,4 @@ pub mod Order
 pub mod Fine
 pub mod Chains
 pub mod Chord
+pub mod Inside

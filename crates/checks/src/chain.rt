@@ -2,11 +2,14 @@
 // is one straight line, and its answer the first fault.
 ghost use mathlib.Core.Path.{_≡_};
 ghost use Rattle.checks.specs.Chain;
+ghost use Rattle.checks.specs.Laws.Inside;
 use super::each;
 use super::fault::Checked;
 use super::fault::Item;
 use super::fault::Place;
 use super::fault::later;
+use super::limit;
+use super::number::inside;
 
 // A coordinate of a point or vertex, after f.
 pub fn coordinate_after(f: Checked, x: f64, place: Place) -> Checked
@@ -67,8 +70,22 @@ pub fn point_after(f: Checked, x: f64, y: f64, owner: u64, index: u64) -> Checke
     )
 }
 
-// A vertex of a path, after f: x, y, then its bulge.
-pub fn vertex_after(f: Checked, x: f64, y: f64, bulge: f64, owner: u64, index: u64) -> Checked
+// Whether a vertex's numbers are all fine, by comparisons alone.
+fn vertex_inside(x: f64, y: f64, bulge: f64) -> bool
+    ensures { λ r. ⌜ r ≡ Inside.vertexInside x y bulge ⌝ }
+{
+    (inside(limit::COORDINATE, x) & inside(limit::COORDINATE, y)) & inside(limit::BULGE, bulge)
+}
+
+// A vertex of a path, after f, one number after the other: x, y, then its bulge.
+fn vertex_by_numbers(
+    f: Checked,
+    x: f64,
+    y: f64,
+    bulge: f64,
+    owner: u64,
+    index: u64,
+) -> Checked
     ensures { λ r. ⌜ r ≡ Chain.vertexAfter f x y bulge owner index ⌝ }
 {
     let a = point_after(f, x, y, owner, index);
@@ -81,6 +98,16 @@ pub fn vertex_after(f: Checked, x: f64, y: f64, bulge: f64, owner: u64, index: u
             item: Item::Bulge,
         },
     )
+}
+
+// A vertex of a path, after f: x, y, then its bulge. Most often all are fine, and then f stays.
+pub fn vertex_after(f: Checked, x: f64, y: f64, bulge: f64, owner: u64, index: u64) -> Checked
+    ensures { λ r. ⌜ r ≡ Chain.vertexAfter f x y bulge owner index ⌝ }
+{
+    if vertex_inside(x, y, bulge) {
+        return f;
+    }
+    vertex_by_numbers(f, x, y, bulge, owner, index)
 }
 
 // A kernel's circle, after f: its radius, then its centre, x before y.

@@ -2,6 +2,7 @@
 ghost use mathlib.Core.Path.{_≡_};
 ghost use lib.Ieee.{isNan};
 ghost use Rattle.checks.specs.Number;
+ghost use Rattle.checks.specs.Laws.Inside;
 
 // Whether x is a NaN.
 pub fn is_nan(x: f64) -> bool
@@ -37,4 +38,11 @@ pub fn outside(least: f64, most: f64, x: f64) -> bool
     ensures { λ r. ⌜ r ≡ Number.outside least most x ⌝ }
 {
     (x < least) | (x > most)
+}
+
+// Whether x is a number of a magnitude of at most `most`, by comparisons alone.
+pub fn inside(most: f64, x: f64) -> bool
+    ensures { λ r. ⌜ r ≡ Inside.inside most x ⌝ }
+{
+    (x <= most) & (-most <= x)
 }

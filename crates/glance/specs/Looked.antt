@@ -1,16 +1,14 @@
 -- When a pair's numbers are fine at a glance: src/looked.rt, function by function. Nothing here need be believed: a yes is proved to say
 -- what the call's own look says (Laws/Looked).
 use mathlib.Core.Bool.{Bool, _&&_, _||_}
-use lib.Ieee.{Float, neg}
+use lib.Ieee.{Float}
 use Rattle.floats.specs.Ops.{_≼_, _≽_}
 use Rattle.plane.specs.PlineVertex.{pos, bulgeIsZero}
 use Rattle.plane.specs.Vector2 as vector2
 use Rattle.plane.specs.declared.pline_vertex.PlineVertex.{PlineVertex}
 use Rattle.checks.specs.Limit
 use Rattle.checks.specs.Laws.Chord.{squareLeast}
-
-abbrev pub inside : Float → Float → Bool
-inside most x = (x ≼ most) && (neg most ≼ x)
+use Rattle.checks.specs.Laws.Inside.{inside}
 
 abbrev pub pointFine : PlineVertex → Bool
 pointFine v = inside Limit.coordinate (v .x) && inside Limit.coordinate (v .y)

@@ -2,14 +2,8 @@
 ghost use mathlib.Core.Path.{_≡_};
 ghost use Rattle.glance.specs.Looked;
 use checks::limit;
+use checks::number::inside;
 use plane::pline_vertex::PlineVertex;
-
-// Whether x is a number of a magnitude of at most `most`.
-fn inside(most: f64, x: f64) -> bool
-    ensures { λ r. ⌜ r ≡ Looked.inside most x ⌝ }
-{
-    (x <= most) & (-most <= x)
-}
 
 // Whether a point's coordinates are fine.
 fn point_fine(v: PlineVertex) -> bool

@@ -2,19 +2,13 @@
 use mathlib.Core.Path.{_≡_, refl, sym, ap, _∙_}
 use mathlib.Core.Bool.{Bool, true, false, not, cond, _&&_, _||_}
 use mathlib.Core.List.{List, [], _∷_, _++_}
-use Prim.Native.Nat.{ℕ, _+_, _*_, _<_, _≤_}
-use native.Mathlib.Omega.{arith}
+use Prim.Native.Nat.{ℕ}
 use lib.Dec.{T}
-use lib.IntN.{ℤ}
-use lib.Ieee.{Float, nan, inf, fin, up, down, ofBits, neg, le, lt, eq}
+use lib.Ieee.{Float, ofBits}
 use lib.Ieee.Bits.{is-true}
-use lib.Ieee.Fits.{down-pos, and-l, and-r}
-use lib.Ieee.Scale.{finite}
-use Rattle.float_laws.specs.Signed.{Diff, ups, downs, own-diff}
-use Rattle.float_laws.specs.Order.{le-diff}
+use lib.Ieee.Fits.{and-l, and-r}
 use Rattle.float_laws.specs.Chains.{between-finite}
 use Rattle.floats.specs.Ops.{_≼_, _≽_}
-use Rattle.floats.specs.F64
 use Rattle.plane.specs.PlineVertex.{pos, bulgeIsZero}
 use Rattle.plane.specs.Vector2 as vector2
 use Rattle.plane.specs.declared.pline_vertex.PlineVertex.{PlineVertex}
@@ -29,11 +23,12 @@ use Rattle.checks.specs.First.{first}
 use Rattle.checks.specs.Lists.{pointChecks, vertexChecks}
 use Rattle.checks.specs.Laws.Chains as chains
 use Rattle.checks.specs.Laws.Chord.{squareLeast, long-fine}
-use Rattle.checks.specs.Laws.Fine.{Within, Between, epsilon-fine}
+use Rattle.checks.specs.Laws.Fine.{Between, epsilon-fine}
+use Rattle.checks.specs.Laws.Inside.{inside, of-coordinate, of-bulge}
 use Rattle.checks.specs.Laws.Later.{fine-left, fine-right, later-fine}
 use Rattle.crossing.specs.PlineSegIntersect as pair
 use Rattle.crossing.specs.Laws.Within.{either}
-use Rattle.glance.specs.Looked.{inside, pointFine, segmentFine, epsilonFine, pairFine}
+use Rattle.glance.specs.Looked.{pointFine, segmentFine, epsilonFine, pairFine}
 
 -- ---- what is fine as a chain is fine as a list
 vertex-list : (v : PlineVertex) (owner index : ℕ) → chains.VertexFine (v .x) (v .y) (v .bulge)
@@ -80,48 +75,6 @@ look-fine v1 v2 u1 u2 epsilon e fv fu =
     both-fine (c0 ++ c1 ++ c2 ++ c3 ++ c4) c5 f4 f5
 
 -- ---- by the glance
-own : (s : Bool) (m : ℕ) (e : ℤ) → Diff (fin s m e) (ups s (m * up e)) (downs s (m * up e)) (down e)
-own s m e = own-diff (fin s m e) s (m * up e) (down e) (refl, refl)
-
--- |x| <= most, where x <= most and -most <= x
-small : (x most : Float) → T (finite x) → T (finite most) → T (x ≼ most) → T (neg most ≼ x) → T (F64.abs x ≼ most)
-unfolding F64.abs neg
-small nan most f g h k = absurd f
-small (inf s) most f g h k = absurd f
-small (fin s m e) nan f g h k = absurd g
-small (fin s m e) (inf t) f g h k = absurd g
-small (fin s m e) (fin t n d) f g h k =
-    let E = down-pos e in
-    let D = down-pos d in
-    le-diff (fin false m e) (fin t n d) _ _ _ _ _ _ E D (own false m e) (own t n d) .1
-    (sizes s t (m * up e) (down e) (n * up d) (down d)
-    (le-diff (fin s m e) (fin t n d) _ _ _ _ _ _ E D (own s m e) (own t n d) .0 h)
-    (le-diff (fin (not t) n d) (fin s m e) _ _ _ _ _ _ D E (own (not t) n d) (own s m e) .0 k))
-  where
-    sizes : (s t : Bool) (M c N d : ℕ)
-        → ups s M * d + downs t N * c ≤ ups t N * c + downs s M * d
-        → ups (not t) N * c + downs s M * d ≤ ups s M * d + downs (not t) N * c
-        → M * d + downs t N * c ≤ ups t N * c + 0 * d
-    sizes true true M c N d a b = omega arith
-    sizes true false M c N d a b = omega arith
-    sizes false true M c N d a b = omega arith
-    sizes false false M c N d a b = omega arith
-
-inside-within : (most x : Float) → T (finite most) → T (finite (neg most)) → T (inside most x) → Within most x
-inside-within most x f g h =
-    let below = and-l (x ≼ most) (neg most ≼ x) h in
-    let above = and-r (x ≼ most) (neg most ≼ x) h in
-    let number = between-finite (neg most) x most g f above below in
-    record { number = number; small = small x most number f below above }
-
-of-coordinate : (x : Float) → T (inside Limit.coordinate x) → Within Limit.coordinate x
-unfolding ofBits neg
-of-coordinate x h = inside-within Limit.coordinate x tt tt h
-
-of-bulge : (x : Float) → T (inside Limit.bulge x) → Within Limit.bulge x
-unfolding ofBits neg
-of-bulge x h = inside-within Limit.bulge x tt tt h
-
 of-epsilon : (x : Float) → T (epsilonFine x) → Between Limit.epsilonLeast Limit.epsilonMost x
 unfolding ofBits
 of-epsilon x h =

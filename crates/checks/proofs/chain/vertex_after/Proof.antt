@@ -1,17 +1,11 @@
--- `vertex_after` meets its contract: its steps are the definition's, one by one.
+-- `vertex_after` meets its contract: numbers that are inside leave f as it was, by `Laws/Inside`; else each is looked at.
 use borrow.Author.Needs.{needs}
-use Rattle.checks.specs.Chain.{vertexAfter}
+use Rattle.checks.specs.Laws.Inside.{vertex-passed}
 use Rattle.checks.proofs.chain.vertex_after.Statement.{statement}
 use Rattle.checks.proofs.chain.vertex_after.Tie as tie
 
 returns : tie.Need-returns
-unfolding vertexAfter
-returns c =
-    let p1 = c .before in
-    simp (← p1 .point-after .ensures, ← c .bulge-after .ensures)
+returns c = vertex-passed _ _ _ _ _ _ (simp (← c .before .vertex-inside .ensures, c .if1 .taken) tt)
 
 pub vertex-after-spec : {M : Type 1} → statement M
-vertex-after-spec =
-    tie.close
-    (tie.spec
-    (search needs) (search needs) returns)
+vertex-after-spec = tie.close (tie.spec (search needs) returns (search needs) (λ c. search needs))

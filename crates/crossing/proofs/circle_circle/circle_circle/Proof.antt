@@ -25,4 +25,4 @@ returns-2 c =
 pub circle-circle-spec : {M : Type 1} → statement M
 circle-circle-spec =
     tie.close (tie.spec (search needs) (search needs) (search needs) returns (search needs) (search needs) returns-2
-    (search needs) (search needs))
+    (search needs) (λ c. search needs))

@@ -1,0 +1,10 @@
+-- `vertex_inside` meets its contract: its calls are the definition's.
+use borrow.Author.Needs.{needs}
+use Rattle.checks.proofs.chain.vertex_inside.Statement.{statement}
+use Rattle.checks.proofs.chain.vertex_inside.Tie as tie
+
+returns : tie.Need-returns
+returns c = simp (← c .before .before .inside .ensures, ← c .before .inside2 .ensures, ← c .inside3 .ensures)
+
+pub vertex-inside-spec : {M : Type 1} → statement M
+vertex-inside-spec = tie.close (tie.spec (search needs) (search needs) (search needs) returns)

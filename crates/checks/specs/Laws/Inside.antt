@@ -1,0 +1,96 @@
+-- Numbers that pass their checks, told by comparisons alone: |x| is at most the limit if x is and -x is, for all floats; a NaN is at
+-- most nothing. So a vertex whose three numbers are inside leaves a chain of checks as it was.
+use mathlib.Core.Path.{_≡_, refl, sym, ap, _∙_}
+use mathlib.Core.Bool.{Bool, true, false, not, _&&_}
+use Prim.Native.Nat.{ℕ, _+_, _*_, _<_, _≤_}
+use native.Mathlib.Omega.{arith}
+use lib.Dec.{T}
+use lib.IntN.{ℤ}
+use lib.Ieee.{Float, nan, inf, fin, up, down, ofBits, neg, le}
+use lib.Ieee.Fits.{down-pos, and-l, and-r}
+use lib.Ieee.Scale.{finite}
+use Rattle.float_laws.specs.Signed.{Diff, ups, downs, own-diff}
+use Rattle.float_laws.specs.Order.{le-diff}
+use Rattle.float_laws.specs.Chains.{between-finite}
+use Rattle.floats.specs.Ops.{_≼_}
+use Rattle.floats.specs.F64
+use Rattle.checks.specs.declared.fault.Checked.{Checked}
+use Rattle.checks.specs.declared.fault.Checked.the-variants.{Fine}
+use Rattle.checks.specs.Chain.{vertexAfter}
+use Rattle.checks.specs.Fault.{later}
+use Rattle.checks.specs.First.{first}
+use Rattle.checks.specs.Limit
+use Rattle.checks.specs.Lists.{vertexChecks}
+use Rattle.checks.specs.Laws.Chains.{VertexFine, vertex-first, vertex-fine}
+use Rattle.checks.specs.Laws.Fine.{Within}
+use Rattle.checks.specs.Laws.Later.{fine-left, fine-right}
+
+abbrev pub inside : Float → Float → Bool
+inside most x = (x ≼ most) && (neg most ≼ x)
+
+abbrev pub vertexInside : Float → Float → Float → Bool
+vertexInside x y bulge = (inside Limit.coordinate x && inside Limit.coordinate y) && inside Limit.bulge bulge
+
+own : (s : Bool) (m : ℕ) (e : ℤ) → Diff (fin s m e) (ups s (m * up e)) (downs s (m * up e)) (down e)
+own s m e = own-diff (fin s m e) s (m * up e) (down e) (refl, refl)
+
+-- |x| <= most, where x <= most and -most <= x
+small : (x most : Float) → T (finite x) → T (finite most) → T (x ≼ most) → T (neg most ≼ x) → T (F64.abs x ≼ most)
+unfolding F64.abs neg
+small nan most f g h k = absurd f
+small (inf s) most f g h k = absurd f
+small (fin s m e) nan f g h k = absurd g
+small (fin s m e) (inf t) f g h k = absurd g
+small (fin s m e) (fin t n d) f g h k =
+    let E = down-pos e in
+    let D = down-pos d in
+    le-diff (fin false m e) (fin t n d) _ _ _ _ _ _ E D (own false m e) (own t n d) .1
+    (sizes s t (m * up e) (down e) (n * up d) (down d)
+    (le-diff (fin s m e) (fin t n d) _ _ _ _ _ _ E D (own s m e) (own t n d) .0 h)
+    (le-diff (fin (not t) n d) (fin s m e) _ _ _ _ _ _ D E (own (not t) n d) (own s m e) .0 k))
+  where
+    sizes : (s t : Bool) (M c N d : ℕ)
+        → ups s M * d + downs t N * c ≤ ups t N * c + downs s M * d
+        → ups (not t) N * c + downs s M * d ≤ ups s M * d + downs (not t) N * c
+        → M * d + downs t N * c ≤ ups t N * c + 0 * d
+    sizes true true M c N d a b = omega arith
+    sizes true false M c N d a b = omega arith
+    sizes false true M c N d a b = omega arith
+    sizes false false M c N d a b = omega arith
+
+inside-within : (most x : Float) → T (finite most) → T (finite (neg most)) → T (inside most x) → Within most x
+inside-within most x f g h =
+    let below = and-l (x ≼ most) (neg most ≼ x) h in
+    let above = and-r (x ≼ most) (neg most ≼ x) h in
+    let number = between-finite (neg most) x most g f above below in
+    record { number = number; small = small x most number f below above }
+
+pub of-coordinate : (x : Float) → T (inside Limit.coordinate x) → Within Limit.coordinate x
+unfolding ofBits neg
+of-coordinate x h = inside-within Limit.coordinate x tt tt h
+
+pub of-bulge : (x : Float) → T (inside Limit.bulge x) → Within Limit.bulge x
+unfolding ofBits neg
+of-bulge x h = inside-within Limit.bulge x tt tt h
+
+-- ---- a vertex
+vertex-list : (x y bulge : Float) (owner index : ℕ) → VertexFine x y bulge → first (vertexChecks x y bulge owner index) ≡ Fine
+vertex-list x y bulge owner index fine =
+    sym (fine-left _) ∙ sym (vertex-first Fine x y owner bulge index) ∙ vertex-fine Fine x y owner bulge index .1 (refl, fine)
+
+pub vertex-passed : (f : Checked) (x y bulge : Float) (owner index : ℕ) → T (vertexInside x y bulge)
+    → f ≡ vertexAfter f x y bulge owner index
+vertex-passed f x y bulge owner index h =
+    let point = inside Limit.coordinate x && inside Limit.coordinate y in
+    let at = and-l point (inside Limit.bulge bulge) h in
+    let fine : VertexFine x y bulge =
+    record {
+      point = record {
+        at-x = of-coordinate x (and-l (inside Limit.coordinate x) (inside Limit.coordinate y) at);
+        at-y = of-coordinate y (and-r (inside Limit.coordinate x) (inside Limit.coordinate y) at);
+      };
+      bulge = of-bulge bulge (and-r point (inside Limit.bulge bulge) h);
+    } in
+    sym (fine-right f)
+    ∙ ap (later f) (sym (vertex-list x y bulge owner index fine))
+    ∙ sym (vertex-first f x y owner bulge index)
