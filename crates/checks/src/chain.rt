@@ -78,14 +78,7 @@ fn vertex_inside(x: f64, y: f64, bulge: f64) -> bool
 }
 
 // A vertex of a path, after f, one number after the other: x, y, then its bulge.
-fn vertex_by_numbers(
-    f: Checked,
-    x: f64,
-    y: f64,
-    bulge: f64,
-    owner: u64,
-    index: u64,
-) -> Checked
+fn vertex_by_numbers(f: Checked, x: f64, y: f64, bulge: f64, owner: u64, index: u64) -> Checked
     ensures { λ r. ⌜ r ≡ Chain.vertexAfter f x y bulge owner index ⌝ }
 {
     let a = point_after(f, x, y, owner, index);

@@ -5,12 +5,6 @@ use Rattle.arcs.specs.LineAndArc
 use Rattle.arcs.proofs.line_and_arc.in_order.Statement.{statement}
 use Rattle.arcs.proofs.line_and_arc.in_order.Tie as tie
 
-dist-squared-requires : tie.Need-dist-squared-requires
-dist-squared-requires c κs = search needs
-
-dist-squared-requires-2 : tie.Need-dist-squared-requires-2
-dist-squared-requires-2 c κs = search needs
-
 returns : tie.Need-returns
 unfolding LineAndArc.inOrder
 returns c =
@@ -34,4 +28,4 @@ returns-2 c =
     )
 
 pub in-order-spec : {M : Type 1} → statement M
-in-order-spec = tie.close (tie.spec dist-squared-requires dist-squared-requires-2 returns returns-2)
+in-order-spec = tie.close (tie.spec (search needs) (search needs) returns returns-2)

@@ -4,18 +4,6 @@ use Rattle.arcs.specs.TwoArcs
 use Rattle.arcs.proofs.two_arcs.collect_end_points.Statement.{statement}
 use Rattle.arcs.proofs.two_arcs.collect_end_points.Tie as tie
 
-add-if-on-arc-requires : tie.Need-add-if-on-arc-requires
-add-if-on-arc-requires c κs = search needs
-
-add-if-on-arc-requires-2 : tie.Need-add-if-on-arc-requires-2
-add-if-on-arc-requires-2 c κs = search needs
-
-add-if-on-arc-requires-3 : tie.Need-add-if-on-arc-requires-3
-add-if-on-arc-requires-3 c κs = search needs
-
-add-if-on-arc-requires-4 : tie.Need-add-if-on-arc-requires-4
-add-if-on-arc-requires-4 c κs = search needs
-
 returns : tie.Need-returns
 unfolding TwoArcs.collectEndPoints
 returns c =
@@ -31,5 +19,5 @@ returns c =
 
 pub collect-end-points-spec : {M : Type 1} → statement M
 collect-end-points-spec =
-    tie.close (tie.spec add-if-on-arc-requires add-if-on-arc-requires-2 add-if-on-arc-requires-3
-    add-if-on-arc-requires-4 returns)
+    tie.close (tie.spec (search needs) (search needs) (search needs)
+    (search needs) returns)

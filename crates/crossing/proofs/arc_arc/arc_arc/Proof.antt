@@ -5,66 +5,6 @@ use Rattle.crossing.specs.ArcArc
 use Rattle.crossing.proofs.arc_arc.arc_arc.Statement.{statement}
 use Rattle.crossing.proofs.arc_arc.arc_arc.Tie as tie
 
-circle-circle-requires : tie.Need-circle-circle-requires
-circle-circle-requires c κs = search needs
-
-enum-told : tie.Need-enum-told
-enum-told c = search needs
-
-enum-known-intr-result : tie.Need-enum-known-intr-result
-enum-known-intr-result c = search needs
-
-of-segment-requires : tie.Need-of-segment-requires
-of-segment-requires c κs = search needs
-
-of-segment-requires-2 : tie.Need-of-segment-requires-2
-of-segment-requires-2 c κs = search needs
-
-pos-requires : tie.Need-pos-requires
-pos-requires c κs = search needs
-
-pos-requires-2 : tie.Need-pos-requires-2
-pos-requires-2 c κs = search needs
-
-pos-requires-3 : tie.Need-pos-requires-3
-pos-requires-3 c κs = search needs
-
-pos-requires-4 : tie.Need-pos-requires-4
-pos-requires-4 c κs = search needs
-
-tangent-arc-arc-requires : tie.Need-tangent-arc-arc-requires
-tangent-arc-arc-requires c κs = search needs
-
-enum-known-intr-result-2 : tie.Need-enum-known-intr-result-2
-enum-known-intr-result-2 c = search needs
-
-of-segment-requires-3 : tie.Need-of-segment-requires-3
-of-segment-requires-3 c κs = search needs
-
-of-segment-requires-4 : tie.Need-of-segment-requires-4
-of-segment-requires-4 c κs = search needs
-
-pos-requires-5 : tie.Need-pos-requires-5
-pos-requires-5 c κs = search needs
-
-pos-requires-6 : tie.Need-pos-requires-6
-pos-requires-6 c κs = search needs
-
-pos-requires-7 : tie.Need-pos-requires-7
-pos-requires-7 c κs = search needs
-
-pos-requires-8 : tie.Need-pos-requires-8
-pos-requires-8 c κs = search needs
-
-crossing-arcs-requires : tie.Need-crossing-arcs-requires
-crossing-arcs-requires c κs = search needs
-
-enum-told-2 : tie.Need-enum-told-2
-enum-told-2 c = search needs
-
-overlapping-arc-arc-requires : tie.Need-overlapping-arc-arc-requires
-overlapping-arc-arc-requires c κs = search needs
-
 returns : tie.Need-returns
 unfolding ArcArc.arcArc
 returns c =
@@ -145,8 +85,8 @@ returns-4 c =
 
 pub arc-arc-spec : {M : Type 1} → statement M
 arc-arc-spec =
-    tie.close (tie.spec circle-circle-requires
-    enum-told enum-known-intr-result of-segment-requires of-segment-requires-2 pos-requires pos-requires-2
-    pos-requires-3 pos-requires-4 tangent-arc-arc-requires enum-known-intr-result-2 of-segment-requires-3
-    of-segment-requires-4 pos-requires-5 pos-requires-6 pos-requires-7 pos-requires-8 crossing-arcs-requires
-    enum-told-2 overlapping-arc-arc-requires returns returns-2 returns-3 returns-4)
+    tie.close (tie.spec (search needs)
+    (λ c. search needs) (λ c. search needs) (search needs) (search needs) (search needs) (search needs)
+    (search needs) (search needs) (search needs) (λ c. search needs) (search needs)
+    (search needs) (search needs) (search needs) (search needs) (search needs) (search needs)
+    (λ c. search needs) (search needs) returns returns-2 returns-3 returns-4)

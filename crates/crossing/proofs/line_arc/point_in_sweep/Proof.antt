@@ -6,12 +6,6 @@ use Rattle.crossing.specs.LineLine
 use Rattle.crossing.proofs.line_arc.point_in_sweep.Statement.{statement}
 use Rattle.crossing.proofs.line_arc.point_in_sweep.Tie as tie
 
-sub-requires : tie.Need-sub-requires
-sub-requires c κs = search needs
-
-within-requires : tie.Need-within-requires
-within-requires c κs = search needs
-
 returns : tie.Need-returns
 unfolding LineArc.pointInSweep LineLine.within
 returns c =
@@ -21,12 +15,6 @@ returns c =
       ← p1 .within .ensures,
       c .if1 .taken,
     )
-
-point-from-parametric-requires : tie.Need-point-from-parametric-requires
-point-from-parametric-requires c κs = search needs
-
-sweeps-requires : tie.Need-sweeps-requires
-sweeps-requires c κs = search needs
 
 returns-2 : tie.Need-returns-2
 unfolding LineArc.pointInSweep LineLine.within
@@ -62,5 +50,5 @@ returns-3 c =
 
 pub point-in-sweep-spec : {M : Type 1} → statement M
 point-in-sweep-spec =
-    tie.close (tie.spec sub-requires within-requires returns point-from-parametric-requires sweeps-requires returns-2
+    tie.close (tie.spec (search needs) (search needs) returns (search needs) (search needs) returns-2
     returns-3)

@@ -5,39 +5,6 @@ use Rattle.crossing.specs.LineArc
 use Rattle.crossing.proofs.line_arc.process_line_arc_intr.Statement.{statement}
 use Rattle.crossing.proofs.line_arc.process_line_arc_intr.Tie as tie
 
-line-circle-requires : tie.Need-line-circle-requires
-line-circle-requires c κs = search needs
-
-enum-told : tie.Need-enum-told
-enum-told c = search needs
-
-enum-known-intr-result : tie.Need-enum-known-intr-result
-enum-known-intr-result c = search needs
-
-of-segment-requires : tie.Need-of-segment-requires
-of-segment-requires c κs = search needs
-
-tangent-line-arc-requires : tie.Need-tangent-line-arc-requires
-tangent-line-arc-requires c κs = search needs
-
-enum-known-intr-result-2 : tie.Need-enum-known-intr-result-2
-enum-known-intr-result-2 c = search needs
-
-of-segment-requires-2 : tie.Need-of-segment-requires-2
-of-segment-requires-2 c κs = search needs
-
-point-in-sweep-requires : tie.Need-point-in-sweep-requires
-point-in-sweep-requires c κs = search needs
-
-point-in-sweep-requires-2 : tie.Need-point-in-sweep-requires-2
-point-in-sweep-requires-2 c κs = search needs
-
-pos-requires : tie.Need-pos-requires
-pos-requires c κs = search needs
-
-crossings-line-arc-requires : tie.Need-crossings-line-arc-requires
-crossings-line-arc-requires c κs = search needs
-
 returns : tie.Need-returns
 unfolding LineArc.processLineArcIntr
 returns c =
@@ -87,6 +54,6 @@ returns-3 c =
 
 pub process-line-arc-intr-spec : {M : Type 1} → statement M
 process-line-arc-intr-spec =
-    tie.close (tie.spec line-circle-requires enum-told enum-known-intr-result of-segment-requires tangent-line-arc-requires
-    enum-known-intr-result-2 of-segment-requires-2 point-in-sweep-requires point-in-sweep-requires-2 pos-requires
-    crossings-line-arc-requires returns returns-2 returns-3)
+    tie.close (tie.spec (search needs) (λ c. search needs) (λ c. search needs) (search needs) (search needs)
+    (λ c. search needs) (search needs) (search needs) (search needs) (search needs)
+    (search needs) returns returns-2 returns-3)

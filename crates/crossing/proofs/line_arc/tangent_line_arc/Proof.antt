@@ -5,9 +5,6 @@ use Rattle.crossing.specs.LineArc
 use Rattle.crossing.proofs.line_arc.tangent_line_arc.Statement.{statement}
 use Rattle.crossing.proofs.line_arc.tangent_line_arc.Tie as tie
 
-point-lies-on-arc-requires : tie.Need-point-lies-on-arc-requires
-point-lies-on-arc-requires c κs = search needs
-
 returns : tie.Need-returns
 unfolding LineArc.tangentLineArc
 returns c =
@@ -16,9 +13,6 @@ returns c =
       ← p1 .point-lies-on-arc .ensures,
       c .if1 .taken,
     )
-
-point-lies-on-arc-requires-2 : tie.Need-point-lies-on-arc-requires-2
-point-lies-on-arc-requires-2 c κs = search needs
 
 returns-2 : tie.Need-returns-2
 unfolding LineArc.tangentLineArc
@@ -32,15 +26,6 @@ returns-2 c =
       ← p1 .point-lies-on-arc2 .ensures,
       c .if2 .taken,
     )
-
-point-in-sweep-requires : tie.Need-point-in-sweep-requires
-point-in-sweep-requires c κs = search needs
-
-enum-known-t0-point : tie.Need-enum-known-t0-point
-enum-known-t0-point c = search needs
-
-enum-told : tie.Need-enum-told
-enum-told c = search needs
 
 returns-3 : tie.Need-returns-3
 unfolding LineArc.tangentLineArc
@@ -79,5 +64,5 @@ returns-4 c =
 
 pub tangent-line-arc-spec : {M : Type 1} → statement M
 tangent-line-arc-spec =
-    tie.close (tie.spec point-lies-on-arc-requires returns point-lies-on-arc-requires-2 returns-2
-    point-in-sweep-requires enum-known-t0-point enum-told returns-3 returns-4)
+    tie.close (tie.spec (search needs) returns (search needs) returns-2
+    (search needs) (λ c. search needs) (λ c. search needs) returns-3 returns-4)

@@ -20,21 +20,6 @@ told b1 b2 b3 b4 k q w z s e1 e2 e3 e4 h =
     ∙ ap (λ (b : Bool). ((b1 && b2) && (b3 && b)) && o) (sym e4)
     ∙ h)
 
-abs-requires : tie.Need-abs-requires
-abs-requires c κs = search needs
-
-moderate-requires : tie.Need-moderate-requires
-moderate-requires c κs = search needs
-
-moderate-requires-2 : tie.Need-moderate-requires-2
-moderate-requires-2 c κs = search needs
-
-moderate-requires-3 : tie.Need-moderate-requires-3
-moderate-requires-3 c κs = search needs
-
-moderate-requires-4 : tie.Need-moderate-requires-4
-moderate-requires-4 c κs = search needs
-
 returns : tie.Need-returns
 returns c h =
     let p1 = c .before in
@@ -48,4 +33,4 @@ returns c h =
 
 pub far-spec : {M : Type 1} → statement M
 far-spec =
-    tie.close (tie.spec abs-requires moderate-requires moderate-requires-2 moderate-requires-3 moderate-requires-4 returns)
+    tie.close (tie.spec (search needs) (search needs) (search needs) (search needs) (search needs) returns)

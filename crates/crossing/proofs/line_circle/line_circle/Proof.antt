@@ -5,12 +5,6 @@ use Rattle.crossing.specs.LineCircle
 use Rattle.crossing.proofs.line_circle.line_circle.Statement.{statement}
 use Rattle.crossing.proofs.line_circle.line_circle.Tie as tie
 
-fuzzy-eq-eps-requires : tie.Need-fuzzy-eq-eps-requires
-fuzzy-eq-eps-requires c κs = search needs
-
-point-circle-requires : tie.Need-point-circle-requires
-point-circle-requires c κs = search needs
-
 returns : tie.Need-returns
 unfolding LineCircle.lineCircle
 returns c =
@@ -21,18 +15,6 @@ returns c =
       p1 .if1 .taken,
       ← c .point-circle .ensures,
     )
-
-sub-requires : tie.Need-sub-requires
-sub-requires c κs = search needs
-
-sub-requires-2 : tie.Need-sub-requires-2
-sub-requires-2 c κs = search needs
-
-line-through-requires : tie.Need-line-through-requires
-line-through-requires c κs = search needs
-
-line-meets-requires : tie.Need-line-meets-requires
-line-meets-requires c κs = search needs
 
 returns-2 : tie.Need-returns-2
 unfolding LineCircle.lineCircle
@@ -53,5 +35,5 @@ returns-2 c =
 
 pub line-circle-spec : {M : Type 1} → statement M
 line-circle-spec =
-    tie.close (tie.spec fuzzy-eq-eps-requires point-circle-requires returns sub-requires sub-requires-2
-    line-through-requires line-meets-requires returns-2)
+    tie.close (tie.spec (search needs) (search needs) returns (search needs) (search needs)
+    (search needs) (search needs) returns-2)

@@ -5,12 +5,6 @@ use Rattle.crossing.specs.LineCircle
 use Rattle.crossing.proofs.line_circle.line_meets_by_distance.Statement.{statement}
 use Rattle.crossing.proofs.line_circle.line_meets_by_distance.Tie as tie
 
-abs-requires : tie.Need-abs-requires
-abs-requires c κs = search needs
-
-sqrt-requires : tie.Need-sqrt-requires
-sqrt-requires c κs = search needs
-
 returns : tie.Need-returns
 unfolding LineCircle.lineMeets
 returns c =
@@ -21,12 +15,6 @@ returns c =
       ← p1 .sqrt .ensures,
       c .if1 .taken,
     )
-
-new-requires : tie.Need-new-requires
-new-requires c κs = search needs
-
-parametric-from-point-requires : tie.Need-parametric-from-point-requires
-parametric-from-point-requires c κs = search needs
 
 returns-2 : tie.Need-returns-2
 unfolding LineCircle.lineMeets
@@ -44,15 +32,6 @@ returns-2 c =
       ← p1 .new .ensures,
       ← c .parametric-from-point .ensures,
     )
-
-abs-requires-2 : tie.Need-abs-requires-2
-abs-requires-2 c κs = search needs
-
-sqrt-requires-2 : tie.Need-sqrt-requires-2
-sqrt-requires-2 c κs = search needs
-
-two-points-requires : tie.Need-two-points-requires
-two-points-requires c κs = search needs
 
 returns-3 : tie.Need-returns-3
 unfolding LineCircle.lineMeets
@@ -75,5 +54,5 @@ returns-3 c =
 
 pub line-meets-by-distance-spec : {M : Type 1} → statement M
 line-meets-by-distance-spec =
-    tie.close (tie.spec abs-requires sqrt-requires returns new-requires parametric-from-point-requires returns-2
-    abs-requires-2 sqrt-requires-2 two-points-requires returns-3)
+    tie.close (tie.spec (search needs) (search needs) returns (search needs) (search needs) returns-2
+    (search needs) (search needs) (search needs) returns-3)

@@ -5,9 +5,6 @@ use Rattle.crossing.specs.LineCircle
 use Rattle.crossing.proofs.line_circle.line_through.Statement.{statement}
 use Rattle.crossing.proofs.line_circle.line_through.Tie as tie
 
-fuzzy-eq-zero-requires : tie.Need-fuzzy-eq-zero-requires
-fuzzy-eq-zero-requires c κs = search needs
-
 returns : tie.Need-returns
 unfolding LineCircle.lineThrough
 returns c =
@@ -29,4 +26,4 @@ returns-2 c =
     )
 
 pub line-through-spec : {M : Type 1} → statement M
-line-through-spec = tie.close (tie.spec fuzzy-eq-zero-requires returns returns-2)
+line-through-spec = tie.close (tie.spec (search needs) returns returns-2)

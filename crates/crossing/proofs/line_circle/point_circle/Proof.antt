@@ -5,12 +5,6 @@ use Rattle.crossing.specs.LineCircle
 use Rattle.crossing.proofs.line_circle.point_circle.Statement.{statement}
 use Rattle.crossing.proofs.line_circle.point_circle.Tie as tie
 
-sqrt-requires : tie.Need-sqrt-requires
-sqrt-requires c κs = search needs
-
-fuzzy-eq-eps-requires : tie.Need-fuzzy-eq-eps-requires
-fuzzy-eq-eps-requires c κs = search needs
-
 returns : tie.Need-returns
 unfolding LineCircle.pointCircle
 returns c =
@@ -34,4 +28,4 @@ returns-2 c =
     )
 
 pub point-circle-spec : {M : Type 1} → statement M
-point-circle-spec = tie.close (tie.spec sqrt-requires fuzzy-eq-eps-requires returns returns-2)
+point-circle-spec = tie.close (tie.spec (search needs) (search needs) returns returns-2)

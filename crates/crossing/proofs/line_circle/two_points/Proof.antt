@@ -5,21 +5,6 @@ use Rattle.crossing.specs.LineCircle
 use Rattle.crossing.proofs.line_circle.two_points.Statement.{statement}
 use Rattle.crossing.proofs.line_circle.two_points.Tie as tie
 
-new-requires : tie.Need-new-requires
-new-requires c κs = search needs
-
-new-requires-2 : tie.Need-new-requires-2
-new-requires-2 c κs = search needs
-
-fuzzy-eq-eps-requires : tie.Need-fuzzy-eq-eps-requires
-fuzzy-eq-eps-requires c κs = search needs
-
-new-requires-3 : tie.Need-new-requires-3
-new-requires-3 c κs = search needs
-
-parametric-from-point-requires : tie.Need-parametric-from-point-requires
-parametric-from-point-requires c κs = search needs
-
 returns : tie.Need-returns
 unfolding LineCircle.twoPoints
 returns c =
@@ -36,15 +21,6 @@ returns c =
       ← p1 .new3 .ensures,
       ← c .parametric-from-point .ensures,
     )
-
-parametric-from-point-requires-2 : tie.Need-parametric-from-point-requires-2
-parametric-from-point-requires-2 c κs = search needs
-
-parametric-from-point-requires-3 : tie.Need-parametric-from-point-requires-3
-parametric-from-point-requires-3 c κs = search needs
-
-min-max-requires : tie.Need-min-max-requires
-min-max-requires c κs = search needs
 
 returns-2 : tie.Need-returns-2
 unfolding LineCircle.twoPoints
@@ -67,5 +43,5 @@ returns-2 c =
 
 pub two-points-spec : {M : Type 1} → statement M
 two-points-spec =
-    tie.close (tie.spec new-requires new-requires-2 fuzzy-eq-eps-requires new-requires-3 parametric-from-point-requires
-    returns parametric-from-point-requires-2 parametric-from-point-requires-3 min-max-requires returns-2)
+    tie.close (tie.spec (search needs) (search needs) (search needs) (search needs) (search needs)
+    returns (search needs) (search needs) (search needs) returns-2)

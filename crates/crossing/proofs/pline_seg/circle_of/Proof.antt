@@ -4,12 +4,6 @@ use Rattle.crossing.specs.Laws.Circles
 use Rattle.crossing.proofs.pline_seg.circle_of.Statement.{statement}
 use Rattle.crossing.proofs.pline_seg.circle_of.Tie as tie
 
-bulge-is-zero-requires : tie.Need-bulge-is-zero-requires
-bulge-is-zero-requires c κs = search needs
-
-new-requires : tie.Need-new-requires
-new-requires c κs = search needs
-
 returns : tie.Need-returns
 unfolding Circles.circleOf
 returns c =
@@ -20,9 +14,6 @@ returns c =
       p1 .if1 .taken,
       ← c .new .ensures,
     )
-
-seg-arc-radius-and-center-requires : tie.Need-seg-arc-radius-and-center-requires
-seg-arc-radius-and-center-requires c κs = search needs
 
 returns-2 : tie.Need-returns-2
 unfolding Circles.circleOf
@@ -37,4 +28,4 @@ returns-2 c =
 
 pub circle-of-spec : {M : Type 1} → statement M
 circle-of-spec =
-    tie.close (tie.spec bulge-is-zero-requires new-requires returns seg-arc-radius-and-center-requires returns-2)
+    tie.close (tie.spec (search needs) (search needs) returns (search needs) returns-2)

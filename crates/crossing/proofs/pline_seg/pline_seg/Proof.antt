@@ -4,18 +4,9 @@ use Rattle.crossing.specs.Laws.Circles.{circle-of}
 use Rattle.crossing.proofs.pline_seg.pline_seg.Statement.{statement}
 use Rattle.crossing.proofs.pline_seg.pline_seg.Tie as tie
 
-circle-of-requires : tie.Need-circle-of-requires
-circle-of-requires c κs = search needs
-
-circle-of-requires-2 : tie.Need-circle-of-requires-2
-circle-of-requires-2 c κs = search needs
-
 pline-seg-on-requires : tie.Need-pline-seg-on-requires
 pline-seg-on-requires c κs =
     (circle-of _ _ _ (c .before .circle-of .ensures), circle-of _ _ _ (c .circle-of2 .ensures))
 
-returns : tie.Need-returns
-returns c = search needs
-
 pub pline-seg-spec : {M : Type 1} → statement M
-pline-seg-spec = tie.close (tie.spec circle-of-requires circle-of-requires-2 pline-seg-on-requires returns)
+pline-seg-spec = tie.close (tie.spec (search needs) (search needs) pline-seg-on-requires (λ c. search needs))

@@ -6,27 +6,6 @@ use Rattle.crossing.specs.PlineSeg
 use Rattle.crossing.proofs.pline_seg.pline_seg_on.Statement.{statement}
 use Rattle.crossing.proofs.pline_seg.pline_seg_on.Tie as tie
 
-bulge-is-zero-requires : tie.Need-bulge-is-zero-requires
-bulge-is-zero-requires c κs = search needs
-
-bulge-is-zero-requires-2 : tie.Need-bulge-is-zero-requires-2
-bulge-is-zero-requires-2 c κs = search needs
-
-pos-requires : tie.Need-pos-requires
-pos-requires c κs = search needs
-
-pos-requires-2 : tie.Need-pos-requires-2
-pos-requires-2 c κs = search needs
-
-pos-requires-3 : tie.Need-pos-requires-3
-pos-requires-3 c κs = search needs
-
-pos-requires-4 : tie.Need-pos-requires-4
-pos-requires-4 c κs = search needs
-
-process-line-line-intr-requires : tie.Need-process-line-line-intr-requires
-process-line-line-intr-requires c κs = search needs
-
 returns : tie.Need-returns
 unfolding PlineSeg.plineSeg
 returns c =
@@ -49,12 +28,6 @@ returns c =
       ← p1 .pos4 .ensures,
       ← c .process-line-line-intr .ensures,
     )
-
-pos-requires-5 : tie.Need-pos-requires-5
-pos-requires-5 c κs = search needs
-
-pos-requires-6 : tie.Need-pos-requires-6
-pos-requires-6 c κs = search needs
 
 process-line-arc-intr-requires : tie.Need-process-line-arc-intr-requires
 process-line-arc-intr-requires c κs =
@@ -80,12 +53,6 @@ returns-2 c =
       ← p1 .pos6 .ensures,
       ← c .process-line-arc-intr .ensures,
     )
-
-pos-requires-7 : tie.Need-pos-requires-7
-pos-requires-7 c κs = search needs
-
-pos-requires-8 : tie.Need-pos-requires-8
-pos-requires-8 c κs = search needs
 
 process-line-arc-intr-requires-2 : tie.Need-process-line-arc-intr-requires-2
 process-line-arc-intr-requires-2 c κs =
@@ -138,6 +105,6 @@ returns-4 c =
 
 pub pline-seg-on-spec : {M : Type 1} → statement M
 pline-seg-on-spec =
-    tie.close (tie.spec bulge-is-zero-requires bulge-is-zero-requires-2 pos-requires pos-requires-2 pos-requires-3
-    pos-requires-4 process-line-line-intr-requires returns pos-requires-5 pos-requires-6 process-line-arc-intr-requires
-    returns-2 pos-requires-7 pos-requires-8 process-line-arc-intr-requires-2 returns-3 arc-arc-requires returns-4)
+    tie.close (tie.spec (search needs) (search needs) (search needs) (search needs) (search needs)
+    (search needs) (search needs) returns (search needs) (search needs) process-line-arc-intr-requires
+    returns-2 (search needs) (search needs) process-line-arc-intr-requires-2 returns-3 arc-arc-requires returns-4)

@@ -5,30 +5,6 @@ use Rattle.crossing.specs.PlineSeg
 use Rattle.crossing.proofs.pline_seg.process_line_line_intr.Statement.{statement}
 use Rattle.crossing.proofs.pline_seg.process_line_line_intr.Tie as tie
 
-line-line-requires : tie.Need-line-line-requires
-line-line-requires c κs = search needs
-
-enum-told : tie.Need-enum-told
-enum-told c = search needs
-
-enum-told-2 : tie.Need-enum-told-2
-enum-told-2 c = search needs
-
-enum-known-intr-result : tie.Need-enum-known-intr-result
-enum-known-intr-result c = search needs
-
-point-from-parametric-requires : tie.Need-point-from-parametric-requires
-point-from-parametric-requires c κs = search needs
-
-enum-known-intr-result-2 : tie.Need-enum-known-intr-result-2
-enum-known-intr-result-2 c = search needs
-
-point-from-parametric-requires-2 : tie.Need-point-from-parametric-requires-2
-point-from-parametric-requires-2 c κs = search needs
-
-point-from-parametric-requires-3 : tie.Need-point-from-parametric-requires-3
-point-from-parametric-requires-3 c κs = search needs
-
 returns : tie.Need-returns
 unfolding PlineSeg.processLineLineIntr
 returns c =
@@ -73,6 +49,6 @@ returns-4 c =
 
 pub process-line-line-intr-spec : {M : Type 1} → statement M
 process-line-line-intr-spec =
-    tie.close (tie.spec line-line-requires enum-told enum-told-2 enum-known-intr-result point-from-parametric-requires
-    enum-known-intr-result-2 point-from-parametric-requires-2 point-from-parametric-requires-3 returns returns-2
+    tie.close (tie.spec (search needs) (λ c. search needs) (λ c. search needs) (λ c. search needs) (search needs)
+    (λ c. search needs) (search needs) (search needs) returns returns-2
     returns-3 returns-4)

@@ -4,9 +4,6 @@ use Rattle.glance.specs.Glance
 use Rattle.glance.proofs.pair.line_pair_apart.Statement.{statement}
 use Rattle.glance.proofs.pair.line_pair_apart.Tie as tie
 
-bulge-is-zero-requires : tie.Need-bulge-is-zero-requires
-bulge-is-zero-requires c κs = search needs
-
 returns : tie.Need-returns
 unfolding Glance.linePairApart
 returns c =
@@ -15,9 +12,6 @@ returns c =
       ← p1 .bulge-is-zero .ensures,
       c .if1 .taken,
     )
-
-bulge-is-zero-requires-2 : tie.Need-bulge-is-zero-requires-2
-bulge-is-zero-requires-2 c κs = search needs
 
 returns-2 : tie.Need-returns-2
 unfolding Glance.linePairApart
@@ -31,21 +25,6 @@ returns-2 c =
       ← p1 .bulge-is-zero2 .ensures,
       c .if2 .taken,
     )
-
-pos-requires : tie.Need-pos-requires
-pos-requires c κs = search needs
-
-pos-requires-2 : tie.Need-pos-requires-2
-pos-requires-2 c κs = search needs
-
-pos-requires-3 : tie.Need-pos-requires-3
-pos-requires-3 c κs = search needs
-
-pos-requires-4 : tie.Need-pos-requires-4
-pos-requires-4 c κs = search needs
-
-lines-apart-requires : tie.Need-lines-apart-requires
-lines-apart-requires c κs = search needs
 
 returns-3 : tie.Need-returns-3
 unfolding Glance.linePairApart
@@ -71,4 +50,4 @@ returns-3 c =
     )
 
 pub line-pair-apart-spec : {M : Type 1} → statement M
-line-pair-apart-spec = tie.close (tie.spec bulge-is-zero-requires returns bulge-is-zero-requires-2 returns-2 pos-requires pos-requires-2 pos-requires-3 pos-requires-4 lines-apart-requires returns-3)
+line-pair-apart-spec = tie.close (tie.spec (search needs) returns (search needs) returns-2 (search needs) (search needs) (search needs) (search needs) (search needs) returns-3)

@@ -20,9 +20,6 @@ met : (v1 v2 u1 u2 : PlineVertex) (eps : Float) (r : PlineSegIntr) → pair.look
 unfolding pair.plineSegIntr
 met v1 v2 u1 u2 eps r h e = rw h (ap Met e)
 
-pair-fine-requires : tie.Need-pair-fine-requires
-pair-fine-requires c κs = search needs
-
 looked : (c : tie.Then1)
     → let a = c .before .before .args in
     pair.look (a .v1) (a .v2) (a .u1) (a .u2) (a .pos-equal-eps) ≡ Fine
@@ -34,12 +31,6 @@ pline-seg-once-requires c κs = looked c
 returns : tie.Need-returns
 returns c = met _ _ _ _ _ _ (looked (c .before)) (c .pline-seg-once .ensures)
 
-pline-seg-intr-requires : tie.Need-pline-seg-intr-requires
-pline-seg-intr-requires c κs = search needs
-
-returns-2 : tie.Need-returns-2
-returns-2 c = search needs
-
 pub pline-seg-intr-spec : {M : Type 1} → statement M
 pline-seg-intr-spec =
-    tie.close (tie.spec pair-fine-requires pline-seg-once-requires returns pline-seg-intr-requires returns-2)
+    tie.close (tie.spec (search needs) pline-seg-once-requires returns (search needs) (λ c. search needs))

@@ -25,20 +25,11 @@ told r v1 v2 u1 u2 v u eps f ev eu e y =
     ∙ ap (λ (k : Kept). clearlyApart v1 v2 v u1 u2 k eps) (sym eu)
     ∙ sym e ∙ y))
 
-clearly-apart-requires : tie.Need-clearly-apart-requires
-clearly-apart-requires c κs = search needs
-
 returns : tie.Need-returns
 returns c =
     let p1 = c .before in
     let s = p1 .before in
     sym (told _ _ _ _ _ _ _ _ (passes _ (s .good .1 .1 .1 .1 .1 .1 .0 .1)) (s .pre .1 .0) (s .pre .1 .1) (p1 .clearly-apart .ensures) (c .if1 .taken))
-
-circle-of-requires : tie.Need-circle-of-requires
-circle-of-requires c κs = search needs
-
-circle-of-requires-2 : tie.Need-circle-of-requires-2
-circle-of-requires-2 c κs = search needs
 
 pline-seg-looked-at-requires : tie.Need-pline-seg-looked-at-requires
 pline-seg-looked-at-requires c κs =
@@ -46,9 +37,6 @@ pline-seg-looked-at-requires c κs =
     let h = k .before .before .before .pre in
     (h .0, (circle-given _ _ _ _ _ (h .1 .0) (k .circle-of .ensures), circle-given _ _ _ _ _ (h .1 .1) (c .circle-of2 .ensures)))
 
-returns-2 : tie.Need-returns-2
-returns-2 c = search needs
-
 pub pline-seg-kept-spec : {M : Type 1} → statement M
 pline-seg-kept-spec =
-    tie.close (tie.spec clearly-apart-requires returns circle-of-requires circle-of-requires-2 pline-seg-looked-at-requires returns-2)
+    tie.close (tie.spec (search needs) returns (search needs) (search needs) pline-seg-looked-at-requires (λ c. search needs))

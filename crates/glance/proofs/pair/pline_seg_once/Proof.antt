@@ -8,20 +8,11 @@ use Rattle.glance.specs.Laws.Pair.{apart-line-pair}
 use Rattle.glance.proofs.pair.pline_seg_once.Statement.{statement}
 use Rattle.glance.proofs.pair.pline_seg_once.Tie as tie
 
-line-pair-apart-requires : tie.Need-line-pair-apart-requires
-line-pair-apart-requires c κs = search needs
-
 returns : tie.Need-returns
 returns c =
     let p = c .before in
     let s = p .before in
     sym (apart-line-pair _ _ _ _ _ (passes _ (s .good .1 .1 .1 .1 .0 .1)) (passes _ (sym (p .line-pair-apart .ensures) ∙ c .if1 .taken)))
-
-circle-if-arc-requires : tie.Need-circle-if-arc-requires
-circle-if-arc-requires c κs = search needs
-
-circle-if-arc-requires-2 : tie.Need-circle-if-arc-requires-2
-circle-if-arc-requires-2 c κs = search needs
 
 pline-seg-looked-at-requires : tie.Need-pline-seg-looked-at-requires
 pline-seg-looked-at-requires c κs =
@@ -29,9 +20,6 @@ pline-seg-looked-at-requires c κs =
     let s = k .before .before .before in
     (s .pre, (circle-of _ _ _ (k .circle-if-arc .ensures), circle-of _ _ _ (c .circle-if-arc2 .ensures)))
 
-returns-2 : tie.Need-returns-2
-returns-2 c = search needs
-
 pub pline-seg-once-spec : {M : Type 1} → statement M
 pline-seg-once-spec =
-    tie.close (tie.spec line-pair-apart-requires returns circle-if-arc-requires circle-if-arc-requires-2 pline-seg-looked-at-requires returns-2)
+    tie.close (tie.spec (search needs) returns (search needs) (search needs) pline-seg-looked-at-requires (λ c. search needs))
