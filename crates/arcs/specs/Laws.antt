@@ -1,3 +1,4 @@
 pub mod Sweep
 pub mod Ends
 pub mod Branches
+pub mod Circles

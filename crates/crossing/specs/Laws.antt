@@ -5,4 +5,3 @@ pub mod Within
 pub mod Apart
 pub mod Nested
 pub mod FarLine
-pub mod Circles

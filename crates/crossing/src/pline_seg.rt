@@ -1,15 +1,15 @@
 // Two segments of polylines, for any numbers: pline_seg_intersect.rs.
 ghost use mathlib.Core.Path.{_≡_};
 ghost use Rattle.crossing.specs.PlineSeg;
-ghost use Rattle.crossing.specs.Laws.Circles;
+ghost use Rattle.arcs.specs.Laws.Circles;
 use super::arc_arc::arc_arc;
 use super::line_arc::process_line_arc_intr;
 use super::line_line::line_line;
 use super::line_line_intersect::LineLineIntr;
+use arcs::circle::circle_if_arc;
 use arcs::pline_seg_intr::PlineSegIntr;
 use plane::base_math::point_from_parametric;
 use plane::pline_seg::ArcRadiusCenter;
-use plane::pline_seg::seg_arc_radius_and_center;
 use plane::pline_vertex::PlineVertex;
 use plane::vector2::Vector2;
 
@@ -38,19 +38,6 @@ fn process_line_line_intr(
             point2: point_from_parametric(u1, u2, seg2_t1),
         },
     }
-}
-
-// The circle of the segment from v1 to v2 if it is an arc; a line has none, and whatever stands for it is not looked at.
-fn circle_of(v1: PlineVertex, v2: PlineVertex) -> ArcRadiusCenter
-    ensures { λ r. ⌜ r ≡ Circles.circleOf v1 v2 ⌝ }
-{
-    if v1.bulge_is_zero() {
-        return ArcRadiusCenter {
-            radius: 0.0,
-            center: Vector2::new(0.0, 0.0),
-        };
-    }
-    seg_arc_radius_and_center(v1, v2)
 }
 
 // How the segments v1 to v2 and u1 to u2 meet. Each is a line or an arc by the bulge of its first vertex; the bulge of its second
@@ -92,7 +79,7 @@ pub fn pline_seg(
 ) -> PlineSegIntr
     ensures { λ r. ⌜ r ≡ PlineSeg.plineSeg v1 v2 u1 u2 «pos_equal_eps» ⌝ }
 {
-    let circle1 = circle_of(v1, v2);
-    let circle2 = circle_of(u1, u2);
+    let circle1 = circle_if_arc(v1, v2);
+    let circle2 = circle_if_arc(u1, u2);
     pline_seg_on(v1, v2, circle1, u1, u2, circle2, pos_equal_eps)
 }

@@ -2,7 +2,7 @@
 ghost use mathlib.Core.Path.{_≡_};
 ghost use Rattle.crossing.specs.PlineSeg;
 ghost use Rattle.crossing.specs.PlineSegIntersect;
-ghost use Rattle.crossing.specs.Laws.Circles;
+ghost use Rattle.arcs.specs.Laws.Circles;
 ghost use Rattle.checks.specs.declared.fault.Checked.the-variants.{Fine};
 use super::pline_seg::pline_seg;
 use super::pline_seg::pline_seg_on;

@@ -4,7 +4,6 @@ ghost use mathlib.Core.Path.{_≡_};
 ghost use Rattle.checks.specs.declared.fault.Checked.the-variants.{Fine};
 ghost use Rattle.crossing.specs.PlineSeg;
 ghost use Rattle.crossing.specs.PlineSegIntersect;
-ghost use Rattle.crossing.specs.Laws.Circles;
 ghost use Rattle.glance.specs.Glance;
 ghost use Rattle.glance.specs.Kept as keeping;
 use super::circles::circles_apart;
@@ -13,14 +12,12 @@ use super::kept::circle_of;
 use super::line::line_beside;
 use super::lines::lines_apart;
 use super::looked::pair_fine;
+use arcs::circle::circle_if_arc;
 use arcs::pline_seg_intr::PlineSegIntr;
 use crossing::pline_seg_intersect;
 use crossing::pline_seg_intersect::PlineSegAnswer;
 use crossing::pline_seg_intersect::pline_seg_looked_at;
-use plane::pline_seg::ArcRadiusCenter;
-use plane::pline_seg::seg_arc_radius_and_center;
 use plane::pline_vertex::PlineVertex;
-use plane::vector2::Vector2;
 
 // Whether two segments are clearly apart.
 fn clearly_apart(
@@ -85,19 +82,6 @@ fn line_pair_apart(
         return false;
     }
     lines_apart(v1.pos(), v2.pos(), u1.pos(), u2.pos(), eps)
-}
-
-// The circle of an arc; a line has none, and whatever stands for it is not looked at.
-fn circle_if_arc(v1: PlineVertex, v2: PlineVertex) -> ArcRadiusCenter
-    ensures { λ r. ⌜ r ≡ Circles.circleOf v1 v2 ⌝ }
-{
-    if v1.bulge_is_zero() {
-        return ArcRadiusCenter {
-            radius: 0.0,
-            center: Vector2::new(0.0, 0.0),
-        };
-    }
-    seg_arc_radius_and_center(v1, v2)
 }
 
 // The same as `pline_seg_kept`, of segments of which nothing is kept: for one pair it does not pay to keep a line's root.

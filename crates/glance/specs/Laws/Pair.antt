@@ -17,7 +17,7 @@ use Rattle.crossing.specs.LineArc.{processLineArcIntr, lineArcOf}
 use Rattle.crossing.specs.PlineSeg.{plineSeg, processLineLineIntr}
 use Rattle.crossing.specs.Laws.Apart.{apart, circles-apart}
 use Rattle.crossing.specs.Laws.Nested.{nested, circles-nested}
-use Rattle.crossing.specs.Laws.Circles.{OfArc}
+use Rattle.arcs.specs.Laws.Circles.{OfArc}
 use Rattle.crossing.specs.declared.circle_circle_intersect.CircleCircleIntr.{CircleCircleIntr}
 use Rattle.crossing.specs.declared.line_circle_intersect.LineCircleIntr.{LineCircleIntr}
 use Rattle.arcs.specs.declared.pline_seg_intr.PlineSegIntr.{PlineSegIntr}

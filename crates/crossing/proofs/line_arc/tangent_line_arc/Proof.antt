@@ -1,31 +1,10 @@
 -- `crossing::line_arc::tangent_line_arc` meets its contract: each return is an end of the definition, by the calls and tests
 -- on its way.
 use borrow.Author.Needs.{needs}
+use Rattle.arcs.specs.Laws.Branches.{branches}
 use Rattle.crossing.specs.LineArc
 use Rattle.crossing.proofs.line_arc.tangent_line_arc.Statement.{statement}
 use Rattle.crossing.proofs.line_arc.tangent_line_arc.Tie as tie
-
-returns : tie.Need-returns
-unfolding LineArc.tangentLineArc
-returns c =
-    let p1 = c .before in
-    simp (
-      ← p1 .point-lies-on-arc .ensures,
-      c .if1 .taken,
-    )
-
-returns-2 : tie.Need-returns-2
-unfolding LineArc.tangentLineArc
-returns-2 c =
-    let p1 = c .before in
-    let p2 = p1 .before in
-    let p3 = p2 .before in
-    simp (
-      ← p3 .point-lies-on-arc .ensures,
-      p2 .if1 .left,
-      ← p1 .point-lies-on-arc2 .ensures,
-      c .if2 .taken,
-    )
 
 returns-3 : tie.Need-returns-3
 unfolding LineArc.tangentLineArc
@@ -63,6 +42,9 @@ returns-4 c =
     )
 
 pub tangent-line-arc-spec : {M : Type 1} → statement M
+unfolding LineArc.tangentLineArc
 tangent-line-arc-spec =
-    tie.close (tie.spec (search needs) returns (search needs) returns-2
+    tie.close
+    (tie.spec
+    (search needs) (λ c. search branches) (search needs) (λ c. search branches depth 8)
     (search needs) (λ c. search needs) (λ c. search needs) returns-3 returns-4)

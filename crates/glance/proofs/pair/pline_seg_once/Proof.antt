@@ -3,7 +3,7 @@
 use mathlib.Core.Path.{sym, _∙_}
 use denote.Floats.{passes}
 use borrow.Author.Needs.{needs}
-use Rattle.crossing.specs.Laws.Circles.{circle-of}
+use Rattle.arcs.specs.Laws.Circles.{circle-if-arc}
 use Rattle.glance.specs.Laws.Pair.{apart-line-pair}
 use Rattle.glance.proofs.pair.pline_seg_once.Statement.{statement}
 use Rattle.glance.proofs.pair.pline_seg_once.Tie as tie
@@ -18,7 +18,7 @@ pline-seg-looked-at-requires : tie.Need-pline-seg-looked-at-requires
 pline-seg-looked-at-requires c κs =
     let k = c .before in
     let s = k .before .before .before in
-    (s .pre, (circle-of _ _ _ (k .circle-if-arc .ensures), circle-of _ _ _ (c .circle-if-arc2 .ensures)))
+    (s .pre, (circle-if-arc _ _ _ (k .circle-if-arc .ensures), circle-if-arc _ _ _ (c .circle-if-arc2 .ensures)))
 
 pub pline-seg-once-spec : {M : Type 1} → statement M
 pline-seg-once-spec =

@@ -13,9 +13,9 @@ use Rattle.plane.specs.declared.pline_seg.ArcRadiusCenter.{ArcRadiusCenter}
 abbrev pub OfArc : PlineVertex → PlineVertex → ArcRadiusCenter → Type 0
 OfArc v1 v2 circle = bulgeIsZero v1 ≡ false → circle ≡ segArcRadiusAndCenter v1 v2
 
-unfoldable pub circleOf : PlineVertex → PlineVertex → ArcRadiusCenter
-circleOf v1 v2 = cond (bulgeIsZero v1) (record { radius = f0; center = vector2.new f0 f0 }) (segArcRadiusAndCenter v1 v2)
+unfoldable pub circleIfArc : PlineVertex → PlineVertex → ArcRadiusCenter
+circleIfArc v1 v2 = cond (bulgeIsZero v1) (record { radius = f0; center = vector2.new f0 f0 }) (segArcRadiusAndCenter v1 v2)
 
-pub circle-of : (v1 v2 : PlineVertex) (circle : ArcRadiusCenter) → circle ≡ circleOf v1 v2 → OfArc v1 v2 circle
-unfolding circleOf
-circle-of v1 v2 circle e arc = e ∙ rw arc
+pub circle-if-arc : (v1 v2 : PlineVertex) (circle : ArcRadiusCenter) → circle ≡ circleIfArc v1 v2 → OfArc v1 v2 circle
+unfolding circleIfArc
+circle-if-arc v1 v2 circle e arc = e ∙ rw arc
