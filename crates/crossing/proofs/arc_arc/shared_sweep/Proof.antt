@@ -11,7 +11,7 @@ unfolding sharedSweep
 shared-sweep-spec =
     tie.close
     (tie.spec
-    (search needs) (search needs) (λ c. search pairs depth 8)
-    (search needs) (λ c. search pairs depth 8)
-    (search needs) (λ c. search pairs depth 8)
-    (search needs) (search needs) (λ c. search pairs depth 8) (λ c. search pairs depth 8))
+    (search needs) (search needs) (λ c. search pairs)
+    (search needs) (λ c. search pairs)
+    (search needs) (λ c. search pairs)
+    (search needs) (search needs) (λ c. search pairs) (λ c. search pairs))

@@ -9,7 +9,8 @@ pub two-in-sweep-spec : {M : Type 1} → statement M
 two-in-sweep-spec =
     tie.close
     (tie.spec
-    (search needs) (search needs) (search needs) (search needs) (search needs) (search needs) (search needs) (search needs) (search needs)
+    (search needs) (search needs) (search needs) (search needs) (search needs) (search needs)
+    (search needs) (search needs) (search needs)
     (λ c. simp (c .before .before .enum-told .given .1, c .enum-told2 .given .1))
     (λ c. let s = c .before .before in
     simp (s .before .before .enum-told .given .1, s .second .given .1, ← c .end-for-nearer .ensures))

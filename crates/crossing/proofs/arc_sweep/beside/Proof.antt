@@ -5,4 +5,4 @@ use Rattle.crossing.proofs.arc_sweep.beside.Statement.{statement}
 use Rattle.crossing.proofs.arc_sweep.beside.Tie as tie
 
 pub beside-spec : {M : Type 1} → statement M
-beside-spec = tie.close (tie.spec (search needs) (λ c. cc))
+beside-spec = tie.close (tie.spec (search needs) (λ c. simp (← c .dot .ensures)))

@@ -12,5 +12,7 @@ two-sides-spec =
     tie.close
     (tie.spec
     (search needs) (search needs) (search needs)
-    (λ c. let p = c .before .before in simp (← p .before .before .before .new .ensures, ← p .new2 .ensures) (search branches))
-    (λ c. let p = c .before .before in simp (← p .before .before .before .new .ensures, ← p .new2 .ensures) (search branches)))
+    (λ c. let p = c .before .before in
+    simp (← p .before .before .before .new .ensures, ← p .new2 .ensures) (search branches))
+    (λ c. let p = c .before .before in
+    simp (← p .before .before .before .new .ensures, ← p .new2 .ensures) (search branches)))

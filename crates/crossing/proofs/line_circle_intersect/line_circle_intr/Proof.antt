@@ -11,5 +11,7 @@ line-circle-intr-spec =
     tie.close
     (tie.spec
     (search needs) (search needs) (search needs) (search needs)
-    (λ c. let t = c .before in simp (← t .before .before .look .ensures, t .enum-told .given .1, ← c .line-circle .ensures))
-    (λ c. let t = c .before in simp (← t .before .before .look .ensures, t .looked .given .1)))
+    (λ c. let t = c .before in
+    simp (← t .before .before .look .ensures, t .enum-told .given .1, ← c .line-circle .ensures))
+    (λ c. let t = c .before in
+    simp (← t .before .before .look .ensures, t .looked .given .1)))

@@ -46,5 +46,6 @@ unfolding overlap
 overlap-spec =
     tie.close
     (tie.spec
-    (search needs) (search needs) (search needs) (λ c. simp (← c .before .before .before .before .before .length .ensures) (search pairs))
+    (search needs) (search needs) (search needs)
+    (λ c. simp (← c .before .before .before .before .before .length .ensures) (search pairs))
     (search needs) (search needs) (search needs) (search needs) returns-2 returns-3)

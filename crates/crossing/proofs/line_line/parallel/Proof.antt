@@ -13,7 +13,8 @@ use Rattle.crossing.proofs.line_line.parallel.Tie as tie
 
 -- past the first test: w leaves neither the line of v nor that of u
 on-line : (c : tie.Else1) (r y : LineLineIntr) → r ≡ y → let a = c .before .before .before .before .before .args in
-    r ≡ cond (not (fuzzyEqZeroEps (perpDot (a .v) (a .w)) (a .eps)) || not (fuzzyEqZeroEps (perpDot (a .u) (a .w)) (a .eps)))
+    r
+    ≡ cond (not (fuzzyEqZeroEps (perpDot (a .v) (a .w)) (a .eps)) || not (fuzzyEqZeroEps (perpDot (a .u) (a .w)) (a .eps)))
     NoIntersect y
 on-line c r y e =
     let p = c .before .before .before in
@@ -42,7 +43,8 @@ parallel-spec =
     (search needs) (search needs) (search needs)
     (λ c. on-line (c .before .before .before .before .before) _ _ (search pairs)) (search needs)
     (λ c. on-line (c .before .before .before .before .before) _ _ (search pairs)) (search needs)
-    (λ c. on-line (c .before .before .before .before .before) _ _ (search pairs)) (search needs) (search needs) (search needs)
+    (λ c. on-line (c .before .before .before .before .before) _ _ (search pairs))
+    (search needs) (search needs) (search needs)
     (λ c. let s = c .before .before in
     simp (← s .sub .ensures, ← c .before .span-of .ensures)
     (on-line (s .before .before .before .before .before) _ _ (search pairs))))

@@ -13,8 +13,10 @@ use Rattle.crossing.proofs.arc_sweep.ArcSweep.finding.Tie as tie
 past-center : (c : tie.After-perp-dot2) (r : SweepFinding) → let p = c .before .before .before .before .before in
     let a = p .before .args in
     r ≡ cond (exactlyWithinSweep (a .self .«is_clockwise») (c .before .perp-dot .result) (c .perp-dot2 .result)) Inside
-    (cond (beside (a .self .«start_vector») (p .sub .result) (c .before .perp-dot .result) (a .self .«start_fuzzy_limit»)) NearStart
-    (cond (beside (a .self .«end_vector») (p .sub .result) (c .perp-dot2 .result) (a .self .«end_fuzzy_limit»)) NearEnd Outside))
+    (cond (beside (a .self .«start_vector») (p .sub .result) (c .before .perp-dot .result) (a .self .«start_fuzzy_limit»))
+    NearStart
+    (cond (beside (a .self .«end_vector») (p .sub .result) (c .perp-dot2 .result) (a .self .«end_fuzzy_limit»))
+    NearEnd Outside))
     → r ≡ finding (a .self) (a .point)
 unfolding finding
 past-center c r e =
