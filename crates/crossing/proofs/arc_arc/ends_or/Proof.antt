@@ -1,7 +1,6 @@
 -- `crossing::arc_arc::ends_or` meets its contract: each return is an end of the definition, by the calls and tests on its
 -- way.
 use borrow.Author.Needs.{needs}
-use Rattle.crossing.specs.ArcArc
 use Rattle.crossing.proofs.arc_arc.ends_or.Statement.{statement}
 use Rattle.crossing.proofs.arc_arc.ends_or.Tie as tie
 

@@ -1,6 +1,5 @@
 -- `crossing::arc_sweep::beside` meets its contract: its calls are the definition's.
 use borrow.Author.Needs.{needs}
-use Rattle.crossing.specs.ArcSweep as sweep
 use Rattle.crossing.proofs.arc_sweep.beside.Statement.{statement}
 use Rattle.crossing.proofs.arc_sweep.beside.Tie as tie
 

@@ -2,7 +2,6 @@
 -- distance would; elsewhere the distance is asked.
 use mathlib.Core.Path.{sym}
 use borrow.Author.Needs.{needs}
-use Rattle.crossing.specs.CircleCircle
 use Rattle.crossing.specs.Laws.Apart.{circles-apart}
 use Rattle.crossing.proofs.circle_circle.circle_circle.Statement.{statement}
 use Rattle.crossing.proofs.circle_circle.circle_circle.Tie as tie

@@ -6,7 +6,6 @@ use lib.Dec.{T}
 use denote.Floats.{passes}
 use borrow.Author.Needs.{needs}
 use Rattle.plane.specs.Vector2 as vector2
-use Rattle.crossing.specs.LineLine
 use Rattle.crossing.specs.Laws.Within.{usual, within-inside, within-outside}
 use Rattle.crossing.proofs.line_line.within.Statement.{statement}
 use Rattle.crossing.proofs.line_line.within.Tie as tie
