@@ -1,5 +1,5 @@
--- `crossing::arc_arc::arc2_ends` meets its contract: each return is an end of the definition, by the calls and tests on its
--- way.
+-- `crossing::arc_arc::arc2_ends` meets its contract: each return is an end of the definition, by the calls and tests on
+-- its way.
 use Rattle.crossing.specs.ArcArc.{arc2Ends}
 use Rattle.crossing.specs.Laws.Branches.{branches}
 use Rattle.crossing.proofs.arc_arc.arc2_ends.Statement.{statement}

@@ -1,5 +1,5 @@
--- `crossing::arc_arc::ends_or` meets its contract: each return is an end of the definition, by the calls and tests on its
--- way.
+-- `crossing::arc_arc::ends_or` meets its contract: each return is an end of the definition, by the calls and tests on
+-- its way.
 use borrow.Author.Needs.{needs}
 use Rattle.crossing.proofs.arc_arc.ends_or.Statement.{statement}
 use Rattle.crossing.proofs.arc_arc.ends_or.Tie as tie

@@ -1,5 +1,5 @@
--- `crossing::arc_arc::overlap_by_direction` meets its contract: each return is an end of the definition, by the calls and
--- tests on its way.
+-- `crossing::arc_arc::overlap_by_direction` meets its contract: each return is an end of the definition, by the calls
+-- and tests on its way.
 use Rattle.crossing.specs.ArcArc.{overlapByDirection}
 use Rattle.crossing.specs.Laws.Branches.{branches}
 use Rattle.crossing.proofs.arc_arc.overlap_by_direction.Statement.{statement}

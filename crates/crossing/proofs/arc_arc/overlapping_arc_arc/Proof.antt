@@ -1,5 +1,5 @@
--- `crossing::arc_arc::overlapping_arc_arc` meets its contract: each return is an end of the definition, by the calls and
--- tests on its way.
+-- `crossing::arc_arc::overlapping_arc_arc` meets its contract: each return is an end of the definition, by the calls
+-- and tests on its way.
 use borrow.Author.Needs.{needs}
 use Rattle.crossing.specs.ArcArc.{overlappingArcArc}
 use Rattle.crossing.proofs.arc_arc.overlapping_arc_arc.Statement.{statement}

@@ -1,5 +1,5 @@
--- `crossing::arc_arc::try_add_end_point_intr` meets its contract: each return is an end of the definition, by the calls and
--- tests on its way.
+-- `crossing::arc_arc::try_add_end_point_intr` meets its contract: each return is an end of the definition, by the calls
+-- and tests on its way.
 use borrow.Author.Needs.{needs}
 use Rattle.crossing.specs.ArcArc.{tryAddEndPointIntr}
 use Rattle.crossing.proofs.arc_arc.try_add_end_point_intr.Statement.{statement}

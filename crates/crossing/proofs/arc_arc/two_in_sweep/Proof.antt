@@ -1,5 +1,5 @@
--- `crossing::arc_arc::two_in_sweep` meets its contract: each return is an end of the definition, by the calls and tests on
--- its way.
+-- `crossing::arc_arc::two_in_sweep` meets its contract: each return is an end of the definition, by the calls and tests
+-- on its way.
 use borrow.Author.Needs.{needs}
 use Rattle.crossing.proofs.arc_arc.two_in_sweep.Statement.{statement}
 use Rattle.crossing.proofs.arc_arc.two_in_sweep.Tie as tie

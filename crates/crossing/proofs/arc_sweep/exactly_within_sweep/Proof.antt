@@ -1,5 +1,5 @@
--- `crossing::arc_sweep::exactly_within_sweep` meets its contract: each return is an end of the definition, by the calls and
--- tests on its way.
+-- `crossing::arc_sweep::exactly_within_sweep` meets its contract: each return is an end of the definition, by the calls
+-- and tests on its way.
 use Rattle.crossing.specs.ArcSweep.{exactlyWithinSweep}
 use Rattle.crossing.specs.Laws.Branches.{branches}
 use Rattle.crossing.proofs.arc_sweep.exactly_within_sweep.Statement.{statement}

@@ -1,5 +1,5 @@
--- `crossing::circle_circle::circle_circle` meets its contract: of circles that are far apart the law of `Laws/Apart` says what the
--- distance would; elsewhere the distance is asked.
+-- `crossing::circle_circle::circle_circle` meets its contract: of circles that are far apart the law of `Laws/Apart`
+-- says what the distance would; elsewhere the distance is asked.
 use mathlib.Core.Path.{sym}
 use borrow.Author.Needs.{needs}
 use Rattle.crossing.specs.Laws.Apart.{circles-apart}

@@ -1,5 +1,5 @@
--- `crossing::circle_circle::two_sides` meets its contract: each return is an end of the definition, by the calls and tests
--- on its way.
+-- `crossing::circle_circle::two_sides` meets its contract: each return is an end of the definition, by the calls and
+-- tests on its way.
 use borrow.Author.Needs.{needs}
 use Rattle.crossing.specs.CircleCircle.{twoSides}
 use Rattle.crossing.specs.Laws.Branches.{branches}

@@ -1,5 +1,5 @@
--- `crossing::line_line::within` meets its contract: where t is clearly inside or outside, the law of `Laws/Within` says what the
--- length would; elsewhere the length is asked.
+-- `crossing::line_line::within` meets its contract: where t is clearly inside or outside, the law of `Laws/Within` says
+-- what the length would; elsewhere the length is asked.
 use mathlib.Core.Path.{_≡_, sym}
 use mathlib.Core.Bool.{Bool, true, false, not, true≢false}
 use lib.Dec.{T}

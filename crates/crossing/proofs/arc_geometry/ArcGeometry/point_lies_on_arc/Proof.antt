@@ -1,5 +1,5 @@
--- `crossing::arc_geometry::ArcGeometry::point_lies_on_arc` meets its contract: each return is an end of the definition, by
--- the calls and tests on its way.
+-- `crossing::arc_geometry::ArcGeometry::point_lies_on_arc` meets its contract: each return is an end of the definition,
+-- by the calls and tests on its way.
 use borrow.Author.Needs.{needs}
 use Rattle.crossing.specs.ArcGeometry.{pointLiesOnArc}
 use Rattle.crossing.proofs.arc_geometry.ArcGeometry.point_lies_on_arc.Statement.{statement}

@@ -1,5 +1,5 @@
--- `crossing::arc_sweep::ArcSweep::contains` meets its contract: it answers whether the finding names a rule, which is what
--- the definition answers.
+-- `crossing::arc_sweep::ArcSweep::contains` meets its contract: it answers whether the finding names a rule, which is
+-- what the definition answers.
 use borrow.Author.Needs.{needs}
 use Rattle.crossing.specs.Laws.Sweep.{contains-is-yes}
 use Rattle.crossing.proofs.arc_sweep.ArcSweep.contains.Statement.{statement}
