@@ -11,6 +11,6 @@ unfolding tangentArcArc
 tangent-arc-arc-spec =
     tie.close
     (tie.spec
-    (search needs) (λ c. search branches depth 8) (search needs) (λ c. search branches depth 8)
-    (search needs) (λ c. search branches depth 8) (search needs) (λ c. search branches depth 8)
-    (search needs) (λ c. search branches depth 8) (λ c. search branches depth 8))
+    (search needs) (λ c. search branches) (search needs) (λ c. search branches)
+    (search needs) (λ c. search branches) (search needs) (λ c. search branches)
+    (search needs) (λ c. search branches) (λ c. search branches))
