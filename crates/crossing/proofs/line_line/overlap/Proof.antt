@@ -2,7 +2,6 @@
 -- its way.
 use borrow.Author.Needs.{needs}
 use Rattle.crossing.specs.LineLine.{overlap}
-use Rattle.crossing.specs.Laws.Branches.{pairs}
 use Rattle.crossing.proofs.line_line.overlap.Statement.{statement}
 use Rattle.crossing.proofs.line_line.overlap.Tie as tie
 
@@ -47,5 +46,6 @@ overlap-spec =
     tie.close
     (tie.spec
     (search needs) (search needs) (search needs)
-    (λ c. simp (← c .before .before .before .before .before .length .ensures) (search pairs))
+    (λ c. let l = c .before .before .before in
+    simp (← l .before .before .length .ensures, ← l .fuzzy-lt-eps .ensures, ← c .before .fuzzy-gt-eps .ensures, c .if1 .taken))
     (search needs) (search needs) (search needs) (search needs) returns-2 returns-3)
