@@ -2,21 +2,20 @@
 -- tests on its way.
 use borrow.Author.Needs.{needs}
 use Rattle.arcs.specs.OneCircle.{arcsOfOneCircle}
-use Rattle.arcs.specs.Laws.Branches.{branches}
 use Rattle.arcs.proofs.one_circle.arcs_of_one_circle.Statement.{statement}
 use Rattle.arcs.proofs.one_circle.arcs_of_one_circle.Tie as tie
 
 returns-5 : tie.Need-returns-5
 unfolding arcsOfOneCircle
 returns-5 c =
-    let t = c .before .before .before in
-    let d = t .before .before .before in
+    let t = c .before .before .before .before in
+    let d = t .before .before in
     simp (
       ← d .before .before .before .arc2-ends .ensures,
       ← d .dist-squared .ensures,
-      ← t .before .before .dist-squared2 .ensures,
-      t .before .if1 .left,
-      t .if3 .left,
+      ← t .before .dist-squared2 .ensures,
+      t .if1 .left,
+      c .before .before .before .if3 .left,
       ← c .before .before .new .ensures,
       ← c .before .new2 .ensures,
       ← c .shared-sweep .ensures,
@@ -28,10 +27,16 @@ arcs-of-one-circle-spec =
     tie.close
     (tie.spec
     (search needs) (search needs) (search needs)
-    (λ c. simp (← c .before .before .before .before .before .before .arc2-ends .ensures) (search branches))
-    (λ c. simp (← c .before .before .before .before .before .before .arc2-ends .ensures) (search branches))
-    (λ c. simp (← c .before .before .before .before .before .before .before .arc2-ends .ensures)
-    (simp (c .if4 .taken) (search branches)))
-    (λ c. simp (← c .before .before .before .before .before .before .before .arc2-ends .ensures)
-    (simp (c .if4 .left) (search branches)))
+    (λ c. let t = c .before in let e = t .before in let d = e .before in let a = d .before .before .before in
+    simp (← a .arc2-ends .ensures, ← d .dist-squared .ensures, ← e .dist-squared2 .ensures, t .if1 .taken)
+    (simp (c .if2 .taken)))
+    (λ c. let t = c .before in let e = t .before in let d = e .before in let a = d .before .before .before in
+    simp (← a .arc2-ends .ensures, ← d .dist-squared .ensures, ← e .dist-squared2 .ensures, t .if1 .taken)
+    (simp (c .if2 .left)))
+    (λ c. let t = c .before .before in let e = t .before in let d = e .before in let a = d .before .before .before in
+    simp (← a .arc2-ends .ensures, ← d .dist-squared .ensures, ← e .dist-squared2 .ensures, t .if1 .left)
+    (simp (c .before .if3 .taken, c .if4 .taken)))
+    (λ c. let t = c .before .before in let e = t .before in let d = e .before in let a = d .before .before .before in
+    simp (← a .arc2-ends .ensures, ← d .dist-squared .ensures, ← e .dist-squared2 .ensures, t .if1 .left)
+    (simp (c .before .if3 .taken, c .if4 .left)))
     (search needs) (search needs) (search needs) returns-5)

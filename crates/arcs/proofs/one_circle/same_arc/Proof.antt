@@ -9,4 +9,16 @@ unfolding sameArc
 same-arc-spec =
     tie.close
     (tie.spec
-    (search needs) (search needs) (search needs) (search needs) (search needs) (search needs) (search needs) (search needs) (λ c. cc))
+    (search needs) (search needs) (search needs) (search needs) (search needs) (search needs)
+    (search needs) (search needs)
+    (λ c. let e = c .before .before .before in let f = e .before .before .before .before in let p = f .before .before in
+    simp (
+      ← p .before .before .pos .ensures,
+      ← p .before .pos2 .ensures,
+      ← p .pos3 .ensures,
+      ← f .before .pos4 .ensures,
+      ← f .eq .ensures,
+      ← e .before .before .before .eq2 .ensures,
+      ← e .eq3 .ensures,
+      ← c .before .before .eq4 .ensures,
+    )))

@@ -1,5 +1,5 @@
--- `arcs::one_circle::shared_sweep` meets its contract: each return is an end of the definition, by the calls and tests on
--- its way.
+-- `arcs::one_circle::shared_sweep` meets its contract: each return is an end of the definition, by the calls and tests
+-- on its way.
 use borrow.Author.Needs.{needs}
 use Rattle.arcs.specs.OneCircle.{sharedSweep}
 use Rattle.arcs.specs.Laws.Branches.{pairs}
@@ -11,7 +11,7 @@ unfolding sharedSweep
 shared-sweep-spec =
     tie.close
     (tie.spec
-    (search needs) (search needs) (λ c. search pairs depth 8)
-    (search needs) (λ c. search pairs depth 8)
-    (search needs) (λ c. search pairs depth 8)
-    (search needs) (search needs) (λ c. search pairs depth 8) (λ c. search pairs depth 8))
+    (search needs) (search needs) (λ c. search pairs)
+    (search needs) (λ c. search pairs)
+    (search needs) (λ c. search pairs)
+    (search needs) (search needs) (λ c. search pairs) (λ c. search pairs))

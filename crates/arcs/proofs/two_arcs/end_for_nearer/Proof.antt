@@ -1,5 +1,5 @@
--- `arcs::two_arcs::end_for_nearer` meets its contract: each return is an end of the definition, by the calls and tests on
--- its way.
+-- `arcs::two_arcs::end_for_nearer` meets its contract: each return is an end of the definition, by the calls and
+-- tests on its way.
 use borrow.Author.Needs.{needs}
 use Rattle.arcs.specs.TwoArcs.{endForNearer}
 use Rattle.arcs.specs.Laws.Branches.{branches}

@@ -1,5 +1,5 @@
--- `arcs::two_arcs::tangent_arc_arc` meets its contract: each return is an end of the definition, by the calls and tests
--- on its way.
+-- `arcs::two_arcs::tangent_arc_arc` meets its contract: each return is an end of the definition, by the calls and
+-- tests on its way.
 use borrow.Author.Needs.{needs}
 use Rattle.arcs.specs.TwoArcs.{tangentArcArc}
 use Rattle.arcs.specs.Laws.Branches.{branches}
@@ -11,6 +11,6 @@ unfolding tangentArcArc
 tangent-arc-arc-spec =
     tie.close
     (tie.spec
-    (search needs) (λ c. search branches depth 8) (search needs) (λ c. search branches depth 8)
-    (search needs) (λ c. search branches depth 8) (search needs) (λ c. search branches depth 8)
-    (search needs) (λ c. search branches depth 8) (λ c. search branches depth 8))
+    (search needs) (λ c. search branches) (search needs) (λ c. search branches)
+    (search needs) (λ c. search branches) (search needs) (λ c. search branches)
+    (search needs) (λ c. search branches) (λ c. search branches))

@@ -1,7 +1,6 @@
--- `arcs::two_arcs::two_in_sweep` meets its contract: each return is an end of the definition, by the calls and tests on
--- its way.
+-- `arcs::two_arcs::two_in_sweep` meets its contract: each return is an end of the definition, by the calls and tests
+-- on its way.
 use borrow.Author.Needs.{needs}
-use Rattle.arcs.specs.TwoArcs
 use Rattle.arcs.proofs.two_arcs.two_in_sweep.Statement.{statement}
 use Rattle.arcs.proofs.two_arcs.two_in_sweep.Tie as tie
 
@@ -9,7 +8,8 @@ pub two-in-sweep-spec : {M : Type 1} → statement M
 two-in-sweep-spec =
     tie.close
     (tie.spec
-    (search needs) (search needs) (search needs) (search needs) (search needs) (search needs) (search needs) (search needs) (search needs)
+    (search needs) (search needs) (search needs) (search needs) (search needs) (search needs)
+    (search needs) (search needs) (search needs)
     (λ c. simp (c .before .before .enum-told .given .1, c .enum-told2 .given .1))
     (λ c. let s = c .before .before in
     simp (s .before .before .enum-told .given .1, s .second .given .1, ← c .end-for-nearer .ensures))

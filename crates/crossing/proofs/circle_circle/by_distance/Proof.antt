@@ -16,7 +16,9 @@ by-distance-spec =
     simp (← s .before .before .sub .ensures, ← s .before .dot .ensures, ← s .sqrt .ensures) (search pairs))
     (search needs) (search needs) (search needs)
     (λ c. let a = c .before .before in let s = a .before .before .before .before in
-    simp (← s .before .before .sub .ensures, ← s .before .dot .ensures, ← s .sqrt .ensures, ← a .abs .ensures) (search pairs))
+    simp (← s .before .before .sub .ensures, ← s .before .dot .ensures, ← s .sqrt .ensures, ← a .abs .ensures)
+    (search pairs))
     (search needs)
     (λ c. let a = c .before .before .before in let s = a .before .before .before .before in
-    simp (← s .before .before .sub .ensures, ← s .before .dot .ensures, ← s .sqrt .ensures, ← a .abs .ensures) (search pairs)))
+    simp (← s .before .before .sub .ensures, ← s .before .dot .ensures, ← s .sqrt .ensures, ← a .abs .ensures)
+    (search pairs)))

@@ -1,5 +1,5 @@
--- `crossing::circle_circle::two_sides` meets its contract: each return is an end of the definition, by the calls and tests
--- on its way.
+-- `crossing::circle_circle::two_sides` meets its contract: each return is an end of the definition, by the calls and
+-- tests on its way.
 use borrow.Author.Needs.{needs}
 use Rattle.crossing.specs.CircleCircle.{twoSides}
 use Rattle.arcs.specs.Laws.Branches.{branches}
@@ -12,5 +12,7 @@ two-sides-spec =
     tie.close
     (tie.spec
     (search needs) (search needs) (search needs)
-    (λ c. let p = c .before .before in simp (← p .before .before .before .new .ensures, ← p .new2 .ensures) (search branches))
-    (λ c. let p = c .before .before in simp (← p .before .before .before .new .ensures, ← p .new2 .ensures) (search branches)))
+    (λ c. let p = c .before .before in
+    simp (← p .before .before .before .new .ensures, ← p .new2 .ensures) (search branches))
+    (λ c. let p = c .before .before in
+    simp (← p .before .before .before .new .ensures, ← p .new2 .ensures) (search branches)))

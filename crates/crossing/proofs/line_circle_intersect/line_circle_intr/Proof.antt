@@ -1,5 +1,5 @@
--- `crossing::line_circle_intersect::line_circle_intr` meets its contract: each return is an end of the definition, by the
--- calls and tests on its way.
+-- `crossing::line_circle_intersect::line_circle_intr` meets its contract: each return is an end of the definition, by
+-- the calls and tests on its way.
 use borrow.Author.Needs.{needs}
 use Rattle.crossing.specs.LineCircleIntersect.{lineCircleIntr}
 use Rattle.crossing.proofs.line_circle_intersect.line_circle_intr.Statement.{statement}
@@ -11,5 +11,7 @@ line-circle-intr-spec =
     tie.close
     (tie.spec
     (search needs) (search needs) (search needs) (search needs)
-    (λ c. let t = c .before in simp (← t .before .before .look .ensures, t .enum-told .given .1, ← c .line-circle .ensures))
-    (λ c. let t = c .before in simp (← t .before .before .look .ensures, t .looked .given .1)))
+    (λ c. let t = c .before in
+    simp (← t .before .before .look .ensures, t .enum-told .given .1, ← c .line-circle .ensures))
+    (λ c. let t = c .before in
+    simp (← t .before .before .look .ensures, t .looked .given .1)))

@@ -1,5 +1,5 @@
--- `crossing::line_line::both_points` meets its contract: each return is an end of the definition, by the calls and tests on
--- its way.
+-- `crossing::line_line::both_points` meets its contract: each return is an end of the definition, by the calls and
+-- tests on its way.
 use borrow.Author.Needs.{needs}
 use Rattle.crossing.specs.LineLine
 use Rattle.crossing.proofs.line_line.both_points.Statement.{statement}

@@ -1,8 +1,7 @@
--- `crossing::line_line::overlap` meets its contract: each return is an end of the definition, by the calls and tests on its
--- way.
+-- `crossing::line_line::overlap` meets its contract: each return is an end of the definition, by the calls and tests on
+-- its way.
 use borrow.Author.Needs.{needs}
 use Rattle.crossing.specs.LineLine.{overlap}
-use Rattle.arcs.specs.Laws.Branches.{pairs}
 use Rattle.crossing.proofs.line_line.overlap.Statement.{statement}
 use Rattle.crossing.proofs.line_line.overlap.Tie as tie
 
@@ -46,5 +45,7 @@ unfolding overlap
 overlap-spec =
     tie.close
     (tie.spec
-    (search needs) (search needs) (search needs) (λ c. simp (← c .before .before .before .before .before .length .ensures) (search pairs))
+    (search needs) (search needs) (search needs)
+    (λ c. let l = c .before .before .before in
+    simp (← l .before .before .length .ensures, ← l .fuzzy-lt-eps .ensures, ← c .before .fuzzy-gt-eps .ensures, c .if1 .taken))
     (search needs) (search needs) (search needs) (search needs) returns-2 returns-3)

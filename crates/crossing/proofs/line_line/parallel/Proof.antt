@@ -1,4 +1,5 @@
--- `crossing::line_line::parallel` meets its contract: its nested tests are the definition's, which asks for both points at once.
+-- `crossing::line_line::parallel` meets its contract: its nested tests are the definition's, which asks for both points
+-- at once.
 use mathlib.Core.Path.{_≡_}
 use mathlib.Core.Bool.{cond, not, _||_}
 use borrow.Author.Needs.{needs}
@@ -13,8 +14,8 @@ use Rattle.crossing.proofs.line_line.parallel.Tie as tie
 
 -- past the first test: w leaves neither the line of v nor that of u
 on-line : (c : tie.Else1) (r y : LineLineIntr) → r ≡ y → let a = c .before .before .before .before .before .args in
-    r ≡ cond (not (fuzzyEqZeroEps (perpDot (a .v) (a .w)) (a .eps)) || not (fuzzyEqZeroEps (perpDot (a .u) (a .w)) (a .eps)))
-    NoIntersect y
+    r ≡ cond (not (fuzzyEqZeroEps (perpDot (a .v) (a .w)) (a .eps))
+    || not (fuzzyEqZeroEps (perpDot (a .u) (a .w)) (a .eps))) NoIntersect y
 on-line c r y e =
     let p = c .before .before .before in
     simp (
@@ -42,7 +43,8 @@ parallel-spec =
     (search needs) (search needs) (search needs)
     (λ c. on-line (c .before .before .before .before .before) _ _ (search pairs)) (search needs)
     (λ c. on-line (c .before .before .before .before .before) _ _ (search pairs)) (search needs)
-    (λ c. on-line (c .before .before .before .before .before) _ _ (search pairs)) (search needs) (search needs) (search needs)
+    (λ c. on-line (c .before .before .before .before .before) _ _ (search pairs))
+    (search needs) (search needs) (search needs)
     (λ c. let s = c .before .before in
     simp (← s .sub .ensures, ← c .before .span-of .ensures)
     (on-line (s .before .before .before .before .before) _ _ (search pairs))))

@@ -1,12 +1,11 @@
--- `crossing::line_line::within` meets its contract: where t is clearly inside or outside, the law of `Laws/Within` says what the
--- length would; elsewhere the length is asked.
+-- `crossing::line_line::within` meets its contract: where t is clearly inside or outside, the law of `Laws/Within` says
+-- what the length would; elsewhere the length is asked.
 use mathlib.Core.Path.{_≡_, sym}
 use mathlib.Core.Bool.{Bool, true, false, not, true≢false}
 use lib.Dec.{T}
 use denote.Floats.{passes}
 use borrow.Author.Needs.{needs}
 use Rattle.plane.specs.Vector2 as vector2
-use Rattle.crossing.specs.LineLine
 use Rattle.crossing.specs.Laws.Within.{usual, within-inside, within-outside}
 use Rattle.crossing.proofs.line_line.within.Statement.{statement}
 use Rattle.crossing.proofs.line_line.within.Tie as tie

@@ -6,4 +6,4 @@ use Rattle.arcs.proofs.arc_geometry.ArcGeometry.new.Tie as tie
 
 pub new-spec : {M : Type 1} → statement M
 unfolding geometry.new
-new-spec = tie.close (tie.spec (search needs) (λ c. cc))
+new-spec = tie.close (tie.spec (search needs) (λ c. simp (← c .new .ensures)))

@@ -6,4 +6,9 @@ use Rattle.arcs.proofs.arc_geometry.ArcGeometry.of_segment.Tie as tie
 
 pub of-segment-spec : {M : Type 1} → statement M
 unfolding geometry.ofSegment
-of-segment-spec = tie.close (tie.spec (search needs) (search needs) (search needs) (search needs) (λ c. cc))
+of-segment-spec =
+    tie.close
+    (tie.spec
+    (search needs) (search needs) (search needs) (search needs)
+    (λ c. let p = c .before .before in
+    simp (← p .before .pos .ensures, ← p .pos2 .ensures, ← c .before .bulge-is-neg .ensures, ← c .new .ensures)))

@@ -6,4 +6,4 @@ use Rattle.arcs.proofs.arc_geometry.ArcGeometry.sweeps.Tie as tie
 
 pub sweeps-spec : {M : Type 1} → statement M
 unfolding geometry.sweeps
-sweeps-spec = tie.close (tie.spec (search needs) (λ c. cc))
+sweeps-spec = tie.close (tie.spec (search needs) (λ c. simp (← c .contains .ensures)))

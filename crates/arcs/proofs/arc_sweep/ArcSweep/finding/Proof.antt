@@ -1,4 +1,5 @@
--- `arcs::arc_sweep::ArcSweep::finding` meets its contract: what is worked out is the definition's, and so are the tests on it.
+-- `arcs::arc_sweep::ArcSweep::finding` meets its contract: what is worked out is the definition's, and so are the
+-- tests on it.
 use mathlib.Core.Path.{_≡_}
 use mathlib.Core.Bool.{cond}
 use borrow.Author.Needs.{needs}
@@ -11,11 +12,11 @@ use Rattle.arcs.proofs.arc_sweep.ArcSweep.finding.Tie as tie
 
 -- past the centre: the tests on what is worked out
 past-center : (c : tie.After-perp-dot2) (r : SweepFinding) → let p = c .before .before .before .before .before in
-    let a = p .before .args in
-    r ≡ cond (exactlyWithinSweep (a .self .«is_clockwise») (c .before .perp-dot .result) (c .perp-dot2 .result)) Inside
-    (cond (beside (a .self .«start_vector») (p .sub .result) (c .before .perp-dot .result) (a .self .«start_fuzzy_limit»)) NearStart
-    (cond (beside (a .self .«end_vector») (p .sub .result) (c .perp-dot2 .result) (a .self .«end_fuzzy_limit»)) NearEnd Outside))
-    → r ≡ finding (a .self) (a .point)
+    let s = p .before .args .self in
+    r ≡ cond (exactlyWithinSweep (s .«is_clockwise») (c .before .perp-dot .result) (c .perp-dot2 .result)) Inside
+    (cond (beside (s .«start_vector») (p .sub .result) (c .before .perp-dot .result) (s .«start_fuzzy_limit»)) NearStart
+    (cond (beside (s .«end_vector») (p .sub .result) (c .perp-dot2 .result) (s .«end_fuzzy_limit»)) NearEnd Outside))
+    → r ≡ finding s (p .before .args .point)
 unfolding finding
 past-center c r e =
     let t = c .before .before in
