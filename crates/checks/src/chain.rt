@@ -71,7 +71,7 @@ pub fn point_after(f: Checked, x: f64, y: f64, owner: u64, index: u64) -> Checke
 }
 
 // Whether a vertex's numbers are all fine, by comparisons alone.
-fn vertex_inside(x: f64, y: f64, bulge: f64) -> bool
+pub fn vertex_inside(x: f64, y: f64, bulge: f64) -> bool
     ensures { λ r. ⌜ r ≡ Inside.vertexInside x y bulge ⌝ }
 {
     (inside(limit::COORDINATE, x) & inside(limit::COORDINATE, y)) & inside(limit::BULGE, bulge)

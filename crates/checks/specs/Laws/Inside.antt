@@ -74,13 +74,8 @@ unfolding ofBits neg
 of-bulge x h = inside-within Limit.bulge x tt tt h
 
 -- ---- a vertex
-vertex-list : (x y bulge : Float) (owner index : ℕ) → VertexFine x y bulge → first (vertexChecks x y bulge owner index) ≡ Fine
-vertex-list x y bulge owner index fine =
-    sym (fine-left _) ∙ sym (vertex-first Fine x y owner bulge index) ∙ vertex-fine Fine x y owner bulge index .1 (refl, fine)
-
-pub vertex-passed : (f : Checked) (x y bulge : Float) (owner index : ℕ) → T (vertexInside x y bulge)
-    → f ≡ vertexAfter f x y bulge owner index
-vertex-passed f x y bulge owner index h =
+pub all-passed : (x y bulge : Float) (owner index : ℕ) → T (vertexInside x y bulge) → first (vertexChecks x y bulge owner index) ≡ Fine
+all-passed x y bulge owner index h =
     let point = inside Limit.coordinate x && inside Limit.coordinate y in
     let at = and-l point (inside Limit.bulge bulge) h in
     let fine : VertexFine x y bulge =
@@ -91,6 +86,11 @@ vertex-passed f x y bulge owner index h =
       };
       bulge = of-bulge bulge (and-r point (inside Limit.bulge bulge) h);
     } in
+    sym (fine-left _) ∙ sym (vertex-first Fine x y owner bulge index) ∙ vertex-fine Fine x y owner bulge index .1 (refl, fine)
+
+pub vertex-passed : (f : Checked) (x y bulge : Float) (owner index : ℕ) → T (vertexInside x y bulge)
+    → f ≡ vertexAfter f x y bulge owner index
+vertex-passed f x y bulge owner index h =
     sym (fine-right f)
-    ∙ ap (later f) (sym (vertex-list x y bulge owner index fine))
+    ∙ ap (later f) (sym (all-passed x y bulge owner index h))
     ∙ sym (vertex-first f x y owner bulge index)
