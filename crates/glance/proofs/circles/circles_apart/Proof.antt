@@ -6,4 +6,4 @@ use Rattle.glance.proofs.circles.circles_apart.Tie as tie
 
 pub circles-apart-spec : {M : Type 1} → statement M
 unfolding Glance.circlesApart
-circles-apart-spec = tie.close (tie.spec (search needs) (search needs) (λ c. cc))
+circles-apart-spec = tie.close (tie.spec (λ c. search needs) (λ c. search needs) (λ c. cc))

@@ -27,11 +27,11 @@ unfolding linesApart
 lines-apart-spec =
     tie.close
     (tie.spec
-    (search needs) (search needs) (search needs) (search needs) (search needs)
+    (λ c. search needs) (λ c. search needs) (λ c. search needs) (λ c. search needs) (λ c. search needs)
     (λ c. said-so _ _ _ _ _ (parallel (c .before)) (c .if1 .taken) refl)
-    (search needs) (search needs)
+    (λ c. search needs) (λ c. search needs)
     (λ c. let t = c .before .before .before in
     said-not _ _ _ _ _ (parallel (t .before)) (t .if1 .left) (rw (← outside (c .before), c .if2 .taken)))
-    (search needs) (search needs)
+    (λ c. search needs) (λ c. search needs)
     (λ c. let s = c .before .before in let t = s .before .before .before in
     said-not _ _ _ _ _ (parallel (t .before)) (t .if1 .left) (rw (← outside (s .before), s .if2 .left) cc)))
