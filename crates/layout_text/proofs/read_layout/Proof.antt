@@ -48,5 +48,5 @@ pub read-layout-spec : {M : Type 1} → statement M
 read-layout-spec =
     tie.close
     (tie.spec
-    returns returns-2 (search needs) (search needs) enum-told returns-3 fill-requires fill-requires-2 (search needs)
-    (search needs) returns-4)
+    returns returns-2 (λ c. search needs) (λ c. search needs) enum-told returns-3 fill-requires fill-requires-2
+    (λ c. search needs) (λ c. search needs) returns-4)

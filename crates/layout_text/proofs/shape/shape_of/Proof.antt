@@ -93,6 +93,6 @@ pub shape-of-spec : {M : Type 1} → statement M
 shape-of-spec =
     tie.close
     (tie.spec
-    returns (search needs) (search needs) enum-told returns-2 (search needs) (search needs) (search needs) returns-3
-    (search needs) (search needs) (search needs) returns-4 (search needs) (search needs) (search needs) returns-5 returns-6
-    returns-7)
+    returns (λ c. search needs) (λ c. search needs) enum-told returns-2 (λ c. search needs) (λ c. search needs)
+    (λ c. search needs) returns-3 (λ c. search needs) (λ c. search needs) (λ c. search needs) returns-4
+    (λ c. search needs) (λ c. search needs) (λ c. search needs) returns-5 returns-6 returns-7)

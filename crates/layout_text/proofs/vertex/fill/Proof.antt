@@ -58,6 +58,7 @@ pub fill-spec : {M : Type 1} → statement M
 fill-spec =
     tie.close
     (tie.spec
-    Inv-loop μ-loop loop-holds (search needs) enum-told (search needs) returns (search needs) (search needs) (search needs)
-    (search needs) (search needs) slice-write-out-2 (search needs) (search needs) slice-write-out-3 (search needs)
-    (search needs) (search needs) loop-again (search needs) returns-2)
+    Inv-loop μ-loop loop-holds (λ c. search needs) enum-told (λ c. search needs) returns (λ c. search needs)
+    (λ c. search needs) (λ c. search needs) (λ c. search needs) (λ c. search needs) slice-write-out-2
+    (λ c. search needs) (λ c. search needs) slice-write-out-3 (λ c. search needs) (λ c. search needs)
+    (λ c. search needs) loop-again (λ c. search needs) returns-2)

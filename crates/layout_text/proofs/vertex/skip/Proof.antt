@@ -47,5 +47,5 @@ pub skip-spec : {M : Type 1} → statement M
 skip-spec =
     tie.close
     (tie.spec
-    Inv-loop μ-loop loop-holds (search needs) enum-told returns (search needs) (omega arith) (omega arith) loop-again
-    returns-2)
+    Inv-loop μ-loop loop-holds (λ c. search needs) enum-told returns (λ c. search needs) (omega arith) (omega arith)
+    loop-again returns-2)

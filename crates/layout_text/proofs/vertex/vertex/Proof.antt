@@ -56,5 +56,6 @@ pub vertex-spec : {M : Type 1} → statement M
 vertex-spec =
     tie.close
     (tie.spec
-    (search needs) (search needs) enum-told returns (search needs) (search needs) (search needs) returns-2 (search needs)
-    (search needs) (search needs) returns-3 (search needs) (search needs) (search needs) returns-4)
+    (λ c. search needs) (λ c. search needs) enum-told returns (λ c. search needs) (λ c. search needs)
+    (λ c. search needs) returns-2 (λ c. search needs) (λ c. search needs) (λ c. search needs) returns-3
+    (λ c. search needs) (λ c. search needs) (λ c. search needs) returns-4)

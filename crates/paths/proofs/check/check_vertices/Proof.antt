@@ -50,5 +50,5 @@ pub check-vertices-spec : {M : Type 1} → statement M
 check-vertices-spec =
     tie.close
     (tie.spec
-    Inv-loop μ-loop (search needs) loop-holds (search needs) (search needs) returns (search needs) (search needs)
-    (search needs) (search needs) loop-again returns-2)
+    Inv-loop μ-loop (λ c. search needs) loop-holds (λ c. search needs) (λ c. search needs) returns
+    (λ c. search needs) (λ c. search needs) (λ c. search needs) (λ c. search needs) loop-again returns-2)
