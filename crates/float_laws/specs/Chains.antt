@@ -13,8 +13,8 @@ use Rattle.float_laws.specs.Signed.{Diff, ups, downs, own-diff}
 use Rattle.float_laws.specs.Order.{lt-diff, le-diff}
 
 -- a finite float, as it is written
-own : (s : Bool) (m : ℕ) (e : ℤ) → Diff (fin s m e) (ups s (m * up e)) (downs s (m * up e)) (down e)
-own s m e = own-diff (fin s m e) s (m * up e) (down e) (refl, refl)
+pub written-diff : (s : Bool) (m : ℕ) (e : ℤ) → Diff (fin s m e) (ups s (m * up e)) (downs s (m * up e)) (down e)
+written-diff s m e = own-diff (fin s m e) s (m * up e) (down e) (refl, refl)
 
 -- ---- what is at least x is not below it
 never-both : (a b : ℕ) → a ≤ b → b < a → ⊥
@@ -36,8 +36,8 @@ le-not-lt (fin s m e) (inf false) h = tt
 le-not-lt (fin s m e) (fin t n d) h =
     let x = fin s m e in
     let y = fin t n d in
-    let a = le-diff x y _ _ _ _ _ _ (down-pos e) (down-pos d) (own s m e) (own t n d) .0 h in
-    let b = lt-diff y x _ _ _ _ _ _ (down-pos d) (down-pos e) (own t n d) (own s m e) .0 in
+    let a = le-diff x y _ _ _ _ _ _ (down-pos e) (down-pos d) (written-diff s m e) (written-diff t n d) .0 h in
+    let b = lt-diff y x _ _ _ _ _ _ (down-pos d) (down-pos e) (written-diff t n d) (written-diff s m e) .0 in
     not-T (lt y x) (λ k. never-both _ _ a (b k))
 
 -- ---- below y, and y at most z
@@ -76,9 +76,9 @@ lt-le (fin s m e) (fin t n d) (fin u l f) h g =
     let x = fin s m e in
     let y = fin t n d in
     let z = fin u l f in
-    let a = lt-diff x y _ _ _ _ _ _ (down-pos e) (down-pos d) (own s m e) (own t n d) .0 h in
-    let b = le-diff y z _ _ _ _ _ _ (down-pos d) (down-pos f) (own t n d) (own u l f) .0 g in
-    lt-diff x z _ _ _ _ _ _ (down-pos e) (down-pos f) (own s m e) (own u l f) .1
+    let a = lt-diff x y _ _ _ _ _ _ (down-pos e) (down-pos d) (written-diff s m e) (written-diff t n d) .0 h in
+    let b = le-diff y z _ _ _ _ _ _ (down-pos d) (down-pos f) (written-diff t n d) (written-diff u l f) .0 g in
+    lt-diff x z _ _ _ _ _ _ (down-pos e) (down-pos f) (written-diff s m e) (written-diff u l f) .1
     (through _ _ _ _ _ _ _ _ _ (down-pos d) (down-pos f) a b)
 
 -- ---- between two finite floats lie finite ones

@@ -38,7 +38,7 @@ linesApart v1 v2 u1 u2 eps =
     let d = vector2.perpDot v u in
     let w = vector2.sub v1 u1 in
     cond (fuzzyEqZeroEps d eps)
-    false
+    (not (fuzzyEqZeroEps (vector2.perpDot v w) eps) || not (fuzzyEqZeroEps (vector2.perpDot u w) eps))
     (crossesOutside (vector2.perpDot u w) d v eps || crossesOutside (vector2.perpDot v w) d u eps)
 
 -- ---- a line and a circle

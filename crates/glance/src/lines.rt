@@ -26,7 +26,7 @@ fn crosses_outside(n: f64, d: f64, segment: Vector2, eps: f64) -> bool
     usual(segment.length_squared(), eps) & quotient_outside(n, d)
 }
 
-// Whether two line segments are clearly apart: their lines cross, clearly outside one of the two.
+// Whether two line segments are clearly apart: their lines cross, clearly outside one of the two, or are parallel and not one line.
 pub fn lines_apart(v1: Vector2, v2: Vector2, u1: Vector2, u2: Vector2, eps: f64) -> bool
     ensures { λ r. ⌜ r ≡ Glance.linesApart v1 v2 u1 u2 eps ⌝ }
 {
@@ -35,7 +35,7 @@ pub fn lines_apart(v1: Vector2, v2: Vector2, u1: Vector2, u2: Vector2, eps: f64)
     let d = v.perp_dot(u);
     let w = v1.sub(u1);
     if fuzzy_eq_zero_eps(d, eps) {
-        return false;
+        return !fuzzy_eq_zero_eps(v.perp_dot(w), eps) | !fuzzy_eq_zero_eps(u.perp_dot(w), eps);
     }
     if crosses_outside(u.perp_dot(w), d, v, eps) {
         return true;

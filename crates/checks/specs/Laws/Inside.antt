@@ -5,13 +5,12 @@ use mathlib.Core.Bool.{Bool, true, false, not, _&&_}
 use Prim.Native.Nat.{ℕ, _+_, _*_, _<_, _≤_}
 use native.Mathlib.Omega.{arith}
 use lib.Dec.{T}
-use lib.IntN.{ℤ}
 use lib.Ieee.{Float, nan, inf, fin, up, down, ofBits, neg, le}
 use lib.Ieee.Fits.{down-pos, and-l, and-r}
 use lib.Ieee.Scale.{finite}
-use Rattle.float_laws.specs.Signed.{Diff, ups, downs, own-diff}
+use Rattle.float_laws.specs.Signed.{ups, downs}
 use Rattle.float_laws.specs.Order.{le-diff}
-use Rattle.float_laws.specs.Chains.{between-finite}
+use Rattle.float_laws.specs.Chains.{written-diff, between-finite}
 use Rattle.floats.specs.Ops.{_≼_}
 use Rattle.floats.specs.F64
 use Rattle.checks.specs.declared.fault.Checked.{Checked}
@@ -31,9 +30,6 @@ inside most x = (x ≼ most) && (neg most ≼ x)
 abbrev pub vertexInside : Float → Float → Float → Bool
 vertexInside x y bulge = (inside Limit.coordinate x && inside Limit.coordinate y) && inside Limit.bulge bulge
 
-own : (s : Bool) (m : ℕ) (e : ℤ) → Diff (fin s m e) (ups s (m * up e)) (downs s (m * up e)) (down e)
-own s m e = own-diff (fin s m e) s (m * up e) (down e) (refl, refl)
-
 -- |x| <= most, where x <= most and -most <= x
 small : (x most : Float) → T (finite x) → T (finite most) → T (x ≼ most) → T (neg most ≼ x) → T (F64.abs x ≼ most)
 unfolding F64.abs neg
@@ -44,10 +40,10 @@ small (fin s m e) (inf t) f g h k = absurd g
 small (fin s m e) (fin t n d) f g h k =
     let E = down-pos e in
     let D = down-pos d in
-    le-diff (fin false m e) (fin t n d) _ _ _ _ _ _ E D (own false m e) (own t n d) .1
+    le-diff (fin false m e) (fin t n d) _ _ _ _ _ _ E D (written-diff false m e) (written-diff t n d) .1
     (sizes s t (m * up e) (down e) (n * up d) (down d)
-    (le-diff (fin s m e) (fin t n d) _ _ _ _ _ _ E D (own s m e) (own t n d) .0 h)
-    (le-diff (fin (not t) n d) (fin s m e) _ _ _ _ _ _ D E (own (not t) n d) (own s m e) .0 k))
+    (le-diff (fin s m e) (fin t n d) _ _ _ _ _ _ E D (written-diff s m e) (written-diff t n d) .0 h)
+    (le-diff (fin (not t) n d) (fin s m e) _ _ _ _ _ _ D E (written-diff (not t) n d) (written-diff s m e) .0 k))
   where
     sizes : (s t : Bool) (M c N d : ℕ)
         → ups s M * d + downs t N * c ≤ ups t N * c + downs s M * d

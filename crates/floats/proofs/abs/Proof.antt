@@ -49,7 +49,4 @@ returns-2 c =
     value-of F64.abs Bits.abs x _ fit (c .abs .ensures) (abs-agrees (toBits binary64 x) (toBits-lt binary64 x fit))
 
 pub abs-spec : {M : Type 1} → statement M
-abs-spec =
-    tie.close
-    (tie.spec
-    returns float-to-bits-abs (search needs) float-from-bits-result returns-2)
+abs-spec = tie.close (tie.spec returns float-to-bits-abs (λ c. search needs) float-from-bits-result returns-2)

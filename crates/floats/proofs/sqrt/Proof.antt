@@ -32,7 +32,4 @@ returns-2 : tie.Need-returns-2
 returns-2 c = no-root _ (held (c .before)) (c .if1 .left)
 
 pub sqrt-spec : {M : Type 1} → statement M
-sqrt-spec =
-    tie.close
-    (tie.spec
-    float-to-bits-sqrt (search needs) float-from-bits-result returns returns-2)
+sqrt-spec = tie.close (tie.spec float-to-bits-sqrt (λ c. search needs) float-from-bits-result returns returns-2)

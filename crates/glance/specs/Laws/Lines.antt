@@ -38,6 +38,7 @@ use Rattle.crossing.specs.Laws.Within.{
   within-outside,
 }
 use Rattle.crossing.specs.declared.line_line_intersect.LineLineIntr.{LineLineIntr}
+use Rattle.crossing.specs.declared.line_line_intersect.LineLineIntr.the-variants as lines
 use Rattle.arcs.specs.declared.pline_seg_intr.PlineSegIntr.the-variants.{NoIntersect}
 use Rattle.glance.specs.Glance.{beforeStart, quotientOutside, crossesOutside, linesApart}
 
@@ -259,9 +260,13 @@ second-off false b x y e = refl
 crossed : (near : Bool) (x y : LineLineIntr) → near ≡ false → cond (not near) x y ≡ x
 crossed near x y e = rw e
 
-not-near : (near told : Bool) → T (cond near false told) → (near ≡ false) × T told
-not-near true told h = absurd h
-not-near false told h = (refl, h)
+beside : (near test : Bool) (x y z : LineLineIntr) → near ≡ true → T test → cond (not near) x (cond test y z) ≡ y
+beside near true x y z e t = rw e
+
+-- near zero or not, told one thing of each
+by-cases : {A : Type 0} (near a b : Bool) → T (cond near a b) → (near ≡ true → T a → A) → (near ≡ false → T b → A) → A
+by-cases true a b t f g = f refl t
+by-cases false a b t f g = g refl t
 
 -- ---- the definition's answer then
 module _ (v1 v2 u1 u2 : Vector2) (eps : Float) (e-fits : T (fits binary64 eps)) where
@@ -292,15 +297,29 @@ module _ (v1 v2 u1 u2 : Vector2) (eps : Float) (e-fits : T (fits binary64 eps)) 
   n2-fits : T (fits binary64 n2)
   n2-fits = sub-fits binary64 (v .x ⊗ w .y) (v .y ⊗ w .x)
 
-  pub apart-lines : T (linesApart v1 v2 u1 u2 eps) → processLineLineIntr v1 v2 u1 u2 eps ≡ NoIntersect
-  unfolding linesApart processLineLineIntr lineLine crossing fuzzyEqZeroEps
-  apart-lines h =
-      let told = not-near (fuzzyEqZeroEps d eps) (crossesOutside n1 d v eps || crossesOutside n2 d u eps) h in
+  -- parallel, and not one line
+  side-by-side : fuzzyEqZeroEps d eps ≡ true → T (not (fuzzyEqZeroEps n2 eps) || not (fuzzyEqZeroEps n1 eps))
+      → lineLine v1 v2 u1 u2 eps ≡ lines.NoIntersect
+  unfolding lineLine parallel
+  side-by-side near t = beside (fuzzyEqZeroEps d eps) (not (fuzzyEqZeroEps n2 eps) || not (fuzzyEqZeroEps n1 eps)) _ _ _ near t
+
+  -- neither parallel nor crossing within both
+  cross-outside : fuzzyEqZeroEps d eps ≡ false → T (crossesOutside n1 d v eps || crossesOutside n2 d u eps)
+      → lineLineOf (lineLine v1 v2 u1 u2 eps) v1 v2 u1 u2 ≡ NoIntersect
+  unfolding lineLine crossing fuzzyEqZeroEps
+  cross-outside far t =
       let t1 = n1 ⊘ d in
       let t2 = n2 ⊘ d in
       let found = either (crossesOutside n1 d v eps) (crossesOutside n2 d u eps)
-      (λ y. first-off (within t1 v eps) (within t2 u eps) _ _ (not-within n1 d v eps n1-fits d-fits e-fits (told .0) y))
-      (λ y. second-off (within t1 v eps) (within t2 u eps) _ _ (not-within n2 d u eps n2-fits d-fits e-fits (told .0) y))
-      (told .1) in
+      (λ y. first-off (within t1 v eps) (within t2 u eps) _ _ (not-within n1 d v eps n1-fits d-fits e-fits far y))
+      (λ y. second-off (within t1 v eps) (within t2 u eps) _ _ (not-within n2 d u eps n2-fits d-fits e-fits far y))
+      t in
       ap (λ (r : LineLineIntr). lineLineOf r v1 v2 u1 u2)
-      (crossed (fuzzyEqZeroEps d eps) _ (parallel v1 v2 u1 u2 v u w eps) (told .0) ∙ found)
+      (crossed (fuzzyEqZeroEps d eps) _ (parallel v1 v2 u1 u2 v u w eps) far ∙ found)
+
+  pub apart-lines : T (linesApart v1 v2 u1 u2 eps) → processLineLineIntr v1 v2 u1 u2 eps ≡ NoIntersect
+  unfolding linesApart processLineLineIntr
+  apart-lines h =
+      by-cases (fuzzyEqZeroEps d eps) (not (fuzzyEqZeroEps n2 eps) || not (fuzzyEqZeroEps n1 eps))
+      (crossesOutside n1 d v eps || crossesOutside n2 d u eps) h
+      (λ near t. ap (λ (r : LineLineIntr). lineLineOf r v1 v2 u1 u2) (side-by-side near t)) cross-outside

@@ -34,4 +34,4 @@ pub write-answer-spec : {M : Type 1} → statement M
 write-answer-spec =
     tie.close
     (tie.spec
-    returns returns-2 returns-3 (search needs) (search needs) (search needs) returns-4)
+    returns returns-2 returns-3 (λ c. search needs) (λ c. search needs) (λ c. search needs) returns-4)

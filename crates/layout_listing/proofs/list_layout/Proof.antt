@@ -82,6 +82,7 @@ pub list-layout-spec : {M : Type 1} → statement M
 list-layout-spec =
     tie.close
     (tie.spec
-    returns (search needs) (search needs) (search needs) (search needs) mul-a mul-b array-share-prefix-first
-    slice-aggregate-list-paths array-share-prefix-second slice-aggregate-list-paths-2 (search needs) (search needs)
-    (search needs) enum-told (search needs) returns-2 (search needs) returns-3 returns-4)
+    returns (λ c. search needs) (λ c. search needs) (λ c. search needs) (λ c. search needs) mul-a mul-b
+    array-share-prefix-first slice-aggregate-list-paths array-share-prefix-second slice-aggregate-list-paths-2
+    (λ c. search needs) (λ c. search needs) (λ c. search needs) enum-told (λ c. search needs) returns-2
+    (λ c. search needs) returns-3 returns-4)

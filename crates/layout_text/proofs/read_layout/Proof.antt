@@ -11,9 +11,6 @@ returns c = first-short _ _ _ (c .if1 .taken)
 returns-2 : tie.Need-returns-2
 returns-2 c = second-short _ _ _ (c .before .if1 .left) (c .if2 .taken)
 
-enum-told : tie.Need-enum-told
-enum-told c = search needs
-
 returns-3 : tie.Need-returns-3
 returns-3 c =
     let shape = c .before .before in
@@ -48,5 +45,5 @@ pub read-layout-spec : {M : Type 1} → statement M
 read-layout-spec =
     tie.close
     (tie.spec
-    returns returns-2 (search needs) (search needs) enum-told returns-3 fill-requires fill-requires-2 (search needs)
-    (search needs) returns-4)
+    returns returns-2 (λ c. search needs) (λ c. search needs) (λ c. search needs) returns-3 fill-requires
+    fill-requires-2 (λ c. search needs) (λ c. search needs) returns-4)

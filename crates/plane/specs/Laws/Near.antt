@@ -9,13 +9,10 @@ use lib.Dec.{T}
 use lib.IntN.{ℤ}
 use lib.Ieee.{Float, nan, inf, fin, up, down, neg, lt}
 use lib.Ieee.Fits.{down-pos, and-i, and-l, and-r}
-use Rattle.float_laws.specs.Signed.{Diff, ups, downs, own-diff}
+use Rattle.float_laws.specs.Signed.{ups, downs}
 use Rattle.float_laws.specs.Order.{lt-diff}
+use Rattle.float_laws.specs.Chains.{written-diff}
 use Rattle.floats.specs.F64
-
--- a finite float, as it is written
-own : (s : Bool) (m : ℕ) (e : ℤ) → Diff (fin s m e) (ups s (m * up e)) (downs s (m * up e)) (down e)
-own s m e = own-diff (fin s m e) s (m * up e) (down e) (refl, refl)
 
 same : (a b : Bool) → (T a → T b) → (T b → T a) → a ≡ b
 same true true f g = refl
@@ -38,9 +35,9 @@ finite-below : (s : Bool) (m : ℕ) (e : ℤ) (t : Bool) (n : ℕ) (d : ℤ)
 finite-below s m e t n d =
     let E = down-pos e in
     let D = down-pos d in
-    let size = lt-diff (fin false m e) (fin t n d) _ _ _ _ _ _ E D (own false m e) (own t n d) in
-    let below = lt-diff (fin s m e) (fin t n d) _ _ _ _ _ _ E D (own s m e) (own t n d) in
-    let above = lt-diff (fin (not t) n d) (fin s m e) _ _ _ _ _ _ D E (own (not t) n d) (own s m e) in
+    let size = lt-diff (fin false m e) (fin t n d) _ _ _ _ _ _ E D (written-diff false m e) (written-diff t n d) in
+    let below = lt-diff (fin s m e) (fin t n d) _ _ _ _ _ _ E D (written-diff s m e) (written-diff t n d) in
+    let above = lt-diff (fin (not t) n d) (fin s m e) _ _ _ _ _ _ D E (written-diff (not t) n d) (written-diff s m e) in
     let both = sizes s t (m * up e) (down e) (n * up d) (down d) in
     let a = lt (fin s m e) (fin t n d) in
     let b = lt (fin (not t) n d) (fin s m e) in

@@ -10,6 +10,6 @@ unfolding isRight
 is-right-spec =
     tie.close
     (tie.spec
-    (search needs) (search needs) (search needs) (search needs)
+    (λ c. search needs) (λ c. search needs) (λ c. search needs) (λ c. search needs)
     (λ c. let n = c .before .before .before in simp (← n .before .name .ensures, ← n .numbers .ensures .0) (search branches))
     (λ c. let n = c .before .before in simp (← n .before .name .ensures, ← n .numbers .ensures .0) (search branches)))

@@ -7,7 +7,4 @@ returns : tie.Need-returns
 returns c = (simp (← c .before .name .ensures, ← c .numbers .ensures .0), c .numbers .ensures .1)
 
 pub numbers-spec : {M : Type 1} → statement M
-numbers-spec =
-    tie.close
-    (tie.spec
-    (search needs) (search needs) returns)
+numbers-spec = tie.close (tie.spec (λ c. search needs) (λ c. search needs) returns)

@@ -35,4 +35,5 @@ pub below-spec : {M : Type 1} → statement M
 below-spec =
     tie.close
     (tie.spec
-    (search needs) returns (search needs) returns-2 float-from-bits-result float-from-bits-result-2 returns-3)
+    (λ c. search needs) returns (λ c. search needs) returns-2 float-from-bits-result float-from-bits-result-2
+    returns-3)

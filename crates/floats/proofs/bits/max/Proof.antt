@@ -8,4 +8,6 @@ pub max-spec : {M : Type 1} → statement M
 unfolding Bits.max
 max-spec =
     tie.close
-    (tie.spec (search needs) (search needs) (λ c. simp (← c .before .below .ensures, ← c .pick .ensures)))
+    (tie.spec
+    (λ c. search needs) (λ c. search needs)
+    (λ c. simp (← c .before .below .ensures, ← c .pick .ensures)))

@@ -8,4 +8,6 @@ pub min-spec : {M : Type 1} → statement M
 unfolding Bits.min
 min-spec =
     tie.close
-    (tie.spec (search needs) (search needs) (λ c. simp (← c .before .below .ensures, ← c .pick .ensures)))
+    (tie.spec
+    (λ c. search needs) (λ c. search needs)
+    (λ c. simp (← c .before .below .ensures, ← c .pick .ensures)))

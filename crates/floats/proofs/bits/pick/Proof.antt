@@ -9,12 +9,12 @@ unfolding Bits.pick
 pick-spec =
     tie.close
     (tie.spec
-    (search needs) (search needs)
+    (λ c. search needs) (λ c. search needs)
     (λ c. let a = c .before .before in
     simp (← a .before .is-nan .ensures, a .if1 .taken, ← c .before .is-nan2 .ensures, c .if2 .taken))
     (λ c. let a = c .before .before in
     simp (← a .before .is-nan .ensures, a .if1 .taken, ← c .before .is-nan2 .ensures, c .if2 .left))
-    (search needs)
+    (λ c. search needs)
     (λ c. let a = c .before .before in
     simp (← a .before .is-nan .ensures, a .if1 .left, ← c .before .is-nan3 .ensures, c .if3 .taken))
     (λ c. let b = c .before in let a = b .before .before in

@@ -22,7 +22,7 @@ sqrt-spec =
     tie.close
     (tie.spec
     (λ c. own _ 0 (c .if1 .taken) root-zero)
-    (search needs) (search needs)
+    (λ c. search needs) (λ c. search needs)
     (λ c. own _ 0x7ff0_0000_0000_0000 (c .if3 .taken) root-inf)
     (λ c. own _ 0x8000_0000_0000_0000 (c .if4 .taken) root-neg-zero)
     returns-5)

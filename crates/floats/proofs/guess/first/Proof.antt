@@ -12,13 +12,13 @@ unfolding Root.first
 first-spec =
     tie.close
     (tie.spec
-    (search needs)
+    (λ c. search needs)
     (λ c. omega (arith, part-most 745034555 (c .args .m) (c .pre .0)))
     (λ c. omega (arith, part-most 745034555 (c .args .m) (c .pre .0)))
-    (search needs)
+    (λ c. search needs)
     (λ c. omega (arith, part-most 1469493533 (c .args .m) (c .pre .0)))
     (λ c. omega (arith, two-most (c .args .m) (c .args .odd) (c .pre .0) (c .pre .1)))
-    (search needs) (search needs)
+    (λ c. search needs) (λ c. search needs)
     (λ c. omega (arith, both-most (c .args .m) (c .args .odd) (c .pre .0) (c .pre .1)))
     (λ c. omega (arith, all-most (c .args .m) (c .args .odd) (c .pre .0) (c .pre .1)))
     (λ c. refl))

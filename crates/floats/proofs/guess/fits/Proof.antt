@@ -62,5 +62,6 @@ pub fits-spec : {M : Type 1} → statement M
 fits-spec =
     tie.close
     (tie.spec
-    (search needs) (search needs) mul-wrapping-sub-u64 (search needs) returns mul-wrapping-sub-u64-2 (search needs)
-    returns-2 (search needs) mul-wrapping-sub-u64-3 add-wrapping-sub-u64-3 (search needs) (search needs) returns-3)
+    (λ c. search needs) (λ c. search needs) mul-wrapping-sub-u64 (λ c. search needs) returns mul-wrapping-sub-u64-2
+    (λ c. search needs) returns-2 (λ c. search needs) mul-wrapping-sub-u64-3 add-wrapping-sub-u64-3
+    (λ c. search needs) (λ c. search needs) returns-3)

@@ -51,4 +51,5 @@ pub guess-spec : {M : Type 1} → statement M
 guess-spec =
     tie.close
     (tie.spec
-    (search needs) add-hi float-from-bits-hi (search needs) (search needs) float-from-bits-x (search needs) returns)
+    (λ c. search needs) add-hi float-from-bits-hi (λ c. search needs) (λ c. search needs) float-from-bits-x
+    (λ c. search needs) returns)

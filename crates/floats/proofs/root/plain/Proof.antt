@@ -16,7 +16,4 @@ unfolding Root.rounded
 returns c = ap (λ (z : ℕ). (z + 1) / 2) (c .digits .ensures)
 
 pub plain-spec : {M : Type 1} → statement M
-plain-spec =
-    tie.close
-    (tie.spec
-    (search needs) add-result returns)
+plain-spec = tie.close (tie.spec (λ c. search needs) add-result returns)

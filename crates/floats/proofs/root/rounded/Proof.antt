@@ -27,11 +27,11 @@ pub rounded-spec : {M : Type 1} → statement M
 rounded-spec =
     tie.close
     (tie.spec
-    (search needs) (search needs) (search needs)
+    (λ c. search needs) (λ c. search needs) (λ c. search needs)
     (λ c κs. small (c .before .before))
     (λ c. c .plain .ensures ∙ same (c .before .before .before))
     (λ c. off (number _ (c .if1 .left)))
-    (search needs)
+    (λ c. search needs)
     (λ c κs. small (c .before .before .before .before))
     (λ c. c .plain2 .ensures ∙ same (c .before .before .before .before .before))
     (λ c κs. (small (c .before .before .before .before), c .if2 .left))

@@ -32,7 +32,7 @@ unfolding Root.sixTurns
 six-turns-spec =
     tie.close
     (tie.spec
-    (search needs)
+    (λ c. search needs)
     (λ c κs. at1 c .fits)
     (λ c κs. at2 c .fits)
     (λ c κs. at3 c .fits)

@@ -30,4 +30,4 @@ pub sqrt-spec : {M : Type 1} → statement M
 sqrt-spec =
     tie.close
     (tie.spec
-    (search needs) (search needs) (search needs) sub-result rounded-requires add-result returns)
+    (λ c. search needs) (λ c. search needs) (λ c. search needs) sub-result rounded-requires add-result returns)

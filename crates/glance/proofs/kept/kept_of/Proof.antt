@@ -10,7 +10,7 @@ unfolding keeping.keptOf
 kept-of-spec =
     tie.close
     (tie.spec
-    (search needs) (search needs) (search needs) (search needs)
+    (λ c. search needs) (λ c. search needs) (λ c. search needs) (λ c. search needs)
     (λ c. simp (← c .before .before .pos .ensures, ← c .before .pos2 .ensures) (search branches))
-    (search needs)
+    (λ c. search needs)
     (λ c. search branches))

@@ -6,4 +6,4 @@ use Rattle.glance.proofs.kept.of_arc.Tie as tie
 
 pub of-arc-spec : {M : Type 1} → statement M
 unfolding keeping.ofArc
-of-arc-spec = tie.close (tie.spec (search needs) (λ c. cc))
+of-arc-spec = tie.close (tie.spec (λ c. search needs) (λ c. cc))

@@ -10,7 +10,7 @@ unfolding keeping.ofLine
 of-line-spec =
     tie.close
     (tie.spec
-    (search needs) (search needs) (search needs)
+    (λ c. search needs) (λ c. search needs) (λ c. search needs)
     (λ c. simp (← c .before .before .before .fuzzy-eq-eps .ensures) (search branches))
-    (search needs)
+    (λ c. search needs)
     (λ c. simp (← c .before .before .before .fuzzy-eq-eps .ensures) (search branches)))

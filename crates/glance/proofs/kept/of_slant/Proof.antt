@@ -37,8 +37,8 @@ unfolding keeping.ofSlant
 of-slant-spec =
     tie.close
     (tie.spec
-    (search needs) (search needs) (search needs)
+    (λ c. search needs) (λ c. search needs) (λ c. search needs)
     (λ c. simp (c .if1 .taken))
-    (search needs) (search needs)
+    (λ c. search needs) (λ c. search needs)
     (λ c. simp (c .if2 .taken) at (guessed (c .before)))
     (λ c. simp (c .if2 .left) at (guessed (c .before))))

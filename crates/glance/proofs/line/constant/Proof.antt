@@ -7,4 +7,4 @@ use Rattle.glance.proofs.line.constant.Tie as tie
 
 pub constant-spec : {M : Type 1} → statement M
 unfolding Glance.constant
-constant-spec = tie.close (tie.spec (search needs) (λ c. search branches) (λ c. search branches))
+constant-spec = tie.close (tie.spec (λ c. search needs) (λ c. search branches) (λ c. search branches))

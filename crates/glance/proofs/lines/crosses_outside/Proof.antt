@@ -6,4 +6,4 @@ use Rattle.glance.proofs.lines.crosses_outside.Tie as tie
 
 pub crosses-outside-spec : {M : Type 1} → statement M
 unfolding Glance.crossesOutside
-crosses-outside-spec = tie.close (tie.spec (search needs) (search needs) (search needs) (λ c. cc))
+crosses-outside-spec = tie.close (tie.spec (λ c. search needs) (λ c. search needs) (λ c. search needs) (λ c. cc))

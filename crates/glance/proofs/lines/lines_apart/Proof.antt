@@ -1,6 +1,6 @@
 -- `glance::lines::lines_apart` meets its contract: its calls and tests lead to the definition's ends.
 use mathlib.Core.Path.{_≡_, refl}
-use mathlib.Core.Bool.{true, _||_}
+use mathlib.Core.Bool.{true, not, _||_}
 use borrow.Author.Needs.{needs}
 use Rattle.plane.specs.Fuzzy.{fuzzyEqZeroEps}
 use Rattle.plane.specs.Vector2.{sub, perpDot}
@@ -13,6 +13,16 @@ use Rattle.glance.proofs.lines.lines_apart.Tie as tie
 parallel : (c : tie.After-fuzzy-eq-zero-eps) → let a = c .before .before .before .before .before .args in
     c .fuzzy-eq-zero-eps .result ≡ fuzzyEqZeroEps (perpDot (sub (a .v2) (a .v1)) (sub (a .u2) (a .u1))) (a .eps)
 parallel c = cc
+
+-- of parallel ones, whether they are not one line
+side-by-side : (c : tie.After-fuzzy-eq-zero-eps3) →
+    let a = c .before .before .before .before .before .before .before .before .before .before .args in
+    let v = sub (a .v2) (a .v1) in
+    let u = sub (a .u2) (a .u1) in
+    let w = sub (a .v1) (a .u1) in
+    (not (c .before .before .fuzzy-eq-zero-eps2 .result) || not (c .fuzzy-eq-zero-eps3 .result))
+    ≡ (not (fuzzyEqZeroEps (perpDot v w) (a .eps)) || not (fuzzyEqZeroEps (perpDot u w) (a .eps)))
+side-by-side c = cc
 
 -- whether their lines cross outside the first
 outside : (c : tie.After-crosses-outside) →
@@ -27,11 +37,13 @@ unfolding linesApart
 lines-apart-spec =
     tie.close
     (tie.spec
-    (search needs) (search needs) (search needs) (search needs) (search needs)
-    (λ c. said-so _ _ _ _ _ (parallel (c .before)) (c .if1 .taken) refl)
-    (search needs) (search needs)
+    (λ c. search needs) (λ c. search needs) (λ c. search needs) (λ c. search needs) (λ c. search needs)
+    (λ c. search needs) (λ c. search needs) (λ c. search needs) (λ c. search needs)
+    (λ c. let t = c .before .before .before .before in
+    said-so _ _ _ _ _ (parallel (t .before)) (t .if1 .taken) (side-by-side c))
+    (λ c. search needs) (λ c. search needs)
     (λ c. let t = c .before .before .before in
     said-not _ _ _ _ _ (parallel (t .before)) (t .if1 .left) (rw (← outside (c .before), c .if2 .taken)))
-    (search needs) (search needs)
+    (λ c. search needs) (λ c. search needs)
     (λ c. let s = c .before .before in let t = s .before .before .before in
     said-not _ _ _ _ _ (parallel (t .before)) (t .if1 .left) (rw (← outside (s .before), s .if2 .left) cc)))

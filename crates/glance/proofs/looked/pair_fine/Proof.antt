@@ -6,4 +6,4 @@ use Rattle.glance.proofs.looked.pair_fine.Tie as tie
 
 pub pair-fine-spec : {M : Type 1} → statement M
 unfolding Looked.pairFine
-pair-fine-spec = tie.close (tie.spec (search needs) (search needs) (search needs) (λ c. cc))
+pair-fine-spec = tie.close (tie.spec (λ c. search needs) (λ c. search needs) (λ c. search needs) (λ c. cc))

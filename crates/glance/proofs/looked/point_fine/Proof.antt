@@ -5,4 +5,4 @@ use Rattle.glance.proofs.looked.point_fine.Statement.{statement}
 use Rattle.glance.proofs.looked.point_fine.Tie as tie
 
 pub point-fine-spec : {M : Type 1} → statement M
-point-fine-spec = tie.close (tie.spec (search needs) (search needs) (λ c. cc))
+point-fine-spec = tie.close (tie.spec (λ c. search needs) (λ c. search needs) (λ c. cc))

@@ -24,96 +24,6 @@ abbrev put-decimal-below : ℕ → In 1 put-decimal-kinds.ps
 put-decimal-below t =
     and 1 put-decimal-kinds.ps (falls 1 put-decimal-kinds.ps _<_ μ-put-decimal t) put-decimal.Pre
 
-put-decimal-cast-out : (t : ℕ) → put-decimal-lts.Need-cast-out (
-  put-decimal-below t,
-  put-decimal.Post,
-) (put-decimal-at t) put-decimal.Post
-put-decimal-cast-out t c = search needs
-
-put-decimal-add-out : (t : ℕ) → put-decimal-lts.Need-add-out (
-  put-decimal-below t,
-  put-decimal.Post,
-) (put-decimal-at t) put-decimal.Post
-put-decimal-add-out t c = search needs
-
-put-decimal-slice-write-out : (t : ℕ) → put-decimal-lts.Need-slice-write-out (
-  put-decimal-below t,
-  put-decimal.Post,
-) (put-decimal-at t) put-decimal.Post
-put-decimal-slice-write-out t c = omega (arith, small-long _ (c .if1 .taken), c .before .before .pre .1)
-
-put-decimal-add-result : (t : ℕ) → put-decimal-lts.Need-add-result (
-  put-decimal-below t,
-  put-decimal.Post,
-) (put-decimal-at t) put-decimal.Post
-put-decimal-add-result t c = search needs
-
-put-decimal-same-length : (t : ℕ) → put-decimal-lts.Need-same-length (
-  put-decimal-below t,
-  put-decimal.Post,
-) (put-decimal-at t) put-decimal.Post
-put-decimal-same-length t c = search needs
-
-put-decimal-returns : (t : ℕ) → put-decimal-lts.Need-returns (
-  put-decimal-below t,
-  put-decimal.Post,
-) (put-decimal-at t) put-decimal.Post
-put-decimal-returns t c = put-small _ (c .if1 .taken) _ _
-
-put-decimal-put-decimal-requires : (t : ℕ) → put-decimal-lts.Need-put-decimal-requires (
-  put-decimal-below t,
-  put-decimal.Post,
-) (put-decimal-at t) put-decimal.Post
-put-decimal-put-decimal-requires t c κs =
-    let start = c .before .before .before in
-    let large = c .before .if1 .left in
-    (omega (arith, start .pre .0), omega (arith, start .pre .1, large-long _ large))
-
-put-decimal-cast-out-2 : (t : ℕ) → put-decimal-lts.Need-cast-out-2 (
-  put-decimal-below t,
-  put-decimal.Post,
-) (put-decimal-at t) put-decimal.Post
-put-decimal-cast-out-2 t c = search needs
-
-put-decimal-add-out-2 : (t : ℕ) → put-decimal-lts.Need-add-out-2 (
-  put-decimal-below t,
-  put-decimal.Post,
-) (put-decimal-at t) put-decimal.Post
-put-decimal-add-out-2 t c = search needs
-
-put-decimal-slice-write-out-2 : (t : ℕ) → put-decimal-lts.Need-slice-write-out-2 (
-  put-decimal-below t,
-  put-decimal.Post,
-) (put-decimal-at t) put-decimal.Post
-put-decimal-slice-write-out-2 t c =
-    let called = c .before .before in
-    last-inside _ (called .put-decimal .ensures) (sym (large-long _ (called .before .before .if1 .left)))
-    (called .before .before .before .before .pre .1) (called .put-decimal .kept .0)
-
-put-decimal-add-result-2 : (t : ℕ) → put-decimal-lts.Need-add-result-2 (
-  put-decimal-below t,
-  put-decimal.Post,
-) (put-decimal-at t) put-decimal.Post
-put-decimal-add-result-2 t c =
-    let called = c .before .before in
-    let inside = last-inside _ (called .put-decimal .ensures) (sym (large-long _ (called .before .before .if1 .left)))
-    (called .before .before .before .before .pre .1) (called .put-decimal .kept .0) in
-    omega arith
-
-put-decimal-same-length-2 : (t : ℕ) → put-decimal-lts.Need-same-length-2 (
-  put-decimal-below t,
-  put-decimal.Post,
-) (put-decimal-at t) put-decimal.Post
-put-decimal-same-length-2 t c = search needs
-
-put-decimal-returns-2 : (t : ℕ) → put-decimal-lts.Need-returns-2 (
-  put-decimal-below t,
-  put-decimal.Post,
-) (put-decimal-at t) put-decimal.Post
-put-decimal-returns-2 t c =
-    let called = c .before .before in
-    put-large _ (called .before .before .if1 .left) (called .put-decimal .ensures)
-
 pub +put-decimal-spec : {M : Type 1} → statement M
 +put-decimal-spec = close μ-put-decimal λ t. put-decimal-lts.spec (
   put-decimal-below t,
@@ -121,16 +31,24 @@ pub +put-decimal-spec : {M : Type 1} → statement M
 )
     (put-decimal-at t)
     put-decimal.Post
-    (put-decimal-cast-out t)
-    (put-decimal-add-out t)
-    (put-decimal-slice-write-out t)
-    (put-decimal-add-result t)
-    (put-decimal-same-length t)
-    (put-decimal-returns t)
-    (put-decimal-put-decimal-requires t)
-    (put-decimal-cast-out-2 t)
-    (put-decimal-add-out-2 t)
-    (put-decimal-slice-write-out-2 t)
-    (put-decimal-add-result-2 t)
-    (put-decimal-same-length-2 t)
-    (put-decimal-returns-2 t)
+    (λ c. search needs)
+    (λ c. search needs)
+    (λ c. omega (arith, small-long _ (c .if1 .taken), c .before .before .pre .1))
+    (λ c. search needs)
+    (λ c. search needs)
+    (λ c. put-small _ (c .if1 .taken) _ _)
+    (λ c κs. let start = c .before .before .before in
+    let large = c .before .if1 .left in
+    (omega (arith, start .pre .0), omega (arith, start .pre .1, large-long _ large)))
+    (λ c. search needs)
+    (λ c. search needs)
+    (λ c. let called = c .before .before in
+    last-inside _ (called .put-decimal .ensures) (sym (large-long _ (called .before .before .if1 .left)))
+    (called .before .before .before .before .pre .1) (called .put-decimal .kept .0))
+    (λ c. let called = c .before .before in
+    let inside = last-inside _ (called .put-decimal .ensures) (sym (large-long _ (called .before .before .if1 .left)))
+    (called .before .before .before .before .pre .1) (called .put-decimal .kept .0) in
+    omega arith)
+    (λ c. search needs)
+    (λ c. let called = c .before .before in
+    put-large _ (called .before .before .if1 .left) (called .put-decimal .ensures))

@@ -1,5 +1,5 @@
--- The proof of the cycle of calls {put_hex}. The measure is the number of digits: those of the sixteenth, then the last.
--- Assumes nothing.
+-- The proof of the cycle of calls {put_hex}. The measure is the number of digits: those of the sixteenth, then the
+-- last. Assumes nothing.
 use Prim.Native.Nat.{ℕ, _<_}
 use native.Mathlib.Nat.{pos-of-ne-zero}
 use native.Mathlib.Omega.{arith}
@@ -23,82 +23,6 @@ put-hex-at t = and 1 put-hex-kinds.ps (is 1 put-hex-kinds.ps μ-put-hex t) put-h
 abbrev put-hex-below : ℕ → In 1 put-hex-kinds.ps
 put-hex-below t = and 1 put-hex-kinds.ps (falls 1 put-hex-kinds.ps _<_ μ-put-hex t) put-hex.Pre
 
-put-hex-returns : (t : ℕ) → put-hex-lts.Need-returns (
-  put-hex-below t,
-  put-hex.Post,
-  glyph-reads.Asked,
-  glyph-reads.Learnt,
-) (put-hex-at t) put-hex.Post
-put-hex-returns t c = put-hex-none _ _ (c .if1 .taken) _ _
-
-put-hex-sub-put-hex : (t : ℕ) → put-hex-lts.Need-sub-put-hex (
-  put-hex-below t,
-  put-hex.Post,
-  glyph-reads.Asked,
-  glyph-reads.Learnt,
-) (put-hex-at t) put-hex.Post
-put-hex-sub-put-hex t c = pos-of-ne-zero (c .before .if1 .left)
-
-put-hex-put-hex-requires : (t : ℕ) → put-hex-lts.Need-put-hex-requires (
-  put-hex-below t,
-  put-hex.Post,
-  glyph-reads.Asked,
-  glyph-reads.Learnt,
-) (put-hex-at t) put-hex.Post
-put-hex-put-hex-requires t c κs =
-    let start = c .before .before .before in
-    let more = pos-of-ne-zero (c .before .if1 .left) in
-    (omega (arith, start .pre .0), omega (arith, start .pre .1))
-
-put-hex-glyph-requires : (t : ℕ) → put-hex-lts.Need-glyph-requires (
-  put-hex-below t,
-  put-hex.Post,
-  glyph-reads.Asked,
-  glyph-reads.Learnt,
-) (put-hex-at t) put-hex.Post
-put-hex-glyph-requires t c κs = search needs
-
-put-hex-slice-write-out : (t : ℕ) → put-hex-lts.Need-slice-write-out (
-  put-hex-below t,
-  put-hex.Post,
-  glyph-reads.Asked,
-  glyph-reads.Learnt,
-) (put-hex-at t) put-hex.Post
-put-hex-slice-write-out t c =
-    let called = c .before .before .before in
-    last-inside _ (called .put-hex .ensures) (one-more _ _ (pos-of-ne-zero (called .before .before .if1 .left)))
-    (called .before .before .before .before .pre .1) (called .put-hex .kept .0)
-
-put-hex-add-result : (t : ℕ) → put-hex-lts.Need-add-result (
-  put-hex-below t,
-  put-hex.Post,
-  glyph-reads.Asked,
-  glyph-reads.Learnt,
-) (put-hex-at t) put-hex.Post
-put-hex-add-result t c =
-    let called = c .before .before .before in
-    let inside = last-inside _ (called .put-hex .ensures) (one-more _ _ (pos-of-ne-zero (called .before .before .if1 .left)))
-    (called .before .before .before .before .pre .1) (called .put-hex .kept .0) in
-    omega arith
-
-put-hex-same-length : (t : ℕ) → put-hex-lts.Need-same-length (
-  put-hex-below t,
-  put-hex.Post,
-  glyph-reads.Asked,
-  glyph-reads.Learnt,
-) (put-hex-at t) put-hex.Post
-put-hex-same-length t c = search needs
-
-put-hex-returns-2 : (t : ℕ) → put-hex-lts.Need-returns-2 (
-  put-hex-below t,
-  put-hex.Post,
-  glyph-reads.Asked,
-  glyph-reads.Learnt,
-) (put-hex-at t) put-hex.Post
-put-hex-returns-2 t c =
-    let called = c .before .before .before in
-    put-hex-more _ _ (pos-of-ne-zero (called .before .before .if1 .left)) (called .put-hex .ensures) _ (c .glyph .ensures)
-
 pub +put-hex-spec : {M : Type 1} → statement M
 +put-hex-spec = close μ-put-hex λ t. put-hex-lts.spec (
   put-hex-below t,
@@ -108,11 +32,21 @@ pub +put-hex-spec : {M : Type 1} → statement M
 )
     (put-hex-at t)
     put-hex.Post
-    (put-hex-returns t)
-    (put-hex-sub-put-hex t)
-    (put-hex-put-hex-requires t)
-    (put-hex-glyph-requires t)
-    (put-hex-slice-write-out t)
-    (put-hex-add-result t)
-    (put-hex-same-length t)
-    (put-hex-returns-2 t)
+    (λ c. put-hex-none _ _ (c .if1 .taken) _ _)
+    (λ c. pos-of-ne-zero (c .before .if1 .left))
+    (λ c κs. let start = c .before .before .before in
+    let more = pos-of-ne-zero (c .before .if1 .left) in
+    (omega (arith, start .pre .0), omega (arith, start .pre .1)))
+    (λ c κs. search needs)
+    (λ c. let called = c .before .before .before in
+    let more = one-more _ _ (pos-of-ne-zero (called .before .before .if1 .left)) in
+    last-inside _ (called .put-hex .ensures) more (called .before .before .before .before .pre .1) (called .put-hex .kept .0))
+    (λ c. let called = c .before .before .before in
+    let more = one-more _ _ (pos-of-ne-zero (called .before .before .if1 .left)) in
+    let room = called .before .before .before .before .pre .1 in
+    let inside = last-inside _ (called .put-hex .ensures) more room (called .put-hex .kept .0) in
+    omega arith)
+    (λ c. search needs)
+    (λ c. let called = c .before .before .before in
+    let more = pos-of-ne-zero (called .before .before .if1 .left) in
+    put-hex-more _ _ more (called .put-hex .ensures) _ (c .glyph .ensures))

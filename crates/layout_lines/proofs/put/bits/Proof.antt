@@ -28,7 +28,4 @@ float-to-bits-result : tie.Need-float-to-bits-result
 float-to-bits-result c = number _ (c .if1 .left)
 
 pub bits-spec : {M : Type 1} → statement M
-bits-spec =
-    tie.close
-    (tie.spec
-    returns float-to-bits-result (search needs))
+bits-spec = tie.close (tie.spec returns float-to-bits-result (λ c. search needs))

@@ -17,4 +17,4 @@ pub glyph-spec : {M : Type 1} → statement M
 glyph-spec =
     tie.close
     (tie.spec
-    (search needs) (search needs) returns (search needs) (search needs) returns-2)
+    (λ c. search needs) (λ c. search needs) returns (λ c. search needs) (λ c. search needs) returns-2)

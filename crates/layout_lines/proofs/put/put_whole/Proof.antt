@@ -17,7 +17,4 @@ returns c =
     decimal-in _ (omega arith) (called .put-decimal .ensures)
 
 pub put-whole-spec : {M : Type 1} → statement M
-put-whole-spec =
-    tie.close
-    (tie.spec
-    put-decimal-requires (search needs) returns)
+put-whole-spec = tie.close (tie.spec put-decimal-requires (λ c. search needs) returns)

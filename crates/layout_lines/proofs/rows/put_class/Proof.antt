@@ -33,17 +33,17 @@ unfolding classText
 put-class-spec =
     tie.close
     (tie.spec
-    (search needs) (search needs) (search needs)
+    (λ c. search needs) (λ c. search needs) (λ c. search needs)
     (λ c. let put = c .before .before in named 1 (put .before .before .before .if1 .taken) (put .put-word .ensures))
-    (search needs) (search needs) (search needs)
+    (λ c. search needs) (λ c. search needs) (λ c. search needs)
     (λ c. let put = c .before .before in named 2 (put .before .before .before .if2 .taken) (put .put-word2 .ensures))
-    (search needs) (search needs) (search needs)
+    (λ c. search needs) (λ c. search needs) (λ c. search needs)
     (λ c. let put = c .before .before in named 3 (put .before .before .before .if3 .taken) (put .put-word3 .ensures))
-    (search needs) (search needs) (search needs)
+    (λ c. search needs) (λ c. search needs) (λ c. search needs)
     (λ c. let put = c .before .before in named 4 (put .before .before .before .if4 .taken) (put .put-word4 .ensures))
-    (search needs) (search needs) (search needs)
+    (λ c. search needs) (λ c. search needs) (λ c. search needs)
     (λ c. let put = c .before .before in named 5 (put .before .before .before .if5 .taken) (put .put-word5 .ensures))
-    (search needs) (search needs) (search needs)
+    (λ c. search needs) (λ c. search needs) (λ c. search needs)
     (λ c.
     let put = c .before .before in
     let test = put .before .before .before in

@@ -55,5 +55,5 @@ pub put-points-spec : {M : Type 1} → statement M
 put-points-spec =
     tie.close
     (tie.spec
-    returns (search needs) (search needs) (search needs) returns-2 (search needs) (search needs) (search needs)
-    (search needs) (search needs) returns-3 returns-4)
+    returns (λ c. search needs) (λ c. search needs) (λ c. search needs) returns-2 (λ c. search needs)
+    (λ c. search needs) (λ c. search needs) (λ c. search needs) (λ c. search needs) returns-3 returns-4)

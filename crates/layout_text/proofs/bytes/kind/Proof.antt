@@ -37,4 +37,4 @@ pub kind-spec : {M : Type 1} → statement M
 kind-spec =
     tie.close
     (tie.spec
-    (search needs) (search needs) returns returns-2 returns-3 returns-4 returns-5 returns-6)
+    (λ c. search needs) (λ c. search needs) returns returns-2 returns-3 returns-4 returns-5 returns-6)

@@ -16,7 +16,4 @@ returns-2 c =
     (c .kind .ensures ∙ first-at _ _ inside, λ h. inside)
 
 pub kind-at-spec : {M : Type 1} → statement M
-kind-at-spec =
-    tie.close
-    (tie.spec
-    returns (search needs) (search needs) returns-2)
+kind-at-spec = tie.close (tie.spec returns (λ c. search needs) (λ c. search needs) returns-2)

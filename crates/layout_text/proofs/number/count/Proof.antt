@@ -29,4 +29,4 @@ pub count-spec : {M : Type 1} → statement M
 count-spec =
     tie.close
     (tie.spec
-    (search needs) add-zero (search needs) returns (search needs) returns-2)
+    (λ c. search needs) add-zero (λ c. search needs) returns (λ c. search needs) returns-2)

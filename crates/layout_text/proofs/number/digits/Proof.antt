@@ -66,5 +66,5 @@ pub digits-spec : {M : Type 1} → statement M
 digits-spec =
     tie.close
     (tie.spec
-    Inv-loop μ-loop loop-holds (omega arith) (search needs) (omega arith) returns returns-2 (omega arith) (omega arith)
-    returns-3 (omega arith) (omega arith) loop-again returns-4)
+    Inv-loop μ-loop loop-holds (omega arith) (λ c. search needs) (omega arith) returns returns-2 (omega arith)
+    (omega arith) returns-3 (omega arith) (omega arith) loop-again returns-4)

@@ -21,7 +21,4 @@ returns-3 c =
     simp (← first, ne-eqb _ _ (c .before .before .if1 .left), le-ltb _ _ (c .before .if2 .left), c .digits .ensures)
 
 pub positive-spec : {M : Type 1} → statement M
-positive-spec =
-    tie.close
-    (tie.spec
-    (search needs) returns returns-2 (search needs) returns-3)
+positive-spec = tie.close (tie.spec (λ c. search needs) returns returns-2 (λ c. search needs) returns-3)

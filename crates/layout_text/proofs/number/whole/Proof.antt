@@ -29,4 +29,4 @@ pub whole-spec : {M : Type 1} → statement M
 whole-spec =
     tie.close
     (tie.spec
-    (search needs) add-positive (search needs) returns (search needs) returns-2)
+    (λ c. search needs) add-positive (λ c. search needs) returns (λ c. search needs) returns-2)

@@ -22,7 +22,4 @@ unfolding zeroOf shownNumber
 returns-2 c = simp (← c .before .kind-at .ensures .0, ne-eqb _ _ (c .if1 .left))
 
 pub zero-spec : {M : Type 1} → statement M
-zero-spec =
-    tie.close
-    (tie.spec
-    (search needs) add-t6 returns returns-2)
+zero-spec = tie.close (tie.spec (λ c. search needs) add-t6 returns returns-2)

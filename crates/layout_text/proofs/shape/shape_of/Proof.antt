@@ -12,18 +12,6 @@ use Rattle.layout_text.proofs.Texts.{text-left, text-over}
 use Rattle.layout_text.proofs.shape.shape_of.Statement.{statement}
 use Rattle.layout_text.proofs.shape.shape_of.Tie as tie
 
-returns : tie.Need-returns
-returns c =
-    too-long _ (c .if1 .taken)
-
-enum-told : tie.Need-enum-told
-enum-told c = search needs
-
-returns-2 : tie.Need-returns-2
-returns-2 c =
-    let counts = c .before .before in
-    no-count _ (counts .before .if1 .left) (no-number _ (counts .count .ensures) (c .enum-told .given .1))
-
 returns-3 : tie.Need-returns-3
 returns-3 c =
     let m = c .before .before in
@@ -93,6 +81,10 @@ pub shape-of-spec : {M : Type 1} → statement M
 shape-of-spec =
     tie.close
     (tie.spec
-    returns (search needs) (search needs) enum-told returns-2 (search needs) (search needs) (search needs) returns-3
-    (search needs) (search needs) (search needs) returns-4 (search needs) (search needs) (search needs) returns-5 returns-6
-    returns-7)
+    (λ c. too-long _ (c .if1 .taken))
+    (λ c. search needs) (λ c. search needs) (λ c. search needs)
+    (λ c. let counts = c .before .before in
+    no-count _ (counts .before .if1 .left) (no-number _ (counts .count .ensures) (c .enum-told .given .1)))
+    (λ c. search needs) (λ c. search needs) (λ c. search needs) returns-3 (λ c. search needs)
+    (λ c. search needs) (λ c. search needs) returns-4 (λ c. search needs) (λ c. search needs)
+    (λ c. search needs) returns-5 returns-6 returns-7)

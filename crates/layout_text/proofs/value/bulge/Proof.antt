@@ -9,7 +9,4 @@ unfolding coordinate bulge
 returns c = simp (c .coordinate .ensures)
 
 pub bulge-spec : {M : Type 1} → statement M
-bulge-spec =
-    tie.close
-    (tie.spec
-    (search needs) returns)
+bulge-spec = tie.close (tie.spec (λ c. search needs) returns)

@@ -18,7 +18,4 @@ returns-3 : tie.Need-returns-3
 returns-3 c = rw (c .if2 .left) (c .before .before .nearest-u64-to-f64 .ensures ∙ plain-value _)
 
 pub coordinate-spec : {M : Type 1} → statement M
-coordinate-spec =
-    tie.close
-    (tie.spec
-    (search needs) returns returns-2 returns-3)
+coordinate-spec = tie.close (tie.spec (λ c. search needs) returns returns-2 returns-3)

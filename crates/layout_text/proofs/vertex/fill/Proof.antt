@@ -23,9 +23,6 @@ abbrev μ-loop : tie.MeasureT-loop
 loop-holds : tie.Need-loop-holds Inv-loop μ-loop
 loop-holds c = (refl, refl, rw sub-zero)
 
-enum-told : tie.Need-enum-told Inv-loop μ-loop
-enum-told c = search needs
-
 returns : tie.Need-returns Inv-loop μ-loop
 returns c =
     let read = c .before .before in
@@ -58,6 +55,7 @@ pub fill-spec : {M : Type 1} → statement M
 fill-spec =
     tie.close
     (tie.spec
-    Inv-loop μ-loop loop-holds (search needs) enum-told (search needs) returns (search needs) (search needs) (search needs)
-    (search needs) (search needs) slice-write-out-2 (search needs) (search needs) slice-write-out-3 (search needs)
-    (search needs) (search needs) loop-again (search needs) returns-2)
+    Inv-loop μ-loop loop-holds (λ c. search needs) (λ c. search needs) (λ c. search needs) returns
+    (λ c. search needs) (λ c. search needs) (λ c. search needs) (λ c. search needs) (λ c. search needs)
+    slice-write-out-2 (λ c. search needs) (λ c. search needs) slice-write-out-3 (λ c. search needs)
+    (λ c. search needs) (λ c. search needs) loop-again (λ c. search needs) returns-2)

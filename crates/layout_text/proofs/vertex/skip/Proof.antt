@@ -21,9 +21,6 @@ abbrev μ-loop : tie.MeasureT-loop
 loop-holds : tie.Need-loop-holds Inv-loop μ-loop
 loop-holds c = rw sub-zero
 
-enum-told : tie.Need-enum-told Inv-loop μ-loop
-enum-told c = search needs
-
 returns : tie.Need-returns Inv-loop μ-loop
 unfolding shownPlace
 returns c =
@@ -47,5 +44,5 @@ pub skip-spec : {M : Type 1} → statement M
 skip-spec =
     tie.close
     (tie.spec
-    Inv-loop μ-loop loop-holds (search needs) enum-told returns (search needs) (omega arith) (omega arith) loop-again
-    returns-2)
+    Inv-loop μ-loop loop-holds (λ c. search needs) (λ c. search needs) returns (λ c. search needs) (omega arith)
+    (omega arith) loop-again returns-2)

@@ -7,9 +7,6 @@ use Rattle.layout_text.proofs.Told.{no-number, a-number}
 use Rattle.layout_text.proofs.vertex.vertex.Statement.{statement}
 use Rattle.layout_text.proofs.vertex.vertex.Tie as tie
 
-enum-told : tie.Need-enum-told
-enum-told c = search needs
-
 returns : tie.Need-returns
 unfolding vertexOf numbersOf shownVertex
 returns c = simp (no-number _ (c .before .before .whole .ensures) (c .enum-told .given .1))
@@ -56,5 +53,6 @@ pub vertex-spec : {M : Type 1} → statement M
 vertex-spec =
     tie.close
     (tie.spec
-    (search needs) (search needs) enum-told returns (search needs) (search needs) (search needs) returns-2 (search needs)
-    (search needs) (search needs) returns-3 (search needs) (search needs) (search needs) returns-4)
+    (λ c. search needs) (λ c. search needs) (λ c. search needs) returns (λ c. search needs) (λ c. search needs)
+    (λ c. search needs) returns-2 (λ c. search needs) (λ c. search needs) (λ c. search needs) returns-3
+    (λ c. search needs) (λ c. search needs) (λ c. search needs) returns-4)

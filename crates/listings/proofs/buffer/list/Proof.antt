@@ -32,5 +32,5 @@ pub list-spec : {M : Type 1} → statement M
 list-spec =
     tie.close
     (tie.spec
-    (search needs) keep-requires (search needs) list-kept-requires (search needs) (search needs)
+    (λ c. search needs) keep-requires (λ c. search needs) list-kept-requires (λ c. search needs) (λ c. search needs)
     returns)

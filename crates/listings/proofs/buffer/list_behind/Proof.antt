@@ -117,5 +117,5 @@ pub list-behind-spec : {M : Type 1} → statement M
 list-behind-spec =
     tie.close
     (tie.spec
-    fill-requires copy-rows-requires fill-requires-2 add-t29 (search needs) (search needs) returns
-    (search needs) (search needs) returns-2)
+    fill-requires copy-rows-requires fill-requires-2 add-t29 (λ c. search needs) (λ c. search needs) returns
+    (λ c. search needs) (λ c. search needs) returns-2)

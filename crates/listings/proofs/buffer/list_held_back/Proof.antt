@@ -125,6 +125,7 @@ pub list-held-back-spec : {M : Type 1} → statement M
 list-held-back-spec =
     tie.close
     (tie.spec
-    (search needs) (search needs) (search needs) (search needs) fill-requires (search needs) (search needs)
-    copy-rows-requires (search needs) (search needs) returns returns-2 (search needs) (search needs)
-    list-behind-requires (search needs) (search needs) (λ c. search needs))
+    (λ c. search needs) (λ c. search needs) (λ c. search needs) (λ c. search needs) fill-requires
+    (λ c. search needs) (λ c. search needs) copy-rows-requires (λ c. search needs) (λ c. search needs) returns
+    returns-2 (λ c. search needs) (λ c. search needs) list-behind-requires (λ c. search needs) (λ c. search needs)
+    (λ c. search needs))

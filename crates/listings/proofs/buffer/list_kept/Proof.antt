@@ -42,5 +42,5 @@ pub list-kept-spec : {M : Type 1} → statement M
 list-kept-spec =
     tie.close
     (tie.spec
-    (search needs) mul-if1 (search needs) fill-requires (search needs) (search needs) returns
-    (λ c. search needs) (search needs) (search needs) (λ c. search needs))
+    (λ c. search needs) mul-if1 (λ c. search needs) fill-requires (λ c. search needs) (λ c. search needs) returns
+    (λ c. search needs) (λ c. search needs) (λ c. search needs) (λ c. search needs))

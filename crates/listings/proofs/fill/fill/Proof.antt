@@ -168,8 +168,9 @@ pub fill-spec : {M : Type 1} → statement M
 fill-spec =
     tie.close
     (tie.spec
-    Inv-loop2 μ-loop2 Inv-loop μ-loop loop-holds (search needs) (search needs) (search needs) loop2-holds
-    look-requires (search needs) (search needs) (search needs) loop2-again (search needs) add-pairs
-    (search needs) (search needs) loop2-again-2 (search needs) same-length same-length-2 returns
-    put-row-requires add-rows add-pairs-2 (search needs) (search needs) loop2-again-3 (search needs)
-    (search needs) (search needs) loop-again (search needs) (search needs) returns-2)
+    Inv-loop2 μ-loop2 Inv-loop μ-loop loop-holds (λ c. search needs) (λ c. search needs) (λ c. search needs)
+    loop2-holds look-requires (λ c. search needs) (λ c. search needs) (λ c. search needs) loop2-again
+    (λ c. search needs) add-pairs (λ c. search needs) (λ c. search needs) loop2-again-2 (λ c. search needs)
+    same-length same-length-2 returns put-row-requires add-rows add-pairs-2 (λ c. search needs) (λ c. search needs)
+    loop2-again-3 (λ c. search needs) (λ c. search needs) (λ c. search needs) loop-again (λ c. search needs)
+    (λ c. search needs) returns-2)

@@ -20,4 +20,4 @@ unfolding filled
 returns-2 c = simp (lt-leb _ _ (c .before .if1 .left))
 
 pub filled-spec : {M : Type 1} → statement M
-filled-spec = tie.close (tie.spec (search needs) slice-aggregate-result returns (search needs) returns-2)
+filled-spec = tie.close (tie.spec (λ c. search needs) slice-aggregate-result returns (λ c. search needs) returns-2)

@@ -45,6 +45,7 @@ pub keep-spec : {M : Type 1} → statement M
 keep-spec =
     tie.close
     (tie.spec
-    Inv-loop μ-loop loop-holds (search needs) (search needs) (search needs) (search needs) (search needs)
-    (search needs) (search needs) slice-write-kept-2 (search needs) (search needs) slice-write-kept-3
-    (search needs) (search needs) loop-again (search needs) returns)
+    Inv-loop μ-loop loop-holds (λ c. search needs) (λ c. search needs) (λ c. search needs) (λ c. search needs)
+    (λ c. search needs) (λ c. search needs) (λ c. search needs) slice-write-kept-2 (λ c. search needs)
+    (λ c. search needs) slice-write-kept-3 (λ c. search needs) (λ c. search needs) loop-again (λ c. search needs)
+    returns)

@@ -37,4 +37,4 @@ pub look-spec : {M : Type 1} → statement M
 look-spec =
     tie.close
     (tie.spec
-    (search needs) kept-at-requires pline-seg-kept-requires (search needs) returns)
+    (λ c. search needs) kept-at-requires pline-seg-kept-requires (λ c. search needs) returns)

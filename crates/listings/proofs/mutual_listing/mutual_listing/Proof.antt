@@ -49,5 +49,5 @@ pub mutual-listing-spec : {M : Type 1} → statement M
 mutual-listing-spec =
     tie.close
     (tie.spec
-    (search needs) (search needs) (search needs) (search needs) list-requires (search needs) (search needs)
-    (search needs) returns returns-2)
+    (λ c. search needs) (λ c. search needs) (λ c. search needs) (λ c. search needs) list-requires
+    (λ c. search needs) (λ c. search needs) (λ c. search needs) returns returns-2)

@@ -13,4 +13,4 @@ unfolding from
 returns-2 c = simp (c .if1 .left)
 
 pub from-spec : {M : Type 1} → statement M
-from-spec = tie.close (tie.spec (search needs) returns returns-2)
+from-spec = tie.close (tie.spec (λ c. search needs) returns returns-2)

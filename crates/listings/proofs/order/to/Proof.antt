@@ -17,4 +17,4 @@ unfolding to
 returns-3 c = simp (c .if1 .left)
 
 pub to-spec : {M : Type 1} → statement M
-to-spec = tie.close (tie.spec returns (search needs) returns-2 returns-3)
+to-spec = tie.close (tie.spec returns (λ c. search needs) returns-2 returns-3)

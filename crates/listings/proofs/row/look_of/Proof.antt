@@ -9,7 +9,8 @@ unfolding lookOf
 look-of-spec =
     tie.close
     (tie.spec
-    (search needs) (search needs) (search needs) (search needs) (search needs) (search needs)
+    (λ c. search needs) (λ c. search needs) (λ c. search needs) (λ c. search needs) (λ c. search needs)
+    (λ c. search needs)
     (λ c. simp (c .enum-told .given .1))
     (λ c. simp (c .before .met .given .1))
     (λ c. simp (c .before .met2 .given .1))

@@ -17,7 +17,8 @@ copy-indices-spec =
     (tie.spec
     Inv-loop μ-loop
     (λ c. copy-starts _ _ _)
-    (search needs) (search needs) (search needs) (search needs) (search needs) (search needs)
+    (λ c. search needs) (λ c. search needs) (λ c. search needs) (λ c. search needs) (λ c. search needs)
+    (λ c. search needs)
     (λ c. copy-turn _ (c .before .before .loop .inv) (search needs) (search needs) (search needs))
-    (search needs)
+    (λ c. search needs)
     (λ c. copy-ends (c .before .loop .inv) (search needs)))

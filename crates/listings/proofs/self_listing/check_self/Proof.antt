@@ -20,4 +20,7 @@ returns c =
     )
 
 pub check-self-spec : {M : Type 1} → statement M
-check-self-spec = tie.close (tie.spec (search needs) (search needs) (search needs) (search needs) returns)
+check-self-spec =
+    tie.close
+    (tie.spec
+    (λ c. search needs) (λ c. search needs) (λ c. search needs) (λ c. search needs) returns)

@@ -44,5 +44,5 @@ pub self-listing-spec : {M : Type 1} → statement M
 self-listing-spec =
     tie.close
     (tie.spec
-    (search needs) (search needs) (search needs) list-requires (search needs) (search needs) (search needs)
-    returns returns-2)
+    (λ c. search needs) (λ c. search needs) (λ c. search needs) list-requires (λ c. search needs)
+    (λ c. search needs) (λ c. search needs) returns returns-2)

@@ -62,5 +62,6 @@ pub check-arcs-spec : {M : Type 1} → statement M
 check-arcs-spec =
     tie.close
     (tie.spec
-    Inv-loop μ-loop (search needs) loop-holds (search needs) (search needs) returns segment-from-requires (search needs)
-    (search needs) (search needs) (search needs) loop-again returns-2)
+    Inv-loop μ-loop (λ c. search needs) loop-holds (λ c. search needs) (λ c. search needs) returns
+    segment-from-requires (λ c. search needs) (λ c. search needs) (λ c. search needs) (λ c. search needs) loop-again
+    returns-2)

@@ -15,7 +15,4 @@ returns c =
     c .check-arcs .ensures ∙ first ∙ path-chain (a .f) (now (a .path)) (a .closed) (a .owner)
 
 pub check-path-spec : {M : Type 1} → statement M
-check-path-spec =
-    tie.close
-    (tie.spec
-    (search needs) (search needs) returns)
+check-path-spec = tie.close (tie.spec (λ c. search needs) (λ c. search needs) returns)

@@ -24,7 +24,4 @@ returns-2 c =
     )
 
 pub after-spec : {M : Type 1} → statement M
-after-spec =
-    tie.close
-    (tie.spec
-    (search needs) (search needs) (search needs) returns returns-2)
+after-spec = tie.close (tie.spec (λ c. search needs) (λ c. search needs) (λ c. search needs) returns returns-2)

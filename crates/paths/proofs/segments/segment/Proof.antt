@@ -34,7 +34,4 @@ returns-2 c =
     )
 
 pub segment-spec : {M : Type 1} → statement M
-segment-spec =
-    tie.close
-    (tie.spec
-    (search needs) segment-from-requires returns returns-2)
+segment-spec = tie.close (tie.spec (λ c. search needs) segment-from-requires returns returns-2)

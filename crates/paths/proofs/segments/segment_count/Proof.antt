@@ -11,8 +11,9 @@ unfolding Segments.segmentCount
 segment-count-spec =
     tie.close
     (tie.spec
-    (search needs) (λ c. simp (← c .before .refused .ensures, c .if1 .taken))
-    (search needs)
+    (λ c. search needs)
+    (λ c. simp (← c .before .refused .ensures, c .if1 .taken))
+    (λ c. search needs)
     (λ c. let n = c .before in
     simp (← n .before .before .refused .ensures, n .before .if1 .left, ← n .vertex-count .ensures, lt-ltb _ _ (c .if2 .taken)))
     (λ c. let n = c .before .before in
@@ -23,7 +24,7 @@ segment-count-spec =
       le-ltb _ _ (c .before .if2 .left),
       c .if3 .taken,
     ))
-    (search needs)
+    (λ c. search needs)
     (λ c. let n = c .before .before in
     simp (
       ← n .before .before .refused .ensures,

@@ -24,7 +24,4 @@ returns c =
     )
 
 pub segment-from-spec : {M : Type 1} → statement M
-segment-from-spec =
-    tie.close
-    (tie.spec
-    (search needs) (search needs) vertex-requires-2 returns)
+segment-from-spec = tie.close (tie.spec (λ c. search needs) (λ c. search needs) vertex-requires-2 returns)

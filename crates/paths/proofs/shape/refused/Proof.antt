@@ -14,7 +14,4 @@ returns c =
     )
 
 pub refused-spec : {M : Type 1} → statement M
-refused-spec =
-    tie.close
-    (tie.spec
-    (search needs) (search needs) returns)
+refused-spec = tie.close (tie.spec (λ c. search needs) (λ c. search needs) returns)

@@ -29,7 +29,8 @@ unfolding isAnswer
 is-answer-spec =
     tie.close
     (tie.spec
-    (search needs) (λ c. simp (← c .before .before .value .ensures, c .before .if1 .taken))
-    (search needs) (search needs) (search needs) (search needs) (search needs) (search needs)
-    (search needs) (search needs) (search needs) (search needs) (search needs) (search needs)
-    returns-2)
+    (λ c. search needs)
+    (λ c. simp (← c .before .before .value .ensures, c .before .if1 .taken))
+    (λ c. search needs) (λ c. search needs) (λ c. search needs) (λ c. search needs) (λ c. search needs)
+    (λ c. search needs) (λ c. search needs) (λ c. search needs) (λ c. search needs) (λ c. search needs)
+    (λ c. search needs) (λ c. search needs) returns-2)

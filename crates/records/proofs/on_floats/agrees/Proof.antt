@@ -10,6 +10,12 @@ unfolding agreesOf
 agrees-spec =
     tie.close
     (tie.spec
-    (search needs) (search needs) (λ c. search branches depth 8) (search needs) (λ c. search branches depth 8)
-    (λ c. search denied) (λ c. search denied)
-    (search needs) (λ c. search branches depth 8) (λ c. search branches depth 8))
+    (λ c. search needs) (λ c. search needs)
+    (λ c. search branches depth 8)
+    (λ c. search needs)
+    (λ c. search branches depth 8)
+    (λ c. search denied)
+    (λ c. search denied)
+    (λ c. search needs)
+    (λ c. search branches depth 8)
+    (λ c. search branches depth 8))

@@ -31,7 +31,4 @@ unfolding isAnswer
 returns-2 c = simp (alike _ (c .if1 .left))
 
 pub is-answer-spec : {M : Type 1} → statement M
-is-answer-spec =
-    tie.close
-    (tie.spec
-    (search needs) returns float-to-bits-result returns-2)
+is-answer-spec = tie.close (tie.spec (λ c. search needs) returns float-to-bits-result returns-2)

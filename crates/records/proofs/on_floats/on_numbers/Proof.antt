@@ -10,8 +10,12 @@ unfolding onNumbers
 on-numbers-spec =
     tie.close
     (tie.spec
-    (search needs) (search needs) (λ c. simp (c .before .before .if1 .taken, ← c .before .abs .ensures, ← c .is-answer .ensures))
-    (search needs) (search needs) (λ c. simp (c .before .before .if2 .taken, ← c .before .min .ensures, ← c .is-answer2 .ensures))
-    (search needs) (search needs) (λ c. simp (c .before .before .if3 .taken, ← c .before .max .ensures, ← c .is-answer3 .ensures))
-    (search needs) (search needs) (λ c. simp (c .before .before .if4 .taken, ← c .before .sqrt .ensures, ← c .is-answer4 .ensures))
+    (λ c. search needs) (λ c. search needs)
+    (λ c. simp (c .before .before .if1 .taken, ← c .before .abs .ensures, ← c .is-answer .ensures))
+    (λ c. search needs) (λ c. search needs)
+    (λ c. simp (c .before .before .if2 .taken, ← c .before .min .ensures, ← c .is-answer2 .ensures))
+    (λ c. search needs) (λ c. search needs)
+    (λ c. simp (c .before .before .if3 .taken, ← c .before .max .ensures, ← c .is-answer3 .ensures))
+    (λ c. search needs) (λ c. search needs)
+    (λ c. simp (c .before .before .if4 .taken, ← c .before .sqrt .ensures, ← c .is-answer4 .ensures))
     (λ c. search branches depth 6))

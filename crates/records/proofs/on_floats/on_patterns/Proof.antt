@@ -10,8 +10,12 @@ unfolding onPatterns
 on-patterns-spec =
     tie.close
     (tie.spec
-    (search needs) (λ c. simp (c .before .if1 .taken, ← c .abs .ensures))
-    (search needs) (λ c. simp (c .before .if2 .taken, ← c .min .ensures))
-    (search needs) (λ c. simp (c .before .if3 .taken, ← c .max .ensures))
-    (search needs) (λ c. simp (c .before .if4 .taken, ← c .sqrt .ensures))
+    (λ c. search needs)
+    (λ c. simp (c .before .if1 .taken, ← c .abs .ensures))
+    (λ c. search needs)
+    (λ c. simp (c .before .if2 .taken, ← c .min .ensures))
+    (λ c. search needs)
+    (λ c. simp (c .before .if3 .taken, ← c .max .ensures))
+    (λ c. search needs)
+    (λ c. simp (c .before .if4 .taken, ← c .sqrt .ensures))
     (λ c. search branches depth 6))

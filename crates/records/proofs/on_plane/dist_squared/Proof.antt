@@ -12,4 +12,4 @@ pub dist-squared-spec : {M : Type 1} → statement M
 dist-squared-spec =
     tie.close
     (tie.spec
-    (search needs) (search needs) (search needs) (search needs) (search needs) returns)
+    (λ c. search needs) (λ c. search needs) (λ c. search needs) (λ c. search needs) (λ c. search needs) returns)

@@ -14,7 +14,4 @@ unfolding afterOf
 returns-2 c = simp (ne-eqb _ _ (c .if1 .left))
 
 pub after-spec : {M : Type 1} → statement M
-after-spec =
-    tie.close
-    (tie.spec
-    (search needs) returns returns-2)
+after-spec = tie.close (tie.spec (λ c. search needs) returns returns-2)

@@ -10,7 +10,9 @@ unfolding digitOf
 digit-spec =
     tie.close
     (tie.spec
-    (search needs) (search needs) (search needs) (search needs)
+    (λ c. search needs) (λ c. search needs) (λ c. search needs) (λ c. search needs)
     (λ c. simp (c .wide .ensures .0) (search branches depth 6))
     (λ c. simp (c .wide2 .ensures .0) (search branches depth 6))
-    (λ c. search branches depth 6) (λ c. search branches depth 6) (λ c. search branches depth 6))
+    (λ c. search branches depth 6)
+    (λ c. search branches depth 6)
+    (λ c. search branches depth 6))

@@ -65,5 +65,6 @@ pub is-line-spec : {M : Type 1} → statement M
 is-line-spec =
     tie.close
     (tie.spec
-    Inv-loop μ-loop (search needs) returns loop-holds (omega arith) (omega arith) (omega arith) (search needs) returns-2
-    (omega arith) (search needs) (omega arith) (omega arith) loop-again returns-3 returns-4)
+    Inv-loop μ-loop (λ c. search needs) returns loop-holds (omega arith) (omega arith) (omega arith)
+    (λ c. search needs) returns-2 (omega arith) (λ c. search needs) (omega arith) (omega arith) loop-again returns-3
+    returns-4)

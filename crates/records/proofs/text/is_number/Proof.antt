@@ -18,7 +18,4 @@ returns-2 c =
     simp (c .enum-told2 .given .1)
 
 pub is-number-spec : {M : Type 1} → statement M
-is-number-spec =
-    tie.close
-    (tie.spec
-    enum-told (search needs) returns returns-2)
+is-number-spec = tie.close (tie.spec enum-told (λ c. search needs) returns returns-2)

@@ -33,7 +33,4 @@ unfolding numberAt
 returns-2 c = simp (← c .before .before .value .ensures)
 
 pub number-spec : {M : Type 1} → statement M
-number-spec =
-    tie.close
-    (tie.spec
-    (search needs) (search needs) returns (λ c. search denied) returns-2)
+number-spec = tie.close (tie.spec (λ c. search needs) (λ c. search needs) returns (λ c. search denied) returns-2)

@@ -18,7 +18,4 @@ unfolding valueOf
 returns-2 c = simp (← c .before .before .field-at .ensures, c .enum-told .given .1)
 
 pub value-spec : {M : Type 1} → statement M
-value-spec =
-    tie.close
-    (tie.spec
-    (search needs) (search needs) enum-told returns returns-2)
+value-spec = tie.close (tie.spec (λ c. search needs) (λ c. search needs) enum-told returns returns-2)

@@ -38,5 +38,5 @@ pub word-spec : {M : Type 1} → statement M
 word-spec =
     tie.close
     (tie.spec
-    Inv-loop μ-loop loop-holds (omega arith) (search needs) returns (omega arith) (omega arith) (omega arith) (omega arith)
-    loop-again returns-2)
+    Inv-loop μ-loop loop-holds (omega arith) (λ c. search needs) returns (omega arith) (omega arith) (omega arith)
+    (omega arith) loop-again returns-2)
