@@ -12,7 +12,9 @@ use Rattle.glance.proofs.lines.lines_apart.Tie as tie
 -- whether the two are taken for parallel
 parallel : (c : tie.After-fuzzy-eq-zero-eps) → let a = c .before .before .before .before .before .args in
     c .fuzzy-eq-zero-eps .result ≡ fuzzyEqZeroEps (perpDot (sub (a .v2) (a .v1)) (sub (a .u2) (a .u1))) (a .eps)
-parallel c = cc
+parallel c =
+    let p = c .before .before in
+    simp (← p .before .before .sub .ensures, ← p .before .sub2 .ensures, ← p .perp-dot .ensures, ← c .fuzzy-eq-zero-eps .ensures)
 
 -- of parallel ones, whether they are not one line
 side-by-side : (c : tie.After-fuzzy-eq-zero-eps3) →
@@ -22,7 +24,19 @@ side-by-side : (c : tie.After-fuzzy-eq-zero-eps3) →
     let w = sub (a .v1) (a .u1) in
     (not (c .before .before .fuzzy-eq-zero-eps2 .result) || not (c .fuzzy-eq-zero-eps3 .result))
     ≡ (not (fuzzyEqZeroEps (perpDot v w) (a .eps)) || not (fuzzyEqZeroEps (perpDot u w) (a .eps)))
-side-by-side c = cc
+side-by-side c =
+    let f = c .before .before in
+    let w = f .before .before .before .before in
+    let p = w .before in
+    simp (
+      ← p .before .before .sub .ensures,
+      ← p .before .sub2 .ensures,
+      ← w .sub3 .ensures,
+      ← f .before .perp-dot2 .ensures,
+      ← f .fuzzy-eq-zero-eps2 .ensures,
+      ← c .before .perp-dot3 .ensures,
+      ← c .fuzzy-eq-zero-eps3 .ensures,
+    )
 
 -- whether their lines cross outside the first
 outside : (c : tie.After-crosses-outside) →
@@ -30,7 +44,35 @@ outside : (c : tie.After-crosses-outside) →
     let v = sub (a .v2) (a .v1) in
     let u = sub (a .u2) (a .u1) in
     c .crosses-outside .result ≡ crossesOutside (perpDot u (sub (a .v1) (a .u1))) (perpDot v u) v (a .eps)
-outside c = cc
+outside c =
+    let w = c .before .before .before .before in
+    let p = w .before in
+    simp (
+      ← p .before .before .sub .ensures,
+      ← p .before .sub2 .ensures,
+      ← p .perp-dot .ensures,
+      ← w .sub3 .ensures,
+      ← c .before .perp-dot4 .ensures,
+      ← c .crosses-outside .ensures,
+    )
+
+-- and outside the second
+outside-second : (c : tie.After-crosses-outside2) →
+    let a = c .before .before .before .before .before .before .before .before .before .before .before .args in
+    let v = sub (a .v2) (a .v1) in
+    let u = sub (a .u2) (a .u1) in
+    c .crosses-outside2 .result ≡ crossesOutside (perpDot v (sub (a .v1) (a .u1))) (perpDot v u) u (a .eps)
+outside-second c =
+    let w = c .before .before .before .before .before .before .before in
+    let p = w .before in
+    simp (
+      ← p .before .before .sub .ensures,
+      ← p .before .sub2 .ensures,
+      ← p .perp-dot .ensures,
+      ← w .sub3 .ensures,
+      ← c .before .perp-dot5 .ensures,
+      ← c .crosses-outside2 .ensures,
+    )
 
 pub lines-apart-spec : {M : Type 1} → statement M
 unfolding linesApart
@@ -46,4 +88,4 @@ lines-apart-spec =
     said-not _ _ _ _ _ (parallel (t .before)) (t .if1 .left) (rw (← outside (c .before), c .if2 .taken)))
     (λ c. search needs) (λ c. search needs)
     (λ c. let s = c .before .before in let t = s .before .before .before in
-    said-not _ _ _ _ _ (parallel (t .before)) (t .if1 .left) (rw (← outside (s .before), s .if2 .left) cc)))
+    said-not _ _ _ _ _ (parallel (t .before)) (t .if1 .left) (rw (← outside (s .before), s .if2 .left) (outside-second c))))

@@ -11,22 +11,30 @@ use Rattle.glance.proofs.pair.clearly_apart.Tie as tie
 lines : (c : tie.After-lines-apart) →
     let a = c .before .before .before .before .before .before .before .before .before .args in
     c .lines-apart .result ≡ linesApart (pos (a .v1)) (pos (a .v2)) (pos (a .u1)) (pos (a .u2)) (a .eps)
-lines c = cc
+lines c =
+    let p = c .before in
+    let q = p .before .before in
+    simp (← q .before .pos .ensures, ← q .pos2 .ensures, ← p .before .pos3 .ensures, ← p .pos4 .ensures, ← c .lines-apart .ensures)
 
 line-first : (c : tie.After-line-beside) →
     let a = c .before .before .before .before .before .before .before .before .args in
     c .line-beside .result ≡ lineBeside (pos (a .v1)) (pos (a .v2)) (a .v) (circleOf (a .u)) (a .eps)
-line-first c = cc
+line-first c =
+    let p = c .before in
+    simp (← p .before .before .pos5 .ensures, ← p .before .pos6 .ensures, ← p .circle-of .ensures, ← c .line-beside .ensures)
 
 line-second : (c : tie.After-line-beside2) →
     let a = c .before .before .before .before .before .before .before .before .args in
     c .line-beside2 .result ≡ lineBeside (pos (a .u1)) (pos (a .u2)) (a .u) (circleOf (a .v)) (a .eps)
-line-second c = cc
+line-second c =
+    let p = c .before in
+    simp (← p .before .before .pos7 .ensures, ← p .before .pos8 .ensures, ← p .circle-of2 .ensures, ← c .line-beside2 .ensures)
 
 arcs : (c : tie.After-circles-apart) →
     let a = c .before .before .before .before .before .before .before .args in
     c .circles-apart .result ≡ circlesApart (circleOf (a .v)) (circleOf (a .u)) (a .eps)
-arcs c = cc
+arcs c =
+    simp (← c .before .before .circle-of3 .ensures, ← c .before .circle-of4 .ensures, ← c .circles-apart .ensures)
 
 pub clearly-apart-spec : {M : Type 1} → statement M
 unfolding clearlyApart

@@ -10,7 +10,10 @@ use Rattle.glance.proofs.pair.line_pair_apart.Tie as tie
 lines : (c : tie.After-lines-apart) →
     let a = c .before .before .before .before .before .before .before .before .before .args in
     c .lines-apart .result ≡ linesApart (pos (a .v1)) (pos (a .v2)) (pos (a .u1)) (pos (a .u2)) (a .eps)
-lines c = cc
+lines c =
+    let p = c .before in
+    let q = p .before .before in
+    simp (← q .before .pos .ensures, ← q .pos2 .ensures, ← p .before .pos3 .ensures, ← p .pos4 .ensures, ← c .lines-apart .ensures)
 
 pub line-pair-apart-spec : {M : Type 1} → statement M
 unfolding linePairApart
