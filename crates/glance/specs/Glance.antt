@@ -37,9 +37,10 @@ linesApart v1 v2 u1 u2 eps =
     let u = vector2.sub u2 u1 in
     let d = vector2.perpDot v u in
     let w = vector2.sub v1 u1 in
+    let n = vector2.perpDot u w in
     cond (fuzzyEqZeroEps d eps)
-    (not (fuzzyEqZeroEps (vector2.perpDot v w) eps) || not (fuzzyEqZeroEps (vector2.perpDot u w) eps))
-    (crossesOutside (vector2.perpDot u w) d v eps || crossesOutside (vector2.perpDot v w) d u eps)
+    (not (fuzzyEqZeroEps n eps))
+    (crossesOutside n d v eps || crossesOutside (vector2.perpDot v w) d u eps)
 
 -- ---- a line and a circle
 unfoldable pub constant : Float → Float → Vector2 → Vector2 → Float

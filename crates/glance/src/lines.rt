@@ -34,10 +34,11 @@ pub fn lines_apart(v1: Vector2, v2: Vector2, u1: Vector2, u2: Vector2, eps: f64)
     let u = u2.sub(u1);
     let d = v.perp_dot(u);
     let w = v1.sub(u1);
+    let n = u.perp_dot(w);
     if fuzzy_eq_zero_eps(d, eps) {
-        return !fuzzy_eq_zero_eps(v.perp_dot(w), eps) | !fuzzy_eq_zero_eps(u.perp_dot(w), eps);
+        return !fuzzy_eq_zero_eps(n, eps);
     }
-    if crosses_outside(u.perp_dot(w), d, v, eps) {
+    if crosses_outside(n, d, v, eps) {
         return true;
     }
     crosses_outside(v.perp_dot(w), d, u, eps)

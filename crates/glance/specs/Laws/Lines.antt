@@ -260,8 +260,9 @@ second-off false b x y e = refl
 crossed : (near : Bool) (x y : LineLineIntr) → near ≡ false → cond (not near) x y ≡ x
 crossed near x y e = rw e
 
-beside : (near test : Bool) (x y z : LineLineIntr) → near ≡ true → T test → cond (not near) x (cond test y z) ≡ y
-beside near true x y z e t = rw e
+beside : (near a b : Bool) (x y z : LineLineIntr) → near ≡ true → T (not b) → cond (not near) x (cond (not a || not b) y z) ≡ y
+beside near true false x y z e t = rw e
+beside near false false x y z e t = rw e
 
 -- near zero or not, told one thing of each
 by-cases : {A : Type 0} (near a b : Bool) → T (cond near a b) → (near ≡ true → T a → A) → (near ≡ false → T b → A) → A
@@ -298,10 +299,10 @@ module _ (v1 v2 u1 u2 : Vector2) (eps : Float) (e-fits : T (fits binary64 eps)) 
   n2-fits = sub-fits binary64 (v .x ⊗ w .y) (v .y ⊗ w .x)
 
   -- parallel, and not one line
-  side-by-side : fuzzyEqZeroEps d eps ≡ true → T (not (fuzzyEqZeroEps n2 eps) || not (fuzzyEqZeroEps n1 eps))
+  side-by-side : fuzzyEqZeroEps d eps ≡ true → T (not (fuzzyEqZeroEps n1 eps))
       → lineLine v1 v2 u1 u2 eps ≡ lines.NoIntersect
   unfolding lineLine parallel
-  side-by-side near t = beside (fuzzyEqZeroEps d eps) (not (fuzzyEqZeroEps n2 eps) || not (fuzzyEqZeroEps n1 eps)) _ _ _ near t
+  side-by-side near t = beside (fuzzyEqZeroEps d eps) (fuzzyEqZeroEps n2 eps) (fuzzyEqZeroEps n1 eps) _ _ _ near t
 
   -- neither parallel nor crossing within both
   cross-outside : fuzzyEqZeroEps d eps ≡ false → T (crossesOutside n1 d v eps || crossesOutside n2 d u eps)
@@ -320,6 +321,6 @@ module _ (v1 v2 u1 u2 : Vector2) (eps : Float) (e-fits : T (fits binary64 eps)) 
   pub apart-lines : T (linesApart v1 v2 u1 u2 eps) → processLineLineIntr v1 v2 u1 u2 eps ≡ NoIntersect
   unfolding linesApart processLineLineIntr
   apart-lines h =
-      by-cases (fuzzyEqZeroEps d eps) (not (fuzzyEqZeroEps n2 eps) || not (fuzzyEqZeroEps n1 eps))
+      by-cases (fuzzyEqZeroEps d eps) (not (fuzzyEqZeroEps n1 eps))
       (crossesOutside n1 d v eps || crossesOutside n2 d u eps) h
       (λ near t. ap (λ (r : LineLineIntr). lineLineOf r v1 v2 u1 u2) (side-by-side near t)) cross-outside

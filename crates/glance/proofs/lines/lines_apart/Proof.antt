@@ -1,5 +1,5 @@
 -- `glance::lines::lines_apart` meets its contract: its calls and tests lead to the definition's ends.
-use mathlib.Core.Path.{_≡_, refl}
+use mathlib.Core.Path.{_≡_}
 use mathlib.Core.Bool.{true, not, _||_}
 use borrow.Author.Needs.{needs}
 use Rattle.plane.specs.Fuzzy.{fuzzyEqZeroEps}
@@ -10,49 +10,33 @@ use Rattle.glance.proofs.lines.lines_apart.Statement.{statement}
 use Rattle.glance.proofs.lines.lines_apart.Tie as tie
 
 -- whether the two are taken for parallel
-parallel : (c : tie.After-fuzzy-eq-zero-eps) → let a = c .before .before .before .before .before .args in
+parallel : (c : tie.After-fuzzy-eq-zero-eps) → let a = c .before .before .before .before .before .before .args in
     c .fuzzy-eq-zero-eps .result ≡ fuzzyEqZeroEps (perpDot (sub (a .v2) (a .v1)) (sub (a .u2) (a .u1))) (a .eps)
 parallel c =
-    let p = c .before .before in
+    let p = c .before .before .before in
     simp (← p .before .before .sub .ensures, ← p .before .sub2 .ensures, ← p .perp-dot .ensures, ← c .fuzzy-eq-zero-eps .ensures)
 
--- of parallel ones, whether they are not one line
-side-by-side : (c : tie.After-fuzzy-eq-zero-eps3) →
-    let a = c .before .before .before .before .before .before .before .before .before .before .args in
-    let v = sub (a .v2) (a .v1) in
-    let u = sub (a .u2) (a .u1) in
-    let w = sub (a .v1) (a .u1) in
-    (not (c .before .before .fuzzy-eq-zero-eps2 .result) || not (c .fuzzy-eq-zero-eps3 .result))
-    ≡ (not (fuzzyEqZeroEps (perpDot v w) (a .eps)) || not (fuzzyEqZeroEps (perpDot u w) (a .eps)))
-side-by-side c =
-    let f = c .before .before in
-    let w = f .before .before .before .before in
-    let p = w .before in
-    simp (
-      ← p .before .before .sub .ensures,
-      ← p .before .sub2 .ensures,
-      ← w .sub3 .ensures,
-      ← f .before .perp-dot2 .ensures,
-      ← f .fuzzy-eq-zero-eps2 .ensures,
-      ← c .before .perp-dot3 .ensures,
-      ← c .fuzzy-eq-zero-eps3 .ensures,
-    )
+-- how far the first segment's start lies beside the second's line
+aside : (c : tie.After-perp-dot2) → let a = c .before .before .before .before .before .args in
+    c .perp-dot2 .result ≡ perpDot (sub (a .u2) (a .u1)) (sub (a .v1) (a .u1))
+aside c =
+    let w = c .before in
+    simp (← w .before .before .sub2 .ensures, ← w .sub3 .ensures, ← c .perp-dot2 .ensures)
 
 -- whether their lines cross outside the first
-outside : (c : tie.After-crosses-outside) →
-    let a = c .before .before .before .before .before .before .before .before .args in
+outside : (c : tie.After-crosses-outside) → let a = c .before .before .before .before .before .before .before .before .args in
     let v = sub (a .v2) (a .v1) in
     let u = sub (a .u2) (a .u1) in
     c .crosses-outside .result ≡ crossesOutside (perpDot u (sub (a .v1) (a .u1))) (perpDot v u) v (a .eps)
 outside c =
-    let w = c .before .before .before .before in
-    let p = w .before in
+    let n = c .before .before .before in
+    let p = n .before .before in
     simp (
       ← p .before .before .sub .ensures,
       ← p .before .sub2 .ensures,
       ← p .perp-dot .ensures,
-      ← w .sub3 .ensures,
-      ← c .before .perp-dot4 .ensures,
+      ← n .before .sub3 .ensures,
+      ← n .perp-dot2 .ensures,
       ← c .crosses-outside .ensures,
     )
 
@@ -70,7 +54,7 @@ outside-second c =
       ← p .before .sub2 .ensures,
       ← p .perp-dot .ensures,
       ← w .sub3 .ensures,
-      ← c .before .perp-dot5 .ensures,
+      ← c .before .perp-dot3 .ensures,
       ← c .crosses-outside2 .ensures,
     )
 
@@ -79,13 +63,14 @@ unfolding linesApart
 lines-apart-spec =
     tie.close
     (tie.spec
-    (λ c. search needs) (λ c. search needs) (λ c. search needs) (λ c. search needs) (λ c. search needs)
-    (λ c. search needs) (λ c. search needs) (λ c. search needs) (λ c. search needs)
-    (λ c. let t = c .before .before .before .before in
-    said-so _ _ _ _ _ (parallel (t .before)) (t .if1 .taken) (side-by-side c))
-    (λ c. search needs) (λ c. search needs)
-    (λ c. let t = c .before .before .before in
+    (λ c. search needs) (λ c. search needs) (λ c. search needs) (λ c. search needs) (λ c. search needs) (λ c. search needs)
+    (λ c. search needs)
+    (λ c. let t = c .before in
+    said-so _ _ _ _ _ (parallel (t .before)) (t .if1 .taken)
+    (simp (← aside (t .before .before), ← c .fuzzy-eq-zero-eps2 .ensures)))
+    (λ c. search needs)
+    (λ c. let t = c .before .before in
     said-not _ _ _ _ _ (parallel (t .before)) (t .if1 .left) (rw (← outside (c .before), c .if2 .taken)))
     (λ c. search needs) (λ c. search needs)
-    (λ c. let s = c .before .before in let t = s .before .before .before in
+    (λ c. let s = c .before .before in let t = s .before .before in
     said-not _ _ _ _ _ (parallel (t .before)) (t .if1 .left) (rw (← outside (s .before), s .if2 .left) (outside-second c))))
