@@ -1,92 +1,65 @@
--- `crossing::arc_arc::arc_arc` meets its contract: each return is an end of the definition, by the calls and tests on its
--- way.
+-- `crossing::arc_arc::arc_arc` meets its contract: each return is an end of the definition, by what the circles have in common and the
+-- calls on its way.
+use mathlib.Core.Path.{_≡_}
 use borrow.Author.Needs.{needs}
-use Rattle.crossing.specs.ArcArc
+use Rattle.crossing.specs.ArcArc.{arcArc, arcArcOf}
 use Rattle.crossing.proofs.arc_arc.arc_arc.Statement.{statement}
 use Rattle.crossing.proofs.arc_arc.arc_arc.Tie as tie
 
-returns : tie.Need-returns
-unfolding ArcArc.arcArc
-returns c =
-    let p1 = c .before .before in
-    let p2 = p1 .before in
-    simp (
-      ← p2 .pre .0,
-      ← p2 .pre .1,
-      ← p1 .circle-circle .ensures,
-      c .enum-told .given .1,
-    )
+-- the definition, by what the circles have in common
+met : (c : tie.After-circle-circle) →
+    let a = c .before .args in
+    arcArc (a .v1) (a .v2) (a .u1) (a .u2) (a .pos-equal-eps)
+    ≡ arcArcOf (c .circle-circle .result) (a .v1) (a .v2) (a .u1) (a .u2) (a .circle1) (a .circle2) (a .pos-equal-eps)
+unfolding arcArc
+met c = simp (← c .before .pre .0, ← c .before .pre .1, ← c .circle-circle .ensures)
 
 returns-2 : tie.Need-returns-2
-unfolding ArcArc.arcArc
 returns-2 c =
-    let p1 = c .before in
-    let p2 = p1 .before in
-    let p3 = p2 .before in
-    let p4 = p3 .before in
-    let p5 = p4 .before in
-    let p6 = p5 .before in
-    let p7 = p6 .before .before in
-    let p8 = p7 .before .before in
-    let p9 = p8 .before in
+    let q = c .before .before in
+    let o = q .before .before in
+    let g = o .before .before in
+    let m = g .before .before in
     simp (
-      ← p9 .pre .0,
-      ← p9 .pre .1,
-      ← p8 .circle-circle .ensures,
-      p7 .intr-result .given .1,
-      ← p6 .of-segment .ensures,
-      ← p5 .of-segment2 .ensures,
-      ← p4 .pos .ensures,
-      ← p3 .pos2 .ensures,
-      ← p2 .pos3 .ensures,
-      ← p1 .pos4 .ensures,
+      met (m .before .before),
+      m .intr-result .given .1,
+      ← g .of-segment .ensures,
+      ← o .before .of-segment2 .ensures,
+      ← o .pos .ensures,
+      ← q .before .pos2 .ensures,
+      ← q .pos3 .ensures,
+      ← c .before .pos4 .ensures,
       ← c .tangent-arc-arc .ensures,
     )
 
 returns-3 : tie.Need-returns-3
-unfolding ArcArc.arcArc
 returns-3 c =
-    let p1 = c .before in
-    let p2 = p1 .before in
-    let p3 = p2 .before in
-    let p4 = p3 .before in
-    let p5 = p4 .before in
-    let p6 = p5 .before in
-    let p7 = p6 .before .before in
-    let p8 = p7 .before .before in
-    let p9 = p8 .before in
+    let q = c .before .before in
+    let o = q .before .before in
+    let g = o .before .before in
+    let m = g .before .before in
     simp (
-      ← p9 .pre .0,
-      ← p9 .pre .1,
-      ← p8 .circle-circle .ensures,
-      p7 .intr-result2 .given .1,
-      ← p6 .of-segment3 .ensures,
-      ← p5 .of-segment4 .ensures,
-      ← p4 .pos5 .ensures,
-      ← p3 .pos6 .ensures,
-      ← p2 .pos7 .ensures,
-      ← p1 .pos8 .ensures,
+      met (m .before .before),
+      m .intr-result2 .given .1,
+      ← g .of-segment3 .ensures,
+      ← o .before .of-segment4 .ensures,
+      ← o .pos5 .ensures,
+      ← q .before .pos6 .ensures,
+      ← q .pos7 .ensures,
+      ← c .before .pos8 .ensures,
       ← c .crossing-arcs .ensures,
-    )
-
-returns-4 : tie.Need-returns-4
-unfolding ArcArc.arcArc
-returns-4 c =
-    let p1 = c .before in
-    let p2 = p1 .before .before in
-    let p3 = p2 .before in
-    simp (
-      ← p3 .pre .0,
-      ← p3 .pre .1,
-      ← p2 .circle-circle .ensures,
-      p1 .enum-told2 .given .1,
-      ← c .overlapping-arc-arc .ensures,
     )
 
 pub arc-arc-spec : {M : Type 1} → statement M
 arc-arc-spec =
-    tie.close (tie.spec (search needs)
-    (λ c. search needs) (λ c. search needs) (search needs) (search needs) (search needs) (search needs)
-    (search needs) (search needs) (search needs) (λ c. search needs) (search needs)
-    (search needs) (search needs) (search needs) (search needs) (search needs) (search needs)
-    (λ c. search needs) (search needs) returns returns-2 returns-3 returns-4)
+    tie.close
+    (tie.spec
+    (λ c. search needs) (λ c. search needs) (λ c. search needs)
+    (λ c. search needs) (λ c. search needs) (λ c. search needs) (λ c. search needs) (λ c. search needs) (λ c. search needs)
+    (λ c. search needs) (λ c. search needs)
+    (λ c. search needs) (λ c. search needs) (λ c. search needs) (λ c. search needs) (λ c. search needs) (λ c. search needs)
+    (λ c. search needs) (λ c. search needs) (λ c. search needs)
+    (λ c. simp (met (c .before .before), c .enum-told .given .1))
+    returns-2 returns-3
+    (λ c. let m = c .before in
+    simp (met (m .before .before), m .enum-told2 .given .1, ← c .overlapping-arc-arc .ensures)))
