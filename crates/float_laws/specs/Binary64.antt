@@ -7,7 +7,7 @@ use native.Mathlib.Omega.{arith}
 use mathlib.Core.Bool.{Bool, false}
 use lib.Dec.{T}
 use lib.Pow.{pow-pos}
-use lib.Ieee.{Float, binary64, low, fits, le}
+use lib.Ieee.{Float, binary64, low, ofBits, fits, le}
 use lib.Ieee.Exact.{HasValue}
 use lib.Ieee.Scale.{finite}
 use Rattle.float_laws.specs.Signed.{Diff, SizeOf, Units, units-of, size-above, diff-finite}
@@ -26,6 +26,13 @@ unit-is = refl
 pub unit-pos : 0 < unit
 unfolding unit
 unit-pos = pow-pos (low binary64)
+
+pub zero-is : Diff (ofBits binary64 0) 0 0 unit
+unfolding ofBits
+zero-is = omega arith
+
+pub zero-finite : T (finite (ofBits binary64 0))
+zero-finite = diff-finite (ofBits binary64 0) 0 0 unit zero-is
 
 pub units64 : (x : Float) → T (finite x) → T (fits binary64 x) → Units unit x
 units64 x t h = subst (λ (L : ℕ). Units L x) (sym unit-is) (units-of binary64 x t h)

@@ -6,10 +6,10 @@ use native.Mathlib.Omega.{arith}
 use mathlib.Core.Bool.{Bool, true, false, not}
 use lib.Dec.{T, not-T}
 use lib.IntN.{ℤ}
-use lib.Ieee.{Float, nan, inf, fin, up, down, lt, le}
+use lib.Ieee.{Float, nan, inf, fin, up, down, neg, lt, le}
 use lib.Ieee.Fits.{down-pos}
 use lib.Ieee.Scale.{finite}
-use Rattle.float_laws.specs.Signed.{Diff, ups, downs, own-diff}
+use Rattle.float_laws.specs.Signed.{Diff, ups, downs, own-diff, neg-diff}
 use Rattle.float_laws.specs.Order.{lt-diff, le-diff}
 
 -- a finite float, as it is written
@@ -17,28 +17,63 @@ pub written-diff : (s : Bool) (m : ℕ) (e : ℤ) → Diff (fin s m e) (ups s (m
 written-diff s m e = own-diff (fin s m e) s (m * up e) (down e) (refl, refl)
 
 -- ---- what is at least x is not below it
-never-both : (a b : ℕ) → a ≤ b → b < a → ⊥
-never-both a b h k = omega arith
-
-pub le-not-lt : (x y : Float) → T (le x y) → T (not (lt y x))
+pub not-both : (x y : Float) → T (le x y) → T (lt y x) → ⊥
 unfolding le
-le-not-lt nan y h = absurd h
-le-not-lt (inf s) nan h = absurd h
-le-not-lt (inf true) (inf true) h = tt
-le-not-lt (inf true) (inf false) h = tt
-le-not-lt (inf false) (inf true) h = absurd h
-le-not-lt (inf false) (inf false) h = tt
-le-not-lt (inf true) (fin t n d) h = tt
-le-not-lt (inf false) (fin t n d) h = absurd h
-le-not-lt (fin s m e) nan h = absurd h
-le-not-lt (fin s m e) (inf true) h = absurd h
-le-not-lt (fin s m e) (inf false) h = tt
-le-not-lt (fin s m e) (fin t n d) h =
+not-both nan y h k = h
+not-both (inf s) nan h k = k
+not-both (inf true) (inf true) h k = k
+not-both (inf true) (inf false) h k = k
+not-both (inf false) (inf true) h k = h
+not-both (inf false) (inf false) h k = k
+not-both (inf true) (fin t n d) h k = k
+not-both (inf false) (fin t n d) h k = h
+not-both (fin s m e) nan h k = k
+not-both (fin s m e) (inf true) h k = h
+not-both (fin s m e) (inf false) h k = k
+not-both (fin s m e) (fin t n d) h k =
     let x = fin s m e in
     let y = fin t n d in
-    let a = le-diff x y _ _ _ _ _ _ (down-pos e) (down-pos d) (written-diff s m e) (written-diff t n d) .0 h in
-    let b = lt-diff y x _ _ _ _ _ _ (down-pos d) (down-pos e) (written-diff t n d) (written-diff s m e) .0 in
-    not-T (lt y x) (λ k. never-both _ _ a (b k))
+    never _ _
+    (le-diff x y _ _ _ _ _ _ (down-pos e) (down-pos d) (written-diff s m e) (written-diff t n d) .0 h)
+    (lt-diff y x _ _ _ _ _ _ (down-pos d) (down-pos e) (written-diff t n d) (written-diff s m e) .0 k)
+  where
+    never : (a b : ℕ) → a ≤ b → b < a → ⊥
+    never a b i j = omega arith
+
+pub le-not-lt : (x y : Float) → T (le x y) → T (not (lt y x))
+le-not-lt x y h = not-T (lt y x) (not-both x y h)
+
+-- nothing is above infinity
+pub none-above : (y : Float) → T (lt (inf false) y) → ⊥
+unfolding lt
+none-above nan h = h
+none-above (inf s) h = h
+none-above (fin s m e) h = h
+
+-- ---- the order turns with the signs
+pub le-neg : (x y : Float) → T (le (neg x) (neg y)) → T (le y x)
+unfolding le neg
+le-neg nan y h = absurd h
+le-neg (inf s) nan h = absurd h
+le-neg (inf true) (inf true) h = tt
+le-neg (inf true) (inf false) h = absurd h
+le-neg (inf false) (inf true) h = tt
+le-neg (inf false) (inf false) h = tt
+le-neg (inf true) (fin t n d) h = absurd h
+le-neg (inf false) (fin t n d) h = tt
+le-neg (fin s m e) nan h = absurd h
+le-neg (fin s m e) (inf true) h = tt
+le-neg (fin s m e) (inf false) h = absurd h
+le-neg (fin s m e) (fin t n d) h =
+    let x = fin s m e in
+    let y = fin t n d in
+    let x-is = written-diff s m e in
+    let y-is = written-diff t n d in
+    le-diff y x _ _ _ _ _ _ (down-pos d) (down-pos e) y-is x-is .1
+    (turned _ _ _ _ (le-diff (neg x) (neg y) _ _ _ _ _ _ (down-pos e) (down-pos d) (neg-diff x _ _ _ x-is) (neg-diff y _ _ _ y-is) .0 h))
+  where
+    turned : (a b c d : ℕ) → a + b ≤ c + d → b + a ≤ d + c
+    turned a b c d l = omega arith
 
 -- ---- below y, and y at most z
 through : (p n c a b d q k f : ℕ) → 0 < d → 0 < f → p * d + b * c < a * c + n * d → a * f + k * d ≤ q * d + b * f

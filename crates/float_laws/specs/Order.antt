@@ -18,6 +18,7 @@ use native.Mathlib.Nat.{
 use native.Mathlib.Omega.{arith}
 use mathlib.Core.Bool.{Bool, true, false, _&&_, _||_, Bool·beq}
 use lib.Dec.{T, ltb, eqb, ltb→lt, lt→ltb, eqb→eq}
+use lib.IntN.{ℤ}
 use lib.Ieee.{Float, nan, inf, fin, up, down, lt, le, eq, below, level}
 use lib.Ieee.Exact.{HasValue}
 use lib.Ieee.Fits.{down-pos, and-i, and-l, and-r, eq→eqb}
@@ -82,33 +83,37 @@ out-left a d e X c h = mul-right-comm a d c ∙ ap (λ (z : ℕ). z * d) h ∙ m
 out-right : (b d e Y c : ℕ) → b * c ≡ Y * d → b * e * c ≡ Y * (e * d)
 out-right b d e Y c h = mul-right-comm b e c ∙ ap (λ (z : ℕ). z * e) h ∙ mul-right-comm Y d e ∙ mul-assoc Y e d
 
-lt-count : (x y : Float) (s t : Bool) (X Y c : ℕ) → 0 < c → HasValue x s X c → HasValue y t Y c → lt x y ≡ below s X t Y
-unfolding lt
-lt-count nan y s t X Y c C h k = absurd h
-lt-count (inf u) y s t X Y c C h k = absurd h
-lt-count (fin u m e) nan s t X Y c C h k = absurd k
-lt-count (fin u m e) (inf v) s t X Y c C h k = absurd k
-lt-count (fin u m e) (fin v n g) s t X Y c C (p, h) (q, k) =
-    let a = m * up e in
-    let b = n * up g in
-    ap (λ (z : Bool). below z (a * down g) v (b * down e)) p
-    ∙ ap (λ (z : Bool). below s (a * down g) z (b * down e)) q
-    ∙ below-same s t (a * down g) (b * down e) (down e * down g) X Y c (mul-pos (down-pos e) (down-pos g)) C
-    (out-left a (down g) (down e) X c h) (out-right b (down g) (down e) Y c k)
+-- `lt` and `eq` ask a test of two signs and two sizes, which is the same over every denominator
+module _ (compare : Float → Float → Bool) (test : Bool → ℕ → Bool → ℕ → Bool)
+    (asks : (u v : Bool) (m n : ℕ) (e g : ℤ) → compare (fin u m e) (fin v n g) ≡ test u (m * up e * down g) v (n * up g * down e))
+    (same : (s t : Bool) (a b c a' b' c' : ℕ) → 0 < c → 0 < c' → a * c' ≡ a' * c → b * c' ≡ b' * c → test s a t b ≡ test s a' t b')
+  where
+    by-count : (x y : Float) (s t : Bool) (X Y c : ℕ) → 0 < c → HasValue x s X c → HasValue y t Y c → compare x y ≡ test s X t Y
+    by-count nan y s t X Y c C h k = absurd h
+    by-count (inf u) y s t X Y c C h k = absurd h
+    by-count (fin u m e) nan s t X Y c C h k = absurd k
+    by-count (fin u m e) (inf v) s t X Y c C h k = absurd k
+    by-count (fin u m e) (fin v n g) s t X Y c C (p, h) (q, k) =
+        let a = m * up e in
+        let b = n * up g in
+        asks u v m n e g
+        ∙ ap (λ (z : Bool). test z (a * down g) v (b * down e)) p
+        ∙ ap (λ (z : Bool). test s (a * down g) z (b * down e)) q
+        ∙ same s t (a * down g) (b * down e) (down e * down g) X Y c (mul-pos (down-pos e) (down-pos g)) C
+        (out-left a (down g) (down e) X c h) (out-right b (down g) (down e) Y c k)
 
-eq-count : (x y : Float) (s t : Bool) (X Y c : ℕ) → 0 < c → HasValue x s X c → HasValue y t Y c → eq x y ≡ level s X t Y
-unfolding eq
-eq-count nan y s t X Y c C h k = absurd h
-eq-count (inf u) y s t X Y c C h k = absurd h
-eq-count (fin u m e) nan s t X Y c C h k = absurd k
-eq-count (fin u m e) (inf v) s t X Y c C h k = absurd k
-eq-count (fin u m e) (fin v n g) s t X Y c C (p, h) (q, k) =
-    let a = m * up e in
-    let b = n * up g in
-    ap (λ (z : Bool). level z (a * down g) v (b * down e)) p
-    ∙ ap (λ (z : Bool). level s (a * down g) z (b * down e)) q
-    ∙ level-same s t (a * down g) (b * down e) (down e * down g) X Y c (mul-pos (down-pos e) (down-pos g)) C
-    (out-left a (down g) (down e) X c h) (out-right b (down g) (down e) Y c k)
+    -- and so by fractions, where the test says how their differences lie
+    by-diff : (Lies : ℕ → ℕ → Type 0)
+        → ((s t : Bool) (X Y p n q k : ℕ) → SizeOf s X p n → SizeOf t Y q k → T (test s X t Y) ↔ Lies (p + k) (q + n))
+        → (x y : Float) (p n c q k d : ℕ) → 0 < c → 0 < d → Diff x p n c → Diff y q k d
+        → T (compare x y) ↔ Lies (p * d + k * c) (q * c + n * d)
+    by-diff Lies says x y p n c q k d C D a b =
+        let A = signed-of x (p * d) (n * d) (c * d) (diff-mul x p n c d C a) in
+        let B = signed-of y (q * c) (k * c) (d * c) (diff-mul y q k d c D b) in
+        let alike : HasValue y (B .s) (B .size) (c * d) = subst (λ (z : ℕ). HasValue y (B .s) (B .size) z) (mul-comm d c) (B .value) in
+        let e = by-count x y (A .s) (B .s) (A .size) (B .size) (c * d) (mul-pos C D) (A .value) alike in
+        let r = says (A .s) (B .s) (A .size) (B .size) (p * d) (n * d) (q * c) (k * c) (A .is) (B .is) in
+        ((λ h. r .0 (subst T e h)), (λ h. subst T (sym e) (r .1 h)))
 
 below-is : (s t : Bool) (X Y p n q k : ℕ) → SizeOf s X p n → SizeOf t Y q k → T (below s X t Y) ↔ (p + k < q + n)
 below-is true true X Y p n q k a b = ((λ h. let w = ltb→lt Y X h in omega arith), (λ h. lt→ltb Y X (omega arith)))
@@ -140,22 +145,12 @@ level-is false true X Y p n q k a b = (
 -- ---- by fractions over any two denominators
 module _ (x y : Float) (p n c q k d : ℕ) (C : 0 < c) (D : 0 < d) (a : Diff x p n c) (b : Diff y q k d) where
   pub lt-diff : T (lt x y) ↔ (p * d + k * c < q * c + n * d)
-  lt-diff =
-      let A = signed-of x (p * d) (n * d) (c * d) (diff-mul x p n c d C a) in
-      let B = signed-of y (q * c) (k * c) (d * c) (diff-mul y q k d c D b) in
-      let same : HasValue y (B .s) (B .size) (c * d) = subst (λ (z : ℕ). HasValue y (B .s) (B .size) z) (mul-comm d c) (B .value) in
-      let e = lt-count x y (A .s) (B .s) (A .size) (B .size) (c * d) (mul-pos C D) (A .value) same in
-      let r = below-is (A .s) (B .s) (A .size) (B .size) (p * d) (n * d) (q * c) (k * c) (A .is) (B .is) in
-      ((λ h. r .0 (subst T e h)), (λ h. subst T (sym e) (r .1 h)))
+  unfolding lt
+  lt-diff = by-diff lt below (λ u v m n e g. refl) below-same (λ (i j : ℕ). i < j) below-is x y p n c q k d C D a b
 
   pub eq-diff : T (eq x y) ↔ (p * d + k * c ≡ q * c + n * d)
-  eq-diff =
-      let A = signed-of x (p * d) (n * d) (c * d) (diff-mul x p n c d C a) in
-      let B = signed-of y (q * c) (k * c) (d * c) (diff-mul y q k d c D b) in
-      let same : HasValue y (B .s) (B .size) (c * d) = subst (λ (z : ℕ). HasValue y (B .s) (B .size) z) (mul-comm d c) (B .value) in
-      let e = eq-count x y (A .s) (B .s) (A .size) (B .size) (c * d) (mul-pos C D) (A .value) same in
-      let r = level-is (A .s) (B .s) (A .size) (B .size) (p * d) (n * d) (q * c) (k * c) (A .is) (B .is) in
-      ((λ h. r .0 (subst T e h)), (λ h. subst T (sym e) (r .1 h)))
+  unfolding eq
+  eq-diff = by-diff eq level (λ u v m n e g. refl) level-same (λ (i j : ℕ). i ≡ j) level-is x y p n c q k d C D a b
 
   pub le-diff : T (le x y) ↔ (p * d + k * c ≤ q * c + n * d)
   unfolding le

@@ -2,24 +2,24 @@
 use mathlib.Core.Path.{_≡_, refl, sym, ap, _∙_}
 use Prim.Native.Nat.{ℕ, zero, suc, _+_, _*_, _/_, _%_, _≤_, _<_}
 use native.Mathlib.Nat.{add-mod-left, mul-add-mod-self-left, le-add-right}
-use mathlib.Core.Bool.{Bool, true, false, cond, false≢true}
+use mathlib.Core.Bool.{Bool, true, false, not, cond, false≢true}
 use lib.Dec.{leb, eqb, le→leb, lt→ltb}
 use lib.Arith.{lt→nleb, le→nltb}
 use lib.Ieee.{Float, nan, inf, fin, Format, prec, low, neg, odd, hid, ones, top, ofFields, ofBits, nanBits, isNan}
 use lib.Ieee.Bits.{is-true, is-false, nanBits-above}
 
 -- ---- the sign's bit negates
-odd-neg : (d q k l : ℕ) → odd d true q k l ≡ neg (odd d false q k l)
+pub odd-neg : (d : ℕ) (s : Bool) (q k l : ℕ) → neg (odd d s q k l) ≡ odd d (not s) q k l
 unfolding odd neg
-odd-neg d zero k l = refl
-odd-neg d (suc q) k l = refl
+odd-neg d s zero k l = refl
+odd-neg d s (suc q) k l = refl
 
 fields-neg : (f : Format) (x t : ℕ) → ofFields f true x t ≡ neg (ofFields f false x t)
 unfolding ofFields neg
-fields-neg f zero t = odd-neg (prec f) t 0 (low f)
+fields-neg f zero t = sym (odd-neg (prec f) false t 0 (low f))
 fields-neg f (suc x) t =
     go (eqb (suc x) (ones f)) (eqb t 0) (odd (prec f) true (hid f + t) x (low f)) (odd (prec f) false (hid f + t) x (low f))
-    (odd-neg (prec f) (hid f + t) x (low f))
+    (sym (odd-neg (prec f) false (hid f + t) x (low f)))
   where
     go : (a b : Bool) (v w : Float) → v ≡ neg w → cond a (cond b (inf true) nan) v ≡ neg (cond a (cond b (inf false) nan) w)
     go true true v w e = refl

@@ -16,24 +16,27 @@ use native.Mathlib.Nat.{
   le-antisymm,
   lt-of-le-of-lt,
   not-le-of-lt,
+  lt-of-not-le,
   pow-succ',
 }
 use native.Mathlib.Omega.{arith}
-use mathlib.Core.Bool.{Bool, true, false, not, true≢false, false≢true}
+use mathlib.Core.Bool.{Bool, true, false, not, cond, true≢false}
 use lib.Dec.{T, ltb, ltb→lt, nltb→le, lit≤}
 use lib.Pow.{pow-add, pow-pos, pow-lt}
-use lib.Ieee.{Float, nan, inf, fin, Format, prec, emax, low, round, units, odd, fits, isNan, le, binary32, binary64}
+use lib.Ieee.{Float, nan, inf, fin, Format, prec, emax, low, round, units, odd, fits, isNan, neg, lt, le, binary32, binary64}
 use lib.Ieee.Digits.{back}
 use lib.Arith.{le→nltb}
 use lib.Ieee.Bits.{cond-no}
 use lib.Ieee.Exact.{HasValue}
 use lib.Ieee.Back.{round-whole}
-use lib.Ieee.Fits.{round-is, round-fits}
+use lib.Ieee.Fits.{round-is, round-fits, neg-fits}
 use lib.Ieee.Scale.{grid, overflow, finite, round-same}
 use Rattle.float_laws.specs.Best.{Held, held-pow, grid-le, grid-ge}
 use Rattle.float_laws.specs.Count.{Counted, counted, round-count, round-real}
-use Rattle.float_laws.specs.Signed.{Diff, SizeOf, ups, downs, diff-of, own-diff, diff-same, diff-at, diff-finite, units-of}
+use Rattle.float_laws.specs.Signed.{Diff, SizeOf, ups, downs, diff-of, own-diff, diff-same, diff-at, diff-finite, units-of, neg-diff}
+use Rattle.float_laws.specs.Patterns.{odd-neg}
 use Rattle.float_laws.specs.Order.{le-diff}
+use Rattle.float_laws.specs.Chains.{not-both, le-neg, between-finite}
 use Rattle.float_laws.specs.Near as off
 use Rattle.float_laws.specs.Rounded.{Rounded}
 
@@ -118,12 +121,6 @@ inf-le nan t = absurd t
 inf-le (inf s) t = absurd t
 inf-le (fin s m e) t = tt
 
-le-inf : (y : Float) → T (finite y) → T (le y (inf false))
-unfolding le
-le-inf nan t = absurd t
-le-inf (inf s) t = absurd t
-le-inf (fin s m e) t = tt
-
 module _ (f : Format) (r : Float) (P N c : ℕ) (h : Rounded f r P N c) (C : 0 < c)
     (y : Float) (q k d : ℕ) (D : 0 < d) (fit : T (fits f y)) (v : Diff y q k d) where
   abbrev unit : ℕ
@@ -150,14 +147,6 @@ module _ (f : Format) (r : Float) (P N c : ℕ) (h : Rounded f r P N c) (C : 0 <
           let x : (q * L + w * d) * c ≡ (u * d + k * L) * c = ap (λ (z : ℕ). z * c) e in
           le-of-mul-le-mul-right {m = P * L + w * c} {n = u * c + N * L} {k = d} (omega (arith, mul-le-mul-right L l)) D
 
-  y-ge : q * c + N * d ≤ P * d + k * c → ups (of-y .s) (of-y .count) * c + N * unit ≤ P * unit + downs (of-y .s) (of-y .count) * c
-  y-ge l = move unit (ups (of-y .s) (of-y .count)) (downs (of-y .s) (of-y .count)) (diff-same y q k d _ _ unit D v y-is)
-    where
-      move : (L u w : ℕ) → q * L + w * d ≡ u * d + k * L → u * c + N * L ≤ P * L + w * c
-      move L u w e =
-          let x : (q * L + w * d) * c ≡ (u * d + k * L) * c = ap (λ (z : ℕ). z * c) e in
-          le-of-mul-le-mul-right {m = u * c + N * L} {n = P * L + w * c} {k = d} (omega (arith, mul-le-mul-right L l)) D
-
   none : (B : ℕ) → B * c ≤ 0 → B ≡ 0
   none zero l = refl
   none (suc B) l = let w : 0 < suc B * c = mul-pos (zero-lt-suc B) C in absurd (omega arith)
@@ -177,21 +166,6 @@ module _ (f : Format) (r : Float) (P N c : ℕ) (h : Rounded f r P N c) (C : 0 <
   under true true Z z e l =
       let m : Z ≤ made = grid-ge f exact-size c Z C z (omega (arith, ap (λ (w : ℕ). w * unit) e)) in
       (omega arith, λ u. absurd (true≢false u))
-
-  over : (s t : Bool) (Z : ℕ) → Held (prec f) Z → SizeOf s exact-size P N → ups t Z * c + N * unit ≤ P * unit + downs t Z * c
-      → (ups t Z + downs s made ≤ ups s made + downs t Z) × (s ≡ true → made ≤ Z)
-  over true true Z z e l =
-      let m : made ≤ Z = grid-le f exact-size c Z C z (omega (arith, ap (λ (w : ℕ). w * unit) e)) in
-      (omega arith, λ u. m)
-  over true false Z z e l =
-      let wide : (exact-size + P) * unit ≡ N * unit = ap (λ (w : ℕ). w * unit) e in
-      let zero-count : Z ≡ 0 = none Z (omega arith) in
-      let m : made ≤ Z = grid-le f exact-size c Z C z (omega arith) in
-      (omega arith, λ u. m)
-  over false true Z z e l = (omega arith, λ u. absurd (false≢true u))
-  over false false Z z e l =
-      let m : Z ≤ made = grid-ge f exact-size c Z C z (omega (arith, ap (λ (w : ℕ). w * unit) e)) in
-      (omega arith, λ u. absurd (false≢true u))
 
   r-is : made < overflow f → Diff r (ups (h .s) made) (downs (h .s) made) unit
   r-is l = own-diff r (h .s) made unit (in-units f r P N c h l)
@@ -221,42 +195,47 @@ module _ (f : Format) (r : Float) (P N c : ℕ) (h : Rounded f r P N c) (C : 0 <
           (wide (ups (h .s) made) (downs (of-y .s) (of-y .count)) (ups (of-y .s) (of-y .count)) (downs (h .s) made) unit (side .0))
       go false fine end side = past (h .s) (side .1) (r-past (end tt)) (end tt)
 
-  -- if it is at least y, so is r
+-- turned round: what is rounded with the other sign
+units-neg : (f : Format) (s : Bool) (q k : ℕ) → neg (units f s q k) ≡ units f (not s) q k
+unfolding units neg
+units-neg f s q k = go (ltb (q * 2 ^ k) (overflow f)) _ _ (odd-neg (suc (prec f)) s q k (low f))
+  where
+    go : (b : Bool) (x y : Float) → neg x ≡ y → neg (cond b x (inf s)) ≡ cond b y (inf (not s))
+    go true x y e = e
+    go false x y e = refl
+
+rounded-neg : (f : Format) (r : Float) (P N c : ℕ) → Rounded f r P N c → Rounded f (neg r) N P c
+rounded-neg f r P N c h =
+    let turned = ap neg (round-is f (h .s) (h .size) c) ∙ units-neg f (h .s) _ _ ∙ sym (round-is f (not (h .s)) (h .size) c) in
+    record { s = not (h .s); size = h .size; is = ap neg (h .is) ∙ turned; exact = size (h .s) (h .size) (h .exact) }
+  where
+    size : (s : Bool) (X : ℕ) → SizeOf s X P N → SizeOf (not s) X N P
+    size true X e = e
+    size false X e = e
+
+module _ (f : Format) (r : Float) (P N c : ℕ) (h : Rounded f r P N c) (C : 0 < c)
+    (y : Float) (q k d : ℕ) (D : 0 < d) (fit : T (fits f y)) (v : Diff y q k d) where
+  -- if the exact value is at least y, so is r
   pub rounded-ge : q * c + N * d ≤ P * d + k * c → T (le y r)
   rounded-ge l =
-      go (ltb made (overflow f)) (ltb→lt made (overflow f)) (nltb→le made (overflow f))
-      (over (h .s) (of-y .s) (of-y .count) (of-y .held) (h .exact) (y-ge l))
-    where
-      past : (s : Bool) → (s ≡ true → made ≤ of-y .count) → r ≡ inf s → overflow f ≤ made → T (le y r)
-      past false m e g = subst (λ (z : Float). T (le y z)) (sym e) (le-inf y (diff-finite y q k d v))
-      past true m e g = absurd (not-le-of-lt (of-y .under) (le-trans g (m refl)))
+      le-neg r y (rounded-le f (neg r) N P c (rounded-neg f r P N c h) C (neg y) k q d D (neg-fits f y fit) (neg-diff y q k d v) (omega arith))
 
-      go : (b : Bool) → (T b → made < overflow f) → (T (not b) → overflow f ≤ made)
-          → (ups (of-y .s) (of-y .count) + downs (h .s) made ≤ ups (h .s) made + downs (of-y .s) (of-y .count))
-          × (h .s ≡ true → made ≤ of-y .count)
-          → T (le y r)
-      go true fine end side =
-          le-diff y r _ _ unit _ _ unit (pow-pos (low f)) (pow-pos (low f)) y-is (r-is (fine tt)) .1
-          (wide (ups (of-y .s) (of-y .count)) (downs (h .s) made) (ups (h .s) made) (downs (of-y .s) (of-y .count)) unit (side .0))
-      go false fine end side = past (h .s) (side .1) (r-past (end tt)) (end tt)
+  -- and r is below y, or above it, only where the exact value is
+  pub rounded-below : T (lt r y) → P * d + k * c < q * c + N * d
+  rounded-below t = lt-of-not-le (λ (l : q * c + N * d ≤ P * d + k * c). not-both y r (rounded-ge l) t)
+
+  pub rounded-above : T (lt y r) → q * c + N * d < P * d + k * c
+  rounded-above t = lt-of-not-le (λ (l : P * d + k * c ≤ q * c + N * d). not-both r y (rounded-le f r P N c h C y q k d D fit v l) t)
 
 -- ---- a value of the format is exact
-between : (r y : Float) → T (finite y) → T (le r y) → T (le y r) → T (finite r)
-unfolding le
-between nan y t a b = absurd a
-between (inf s) nan t a b = absurd t
-between (inf s) (inf u) t a b = absurd t
-between (inf true) (fin u m e) t a b = absurd b
-between (inf false) (fin u m e) t a b = absurd a
-between (fin s m e) y t a b = tt
-
 -- if the exact value is that of a float y, so is r's
 pub rounded-value : (f : Format) (r : Float) (P N c : ℕ) → Rounded f r P N c → 0 < c → (y : Float) (q k d : ℕ) → 0 < d → T (fits f y)
     → Diff y q k d → P * d + k * c ≡ q * c + N * d → Diff r q k d
 rounded-value f r P N c h C y q k d D fit v e =
     let least = rounded-le f r P N c h C y q k d D fit v (le-of-eq e) in
     let most = rounded-ge f r P N c h C y q k d D fit v (le-of-eq (sym e)) in
-    let u = units-of f r (between r y (diff-finite y q k d v) least most) (rounded-fits f r P N c h) in
+    let finite-y = diff-finite y q k d v in
+    let u = units-of f r (between-finite y r y finite-y finite-y most least) (rounded-fits f r P N c h) in
     let L = pow-pos (low f) in
     let up = le-diff r y (u .p) (u .n) (2 ^ low f) q k d L D (u .is) v .0 least in
     let dn = le-diff y r q k d (u .p) (u .n) (2 ^ low f) D L v (u .is) .0 most in

@@ -78,7 +78,7 @@ signed-of (fin false m e) p n c h =
     let l = part (m * up e * c) (down e) n p (down-pos e) h in
     record { s = false; size = p - n; value = (refl, l .0); is = l .1 }
 
--- a difference above zero, and one below
+-- a difference above zero
 pub size-above : (x : Float) (p n c : ℕ) → n < p → Diff x p n c → HasValue x false (p - n) c
 size-above x p n c l v = let w = signed-of x p n c v in go (w .s) (w .size) (w .value) (w .is)
   where
@@ -88,16 +88,6 @@ size-above x p n c l v = let w = signed-of x p n c v in go (w .s) (w .size) (w .
     go : (s : Bool) (X : ℕ) → HasValue x s X c → SizeOf s X p n → HasValue x false (p - n) c
     go true X h e = absurd (never X e)
     go false X h e = let same : X ≡ p - n = omega arith in subst (λ (z : ℕ). HasValue x false z c) same h
-
-pub size-below : (x : Float) (p n c : ℕ) → p < n → Diff x p n c → HasValue x true (n - p) c
-size-below x p n c l v = let w = signed-of x p n c v in go (w .s) (w .size) (w .value) (w .is)
-  where
-    never : (X : ℕ) → X + n ≡ p → ⊥
-    never X e = omega arith
-
-    go : (s : Bool) (X : ℕ) → HasValue x s X c → SizeOf s X p n → HasValue x true (n - p) c
-    go false X h e = absurd (never X e)
-    go true X h e = let same : X ≡ n - p = omega arith in subst (λ (z : ℕ). HasValue x true z c) same h
 
 -- ---- finite floats, and no others, have such a fraction
 pub diff-finite : (x : Float) (p n c : ℕ) → Diff x p n c → T (finite x)
@@ -167,3 +157,17 @@ unfolding neg
 neg-value nan s X c h = absurd h
 neg-value (inf t) s X c h = absurd h
 neg-value (fin t m e) s X c h = (ap not (h .0), h .1)
+
+pub neg-neg : (x : Float) → neg (neg x) ≡ x
+unfolding neg
+neg-neg nan = refl
+neg-neg (inf true) = refl
+neg-neg (inf false) = refl
+neg-neg (fin true m e) = refl
+neg-neg (fin false m e) = refl
+
+-- a difference below zero
+pub size-below : (x : Float) (p n c : ℕ) → p < n → Diff x p n c → HasValue x true (n - p) c
+size-below x p n c l v =
+    subst (λ (z : Float). HasValue z true (n - p) c) (neg-neg x)
+    (neg-value (neg x) false (n - p) c (size-above (neg x) n p c l (neg-diff x p n c v)))

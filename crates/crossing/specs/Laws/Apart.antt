@@ -7,7 +7,7 @@ use lib.Dec.{T, not-T}
 use lib.Ieee.{Float, binary64, fits, lt, le}
 use lib.Ieee.Bits.{is-false}
 use lib.Ieee.Fits.{add-fits, and-l, and-r}
-use Rattle.float_laws.specs.Chains.{le-not-lt, lt-le}
+use Rattle.float_laws.specs.Chains.{not-both, le-not-lt, lt-le}
 use Rattle.floats.specs.Ops.{_⊕_, _⊖_, _⊗_, _≺_, _≽_, f0}
 use Rattle.floats.specs.F64
 use Rattle.floats.specs.Laws.RootBeside.{Beyond, root-beyond}
@@ -27,11 +27,7 @@ no-meeting : (near within nested : Bool) (a b : CircleCircleIntr) → near ≡ f
 no-meeting near within nested a b p q = rw (p, q)
 
 not-below : (d reach eps : Float) → T (le reach d) → T (le eps reach) → T (not (d ≺ eps))
-not-below d reach eps h k = not-T (d ≺ eps) (λ y. never (d ≺ reach) (lt-le d eps reach y k) (le-not-lt reach d h))
-  where
-    never : (b : Bool) → T b → T (not b) → ⊥
-    never true y z = z
-    never false y z = y
+not-below d reach eps h k = not-T (d ≺ eps) (λ y. not-both reach d h (lt-le d eps reach y k))
 
 module _ (radius1 : Float) (center1 : Vector2) (radius2 : Float) (center2 : Vector2) (eps : Float) where
   abbrev cv : Vector2

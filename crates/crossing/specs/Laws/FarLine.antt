@@ -3,7 +3,7 @@
 -- and z is above s. If z * w is still below |c|, then |c| / root is at least z. Nothing here asks how w and z were found.
 use mathlib.Core.Path.{_≡_, refl, sym, _∙_, subst}
 use Prim.Native.Nat.{ℕ, zero, suc, _+_, _*_, _^_, _≤_, _<_}
-use native.Mathlib.Nat.{mul-pos, mul-le-mul-left, mul-le-mul-right, le-trans, le-of-lt, lt-of-not-le, lt-of-mul-lt-mul-right}
+use native.Mathlib.Nat.{mul-pos, mul-le-mul-left, mul-le-mul-right, le-trans, le-of-lt, lt-of-mul-lt-mul-right}
 use native.Mathlib.Omega.{arith}
 use mathlib.Core.Bool.{Bool, true, false, not, _&&_}
 use lib.Dec.{T, lit<}
@@ -14,9 +14,9 @@ use lib.Ieee.Fits.{and-l, and-r}
 use Rattle.float_laws.specs.Best.{Held}
 use Rattle.float_laws.specs.Count.{held-of}
 use Rattle.float_laws.specs.Signed.{Diff, own-diff}
-use Rattle.float_laws.specs.Chains.{le-not-lt, lt-le}
+use Rattle.float_laws.specs.Chains.{lt-le}
 use Rattle.float_laws.specs.Rounded.{Rounded, mul-rounded, div-rounded}
-use Rattle.float_laws.specs.Roundings.{rounded-le, rounded-ge}
+use Rattle.float_laws.specs.Roundings.{rounded-ge, rounded-below, rounded-above}
 use Rattle.float_laws.specs.Binary64.{unit, unit-is, unit-pos, Between, between64}
 use Rattle.floats.specs.Ops.{_⊕_, _⊗_, _⊘_, _≺_, _≻_, _≼_, _≽_}
 use Rattle.floats.specs.F64
@@ -59,46 +59,35 @@ counts x f m =
     between64 x tiny huge (2 ^ 100) (2 ^ 100) 1 f tiny-is huge-is (lit< tt) (lit< tt)
     (and-l (x ≽ tiny) (x ≼ huge) m) (and-r (x ≽ tiny) (x ≼ huge) m)
 
-pub never : (b : Bool) → T b → T (not b) → ⊥
-never true y z = z
-never false y z = y
-
 -- all four in units
 module _ (k q w z : Float) (K Q W Z : ℕ)
     (k-fits : T (fits binary64 k)) (q-fits : T (fits binary64 q)) (w-fits : T (fits binary64 w)) (z-fits : T (fits binary64 z))
     (k-value : HasValue k false K unit) (q-value : HasValue q false Q unit)
     (w-value : HasValue w false W unit) (z-value : HasValue z false Z unit) (some : 0 < Q) (some-w : 0 < W) where
+  w-is : Diff w W 0 unit
+  w-is = own-diff w false W unit w-value
+
   -- the exact square of w is above q
   square : T (q ≺ w ⊗ w) → Q * (unit * unit) < W * W * unit
-  square h = lt-of-not-le (λ (y : W * W * unit ≤ Q * (unit * unit)). clash y)
+  square h =
+      let exact = mul-rounded binary64 w w W 0 W 0 unit unit unit-pos unit-pos w-is w-is in
+      plain W Q unit
+      (rounded-above binary64 (w ⊗ w) _ _ (unit * unit) exact (mul-pos unit-pos unit-pos) q Q 0 unit unit-pos q-fits
+      (own-diff q false Q unit q-value) h)
     where
-      plain : (W Q L : ℕ) → W * W * L ≤ Q * (L * L)
-          → (W * W + 0 * 0) * L + 0 * (L * L) ≤ Q * (L * L) + (W * 0 + 0 * W) * L
+      plain : (W Q L : ℕ) → Q * (L * L) + (W * 0 + 0 * W) * L < (W * W + 0 * 0) * L + 0 * (L * L) → Q * (L * L) < W * W * L
       plain W Q L y = omega arith
-
-      clash : W * W * unit ≤ Q * (unit * unit) → ⊥
-      clash y =
-          never (q ≺ w ⊗ w) h
-          (le-not-lt (w ⊗ w) q (rounded-le binary64 (w ⊗ w) _ _ (unit * unit)
-          (mul-rounded binary64 w w W 0 W 0 unit unit unit-pos unit-pos (own-diff w false W unit w-value) (own-diff w false W unit w-value))
-          (mul-pos unit-pos unit-pos) q Q 0 unit unit-pos q-fits (own-diff q false Q unit q-value)
-          (plain W Q unit y)))
 
   -- the exact product of z and w is below k
   product : T (z ⊗ w ≺ k) → Z * W * unit < K * (unit * unit)
-  product h = lt-of-not-le (λ (y : K * (unit * unit) ≤ Z * W * unit). clash y)
+  product h =
+      let exact = mul-rounded binary64 z w Z 0 W 0 unit unit unit-pos unit-pos (own-diff z false Z unit z-value) w-is in
+      plain Z W K unit
+      (rounded-below binary64 (z ⊗ w) _ _ (unit * unit) exact (mul-pos unit-pos unit-pos) k K 0 unit unit-pos k-fits
+      (own-diff k false K unit k-value) h)
     where
-      plain : (Z W K L : ℕ) → K * (L * L) ≤ Z * W * L
-          → K * (L * L) + (Z * 0 + 0 * W) * L ≤ (Z * W + 0 * 0) * L + 0 * (L * L)
+      plain : (Z W K L : ℕ) → (Z * W + 0 * 0) * L + 0 * (L * L) < K * (L * L) + (Z * 0 + 0 * W) * L → Z * W * L < K * (L * L)
       plain Z W K L y = omega arith
-
-      clash : K * (unit * unit) ≤ Z * W * unit → ⊥
-      clash y =
-          never (z ⊗ w ≺ k) h
-          (le-not-lt k (z ⊗ w) (rounded-ge binary64 (z ⊗ w) _ _ (unit * unit)
-          (mul-rounded binary64 z w Z 0 W 0 unit unit unit-pos unit-pos (own-diff z false Z unit z-value) (own-diff w false W unit w-value))
-          (mul-pos unit-pos unit-pos) k K 0 unit unit-pos k-fits (own-diff k false K unit k-value)
-          (plain Z W K unit y)))
 
   held : Held 53 W
   held = held-of binary64 w false W w-fits (subst (λ (L : ℕ). HasValue w false W L) unit-is w-value) .0

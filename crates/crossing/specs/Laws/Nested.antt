@@ -4,19 +4,19 @@
 -- the float `gap`. So the circles do not meet, be their centres near each other or not.
 use mathlib.Core.Path.{_≡_, refl, sym, ap, _∙_, subst}
 use Prim.Native.Nat.{ℕ, _+_, _*_, _≤_, _<_}
-use native.Mathlib.Nat.{mul-le-mul-right, lt-of-not-le}
+use native.Mathlib.Nat.{mul-le-mul-right}
 use native.Mathlib.Omega.{arith}
 use mathlib.Core.Bool.{Bool, true, false, not, cond, _&&_, _||_}
 use lib.Dec.{T, not-T}
-use lib.Ieee.{Float, nan, inf, fin, binary64, ofBits, fits, add, lt, le}
+use lib.Ieee.{Float, nan, inf, fin, binary64, fits, add, lt, le}
 use lib.Ieee.Bits.{is-false}
 use lib.Ieee.Fits.{add-fits, sub-fits, and-l, and-r}
 use lib.Ieee.Scale.{finite}
-use Rattle.float_laws.specs.Binary64.{unit, unit-pos, units64}
-use Rattle.float_laws.specs.Chains.{le-not-lt, from-above, from-below, above-any}
+use Rattle.float_laws.specs.Binary64.{unit, unit-pos, zero-finite, units64}
+use Rattle.float_laws.specs.Chains.{le-not-lt, none-above, from-above, from-below, above-any}
 use Rattle.float_laws.specs.Order.{le-over}
 use Rattle.float_laws.specs.Rounded.{add-over}
-use Rattle.float_laws.specs.Roundings.{rounded-le, rounded-ge}
+use Rattle.float_laws.specs.Roundings.{rounded-le, rounded-below}
 use Rattle.floats.specs.Ops.{_⊕_, _⊖_, _⊗_, _≺_, _≽_, f0}
 use Rattle.floats.specs.F64
 use Rattle.floats.specs.Laws.Leaves.{abs-fits}
@@ -33,10 +33,6 @@ nested d2 gap eps =
     let s = gap ⊖ (eps ⊕ eps) in
     ((gap ≽ eps) && (s ≽ f0)) && ((s ⊕ eps ≺ gap) && ((d2 ≽ f0) && (d2 ≺ s ⊗ s)))
 
-never : (b : Bool) → T b → T (not b) → ⊥
-never true y z = z
-never false y z = y
-
 -- ---- d is at most s, and s + e below g: then d + e is not above g
 module _ (d s e g : Float) (d-fits : T (fits binary64 d)) (s-fits : T (fits binary64 s)) (e-fits : T (fits binary64 e))
     (g-fits : T (fits binary64 g)) (below : T (le d s)) (h : T (s ⊕ e ≺ g)) where
@@ -49,10 +45,7 @@ module _ (d s e g : Float) (d-fits : T (fits binary64 d)) (s-fits : T (fits bina
       let order = le-over d s (D .p) (D .n) (S .p) (S .n) unit unit-pos (D .is) (S .is) .0 below in
       let of-s = add-over binary64 s e (S .p) (S .n) (E .p) (E .n) unit unit-pos (S .is) (E .is) in
       let of-d = add-over binary64 d e (D .p) (D .n) (E .p) (E .n) unit unit-pos (D .is) (E .is) in
-      let strict =
-      lt-of-not-le (λ (y : G .p * unit + (S .n + E .n) * unit ≤ (S .p + E .p) * unit + G .n * unit).
-      never (s ⊕ e ≺ g) h
-      (le-not-lt g (s ⊕ e) (rounded-ge binary64 (s ⊕ e) _ _ unit of-s unit-pos g (G .p) (G .n) unit unit-pos g-fits (G .is) y))) in
+      let strict = rounded-below binary64 (s ⊕ e) _ _ unit of-s unit-pos g (G .p) (G .n) unit unit-pos g-fits (G .is) h in
       le-not-lt (d ⊕ e) g
       (rounded-le binary64 (d ⊕ e) _ _ unit of-d unit-pos g (G .p) (G .n) unit unit-pos g-fits (G .is)
       (sums (D .p) (D .n) (S .p) (S .n) (E .p) (E .n) (G .p) (G .n) unit order strict))
@@ -61,13 +54,7 @@ module _ (d s e g : Float) (d-fits : T (fits binary64 d)) (s-fits : T (fits bina
           → (a + e) * L + h * L ≤ g * L + (b + f) * L
       sums a b c d e f g h L o t = let w = mul-le-mul-right L o in omega arith
 
--- an infinity, or a NaN: nothing is above the one, nothing below the other, and nothing beside the third
-none-above : (z : Float) → T (not (inf false ≺ z))
-unfolding lt
-none-above nan = tt
-none-above (inf s) = tt
-none-above (fin s m e) = tt
-
+-- minus infinity, or a NaN: nothing is below the one, and nothing beside the other
 none-below : (g : Float) → T (not (g ≺ inf true))
 unfolding lt
 none-below nan = tt
@@ -96,7 +83,7 @@ e-cases P nan e g f h i k = absurd f
 e-cases P (inf t) e g f h i k = absurd f
 e-cases P (fin t m x) nan g f h i k = absurd h
 e-cases P (fin t m x) (inf true) g f h i k = i
-e-cases P (fin t m x) (inf false) g f h i k = absurd (never (inf false ≺ g) h (none-above g))
+e-cases P (fin t m x) (inf false) g f h i k = absurd (none-above g h)
 e-cases P (fin t m x) (fin u n y) g f h i k = k tt
 
 with-minus : (d g : Float) → T (finite d) → T (not (g ≺ d ⊕ inf true))
@@ -110,7 +97,7 @@ sum-not-above : (d s e g : Float) → T (fits binary64 d) → T (fits binary64 s
 sum-not-above d s e g d-fits s-fits e-fits g-fits fs below h =
     from-below (λ (z : Float). T (not (g ≺ z ⊕ e))) d s fs below (past-below e g) (λ fd.
     e-cases (λ (z : Float). T (not (g ≺ d ⊕ z))) s e g fs h (with-minus d g fd) (λ fe.
-    above-any (λ (z : Float). T (not (z ≺ d ⊕ e))) (s ⊕ e) g h (none-above (d ⊕ e)) (λ fg.
+    above-any (λ (z : Float). T (not (z ≺ d ⊕ e))) (s ⊕ e) g h (not-T (inf false ≺ d ⊕ e) (none-above (d ⊕ e))) (λ fg.
     sum-finite d s e g d-fits s-fits e-fits g-fits below h fd fs fe fg)))
 
 -- ---- the definition's three tests: near each other or not, it answers the same
@@ -124,12 +111,8 @@ infinite-s : (e g : Float) → T (inf false ⊕ e ≺ g) → ⊥
 unfolding add lt
 infinite-s nan g h = h
 infinite-s (inf true) g h = h
-infinite-s (inf false) g h = never (inf false ≺ g) h (none-above g)
-infinite-s (fin t m x) g h = never (inf false ≺ g) h (none-above g)
-
-zero-finite : T (finite f0)
-unfolding ofBits
-zero-finite = tt
+infinite-s (inf false) g h = none-above g h
+infinite-s (fin t m x) g h = none-above g h
 
 module _ (radius1 : Float) (center1 : Vector2) (radius2 : Float) (center2 : Vector2) (eps : Float) (eps-fits : T (fits binary64 eps)) where
   abbrev cv : Vector2

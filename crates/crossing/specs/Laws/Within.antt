@@ -20,7 +20,7 @@ use Rattle.float_laws.specs.Order.{lt-over, le-over, le-diff}
 use Rattle.float_laws.specs.Chains.{le-not-lt, lt-le, between-finite, from-above, from-below}
 use Rattle.float_laws.specs.Rounded.{Rounded, add-over, add-count, mul-rounded, mul-count}
 use Rattle.float_laws.specs.Roundings.{Near, rounded-le, rounded-ge}
-use Rattle.float_laws.specs.Binary64.{unit, unit-pos, units64, near64, Between, between64}
+use Rattle.float_laws.specs.Binary64.{unit, unit-pos, zero-is, units64, near64, Between, between64}
 use Rattle.floats.specs.Ops.{_⊕_, _⊗_, _≼_, _≽_, f0}
 use Rattle.floats.specs.F64
 use Rattle.floats.specs.Laws.Root.{rootOf-fits}
@@ -83,10 +83,6 @@ afterEnd-is = omega arith
 pub step-is : Diff step 1 0 32
 unfolding ofBits
 step-is = omega arith
-
-zero-is : Diff f0 0 0 unit
-unfolding ofBits
-zero-is = omega arith
 
 -- ---- infinite numbers: a length is above zero
 plus-inf : (b : Bool) (w : Float) → T (not (lt (cond b nan (inf false)) w))

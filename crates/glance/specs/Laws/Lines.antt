@@ -3,7 +3,7 @@
 -- -1/32, rounds to such a one. What the range test says there is in crossing's Laws/Within.
 use mathlib.Core.Path.{_≡_, refl, sym, ap, _∙_, subst}
 use Prim.Native.Nat.{ℕ, _+_, _*_, _^_, _≤_, _<_}
-use native.Mathlib.Nat.{mul-pos, mul-le-mul-right, lt-of-not-le, le-of-lt}
+use native.Mathlib.Nat.{mul-pos, mul-le-mul-right, lt-of-mul-lt-mul-right, lt-of-not-le, le-of-lt}
 use native.Mathlib.Omega.{arith}
 use mathlib.Core.Bool.{Bool, true, false, not, cond, _&&_, _||_, true≢false}
 use lib.Dec.{T, lit<}
@@ -14,9 +14,8 @@ use lib.Ieee.Exact.{HasValue}
 use lib.Ieee.Fits.{sub-fits, div-fits, neg-fits, and-l, and-r}
 use Rattle.float_laws.specs.Signed.{Diff, own-diff, neg-diff, signed-of, ups, downs}
 use Rattle.float_laws.specs.Order.{lt-over}
-use Rattle.float_laws.specs.Chains.{le-not-lt}
 use Rattle.float_laws.specs.Rounded.{Rounded, mul-rounded, div-rounded, signed-by}
-use Rattle.float_laws.specs.Roundings.{rounded-le, rounded-ge}
+use Rattle.float_laws.specs.Roundings.{rounded-le, rounded-ge, rounded-below, rounded-above}
 use Rattle.float_laws.specs.Binary64.{unit, unit-pos, units64}
 use Rattle.floats.specs.Ops.{_⊖_, _⊗_, _⊘_, _≺_, _≼_, _≻_, _≽_}
 use Rattle.floats.specs.F64
@@ -25,7 +24,6 @@ use Rattle.plane.specs.Fuzzy.{fuzzyEqZeroEps}
 use Rattle.plane.specs.declared.vector2.Vector2.{Vector2}
 use Rattle.crossing.specs.LineLine.{lineLine, crossing, parallel, within}
 use Rattle.crossing.specs.PlineSeg.{processLineLineIntr, lineLineOf}
-use Rattle.crossing.specs.Laws.FarLine.{never}
 use Rattle.crossing.specs.Laws.Within.{
   usual,
   outside,
@@ -72,28 +70,20 @@ module _ (n d : Float) (s t : Bool) (X Y : ℕ) (n-fits : T (fits binary64 n)) (
     product = mul-rounded binary64 d c (ups t Y) (downs t Y) a b unit e unit-pos E (own-diff d t Y unit d-value) c-is
 
     above : T (n ≻ d ⊗ c) → P + downs s X * e < ups s X * e + N
-    above h = lt-of-not-le (λ (y : ups s X * e + N ≤ P + downs s X * e). clash y)
+    above h =
+        plain (ups s X) (downs s X) P N e unit
+        (rounded-below binary64 (d ⊗ c) P N (unit * e) product (mul-pos unit-pos E) n (ups s X) (downs s X) unit unit-pos n-fits n-is h)
       where
-        plain : (x y P N e L : ℕ) → x * e + N ≤ P + y * e → x * (L * e) + N * L ≤ P * L + y * (L * e)
-        plain x y P N e L h = omega (arith, mul-le-mul-right L h)
-
-        clash : ups s X * e + N ≤ P + downs s X * e → ⊥
-        clash y =
-            never (n ≻ d ⊗ c) h
-            (le-not-lt n (d ⊗ c) (rounded-ge binary64 (d ⊗ c) P N (unit * e) product (mul-pos unit-pos E) n (ups s X) (downs s X) unit
-            unit-pos n-fits n-is (plain (ups s X) (downs s X) P N e unit y)))
+        plain : (x y P N e L : ℕ) → P * L + y * (L * e) < x * (L * e) + N * L → P + y * e < x * e + N
+        plain x y P N e L h = lt-of-mul-lt-mul-right L {m = P + y * e} {n = x * e + N} (omega arith)
 
     beneath : T (n ≺ d ⊗ c) → ups s X * e + N < P + downs s X * e
-    beneath h = lt-of-not-le (λ (y : P + downs s X * e ≤ ups s X * e + N). clash y)
+    beneath h =
+        plain (ups s X) (downs s X) P N e unit
+        (rounded-above binary64 (d ⊗ c) P N (unit * e) product (mul-pos unit-pos E) n (ups s X) (downs s X) unit unit-pos n-fits n-is h)
       where
-        plain : (x y P N e L : ℕ) → P + y * e ≤ x * e + N → P * L + y * (L * e) ≤ x * (L * e) + N * L
-        plain x y P N e L h = omega (arith, mul-le-mul-right L h)
-
-        clash : P + downs s X * e ≤ ups s X * e + N → ⊥
-        clash y =
-            never (n ≺ d ⊗ c) h
-            (le-not-lt (d ⊗ c) n (rounded-le binary64 (d ⊗ c) P N (unit * e) product (mul-pos unit-pos E) n (ups s X) (downs s X) unit
-            unit-pos n-fits n-is (plain (ups s X) (downs s X) P N e unit y)))
+        plain : (x y P N e L : ℕ) → x * (L * e) + N * L < P * L + y * (L * e) → x * e + N < P + y * e
+        plain x y P N e L h = lt-of-mul-lt-mul-right L {m = x * e + N} {n = P + y * e} (omega arith)
 
   quotient : Rounded binary64 (n ⊘ d) (signed-by t (ups s X) (downs s X) * unit) (signed-by t (downs s X) (ups s X) * unit) (Y * unit)
   quotient = div-rounded binary64 n d (ups s X) (downs s X) unit t Y unit unit-pos unit-pos some n-is d-value

@@ -14,21 +14,20 @@ use native.Mathlib.Nat.{
   mul-lt-mul-of-pos-right,
   le-of-mul-le-mul-right,
   lt-of-mul-lt-mul-right,
-  lt-of-not-le,
 }
 use native.Mathlib.Omega.{arith}
 use mathlib.Core.Bool.{Bool, true, false, not, _&&_}
 use lib.Dec.{T, leb, leb→le, nleb→lt, lit≤}
-use lib.Ieee.{Float, binary64, ofBits, fits, neg}
+use lib.Ieee.{Float, binary64, fits, neg}
 use lib.Ieee.Bits.{is-true, ofBits-fits}
 use lib.Ieee.Digits.{back}
 use lib.Ieee.Fits.{add-fits, neg-fits, and-i, and-l, and-r}
 use Rattle.float_laws.specs.Signed.{Diff, diff-same, diff-at, diff-finite, neg-diff}
 use Rattle.float_laws.specs.Order.{lt-over, le-over}
 use Rattle.float_laws.specs.Rounded.{Rounded, add-over, mul-rounded}
-use Rattle.float_laws.specs.Roundings.{Near, Sized, rounded-le, rounded-ge}
+use Rattle.float_laws.specs.Roundings.{Near, Sized, rounded-le, rounded-ge, rounded-below, rounded-above}
 use Rattle.float_laws.specs.Whole.{most-whole, least-whole}
-use Rattle.float_laws.specs.Binary64.{unit, unit-pos, units64, near64, sized64}
+use Rattle.float_laws.specs.Binary64.{unit, unit-pos, zero-is, units64, near64, sized64}
 use Rattle.floats.specs.Ops.{_⊕_, _⊗_, f0}
 use Rattle.plane.specs.Vector2 as vector2
 use Rattle.plane.specs.declared.vector2.Vector2.{Vector2}
@@ -72,10 +71,6 @@ eps-units e num den h =
 
     over : (num den E L : ℕ) → 0 < den → E * den ≡ num * L → 2 * num ≤ den → 2 * E ≤ L
     over num den E L D e l = le-of-mul-le-mul-right {m = 2 * E} {n = L} {k = den} (omega (arith, mul-le-mul-right L l)) D
-
-pub zero-is : Diff f0 0 0 unit
-unfolding ofBits
-zero-is = omega arith
 
 -- ---- arithmetic. T is t in units, R the length, E the epsilon; the exact t is A / D, and a / D what it is more than b.
 far : (A D a b L R E T : ℕ) → 0 < D → A ≡ a + b * D
@@ -227,23 +222,13 @@ module _ (e : Float) (num den : ℕ) (h : Eps e num den)
     where
       -- the exact product of the floats t and length is below the float length + epsilon
       under : (T : ℕ) → Diff t T 0 unit → T * g .R < w-size .count * unit
-      under T d = lt-of-not-le (λ (y : w-size .count * unit ≤ T * g .R). clash y)
+      under T d =
+          plain T (g .R) (w-size .count) unit
+          (rounded-below binary64 (t ⊗ len) _ _ (unit * unit) (product T 0 d) (mul-pos unit-pos unit-pos) (len ⊕ e)
+          (w-size .count) 0 unit unit-pos w-fits (w-size .is) x)
         where
-          scaled : (T R W L : ℕ) → W * L ≤ T * R → W * (L * L) + (T * 0 + 0 * R) * L ≤ (T * R + 0 * 0) * L + 0 * (L * L)
-          scaled T R W L y = omega (arith, mul-le-mul-right L y)
-
-          never : (p n W : ℕ) → p + 0 < W + n → W + n ≤ p + 0 → ⊥
-          never p n W a b = omega arith
-
-          clash : w-size .count * unit ≤ T * g .R → ⊥
-          clash y =
-              let m = m-near T 0 d in
-              let least = rounded-ge binary64 (t ⊗ len) _ _ (unit * unit) (product T 0 d) (mul-pos unit-pos unit-pos) (len ⊕ e)
-              (w-size .count) 0 unit unit-pos w-fits (w-size .is)
-              (scaled T (g .R) (w-size .count) unit y) in
-              never (m .p) (m .n) (w-size .count)
-              (lt-over (t ⊗ len) (len ⊕ e) (m .p) (m .n) (w-size .count) 0 unit unit-pos (m .is) (w-size .is) .0 x)
-              (le-over (len ⊕ e) (t ⊗ len) (w-size .count) 0 (m .p) (m .n) unit unit-pos (w-size .is) (m .is) .0 least)
+          plain : (T R W L : ℕ) → (T * R + 0 * 0) * L + 0 * (L * L) < W * (L * L) + (T * 0 + 0 * R) * L → T * R < W * L
+          plain T R W L y = lt-of-mul-lt-mul-right L {m = T * R} {n = W * L} (omega arith)
 
       size : (a D N P : ℕ) → a + (N + D) ≡ P → a + D + N ≡ P
       size a D N P e = omega arith
@@ -362,32 +347,22 @@ module _ (e : Float) (num den : ℕ) (h : Eps e num den)
     where
       -- the exact product of the floats -t and length is below epsilon
       under : (T : ℕ) → Diff t 0 T unit → T * g .R < eu .E * unit
-      under T d = lt-of-not-le (λ (y : eu .E * unit ≤ T * g .R). clash y)
+      under T d =
+          let m = m-near 0 T d in
+          let minus = neg-diff e (eu .E) 0 unit (eu .is) in
+          let some = rounded-above binary64 (t ⊗ len ⊕ e) _ _ unit (sum 0 T d) unit-pos f0 0 0 unit unit-pos (ofBits-fits binary64 0)
+          zero-is x in
+          let above = lt-over (neg e) (t ⊗ len) 0 (eu .E) (m .p) (m .n) unit unit-pos minus (m .is) .1
+          (summed (m .p) (m .n) (eu .E) unit some) in
+          plain T (g .R) (eu .E) unit
+          (rounded-above binary64 (t ⊗ len) _ _ (unit * unit) (product 0 T d) (mul-pos unit-pos unit-pos) (neg e) 0
+          (eu .E) unit unit-pos (neg-fits binary64 e (h .fit)) minus above)
         where
-          scaled : (T R E L : ℕ) → E * L ≤ T * R → (0 * R + T * 0) * L + E * (L * L) ≤ 0 * (L * L) + (0 * 0 + T * R) * L
-          scaled T R E L y = omega (arith, mul-le-mul-right L y)
+          summed : (p n E L : ℕ) → 0 * L + (n + 0) * L < (p + E) * L + 0 * L → 0 + n < p + E
+          summed p n E L y = lt-of-mul-lt-mul-right L {m = 0 + n} {n = p + E} (omega arith)
 
-          added : (p n E L : ℕ) → p + E ≤ 0 + n → (p + E) * L + 0 * L ≤ 0 * L + (n + 0) * L
-          added p n E L y = omega (arith, mul-le-mul-right L y)
-
-          never : (p n : ℕ) → 0 + n < p + 0 → p + 0 ≤ 0 + n → ⊥
-          never p n a b = omega arith
-
-          clash : eu .E * unit ≤ T * g .R → ⊥
-          clash y =
-              let m = m-near 0 T d in
-              let s = sum-near 0 T d in
-              let minus = neg-diff e (eu .E) 0 unit (eu .is) in
-              let most = rounded-le binary64 (t ⊗ len) _ _ (unit * unit) (product 0 T d) (mul-pos unit-pos unit-pos) (neg e) 0
-              (eu .E) unit unit-pos (neg-fits binary64 e (h .fit)) minus
-              (scaled T (g .R) (eu .E) unit y) in
-              let below = le-over (t ⊗ len) (neg e) (m .p) (m .n) 0 (eu .E) unit unit-pos (m .is) minus .0 most in
-              let none = rounded-le binary64 (t ⊗ len ⊕ e) _ _ unit (sum 0 T d) unit-pos f0 0 0 unit unit-pos
-              (ofBits-fits binary64 0) zero-is
-              (added (m .p) (m .n) (eu .E) unit below) in
-              never (s .p) (s .n)
-              (lt-over f0 (t ⊗ len ⊕ e) 0 0 (s .p) (s .n) unit unit-pos zero-is (s .is) .0 x)
-              (le-over (t ⊗ len ⊕ e) f0 (s .p) (s .n) 0 0 unit unit-pos (s .is) zero-is .0 none)
+          plain : (T R E L : ℕ) → 0 * (L * L) + (0 * 0 + T * R) * L < (0 * R + T * 0) * L + E * (L * L) → T * R < E * L
+          plain T R E L y = lt-of-mul-lt-mul-right L {m = T * R} {n = E * L} (omega arith)
 
       large : 2 * D < a → a * a * S * (den * den) < 4 * (num * num * (D * D))
       large y =

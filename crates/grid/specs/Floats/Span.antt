@@ -14,13 +14,12 @@ use Rattle.float_laws.specs.Order.{lt-over}
 use Rattle.float_laws.specs.Rounded.{Rounded}
 use Rattle.float_laws.specs.Roundings.{Near, Sized}
 use Rattle.float_laws.specs.Whole.{most-whole, least-whole}
-use Rattle.float_laws.specs.Binary64.{unit, unit-pos, near64, sized64}
+use Rattle.float_laws.specs.Binary64.{unit, unit-pos, zero-is, near64, sized64}
 use Rattle.floats.specs.Ops.{f0, f1}
 use Rattle.floats.specs.F64
 use Rattle.floats.specs.Laws.Leaves.{min-is, max-is}
 use Rattle.crossing.specs.LineLine.{rising}
 use Rattle.crossing.specs.declared.line_line.Span.{Span}
-use Rattle.grid.specs.Floats.Range.{zero-is}
 
 -- t is one rounding of (P - N) / D, both at most 2 ^ 21
 pub record Place (t : Float) (P N D : ℕ) : Type 0 where
