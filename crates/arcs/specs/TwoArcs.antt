@@ -109,3 +109,10 @@ twoArcArc point1 point2 endPointIntrs arc1 arc2 =
     (cond pt2InSweep
     (endsOr first second (OneIntersect point2))
     (endsOr first second NoIntersect)))
+
+-- lines 419-511
+unfoldable pub crossingArcs :
+    Vector2 → Vector2 → Vector2 → Vector2 → Vector2 → Vector2 → ArcGeometry → ArcGeometry → Float → PlineSegIntr
+crossingArcs v1 v2 u1 u2 point1 point2 arc1 arc2 posEqualEps =
+    let endPointIntrs = collectEndPoints v1 v2 u1 u2 arc1 arc2 posEqualEps in
+    twoArcArc point1 point2 endPointIntrs arc1 arc2

@@ -80,6 +80,7 @@ impl ArcGeometry {
         }
         false
     }
+
     // Whether the point is not as far from the centre as the arc, so that it lies on no part of it.
     pub fn point_off_circle(self, point: Vector2) -> bool
         ensures { λ r. ⌜ r ≡ Ends.pointOffCircle self point ⌝ }

@@ -241,8 +241,7 @@ pub fn crossing_arcs(
     arc2: ArcGeometry,
     pos_equal_eps: f64,
 ) -> PlineSegIntr
-    ensures { λ r. ⌜
-        r ≡ TwoArcs.twoArcArc point1 point2 (TwoArcs.collectEndPoints v1 v2 u1 u2 arc1 arc2 «pos_equal_eps») arc1 arc2 ⌝ }
+    ensures { λ r. ⌜ r ≡ TwoArcs.crossingArcs v1 v2 u1 u2 point1 point2 arc1 arc2 «pos_equal_eps» ⌝ }
 {
     if ends_clear(v1, v2, u1, u2, arc1, arc2) {
         let none = [Slot::Empty, Slot::Empty];

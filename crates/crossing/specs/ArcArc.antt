@@ -6,7 +6,7 @@ use Rattle.plane.specs.declared.pline_vertex.PlineVertex.{PlineVertex}
 use Rattle.plane.specs.declared.pline_seg.ArcRadiusCenter.{ArcRadiusCenter}
 use Rattle.arcs.specs.ArcGeometry.{ofSegment}
 use Rattle.arcs.specs.OneCircle.{overlappingArcArc}
-use Rattle.arcs.specs.TwoArcs.{tangentArcArc, collectEndPoints, twoArcArc}
+use Rattle.arcs.specs.TwoArcs.{tangentArcArc, crossingArcs}
 use Rattle.arcs.specs.declared.pline_seg_intr.PlineSegIntr.{PlineSegIntr}
 use Rattle.arcs.specs.declared.pline_seg_intr.PlineSegIntr.the-variants.{NoIntersect}
 use Rattle.crossing.specs.CircleCircle.{circleCircle}
@@ -25,8 +25,7 @@ arcArcOf (circles.TangentIntersect point) v1 v2 u1 u2 circle1 circle2 posEqualEp
 arcArcOf (circles.TwoIntersects point1 point2) v1 v2 u1 u2 circle1 circle2 posEqualEps =
     let arc1 = ofSegment v1 v2 circle1 posEqualEps in
     let arc2 = ofSegment u1 u2 circle2 posEqualEps in
-    let endPointIntrs = collectEndPoints (pos v1) (pos v2) (pos u1) (pos u2) arc1 arc2 posEqualEps in
-    twoArcArc point1 point2 endPointIntrs arc1 arc2
+    crossingArcs (pos v1) (pos v2) (pos u1) (pos u2) point1 point2 arc1 arc2 posEqualEps
 arcArcOf circles.Overlapping v1 v2 u1 u2 circle1 circle2 posEqualEps =
     overlappingArcArc v1 v2 u1 u2 circle1 circle2 posEqualEps
 

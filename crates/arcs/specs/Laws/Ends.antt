@@ -11,7 +11,7 @@ use Rattle.arcs.specs.declared.two_arcs.Slot.the-variants.{Empty}
 use Rattle.arcs.specs.declared.arc_geometry.ArcGeometry.{ArcGeometry}
 use Rattle.arcs.specs.ArcGeometry.{sweeps, pointLiesOnArc}
 use Rattle.arcs.specs.declared.pline_seg_intr.PlineSegIntr.{PlineSegIntr}
-use Rattle.arcs.specs.TwoArcs.{addIfOnArc, collectEndPoints, twoArcArc}
+use Rattle.arcs.specs.TwoArcs.{addIfOnArc, collectEndPoints, twoArcArc, crossingArcs}
 
 unfoldable pub pointOffCircle : ArcGeometry → Vector2 → Bool
 pointOffCircle self point =
@@ -55,6 +55,7 @@ no-ends v1 v2 u1 u2 arc1 arc2 eps h =
 -- so what two arcs have in common is told with none
 pub without-ends : (v1 v2 u1 u2 point1 point2 : Vector2) (arc1 arc2 : ArcGeometry) (eps : Float) (clear : Bool) (r : PlineSegIntr)
     → clear ≡ endsClear v1 v2 u1 u2 arc1 arc2 → clear ≡ true → r ≡ twoArcArc point1 point2 (Empty ∷ (Empty ∷ [])) arc1 arc2
-    → r ≡ twoArcArc point1 point2 (collectEndPoints v1 v2 u1 u2 arc1 arc2 eps) arc1 arc2
+    → r ≡ crossingArcs v1 v2 u1 u2 point1 point2 arc1 arc2 eps
+unfolding crossingArcs
 without-ends v1 v2 u1 u2 point1 point2 arc1 arc2 eps clear r is t e =
     e ∙ ap (λ (slots : List Slot). twoArcArc point1 point2 slots arc1 arc2) (sym (no-ends v1 v2 u1 u2 arc1 arc2 eps (sym is ∙ t)))

@@ -1,34 +1,38 @@
 -- `crossing::line_line::line_line` meets its contract: each return is an end of the definition, by the calls and tests
 -- on its way.
+use mathlib.Core.Path.{_≡_}
+use mathlib.Core.Bool.{cond, not}
 use borrow.Author.Needs.{needs}
-use Rattle.crossing.specs.LineLine.{lineLine}
+use Rattle.crossing.specs.LineLine.{lineLine, crossing, parallel}
+use Rattle.arcs.specs.Laws.Branches.{branches}
 use Rattle.crossing.proofs.line_line.line_line.Statement.{statement}
 use Rattle.crossing.proofs.line_line.line_line.Tie as tie
 
-pub line-line-spec : {M : Type 1} → statement M
+-- the definition, by whether the directions are parallel
+by-angle : (c : tie.After-fuzzy-eq-zero-eps) →
+    let p = c .before .before in
+    let v = p .before .before .sub .result in
+    let u = p .before .sub2 .result in
+    let w = c .before .sub3 .result in
+    let a = p .before .before .before .args in
+    lineLine (a .v1) (a .v2) (a .u1) (a .u2) (a .epsilon)
+    ≡ cond (not (c .fuzzy-eq-zero-eps .result))
+    (crossing v u w (p .perp-dot .result) (a .epsilon))
+    (parallel (a .v1) (a .v2) (a .u1) (a .u2) v u w (a .epsilon))
 unfolding lineLine
+by-angle c =
+    let p = c .before .before in
+    simp (
+      ← p .before .before .sub .ensures,
+      ← p .before .sub2 .ensures,
+      ← p .perp-dot .ensures,
+      ← c .before .sub3 .ensures,
+      ← c .fuzzy-eq-zero-eps .ensures,
+    )
+
+pub line-line-spec : {M : Type 1} → statement M
 line-line-spec =
     tie.close
     (tie.spec
     (search needs) (search needs) (search needs) (search needs) (search needs) (search needs)
-    (λ c. let f = c .before .before in let p = f .before .before in
-    simp (
-      ← p .before .before .sub .ensures,
-      ← p .before .sub2 .ensures,
-      ← p .perp-dot .ensures,
-      ← f .before .sub3 .ensures,
-      ← f .fuzzy-eq-zero-eps .ensures,
-      c .before .if1 .taken,
-      ← c .crossing .ensures,
-    ))
-    (search needs)
-    (λ c. let f = c .before .before in let p = f .before .before in
-    simp (
-      ← p .before .before .sub .ensures,
-      ← p .before .sub2 .ensures,
-      ← p .perp-dot .ensures,
-      ← f .before .sub3 .ensures,
-      ← f .fuzzy-eq-zero-eps .ensures,
-      c .before .if1 .left,
-      ← c .parallel .ensures,
-    )))
+    (λ c. rw (by-angle (c .before .before)) (search branches)) (search needs) (λ c. rw (by-angle (c .before .before)) (search branches)))

@@ -1,43 +1,38 @@
 -- `crossing::line_line::overlap` meets its contract: each return is an end of the definition, by the calls and tests on
 -- its way.
+use mathlib.Core.Path.{_≡_}
+use mathlib.Core.Bool.{cond}
 use borrow.Author.Needs.{needs}
-use Rattle.crossing.specs.LineLine.{overlap}
+use Rattle.floats.specs.Ops.{_⊖_, _⊗_}
+use Rattle.plane.specs.Fuzzy.{fuzzyEqZeroEps}
+use Rattle.crossing.specs.LineLine.{overlap, touchingEnd}
+use Rattle.arcs.specs.Laws.Branches.{branches}
+use Rattle.crossing.specs.declared.line_line_intersect.LineLineIntr.the-variants.{TrueIntersect, Overlapping}
 use Rattle.crossing.proofs.line_line.overlap.Statement.{statement}
 use Rattle.crossing.proofs.line_line.overlap.Tie as tie
 
-returns-2 : tie.Need-returns-2
+-- past the first test: the definition, by the ends that the segments share and the length
+shared : (c : tie.After-min) →
+    let t = c .before .before in
+    let l = t .before .before .before .before .before in
+    let a = l .before .args in
+    let from = c .before .max .result in
+    let to = c .min .result in
+    overlap (a .v1) (a .u1) (a .u2) (a .u) (a .s) (a .eps)
+    ≡ cond (fuzzyEqZeroEps ((to ⊖ from) ⊗ l .length .result) (a .eps))
+    (TrueIntersect (touchingEnd (a .v1) (a .u1) (a .u2) (a .eps)) from)
+    (Overlapping from to)
 unfolding overlap
-returns-2 c =
-    let m = c .before .before .before in
-    let t = m .before .before in
+shared c =
+    let t = c .before .before in
     let l = t .before .before .before in
     simp (
       ← l .before .before .length .ensures,
       ← l .fuzzy-lt-eps .ensures,
       ← t .before .fuzzy-gt-eps .ensures,
       t .if1 .left,
-      ← m .before .max .ensures,
-      ← m .min .ensures,
-      ← c .before .before .fuzzy-eq-zero-eps .ensures,
-      c .before .if2 .taken,
-      ← c .touching-end .ensures,
-    )
-
-returns-3 : tie.Need-returns-3
-unfolding overlap
-returns-3 c =
-    let m = c .before .before in
-    let t = m .before .before in
-    let l = t .before .before .before in
-    simp (
-      ← l .before .before .length .ensures,
-      ← l .fuzzy-lt-eps .ensures,
-      ← t .before .fuzzy-gt-eps .ensures,
-      t .if1 .left,
-      ← m .before .max .ensures,
-      ← m .min .ensures,
-      ← c .before .fuzzy-eq-zero-eps .ensures,
-      c .if2 .left,
+      ← c .before .max .ensures,
+      ← c .min .ensures,
     )
 
 pub overlap-spec : {M : Type 1} → statement M
@@ -48,4 +43,6 @@ overlap-spec =
     (search needs) (search needs) (search needs)
     (λ c. let l = c .before .before .before in
     simp (← l .before .before .length .ensures, ← l .fuzzy-lt-eps .ensures, ← c .before .fuzzy-gt-eps .ensures, c .if1 .taken))
-    (search needs) (search needs) (search needs) (search needs) returns-2 returns-3)
+    (search needs) (search needs) (search needs) (search needs)
+    (λ c. rw (shared (c .before .before .before)) (search branches))
+    (λ c. rw (shared (c .before .before)) (search branches)))
