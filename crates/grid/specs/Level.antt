@@ -5,7 +5,7 @@ use mathlib.Core.Logic.{_⊎_, inl, inr, _↔_}
 use Prim.Native.Nat.{ℕ, _+_, _≤_, _<_}
 use native.Mathlib.Decide.{ℕ-discrete}
 use native.Mathlib.Omega.{arith}
-use lib.IntN.{ℤ, pos, _-ℤ_}
+use lib.IntN.{ℤ, pos, natAbs, _-ℤ_}
 use lib.Signed.{_≤ℤ_, _<ℤ_}
 use lib.Ieee.{Float}
 use Rattle.floats.specs.Ops.{f0}
@@ -45,7 +45,7 @@ use Rattle.grid.specs.Floats.Zero.{Eps}
 use Rattle.grid.specs.Floats.Length.{gap}
 use Rattle.grid.specs.Floats.Overlap.{Overlapped}
 use Rattle.grid.specs.Floats.Parallel as level
-use Rattle.grid.specs.Floats.Parallel.{IsZero, PointOn, PointAt, Spanned, point-or-not}
+use Rattle.grid.specs.Floats.Parallel.{IsZero, Placed, PointOn, PointAt, Spanned, point-or-not}
 use Rattle.grid.specs.Joined.{At, way-at, zero-at, point-at, size-gap, place-at}
 use Rattle.grid.specs.Crossed.{across-is, first-is, second-is}
 
@@ -55,58 +55,40 @@ not-zero z p n e h f = let s : p ≡ n = zero-at z p n e .0 f in omega arith
 
 -- ---- spans, in naturals
 module _ (a b : ℤ) (P0 N0 P1 N1 D : ℕ) (e : a ≡ diff P0 N0) (f : b ≡ diff P1 N1) where
-  lows : ((a ≤ℤ pos D) ⊎ (b ≤ℤ pos D)) ↔ ((P0 ≤ N0 + D) ⊎ (P1 ≤ N1 + D))
-  lows = (to, back)
+  -- of one of the two, told of its parts
+  ends : (R : ℤ → Type 0) (Q : ℕ → ℕ → Type 0) → ((P N : ℕ) → R (diff P N) ↔ Q P N) → (R a ⊎ R b) ↔ (Q P0 N0 ⊎ Q P1 N1)
+  ends R Q is = (to, back)
     where
-      to : (a ≤ℤ pos D) ⊎ (b ≤ℤ pos D) → (P0 ≤ N0 + D) ⊎ (P1 ≤ N1 + D)
-      to (inl h) = inl (most P0 N0 D .0 (subst (λ (z : ℤ). z ≤ℤ pos D) e h))
-      to (inr h) = inr (most P1 N1 D .0 (subst (λ (z : ℤ). z ≤ℤ pos D) f h))
+      to : R a ⊎ R b → Q P0 N0 ⊎ Q P1 N1
+      to (inl h) = inl (is P0 N0 .0 (subst R e h))
+      to (inr h) = inr (is P1 N1 .0 (subst R f h))
 
-      back : (P0 ≤ N0 + D) ⊎ (P1 ≤ N1 + D) → (a ≤ℤ pos D) ⊎ (b ≤ℤ pos D)
-      back (inl h) = inl (subst (λ (z : ℤ). z ≤ℤ pos D) (sym e) (most P0 N0 D .1 h))
-      back (inr h) = inr (subst (λ (z : ℤ). z ≤ℤ pos D) (sym f) (most P1 N1 D .1 h))
+      back : Q P0 N0 ⊎ Q P1 N1 → R a ⊎ R b
+      back (inl h) = inl (subst R (sym e) (is P0 N0 .1 h))
+      back (inr h) = inr (subst R (sym f) (is P1 N1 .1 h))
+
+  lows : ((a ≤ℤ pos D) ⊎ (b ≤ℤ pos D)) ↔ ((P0 ≤ N0 + D) ⊎ (P1 ≤ N1 + D))
+  lows = ends (λ (z : ℤ). z ≤ℤ pos D) (λ (P N : ℕ). P ≤ N + D) (λ P N. most P N D)
 
   highs : ((pos 0 ≤ℤ a) ⊎ (pos 0 ≤ℤ b)) ↔ ((N0 ≤ P0) ⊎ (N1 ≤ P1))
-  highs = (to, back)
-    where
-      to : (pos 0 ≤ℤ a) ⊎ (pos 0 ≤ℤ b) → (N0 ≤ P0) ⊎ (N1 ≤ P1)
-      to (inl h) = inl (least P0 N0 .0 (subst (λ (z : ℤ). pos 0 ≤ℤ z) e h))
-      to (inr h) = inr (least P1 N1 .0 (subst (λ (z : ℤ). pos 0 ≤ℤ z) f h))
-
-      back : (N0 ≤ P0) ⊎ (N1 ≤ P1) → (pos 0 ≤ℤ a) ⊎ (pos 0 ≤ℤ b)
-      back (inl h) = inl (subst (λ (z : ℤ). pos 0 ≤ℤ z) (sym e) (least P0 N0 .1 h))
-      back (inr h) = inr (subst (λ (z : ℤ). pos 0 ≤ℤ z) (sym f) (least P1 N1 .1 h))
+  highs = ends (λ (z : ℤ). pos 0 ≤ℤ z) (λ (P N : ℕ). N ≤ P) least
 
   more-lows : ((a <ℤ pos D) ⊎ (b <ℤ pos D)) ↔ ((P0 < N0 + D) ⊎ (P1 < N1 + D))
-  more-lows = (to, back)
-    where
-      to : (a <ℤ pos D) ⊎ (b <ℤ pos D) → (P0 < N0 + D) ⊎ (P1 < N1 + D)
-      to (inl h) = inl (below-size P0 N0 D .0 (subst (λ (z : ℤ). z <ℤ pos D) e h))
-      to (inr h) = inr (below-size P1 N1 D .0 (subst (λ (z : ℤ). z <ℤ pos D) f h))
-
-      back : (P0 < N0 + D) ⊎ (P1 < N1 + D) → (a <ℤ pos D) ⊎ (b <ℤ pos D)
-      back (inl h) = inl (subst (λ (z : ℤ). z <ℤ pos D) (sym e) (below-size P0 N0 D .1 h))
-      back (inr h) = inr (subst (λ (z : ℤ). z <ℤ pos D) (sym f) (below-size P1 N1 D .1 h))
+  more-lows = ends (λ (z : ℤ). z <ℤ pos D) (λ (P N : ℕ). P < N + D) (λ P N. below-size P N D)
 
   more-highs : ((pos 0 <ℤ a) ⊎ (pos 0 <ℤ b)) ↔ ((N0 < P0) ⊎ (N1 < P1))
-  more-highs = (to, back)
-    where
-      to : (pos 0 <ℤ a) ⊎ (pos 0 <ℤ b) → (N0 < P0) ⊎ (N1 < P1)
-      to (inl h) = inl (above-zero P0 N0 .0 (subst (λ (z : ℤ). pos 0 <ℤ z) e h))
-      to (inr h) = inr (above-zero P1 N1 .0 (subst (λ (z : ℤ). pos 0 <ℤ z) f h))
-
-      back : (N0 < P0) ⊎ (N1 < P1) → (pos 0 <ℤ a) ⊎ (pos 0 <ℤ b)
-      back (inl h) = inl (subst (λ (z : ℤ). pos 0 <ℤ z) (sym e) (above-zero P0 N0 .1 h))
-      back (inr h) = inr (subst (λ (z : ℤ). pos 0 <ℤ z) (sym f) (above-zero P1 N1 .1 h))
+  more-highs = ends (λ (z : ℤ). pos 0 <ℤ z) (λ (P N : ℕ). N < P) above-zero
 
   -- the lower and the upper of the two
-  module _ (Pl Nl Ph Nh : ℕ) (rises : Pl + Nh ≤ Ph + Nl)
-      (which : ((Pl ≡ P0) × (Nl ≡ N0) × (Ph ≡ P1) × (Nh ≡ N1)) ⊎ ((Pl ≡ P1) × (Nl ≡ N1) × (Ph ≡ P0) × (Nh ≡ N0))) where
+  abbrev Which : ℕ → ℕ → ℕ → ℕ → Type 0
+  Which Pl Nl Ph Nh =
+      ((Pl ≡ P0) × (Nl ≡ N0) × (Ph ≡ P1) × (Nh ≡ N1)) ⊎ ((Pl ≡ P1) × (Nl ≡ N1) × (Ph ≡ P0) × (Nh ≡ N0))
+
+  module _ (Pl Nl Ph Nh : ℕ) (rises : Pl + Nh ≤ Ph + Nl) (which : Which Pl Nl Ph Nh) where
     low-is : (P0 ≤ N0 + D) ⊎ (P1 ≤ N1 + D) → Pl ≤ Nl + D
     low-is = go which
       where
-        go : ((Pl ≡ P0) × (Nl ≡ N0) × (Ph ≡ P1) × (Nh ≡ N1)) ⊎ ((Pl ≡ P1) × (Nl ≡ N1) × (Ph ≡ P0) × (Nh ≡ N0))
-            → (P0 ≤ N0 + D) ⊎ (P1 ≤ N1 + D) → Pl ≤ Nl + D
+        go : Which Pl Nl Ph Nh → (P0 ≤ N0 + D) ⊎ (P1 ≤ N1 + D) → Pl ≤ Nl + D
         go (inl (i, j, k, l)) (inl h) = omega arith
         go (inl (i, j, k, l)) (inr h) = omega arith
         go (inr (i, j, k, l)) (inl h) = omega arith
@@ -115,8 +97,7 @@ module _ (a b : ℤ) (P0 N0 P1 N1 D : ℕ) (e : a ≡ diff P0 N0) (f : b ≡ dif
     high-is : (N0 ≤ P0) ⊎ (N1 ≤ P1) → Nh ≤ Ph
     high-is = go which
       where
-        go : ((Pl ≡ P0) × (Nl ≡ N0) × (Ph ≡ P1) × (Nh ≡ N1)) ⊎ ((Pl ≡ P1) × (Nl ≡ N1) × (Ph ≡ P0) × (Nh ≡ N0))
-            → (N0 ≤ P0) ⊎ (N1 ≤ P1) → Nh ≤ Ph
+        go : Which Pl Nl Ph Nh → (N0 ≤ P0) ⊎ (N1 ≤ P1) → Nh ≤ Ph
         go (inl (i, j, k, l)) (inl h) = omega arith
         go (inl (i, j, k, l)) (inr h) = omega arith
         go (inr (i, j, k, l)) (inl h) = omega arith
@@ -125,8 +106,7 @@ module _ (a b : ℤ) (P0 N0 P1 N1 D : ℕ) (e : a ≡ diff P0 N0) (f : b ≡ dif
     more-low-is : (P0 < N0 + D) ⊎ (P1 < N1 + D) → Pl < Nl + D
     more-low-is = go which
       where
-        go : ((Pl ≡ P0) × (Nl ≡ N0) × (Ph ≡ P1) × (Nh ≡ N1)) ⊎ ((Pl ≡ P1) × (Nl ≡ N1) × (Ph ≡ P0) × (Nh ≡ N0))
-            → (P0 < N0 + D) ⊎ (P1 < N1 + D) → Pl < Nl + D
+        go : Which Pl Nl Ph Nh → (P0 < N0 + D) ⊎ (P1 < N1 + D) → Pl < Nl + D
         go (inl (i, j, k, l)) (inl h) = omega arith
         go (inl (i, j, k, l)) (inr h) = omega arith
         go (inr (i, j, k, l)) (inl h) = omega arith
@@ -135,8 +115,7 @@ module _ (a b : ℤ) (P0 N0 P1 N1 D : ℕ) (e : a ≡ diff P0 N0) (f : b ≡ dif
     more-high-is : (N0 < P0) ⊎ (N1 < P1) → Nh < Ph
     more-high-is = go which
       where
-        go : ((Pl ≡ P0) × (Nl ≡ N0) × (Ph ≡ P1) × (Nh ≡ N1)) ⊎ ((Pl ≡ P1) × (Nl ≡ N1) × (Ph ≡ P0) × (Nh ≡ N0))
-            → (N0 < P0) ⊎ (N1 < P1) → Nh < Ph
+        go : Which Pl Nl Ph Nh → (N0 < P0) ⊎ (N1 < P1) → Nh < Ph
         go (inl (i, j, k, l)) (inl h) = omega arith
         go (inl (i, j, k, l)) (inr h) = omega arith
         go (inr (i, j, k, l)) (inl h) = omega arith
@@ -145,21 +124,21 @@ module _ (a b : ℤ) (P0 N0 P1 N1 D : ℕ) (e : a ≡ diff P0 N0) (f : b ≡ dif
     meet-of : Pl ≤ Nl + D → Nh ≤ Ph → Meet a b D
     meet-of l k = go which
       where
-        go : ((Pl ≡ P0) × (Nl ≡ N0) × (Ph ≡ P1) × (Nh ≡ N1)) ⊎ ((Pl ≡ P1) × (Nl ≡ N1) × (Ph ≡ P0) × (Nh ≡ N0)) → Meet a b D
+        go : Which Pl Nl Ph Nh → Meet a b D
         go (inl (i, j, m, n)) = (lows .1 (inl (omega arith)), highs .1 (inr (omega arith)))
         go (inr (i, j, m, n)) = (lows .1 (inr (omega arith)), highs .1 (inl (omega arith)))
 
     more-of : Pl < Nl + D → Nh < Ph → MeetMore a b D
     more-of l k = go which
       where
-        go : ((Pl ≡ P0) × (Nl ≡ N0) × (Ph ≡ P1) × (Nh ≡ N1)) ⊎ ((Pl ≡ P1) × (Nl ≡ N1) × (Ph ≡ P0) × (Nh ≡ N0)) → MeetMore a b D
+        go : Which Pl Nl Ph Nh → MeetMore a b D
         go (inl (i, j, m, n)) = (more-lows .1 (inl (omega arith)), more-highs .1 (inr (omega arith)))
         go (inr (i, j, m, n)) = (more-lows .1 (inr (omega arith)), more-highs .1 (inl (omega arith)))
 
     differ : (a ≡ b → ⊥) → Pl + Nh ≡ Ph + Nl → ⊥
     differ n x = n (e ∙ same P0 N0 P1 N1 .1 (go which) ∙ sym f)
       where
-        go : ((Pl ≡ P0) × (Nl ≡ N0) × (Ph ≡ P1) × (Nh ≡ N1)) ⊎ ((Pl ≡ P1) × (Nl ≡ N1) × (Ph ≡ P0) × (Nh ≡ N0)) → P0 + N1 ≡ P1 + N0
+        go : Which Pl Nl Ph Nh → P0 + N1 ≡ P1 + N0
         go (inl (i, j, m, o)) = omega arith
         go (inr (i, j, m, o)) = omega arith
 
@@ -227,6 +206,24 @@ module _ (v1 v2 u1 u2 : Vector2) (r : LineLineIntr) (s t : Float) where
           inr (pointFromParametric v1 v2 s, ap (λ (z : LineLineIntr). lineLineOf z v1 v2 u1 u2) x, there .1 y)
       go (inr (x, y)) = inl (ap (λ (z : LineLineIntr). lineLineOf z v1 v2 u1 u2) x, λ z. y (there .0 z))
 
+  -- along one axis: a point at o from the start of a segment that goes d
+  beside-told : (d o : ℤ) (dp dn op on : ℕ) → d ≡ diff dp dn → o ≡ diff op on → (place : Float) (k : Placed place op on dp dn)
+      → PointOn r (TrueIntersect s t) (k .P) (k .N) (gap dp dn)
+      → ToldIf (Between (turned d o) (natAbs d)) (lineLineOf r v1 v2 u1 u2)
+  beside-told d o dp dn op on e f place k =
+      point-told (turned d o) (natAbs d) (k .P) (k .N) (gap dp dn)
+      (place-at d o dp dn op on (k .P) (k .N) e f (k .some) (k .turned)) (size-gap d dp dn e)
+
+-- along one axis: a segment from x to z, along one that goes d from 0
+along-told : (v1 v2 u1 u2 : Vector2) (r : LineLineIntr) (d x z : ℤ) (xp xn zp zn dp dn : ℕ)
+    → d ≡ diff dp dn → x ≡ diff xp xn → z ≡ diff zp zn → Spanned r xp xn zp zn dp dn → (turned d x ≡ turned d z → ⊥)
+    → ToldBySpans (turned d x) (turned d z) (natAbs d) (lineLineOf r v1 v2 u1 u2)
+along-told v1 v2 u1 u2 r d x z xp xn zp zn dp dn e f g s apart =
+    let m = marks d x z xp xn zp zn dp dn e f g r s in
+    subst (λ (k : ℕ). ToldBySpans (turned d x) (turned d z) k (lineLineOf r v1 v2 u1 u2)) (sym (size-gap d dp dn e))
+    (spans-told (turned d x) (turned d z) (s .P0) (s .N0) (s .P1) (s .N1) (gap dp dn) (m .0) (m .1)
+    (s .Pl) (s .Nl) (s .Ph) (s .Nh) (s .rises) (s .which) v1 v2 u1 u2 r apart (s .answer))
+
 module _ (e : Float) (num den : ℕ) (h : Eps e num den)
     (v1 v2 u1 u2 : Vector2) (A1 : Vec 20 v1) (A2 : Vec 20 v2) (B1 : Vec 20 u1) (B2 : Vec 20 u2)
     (p1 p2 q1 q2 : Spot) (a1 : At 20 v1 A1 p1) (a2 : At 20 v2 A2 p2) (b1 : At 20 u1 B1 q1) (b2 : At 20 u2 B2 q2) where
@@ -274,39 +271,21 @@ module _ (e : Float) (num den : ℕ) (h : Eps e num den)
     first-told : Same p1 p2 → (s t : Float) → PointAt e u1 u2 v1 B1 B2 A1 answer (TrueIntersect s t)
         → Told p1 p2 q1 q2 (lineLineOf answer v1 v2 u1 u2)
     first-told still s t (inl (k, on)) =
-        first-told-by-x p1 p2 q1 q2 (lineLineOf answer v1 v2 u1 u2) c still
-        (not-zero (q2 .x -ℤ q1 .x) (G' .x .p) (G' .x .n) (at-u .at-x) (k .some))
-        (point-told v1 v2 u1 u2 answer s t (mark q1 q2 p1) (size q1 q2) (k .P) (k .N) (gap (G' .x .p) (G' .x .n))
-        (place-at (q2 .x -ℤ q1 .x) (p1 .x -ℤ q1 .x) (G' .x .p) (G' .x .n) (H' .x .p) (H' .x .n)
-        (k .P) (k .N) (at-u .at-x) (at-w .at-x) (k .some) (k .turned))
-        (size-gap (q2 .x -ℤ q1 .x) (G' .x .p) (G' .x .n) (at-u .at-x)) on)
+        first-told-by-x p1 p2 q1 q2 (lineLineOf answer v1 v2 u1 u2) c still (not-zero _ _ _ (at-u .at-x) (k .some))
+        (beside-told v1 v2 u1 u2 answer s t (q2 .x -ℤ q1 .x) (p1 .x -ℤ q1 .x) _ _ _ _ (at-u .at-x) (at-w .at-x) _ k on)
     first-told still s t (inr (k, on)) =
-        first-told-by-y p1 p2 q1 q2 (lineLineOf answer v1 v2 u1 u2) c still
-        (not-zero (q2 .y -ℤ q1 .y) (G' .y .p) (G' .y .n) (at-u .at-y) (k .some))
-        (point-told v1 v2 u1 u2 answer s t (mark (flip q1) (flip q2) (flip p1)) (size (flip q1) (flip q2))
-        (k .P) (k .N) (gap (G' .y .p) (G' .y .n))
-        (place-at (q2 .y -ℤ q1 .y) (p1 .y -ℤ q1 .y) (G' .y .p) (G' .y .n) (H' .y .p) (H' .y .n)
-        (k .P) (k .N) (at-u .at-y) (at-w .at-y) (k .some) (k .turned))
-        (size-gap (q2 .y -ℤ q1 .y) (G' .y .p) (G' .y .n) (at-u .at-y)) on)
+        first-told-by-y p1 p2 q1 q2 (lineLineOf answer v1 v2 u1 u2) c still (not-zero _ _ _ (at-u .at-y) (k .some))
+        (beside-told v1 v2 u1 u2 answer s t (q2 .y -ℤ q1 .y) (p1 .y -ℤ q1 .y) _ _ _ _ (at-u .at-y) (at-w .at-y) _ k on)
 
     -- the second is a point
     second-told : Same q1 q2 → (s t : Float) → PointAt e v1 v2 u1 A1 A2 B1 answer (TrueIntersect s t)
         → Told p1 p2 q1 q2 (lineLineOf answer v1 v2 u1 u2)
     second-told still s t (inl (k, on)) =
-        second-told-by-x p1 p2 q1 q2 (lineLineOf answer v1 v2 u1 u2) c still
-        (not-zero (p2 .x -ℤ p1 .x) (F' .x .p) (F' .x .n) (at-v .at-x) (k .some))
-        (point-told v1 v2 u1 u2 answer s t (mark p1 p2 q1) (size p1 p2) (k .P) (k .N) (gap (F' .x .p) (F' .x .n))
-        (place-at (p2 .x -ℤ p1 .x) (q1 .x -ℤ p1 .x) (F' .x .p) (F' .x .n) _ _
-        (k .P) (k .N) (at-v .at-x) (at-back .at-x) (k .some) (k .turned))
-        (size-gap (p2 .x -ℤ p1 .x) (F' .x .p) (F' .x .n) (at-v .at-x)) on)
+        second-told-by-x p1 p2 q1 q2 (lineLineOf answer v1 v2 u1 u2) c still (not-zero _ _ _ (at-v .at-x) (k .some))
+        (beside-told v1 v2 u1 u2 answer s t (p2 .x -ℤ p1 .x) (q1 .x -ℤ p1 .x) _ _ _ _ (at-v .at-x) (at-back .at-x) _ k on)
     second-told still s t (inr (k, on)) =
-        second-told-by-y p1 p2 q1 q2 (lineLineOf answer v1 v2 u1 u2) c still
-        (not-zero (p2 .y -ℤ p1 .y) (F' .y .p) (F' .y .n) (at-v .at-y) (k .some))
-        (point-told v1 v2 u1 u2 answer s t (mark (flip p1) (flip p2) (flip q1)) (size (flip p1) (flip p2))
-        (k .P) (k .N) (gap (F' .y .p) (F' .y .n))
-        (place-at (p2 .y -ℤ p1 .y) (q1 .y -ℤ p1 .y) (F' .y .p) (F' .y .n) _ _
-        (k .P) (k .N) (at-v .at-y) (at-back .at-y) (k .some) (k .turned))
-        (size-gap (p2 .y -ℤ p1 .y) (F' .y .p) (F' .y .n) (at-v .at-y)) on)
+        second-told-by-y p1 p2 q1 q2 (lineLineOf answer v1 v2 u1 u2) c still (not-zero _ _ _ (at-v .at-y) (k .some))
+        (beside-told v1 v2 u1 u2 answer s t (p2 .y -ℤ p1 .y) (q1 .y -ℤ p1 .y) _ _ _ _ (at-v .at-y) (at-back .at-y) _ k on)
 
     -- neither is
     segments-told : ¬ Same p1 p2
@@ -315,31 +294,19 @@ module _ (e : Float) (num den : ℕ) (h : Eps e num den)
         → Told p1 p2 q1 q2 (lineLineOf answer v1 v2 u1 u2)
     segments-told long (inl s) =
         let d = q2 .x -ℤ q1 .x in
-        let slant = not-zero d (G' .x .p) (G' .x .n) (at-u .at-x) (s .some) in
-        let m = marks d (p1 .x -ℤ q1 .x) (p2 .x -ℤ q1 .x) _ _ _ _ (G' .x .p) (G' .x .n)
-        (at-u .at-x) (at-w .at-x) (at-w2 .at-x) answer s in
-        let r = lineLineOf answer v1 v2 u1 u2 in
-        spans-told-by-x p1 p2 q1 q2 r c long slant
-        (subst (λ (z : ℕ). ToldBySpans (mark q1 q2 p1) (mark q1 q2 p2) z r) (sym (size-gap d (G' .x .p) (G' .x .n) (at-u .at-x)))
-        (spans-told (mark q1 q2 p1) (mark q1 q2 p2) (s .P0) (s .N0) (s .P1) (s .N1) (gap (G' .x .p) (G' .x .n)) (m .0) (m .1)
-        (s .Pl) (s .Nl) (s .Ph) (s .Nh) (s .rises) (s .which) v1 v2 u1 u2 answer
-        (λ x. long (apart-on-axis p1 p2 q1 q2 (c .parallel) slant (turned-same d (p1 .x) (p2 .x) (q1 .x) x))) (s .answer)))
+        let slant = not-zero d _ _ (at-u .at-x) (s .some) in
+        spans-told-by-x p1 p2 q1 q2 (lineLineOf answer v1 v2 u1 u2) c long slant
+        (along-told v1 v2 u1 u2 answer d (p1 .x -ℤ q1 .x) (p2 .x -ℤ q1 .x) _ _ _ _ _ _ (at-u .at-x) (at-w .at-x) (at-w2 .at-x) s
+        (λ x. long (apart-on-axis p1 p2 q1 q2 (c .parallel) slant (turned-same d (p1 .x) (p2 .x) (q1 .x) x))))
     segments-told long (inr s) =
         let d = q2 .y -ℤ q1 .y in
-        let slant = not-zero d (G' .y .p) (G' .y .n) (at-u .at-y) (s .some) in
-        let m = marks d (p1 .y -ℤ q1 .y) (p2 .y -ℤ q1 .y) _ _ _ _ (G' .y .p) (G' .y .n)
-        (at-u .at-y) (at-w .at-y) (at-w2 .at-y) answer s in
-        let r = lineLineOf answer v1 v2 u1 u2 in
+        let slant = not-zero d _ _ (at-u .at-y) (s .some) in
         let f = collinear-flipped p1 p2 q1 q2 c in
-        let M1 = mark (flip q1) (flip q2) (flip p1) in
-        let M2 = mark (flip q1) (flip q2) (flip p2) in
-        spans-told-by-y p1 p2 q1 q2 r c long slant
-        (subst (λ (z : ℕ). ToldBySpans M1 M2 z r) (sym (size-gap d (G' .y .p) (G' .y .n) (at-u .at-y)))
-        (spans-told M1 M2 (s .P0) (s .N0) (s .P1) (s .N1) (gap (G' .y .p) (G' .y .n)) (m .0) (m .1)
-        (s .Pl) (s .Nl) (s .Ph) (s .Nh) (s .rises) (s .which) v1 v2 u1 u2 answer
+        spans-told-by-y p1 p2 q1 q2 (lineLineOf answer v1 v2 u1 u2) c long slant
+        (along-told v1 v2 u1 u2 answer d (p1 .y -ℤ q1 .y) (p2 .y -ℤ q1 .y) _ _ _ _ _ _ (at-u .at-y) (at-w .at-y) (at-w2 .at-y) s
         (λ x.
         let o = apart-on-axis (flip p1) (flip p2) (flip q1) (flip q2) (f .parallel) slant (turned-same d (p1 .y) (p2 .y) (q1 .y) x) in
-        long (o .1, o .0)) (s .answer)))
+        long (o .1, o .0)))
 
   -- all five ways
   level-told : perp v' u' F' G' .p ≡ perp v' u' F' G' .n → Told p1 p2 q1 q2 (lineLineOf answer v1 v2 u1 u2)

@@ -304,17 +304,22 @@ module _ (e : Float) (num den : ℕ) (h : Eps e num den)
   abbrev side : Vec 21 (vector2.sub p1 p0)
   side = vec-sub p1 p0 A1 A0
 
+  -- one coordinate, of which the ends are numbers of the grid, and the side no longer than the segment
+  on-axis : (c0 c1 : Float) (a0 : Small 20 c0) (a1 : Small 20 c1) → let d = small-sub 20 c1 c0 (lit≤ tt) a1 a0 in
+      gap (d .p) (d .n) * gap (d .p) (d .n) ≤ S
+      → Near unit (c0 ⊕ (c1 ⊖ c0) ⊗ t) (a0 .p * D + (d .p * P + d .n * N)) (a0 .n * D + (d .p * N + d .n * P)) D 1 (2 ^ 30)
+  on-axis c0 c1 a0 a1 short-side =
+      let d = small-sub 20 c1 c0 (lit≤ tt) a1 a0 in
+      let hi = near-by e num den h S D some (N + D) P (reach .end) in
+      let lo = near-by e num den h S D some P N (reach .start) in
+      let k = of-size e num den h S P N D reach (a0 .p) (a0 .n) (a1 .p) (a1 .n) (gap (d .p) (d .n))
+      (a0 .p-le) (a0 .n-le) (a1 .p-le) (a1 .n-le) (omega arith) (omega arith) short-side in
+      coordinate c0 (c1 ⊖ c0) t a0 d P N D r C (omega arith) (omega arith) (k .0) (k .1)
+
   pub point-x : Near unit (pointFromParametric p0 p1 t .x)
       (A0 .x .p * D + (side .x .p * P + side .x .n * N)) (A0 .x .n * D + (side .x .p * N + side .x .n * P)) D 1 (2 ^ 30)
   unfolding pointFromParametric vector2.add vector2.scale vector2.sub
-  point-x =
-      let hi = near-by e num den h S D some (N + D) P (reach .end) in
-      let lo = near-by e num den h S D some P N (reach .start) in
-      let k = of-size e num den h S P N D reach (A0 .x .p) (A0 .x .n) (A1 .x .p) (A1 .x .n) (gap (side .x .p) (side .x .n))
-      (A0 .x .p-le) (A0 .x .n-le) (A1 .x .p-le) (A1 .x .n-le) (omega arith) (omega arith)
-      (first S _ _ (squares-are (vector2.sub p1 p0) side S square)) in
-      coordinate (p0 .x) (p1 .x ⊖ p0 .x) t (A0 .x) (small-sub 20 (p1 .x) (p0 .x) (lit≤ tt) (A1 .x) (A0 .x)) P N D r C
-      (omega arith) (omega arith) (k .0) (k .1)
+  point-x = on-axis (p0 .x) (p1 .x) (A0 .x) (A1 .x) (first S _ _ (squares-are (vector2.sub p1 p0) side S square))
     where
       first : (S g h : ℕ) → S ≡ g * g + h * h → g * g ≤ S
       first S g h e = omega arith
@@ -322,14 +327,7 @@ module _ (e : Float) (num den : ℕ) (h : Eps e num den)
   pub point-y : Near unit (pointFromParametric p0 p1 t .y)
       (A0 .y .p * D + (side .y .p * P + side .y .n * N)) (A0 .y .n * D + (side .y .p * N + side .y .n * P)) D 1 (2 ^ 30)
   unfolding pointFromParametric vector2.add vector2.scale vector2.sub
-  point-y =
-      let hi = near-by e num den h S D some (N + D) P (reach .end) in
-      let lo = near-by e num den h S D some P N (reach .start) in
-      let k = of-size e num den h S P N D reach (A0 .y .p) (A0 .y .n) (A1 .y .p) (A1 .y .n) (gap (side .y .p) (side .y .n))
-      (A0 .y .p-le) (A0 .y .n-le) (A1 .y .p-le) (A1 .y .n-le) (omega arith) (omega arith)
-      (second S _ _ (squares-are (vector2.sub p1 p0) side S square)) in
-      coordinate (p0 .y) (p1 .y ⊖ p0 .y) t (A0 .y) (small-sub 20 (p1 .y) (p0 .y) (lit≤ tt) (A1 .y) (A0 .y)) P N D r C
-      (omega arith) (omega arith) (k .0) (k .1)
+  point-y = on-axis (p0 .y) (p1 .y) (A0 .y) (A1 .y) (second S _ _ (squares-are (vector2.sub p1 p0) side S square))
     where
       second : (S g h : ℕ) → S ≡ g * g + h * h → h * h ≤ S
       second S g h e = omega arith

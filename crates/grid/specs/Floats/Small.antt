@@ -82,24 +82,19 @@ module _ (a b : Vector2) (A : Vec 20 a) (B : Vec 20 b) where
   unfolding vector2.sub
   sub-y = small-sub 20 (a .y) (b .y) (omega arith) (A .y) (B .y) .is
 
+-- along an axis
+abbrev pub side : {c d u : Float} (A : Small 20 c) (B : Small 20 d) → Diff u (A .p + B .n) (A .n + B .p) 1 → Small 21 u
+side A B e = record {
+  p = A .p + B .n;
+  n = A .n + B .p;
+  is = e;
+  p-le = sum-le 20 (A .p) (B .n) (A .p-le) (B .n-le);
+  n-le = sum-le 20 (A .n) (B .p) (A .n-le) (B .p-le);
+}
+
 -- from the grid point b to the grid point a
 abbrev pub vec-sub : (a b : Vector2) → Vec 20 a → Vec 20 b → Vec 21 (vector2.sub a b)
-vec-sub a b A B = record {
-  x = record {
-    p = A .x .p + B .x .n;
-    n = A .x .n + B .x .p;
-    is = sub-x a b A B;
-    p-le = sum-le 20 (A .x .p) (B .x .n) (A .x .p-le) (B .x .n-le);
-    n-le = sum-le 20 (A .x .n) (B .x .p) (A .x .n-le) (B .x .p-le);
-  };
-  y = record {
-    p = A .y .p + B .y .n;
-    n = A .y .n + B .y .p;
-    is = sub-y a b A B;
-    p-le = sum-le 20 (A .y .p) (B .y .n) (A .y .p-le) (B .y .n-le);
-    n-le = sum-le 20 (A .y .n) (B .y .p) (A .y .n-le) (B .y .p-le);
-  };
-}
+vec-sub a b A B = record { x = side (A .x) (B .x) (sub-x a b A B); y = side (A .y) (B .y) (sub-y a b A B) }
 
 module _ (v u : Vector2) (A : Vec 21 v) (B : Vec 21 u) where
   abbrev pub perp : Small 44 (vector2.perpDot v u)

@@ -3,7 +3,7 @@
 use mathlib.Core.Path.{_≡_, refl, sym, subst}
 use mathlib.Core.Logic.{_⊎_, inl, inr}
 use Prim.Native.Nat.{ℕ, _+_, _-_, _*_, _^_, _≤_, _<_, min}
-use native.Mathlib.Nat.{mul-le-mul-right, lt-of-mul-lt-mul-right}
+use native.Mathlib.Nat.{mul-le-mul-right, lt-of-mul-lt-mul-right, lt-of-not-le, le-of-suc-le-suc}
 use native.Mathlib.Omega.{arith}
 use mathlib.Core.Bool.{Bool, true, false, not, cond}
 use lib.Dec.{T, leb, leb→le, nleb→lt, not-T, T-not, lit≤}
@@ -30,6 +30,9 @@ pub record Place (t : Float) (P N D : ℕ) : Type 0 where
 one-is : Diff f1 unit 0 unit
 unfolding ofBits
 one-is = omega arith
+
+not-less : (p q : ℕ) → (q < p → ⊥) → p ≤ q
+not-less p q h = le-of-suc-le-suc (lt-of-not-le h)
 
 module _ (D : ℕ) (C : 0 < D) (few : D ≤ 2 ^ 21) where
   at-most : (P N : ℕ) → P ≤ 2 ^ 21 → P ≤ N + 2 ^ 21 * D
@@ -84,18 +87,10 @@ module _ (D : ℕ) (C : 0 < D) (few : D ≤ 2 ^ 21) where
     where
       -- a greater one is not less, exactly
       up : T (lt b a) → P1 + N0 ≤ P0 + N1
-      up t = test (leb (P1 + N0) (P0 + N1)) (leb→le (P1 + N0) (P0 + N1)) (nleb→lt (P1 + N0) (P0 + N1))
-        where
-          test : (c : Bool) → (T c → P1 + N0 ≤ P0 + N1) → (T (not c) → P0 + N1 < P1 + N0) → P1 + N0 ≤ P0 + N1
-          test true lo hi = lo tt
-          test false lo hi = absurd (no-both b a P1 N1 P0 N0 y x t (places-lt a b P0 N0 P1 N1 x y (hi tt)))
+      up t = not-less (P1 + N0) (P0 + N1) (λ k. no-both b a P1 N1 P0 N0 y x t (places-lt a b P0 N0 P1 N1 x y k))
 
       dn : T (not (lt b a)) → P0 + N1 ≤ P1 + N0
-      dn t = test (leb (P0 + N1) (P1 + N0)) (leb→le (P0 + N1) (P1 + N0)) (nleb→lt (P0 + N1) (P1 + N0))
-        where
-          test : (c : Bool) → (T c → P0 + N1 ≤ P1 + N0) → (T (not c) → P1 + N0 < P0 + N1) → P0 + N1 ≤ P1 + N0
-          test true lo hi = lo tt
-          test false lo hi = absurd (T-not (lt b a) t (places-lt b a P1 N1 P0 N0 y x (hi tt)))
+      dn t = not-less (P0 + N1) (P1 + N0) (λ k. T-not (lt b a) t (places-lt b a P1 N1 P0 N0 y x k))
 
       go : (c : Bool) → (T c → P1 + N0 ≤ P0 + N1) → (T (not c) → P0 + N1 ≤ P1 + N0)
           → Risen (cond c (record { t0 = b; t1 = a }) (record { t0 = a; t1 = b })) P0 N0 P1 N1
@@ -130,6 +125,11 @@ module _ (D : ℕ) (C : 0 < D) (few : D ≤ 2 ^ 21) where
   exact : (t : Float) (P N : ℕ) → Place t P N D → N ≤ P → P ≤ N + D → Sized unit t false (P - N) D (2 ^ 0) (2 ^ 54)
   exact t P N a l m = sized64 t P N D false (P - N) 0 (a .rounded) C (omega arith) (omega arith) (lit≤ tt)
 
+  -- by what the test is known to say
+  pick : (u v : Float) (A : ℕ) (b c : Bool) → b ≡ c → Sized unit (cond c u v) false A D (2 ^ 0) (2 ^ 54)
+      → Sized unit (cond b u v) false A D (2 ^ 0) (2 ^ 54)
+  pick u v A b c e y = subst (λ (z : Bool). Sized unit (cond z u v) false A D (2 ^ 0) (2 ^ 54)) (sym e) y
+
   pub from-zero : (t : Float) (P N : ℕ) → Place t P N D → P ≤ N + D → Sized unit (F64.max t f0) false (P - N) D (2 ^ 0) (2 ^ 54)
   from-zero t P N a l =
       subst (λ (z : Float). Sized unit z false (P - N) D (2 ^ 0) (2 ^ 54))
@@ -139,10 +139,6 @@ module _ (D : ℕ) (C : 0 < D) (few : D ≤ 2 ^ 21) where
       x : Near unit t P N D (2 ^ 21) (2 ^ 54)
       x = place-near t P N a
 
-      pick : (A : ℕ) (b c : Bool) → b ≡ c → Sized unit (cond c t f0) false A D (2 ^ 0) (2 ^ 54)
-          → Sized unit (cond b t f0) false A D (2 ^ 0) (2 ^ 54)
-      pick A b c e y = subst (λ (z : Bool). Sized unit (cond z t f0) false A D (2 ^ 0) (2 ^ 54)) (sym e) y
-
       go : (c : Bool) → (T c → P ≤ N) → (T (not c) → N < P) → Sized unit (cond (lt f0 t) t f0) false (P - N) D (2 ^ 0) (2 ^ 54)
       go true lo hi =
           let w = lo tt in
@@ -151,7 +147,7 @@ module _ (D : ℕ) (C : 0 < D) (few : D ≤ 2 ^ 21) where
           (omega arith) in
           let below = is-false (lt f0 t) (not-T (lt f0 t)
           (λ y. never (x .p) (x .n) unit most (lt-over f0 t 0 0 (x .p) (x .n) unit unit-pos zero-is (x .is) .0 y))) in
-          pick (P - N) (lt f0 t) false below (subst (λ (z : ℕ). Sized unit f0 false z D (2 ^ 0) (2 ^ 54)) none zero-sized)
+          pick t f0 (P - N) (lt f0 t) false below (subst (λ (z : ℕ). Sized unit f0 false z D (2 ^ 0) (2 ^ 54)) none zero-sized)
         where
           never : (p n L : ℕ) → p + 0 * L ≤ 0 * L + n → 0 + n < p + 0 → ⊥
           never p n L y z = omega arith
@@ -160,7 +156,7 @@ module _ (D : ℕ) (C : 0 < D) (few : D ≤ 2 ^ 21) where
           let k = exact t P N a (omega arith) l in
           let above = is-true (lt f0 t) (lt-over f0 t 0 0 (k .count) 0 unit unit-pos zero-is (k .is) .1
           (some (k .count) unit (P - N) unit-pos (omega arith) (k .least))) in
-          pick (P - N) (lt f0 t) true above k
+          pick t f0 (P - N) (lt f0 t) true above k
         where
           some : (c L A : ℕ) → 0 < L → 0 < A → 2 ^ 54 * (A * L) ≤ 2 ^ 54 * (c * D) + 2 ^ 0 * (D * L) → 0 + 0 < c + 0
           some c L A O P y =
@@ -179,10 +175,6 @@ module _ (D : ℕ) (C : 0 < D) (few : D ≤ 2 ^ 21) where
       x : Near unit t P N D (2 ^ 21) (2 ^ 54)
       x = place-near t P N a
 
-      pick : (A : ℕ) (b c : Bool) → b ≡ c → Sized unit (cond c t f1) false A D (2 ^ 0) (2 ^ 54)
-          → Sized unit (cond b t f1) false A D (2 ^ 0) (2 ^ 54)
-      pick A b c e y = subst (λ (z : Bool). Sized unit (cond z t f1) false A D (2 ^ 0) (2 ^ 54)) (sym e) y
-
       go : (c : Bool) → (T c → N + D ≤ P) → (T (not c) → P < N + D)
           → Sized unit (cond (lt t f1) t f1) false (min (P - N) D) D (2 ^ 0) (2 ^ 54)
       go true lo hi =
@@ -192,7 +184,7 @@ module _ (D : ℕ) (C : 0 < D) (few : D ≤ 2 ^ 21) where
           (omega arith) in
           let above = is-false (lt t f1) (not-T (lt t f1)
           (λ y. never (x .p) (x .n) unit least (lt-over t f1 (x .p) (x .n) unit 0 unit unit-pos (x .is) one-is .0 y))) in
-          pick (min (P - N) D) (lt t f1) false above (subst (λ (z : ℕ). Sized unit f1 false z D (2 ^ 0) (2 ^ 54)) whole one-sized)
+          pick t f1 (min (P - N) D) (lt t f1) false above (subst (λ (z : ℕ). Sized unit f1 false z D (2 ^ 0) (2 ^ 54)) whole one-sized)
         where
           never : (p n L : ℕ) → 1 * L + n ≤ p + 0 * L → p + 0 < L + n → ⊥
           never p n L y z = omega arith
@@ -202,7 +194,7 @@ module _ (D : ℕ) (C : 0 < D) (few : D ≤ 2 ^ 21) where
           let cut : P - N ≡ min (P - N) D = omega arith in
           let below = is-true (lt t f1) (lt-over t f1 (k .count) 0 unit 0 unit unit-pos (k .is) one-is .1
           (less (k .count) unit (P - N) unit-pos (omega arith) (k .most))) in
-          pick (min (P - N) D) (lt t f1) true below (subst (λ (z : ℕ). Sized unit t false z D (2 ^ 0) (2 ^ 54)) cut k)
+          pick t f1 (min (P - N) D) (lt t f1) true below (subst (λ (z : ℕ). Sized unit t false z D (2 ^ 0) (2 ^ 54)) cut k)
         where
           less : (c L A : ℕ) → 0 < L → A < D → 2 ^ 54 * (c * D) ≤ 2 ^ 54 * (A * L) + 2 ^ 0 * (D * L) → c + 0 < L + 0
           less c L A O P y =
