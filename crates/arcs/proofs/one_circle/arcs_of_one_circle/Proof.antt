@@ -2,6 +2,7 @@
 -- tests on its way.
 use borrow.Author.Needs.{needs}
 use Rattle.arcs.specs.OneCircle.{arcsOfOneCircle}
+use Rattle.arcs.specs.Laws.Branches.{branches}
 use Rattle.arcs.proofs.one_circle.arcs_of_one_circle.Statement.{statement}
 use Rattle.arcs.proofs.one_circle.arcs_of_one_circle.Tie as tie
 
@@ -27,16 +28,8 @@ arcs-of-one-circle-spec =
     tie.close
     (tie.spec
     (search needs) (search needs) (search needs)
-    (λ c. let t = c .before in let e = t .before in let d = e .before in let a = d .before .before .before in
-    simp (← a .arc2-ends .ensures, ← d .dist-squared .ensures, ← e .dist-squared2 .ensures, t .if1 .taken)
-    (simp (c .if2 .taken)))
-    (λ c. let t = c .before in let e = t .before in let d = e .before in let a = d .before .before .before in
-    simp (← a .arc2-ends .ensures, ← d .dist-squared .ensures, ← e .dist-squared2 .ensures, t .if1 .taken)
-    (simp (c .if2 .left)))
-    (λ c. let t = c .before .before in let e = t .before in let d = e .before in let a = d .before .before .before in
-    simp (← a .arc2-ends .ensures, ← d .dist-squared .ensures, ← e .dist-squared2 .ensures, t .if1 .left)
-    (simp (c .before .if3 .taken, c .if4 .taken)))
-    (λ c. let t = c .before .before in let e = t .before in let d = e .before in let a = d .before .before .before in
-    simp (← a .arc2-ends .ensures, ← d .dist-squared .ensures, ← e .dist-squared2 .ensures, t .if1 .left)
-    (simp (c .before .if3 .taken, c .if4 .left)))
+    (λ c. simp (← c .before .before .before .before .before .before .arc2-ends .ensures) (search branches depth 8))
+    (λ c. simp (← c .before .before .before .before .before .before .arc2-ends .ensures) (search branches depth 8))
+    (λ c. simp (← c .before .before .before .before .before .before .before .arc2-ends .ensures) (simp (c .if4 .taken) (search branches depth 8)))
+    (λ c. simp (← c .before .before .before .before .before .before .before .arc2-ends .ensures) (simp (c .if4 .left) (search branches depth 8)))
     (search needs) (search needs) (search needs) returns-5)
