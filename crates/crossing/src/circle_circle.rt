@@ -1,9 +1,9 @@
 // Two circles, for any numbers: circle_circle_intersect.rs. The names of its locals are the Rust's.
 ghost use mathlib.Core.Path.{_≡_};
 ghost use Rattle.crossing.specs.CircleCircle;
-ghost use Rattle.crossing.specs.Laws.Apart;
-ghost use Rattle.crossing.specs.Laws.Nested;
 use super::circle_circle_intersect::CircleCircleIntr;
+use super::shortcuts::apart;
+use super::shortcuts::nested;
 use plane::fuzzy::fuzzy_eq_eps;
 use plane::fuzzy::fuzzy_eq_zero_eps;
 use plane::fuzzy::fuzzy_gt_eps;
@@ -58,23 +58,6 @@ fn meeting(
     }
     let h = floats::sqrt(diff);
     two_sides(midpoint, cv, h / d, eps)
-}
-
-// Whether two circles are far apart: `reach` is their radii and epsilon together, and d2 the square of the distance of their
-// centres.
-fn apart(d2: f64, reach: f64, eps: f64) -> bool
-    ensures { λ r. ⌜ r ≡ Apart.apart d2 reach eps ⌝ }
-{
-    ((reach >= 0.0) & (reach >= eps)) & (reach * reach < d2)
-}
-
-// Whether one circle lies well inside the other: `gap` is the difference of their radii, and d2 the square of the distance of their
-// centres.
-fn nested(d2: f64, gap: f64, eps: f64) -> bool
-    ensures { λ r. ⌜ r ≡ Nested.nested d2 gap eps ⌝ }
-{
-    let s = gap - (eps + eps);
-    ((gap >= eps) & (s >= 0.0)) & ((s + eps < gap) & ((d2 >= 0.0) & (d2 < s * s)))
 }
 
 // How two circles meet, for any numbers, by the distance of their centres.

@@ -10,3 +10,4 @@ mod line_line;
 pub mod line_line_intersect;
 mod pline_seg;
 pub mod pline_seg_intersect;
+pub mod shortcuts;

@@ -3,6 +3,7 @@ ghost use mathlib.Core.Path.{_≡_};
 ghost use Rattle.crossing.specs.LineCircle;
 ghost use Rattle.crossing.specs.Laws.FarLine;
 use super::line_circle_intersect::LineCircleIntr;
+use super::shortcuts::moderate;
 use plane::base_math::MinMax;
 use plane::base_math::min_max;
 use plane::base_math::parametric_from_point;
@@ -84,18 +85,6 @@ fn two_points(
         t0: ts.min,
         t1: ts.max,
     }
-}
-
-// What the shortcut of `line_meets` compares with: 2^-100 and 2^100, beyond which nothing is told.
-const TINY: f64 = 1.0 / 1267650600228229401496703205376.0;
-
-const HUGE: f64 = 1267650600228229401496703205376.0;
-
-// Whether x is neither tiny nor huge, and above zero.
-fn moderate(x: f64) -> bool
-    ensures { λ r. ⌜ r ≡ FarLine.moderate x ⌝ }
-{
-    (x >= TINY) & (x <= HUGE)
 }
 
 // Whether a line is far from a circle: a yes says that |c| / sqrt(q) exceeds s. w is a guess of the root that must not be less than

@@ -3,6 +3,7 @@ ghost use mathlib.Core.Path.{_≡_};
 ghost use Rattle.crossing.specs.LineLine;
 ghost use Rattle.crossing.specs.Laws.Within;
 use super::line_line_intersect::LineLineIntr;
+use super::shortcuts::usual;
 use plane::base_math::parametric_from_point;
 use plane::fuzzy::fuzzy_eq_zero_eps;
 use plane::fuzzy::fuzzy_gt_eps;
@@ -16,27 +17,13 @@ pub struct Span {
     pub t1: f64,
 }
 
-// What the shortcut of `within` compares with. A segment is of usual length from 2^-5 to 2^25, which is told by its square, and an
-// epsilon is usual from 2^-40 to 2^-10. Then a parameter is clearly inside up to 31/32, and clearly outside from 33/32 on and down
-// from -1/32.
-const EPS_LEAST: f64 = 1.0 / 1099511627776.0;
-
-const THOUSANDTH: f64 = 1.0 / 1024.0;
-
-const SQUARE_MOST: f64 = 1125899906842624.0;
-
+// What the shortcut of `within` compares with: on a segment of usual length a parameter is clearly inside up to 31/32, and clearly
+// outside from 33/32 on and down from -1/32.
 const BEFORE_END: f64 = 31.0 / 32.0;
 
 const AFTER_END: f64 = 33.0 / 32.0;
 
 const STEP: f64 = 1.0 / 32.0;
-
-// Whether a segment's self dot and epsilon are of usual sizes.
-fn usual(square: f64, eps: f64) -> bool
-    ensures { λ r. ⌜ r ≡ Within.usual square eps ⌝ }
-{
-    ((eps >= EPS_LEAST) & (eps <= THOUSANDTH)) & ((square >= THOUSANDTH) & (square <= SQUARE_MOST))
-}
 
 // Whether t is clearly inside a segment of usual length.
 fn inside(t: f64) -> bool

@@ -1,7 +1,7 @@
 // What a listing keeps of a segment: what a pair would work out again each time.
 ghost use mathlib.Core.Path.{_≡_};
 ghost use Rattle.glance.specs.Kept as keeping;
-use super::sizes::moderate;
+use crossing::shortcuts::moderate;
 use plane::fuzzy::fuzzy_eq_zero;
 use plane::pline_seg::ArcRadiusCenter;
 use plane::pline_seg::seg_arc_radius_and_center;

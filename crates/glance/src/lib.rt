@@ -6,4 +6,3 @@ mod line;
 mod lines;
 mod looked;
 pub mod pair;
-mod sizes;

@@ -2,7 +2,7 @@
 ghost use mathlib.Core.Path.{_≡_};
 ghost use Rattle.glance.specs.Glance;
 use super::kept::Kept;
-use super::sizes::moderate;
+use crossing::shortcuts::moderate;
 use plane::fuzzy::fuzzy_eq_zero;
 use plane::pline_seg::ArcRadiusCenter;
 use plane::vector2::Vector2;

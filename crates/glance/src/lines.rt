@@ -1,7 +1,7 @@
 // Two line segments that are clearly apart.
 ghost use mathlib.Core.Path.{_≡_};
 ghost use Rattle.glance.specs.Glance;
-use super::sizes::usual;
+use crossing::shortcuts::usual;
 use plane::fuzzy::fuzzy_eq_zero_eps;
 use plane::vector2::Vector2;
 
