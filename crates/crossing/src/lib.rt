@@ -1,5 +1,6 @@
 // Where two segments meet: the kernels, a module each, and the pair call over them, as the Rust has them.
-// A call looks at its numbers first and refuses what is out of range. What works on numbers that nobody looked at is private.
+// A call looks at its numbers first and refuses what is out of range. What works out an answer from numbers that nobody looked at is
+// private.
 mod arc_arc;
 mod circle_circle;
 pub mod circle_circle_intersect;
