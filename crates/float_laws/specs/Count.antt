@@ -58,7 +58,7 @@ use lib.Ieee.Fits.{two, down-pos, and-l, and-r, round-is}
 use lib.Ieee.Bits.{ofBits-toBits, is-false, cond-no}
 use lib.Ieee.Order.{drop, kept}
 use lib.Ieee.Scale.{grid, overflow, finite}
-use Rattle.float_laws.specs.Powers.{pow-le-back, size-exact}
+use Rattle.float_laws.specs.Powers.{pow-le-back, size-exact, pred}
 use Rattle.float_laws.specs.Best.{Held}
 
 -- ---- from a sign and a count to the pattern
@@ -89,9 +89,6 @@ count-unique f x y s A p q h k =
 pub bits-at : (f : Format) (w g : ℕ) → hid f ≤ w → w ≤ 2 * hid f → bitsOf f false (w * 2 ^ g) ≡ g * hid f + w
 bits-at f w g lo hi = go (prec f - 1) (pred (prec f) (two f)) lo (eq-or-lt-of-le hi)
   where
-    pred : (p : ℕ) → 2 ≤ p → p ≡ suc (p - 1)
-    pred p h = omega arith
-
     -- v * 2 ^ k with v of o + 1 digits: k of them are dropped
     cut : (p o v k : ℕ) → p ≡ suc o → size (v * 2 ^ k) ≡ suc (o + k)
         → 0 + (size (v * 2 ^ k) - p) * 2 ^ o + v * 2 ^ k / 2 ^ (size (v * 2 ^ k) - p) ≡ k * 2 ^ o + v

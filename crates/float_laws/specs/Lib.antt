@@ -1,5 +1,6 @@
 -- Floor by floor: powers and rounding of whole numbers; a float as a count of its format's units; as a signed fraction, with its order;
 -- each operation as one rounding, and what is known of a rounding; whole numbers, quotients and magnitudes; all this at binary64.
+pub mod Tests
 pub mod Powers
 pub mod Half
 pub mod Best

@@ -22,6 +22,7 @@ use lib.Ieee.Digits.{size-le, size-reaches}
 use lib.Ieee.Fits.{two}
 use lib.Ieee.Order.{drop, kept}
 use lib.Ieee.Scale.{grid}
+use Rattle.float_laws.specs.Powers.{twice}
 use Rattle.float_laws.specs.Half.{Half, closest-half}
 use Rattle.float_laws.specs.Best.{held-pow, grid-le, grid-ge}
 
@@ -65,10 +66,6 @@ round-relative f num den D =
   where
     P : ℕ
     P = 2 ^ prec f
-
-    twice : (f : Format) → 2 ^ prec f ≡ 2 * 2 ^ (prec f - 1)
-    twice binary32 = refl
-    twice binary64 = refl
 
     -- the last place kept is one unit, or at most a 2 ^ (p - 1) th of the fraction
     place : (k : ℕ) → drop (prec f) (num * 2 ^ low f) den ≡ k → P * (2 ^ k * den) ≤ 2 * (num * 2 ^ low f) + P * den

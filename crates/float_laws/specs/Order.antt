@@ -22,16 +22,10 @@ use lib.IntN.{ℤ}
 use lib.Ieee.{Float, nan, inf, fin, up, down, lt, le, eq, below, level}
 use lib.Ieee.Exact.{HasValue}
 use lib.Ieee.Fits.{down-pos, and-i, and-l, and-r, eq→eqb}
+use Rattle.float_laws.specs.Tests.{same-test, either, left-of, right-of}
 use Rattle.float_laws.specs.Signed.{Diff, SizeOf, signed-of, diff-mul}
 
--- ---- tests that agree are equal
-pub same-test : (a b : Bool) → (T a → T b) → (T b → T a) → a ≡ b
-same-test true true p q = refl
-same-test true false p q = absurd (p tt)
-same-test false true p q = absurd (q tt)
-same-test false false p q = refl
-
--- tests on natural numbers, over another denominator
+-- ---- tests on natural numbers, over another denominator
 scaled-lt : (a b c a' b' c' : ℕ) → 0 < c' → a * c' ≡ a' * c → b * c' ≡ b' * c → a < b → a' < b'
 scaled-lt a b c a' b' c' C' p q h =
     let wide : a * c' < b * c' = mul-lt-mul-of-pos-right h C' in
@@ -159,18 +153,6 @@ module _ (x y : Float) (p n c q k d : ℕ) (C : 0 < c) (D : 0 < d) (a : Diff x p
     λ h. go (eq-or-lt-of-le h),
   )
     where
-      either : (a b : Bool) {P : Type 0} → (T a → P) → (T b → P) → T (a || b) → P
-      either true b f g t = f tt
-      either false b f g t = g t
-
-      left-of : (a b : Bool) → T a → T (a || b)
-      left-of true b t = tt
-      left-of false b t = absurd t
-
-      right-of : (a b : Bool) → T b → T (a || b)
-      right-of true b t = tt
-      right-of false b t = t
-
       go : (p * d + k * c ≡ q * c + n * d) ⊎ (p * d + k * c < q * c + n * d) → T (lt x y || eq x y)
       go (inl e) = right-of (lt x y) (eq x y) (eq-diff .1 e)
       go (inr l) = left-of (lt x y) (eq x y) (lt-diff .1 l)

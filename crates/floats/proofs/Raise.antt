@@ -21,6 +21,9 @@ use Rattle.float_laws.specs.Powers.{size-exact}
 use Rattle.floats.specs.Root
 use Rattle.floats.specs.declared.root.Scaled.{Scaled}
 
+pub double : (a b : ℕ) → a * b ≡ 2 ^ 52 → 2 * a * b ≡ 2 ^ 53
+double a b e = omega arith
+
 abbrev pub scaled : ℕ → ℕ → Scaled
 scaled m e = record { m = m; e = e }
 
@@ -75,9 +78,6 @@ stop t m e r h =
     least =
         let wide = le-trans (le-of-eq (split 52 (r .few))) (le-trans h (le-of-eq (r .moved))) in
         le-of-mul-le-mul-right {k = 2 ^ r .k} wide (pow-pos (r .k))
-
-    double : (a b : ℕ) → a * b ≡ 2 ^ 52 → 2 * a * b ≡ 2 ^ 53
-    double a b e = omega arith
 
     next : 2 ^ suc (52 - r .k) * 2 ^ r .k ≡ 2 ^ 53
     next = ap (λ (z : ℕ). z * 2 ^ r .k) (pow-succ' 2 (52 - r .k)) ∙ double (2 ^ (52 - r .k)) (2 ^ r .k) (split 52 (r .few))

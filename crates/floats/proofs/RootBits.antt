@@ -35,7 +35,7 @@ use Rattle.floats.specs.declared.root.Scaled.{Scaled}
 use Rattle.floats.specs.Laws.Isqrt.{IsRoot, isqrt-is, sq-lt}
 use Rattle.floats.specs.Laws.RootAt.{rootAt-val}
 use Rattle.floats.specs.Laws.Root.{rootOf-count}
-use Rattle.floats.proofs.Raise.{scaled}
+use Rattle.floats.proofs.Raise.{double, scaled}
 
 -- ---- a number taken apart: X smallest values are m * 2 ^ (e - 1024), and m has 53 digits
 pub record Parts (X : ℕ) (p : Scaled) : Type 0 where
@@ -55,9 +55,6 @@ raised-parts t P h = go (size t) (size-le t 52 h) (some (size t) (size-lt t)) (s
     some : (d : ℕ) → t < 2 ^ d → 0 < d
     some zero l = absurd (omega arith)
     some (suc d) l = zero-lt-suc d
-
-    double : (a b : ℕ) → a * b ≡ 2 ^ 52 → 2 * a * b ≡ 2 ^ 53
-    double a b e = omega arith
 
     go : (d : ℕ) → d ≤ 52 → 0 < d → ((j : ℕ) → j < d → 2 ^ j ≤ t) → t < 2 ^ d
         → Parts t (record { m = t * 2 ^ (53 - d); e = 1024 - (53 - d) })

@@ -43,6 +43,7 @@ use Rattle.grid.specs.Plane.Keeps.{
 use Rattle.grid.specs.Floats.Small.{Vec, vec-sub, perp}
 use Rattle.grid.specs.Floats.Zero.{Eps}
 use Rattle.grid.specs.Floats.Length.{gap}
+use Rattle.grid.specs.Floats.Span.{Which}
 use Rattle.grid.specs.Floats.Overlap.{Overlapped}
 use Rattle.grid.specs.Floats.Parallel as level
 use Rattle.grid.specs.Floats.Parallel.{IsZero, Placed, PointOn, PointAt, Spanned, point-or-not}
@@ -80,15 +81,11 @@ module _ (a b : ℤ) (P0 N0 P1 N1 D : ℕ) (e : a ≡ diff P0 N0) (f : b ≡ dif
   more-highs = ends (λ (z : ℤ). pos 0 <ℤ z) (λ (P N : ℕ). N < P) above-zero
 
   -- the lower and the upper of the two
-  abbrev Which : ℕ → ℕ → ℕ → ℕ → Type 0
-  Which Pl Nl Ph Nh =
-      ((Pl ≡ P0) × (Nl ≡ N0) × (Ph ≡ P1) × (Nh ≡ N1)) ⊎ ((Pl ≡ P1) × (Nl ≡ N1) × (Ph ≡ P0) × (Nh ≡ N0))
-
-  module _ (Pl Nl Ph Nh : ℕ) (rises : Pl + Nh ≤ Ph + Nl) (which : Which Pl Nl Ph Nh) where
+  module _ (Pl Nl Ph Nh : ℕ) (rises : Pl + Nh ≤ Ph + Nl) (which : Which P0 N0 P1 N1 Pl Nl Ph Nh) where
     low-is : (P0 ≤ N0 + D) ⊎ (P1 ≤ N1 + D) → Pl ≤ Nl + D
     low-is = go which
       where
-        go : Which Pl Nl Ph Nh → (P0 ≤ N0 + D) ⊎ (P1 ≤ N1 + D) → Pl ≤ Nl + D
+        go : Which P0 N0 P1 N1 Pl Nl Ph Nh → (P0 ≤ N0 + D) ⊎ (P1 ≤ N1 + D) → Pl ≤ Nl + D
         go (inl (i, j, k, l)) (inl h) = omega arith
         go (inl (i, j, k, l)) (inr h) = omega arith
         go (inr (i, j, k, l)) (inl h) = omega arith
@@ -97,7 +94,7 @@ module _ (a b : ℤ) (P0 N0 P1 N1 D : ℕ) (e : a ≡ diff P0 N0) (f : b ≡ dif
     high-is : (N0 ≤ P0) ⊎ (N1 ≤ P1) → Nh ≤ Ph
     high-is = go which
       where
-        go : Which Pl Nl Ph Nh → (N0 ≤ P0) ⊎ (N1 ≤ P1) → Nh ≤ Ph
+        go : Which P0 N0 P1 N1 Pl Nl Ph Nh → (N0 ≤ P0) ⊎ (N1 ≤ P1) → Nh ≤ Ph
         go (inl (i, j, k, l)) (inl h) = omega arith
         go (inl (i, j, k, l)) (inr h) = omega arith
         go (inr (i, j, k, l)) (inl h) = omega arith
@@ -106,7 +103,7 @@ module _ (a b : ℤ) (P0 N0 P1 N1 D : ℕ) (e : a ≡ diff P0 N0) (f : b ≡ dif
     more-low-is : (P0 < N0 + D) ⊎ (P1 < N1 + D) → Pl < Nl + D
     more-low-is = go which
       where
-        go : Which Pl Nl Ph Nh → (P0 < N0 + D) ⊎ (P1 < N1 + D) → Pl < Nl + D
+        go : Which P0 N0 P1 N1 Pl Nl Ph Nh → (P0 < N0 + D) ⊎ (P1 < N1 + D) → Pl < Nl + D
         go (inl (i, j, k, l)) (inl h) = omega arith
         go (inl (i, j, k, l)) (inr h) = omega arith
         go (inr (i, j, k, l)) (inl h) = omega arith
@@ -115,7 +112,7 @@ module _ (a b : ℤ) (P0 N0 P1 N1 D : ℕ) (e : a ≡ diff P0 N0) (f : b ≡ dif
     more-high-is : (N0 < P0) ⊎ (N1 < P1) → Nh < Ph
     more-high-is = go which
       where
-        go : Which Pl Nl Ph Nh → (N0 < P0) ⊎ (N1 < P1) → Nh < Ph
+        go : Which P0 N0 P1 N1 Pl Nl Ph Nh → (N0 < P0) ⊎ (N1 < P1) → Nh < Ph
         go (inl (i, j, k, l)) (inl h) = omega arith
         go (inl (i, j, k, l)) (inr h) = omega arith
         go (inr (i, j, k, l)) (inl h) = omega arith
@@ -124,21 +121,21 @@ module _ (a b : ℤ) (P0 N0 P1 N1 D : ℕ) (e : a ≡ diff P0 N0) (f : b ≡ dif
     meet-of : Pl ≤ Nl + D → Nh ≤ Ph → Meet a b D
     meet-of l k = go which
       where
-        go : Which Pl Nl Ph Nh → Meet a b D
+        go : Which P0 N0 P1 N1 Pl Nl Ph Nh → Meet a b D
         go (inl (i, j, m, n)) = (lows .1 (inl (omega arith)), highs .1 (inr (omega arith)))
         go (inr (i, j, m, n)) = (lows .1 (inr (omega arith)), highs .1 (inl (omega arith)))
 
     more-of : Pl < Nl + D → Nh < Ph → MeetMore a b D
     more-of l k = go which
       where
-        go : Which Pl Nl Ph Nh → MeetMore a b D
+        go : Which P0 N0 P1 N1 Pl Nl Ph Nh → MeetMore a b D
         go (inl (i, j, m, n)) = (more-lows .1 (inl (omega arith)), more-highs .1 (inr (omega arith)))
         go (inr (i, j, m, n)) = (more-lows .1 (inr (omega arith)), more-highs .1 (inl (omega arith)))
 
     differ : (a ≡ b → ⊥) → Pl + Nh ≡ Ph + Nl → ⊥
     differ n x = n (e ∙ same P0 N0 P1 N1 .1 (go which) ∙ sym f)
       where
-        go : Which Pl Nl Ph Nh → P0 + N1 ≡ P1 + N0
+        go : Which P0 N0 P1 N1 Pl Nl Ph Nh → P0 + N1 ≡ P1 + N0
         go (inl (i, j, m, o)) = omega arith
         go (inr (i, j, m, o)) = omega arith
 

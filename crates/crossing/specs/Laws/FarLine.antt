@@ -20,6 +20,7 @@ use Rattle.float_laws.specs.Roundings.{rounded-ge, rounded-below, rounded-above
 use Rattle.float_laws.specs.Binary64.{unit, unit-is, unit-pos, Between, between64}
 use Rattle.floats.specs.Ops.{_⊕_, _⊗_, _⊘_, _≺_, _≻_, _≼_, _≽_}
 use Rattle.floats.specs.F64
+use Rattle.floats.specs.Laws.Leaves.{abs-fits}
 use Rattle.floats.specs.Laws.RootPowers.{root64}
 use Rattle.plane.specs.declared.vector2.Vector2.{Vector2}
 use Rattle.crossing.specs.declared.line_circle.Line.{Line}
@@ -118,13 +119,6 @@ module _ (k q w z : Float) (K Q W Z : ℕ)
           omega arith
 
 -- ---- the test
-abs-fits : (x : Float) → T (fits binary64 x) → T (fits binary64 (F64.abs x))
-unfolding fits F64.abs
-abs-fits nan f = tt
-abs-fits (inf s) f = tt
-abs-fits (fin s zero e) f = f
-abs-fits (fin s (suc m) e) f = f
-
 pub far-line : (c k q w z s : Float) → T (fits binary64 c) → T (fits binary64 q) → T (fits binary64 w) → T (fits binary64 z)
     → k ≡ F64.abs c → T (sizes k q w z && orders k q w z s) → (F64.abs c ⊘ F64.sqrt q ≻ s) ≡ true
 far-line c k q w z s c-fits q-fits w-fits z-fits e h =

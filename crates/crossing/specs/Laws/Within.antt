@@ -15,15 +15,16 @@ use lib.Ieee.Exact.{HasValue}
 use lib.Ieee.Fits.{add-fits, mul-fits, neg-fits, and-i, and-l, and-r}
 use lib.Ieee.Order.{round-mono}
 use lib.Ieee.Scale.{finite}
+use Rattle.float_laws.specs.Tests.{either}
 use Rattle.float_laws.specs.Signed.{Diff, own-diff, size-above, neg-diff, diff-finite}
 use Rattle.float_laws.specs.Order.{lt-over, le-over, le-diff}
 use Rattle.float_laws.specs.Chains.{le-not-lt, lt-le, between-finite, from-above, from-below}
 use Rattle.float_laws.specs.Rounded.{Rounded, add-over, add-count, mul-rounded, mul-count}
 use Rattle.float_laws.specs.Roundings.{Near, rounded-le, rounded-ge}
-use Rattle.float_laws.specs.Binary64.{unit, unit-pos, zero-is, units64, near64, Between, between64}
+use Rattle.float_laws.specs.Binary64.{unit, unit-pos, zero-is, zero-finite, units64, near64, Between, between64}
 use Rattle.floats.specs.Ops.{_⊕_, _⊗_, _≼_, _≽_, f0}
 use Rattle.floats.specs.F64
-use Rattle.floats.specs.Laws.Root.{rootOf-fits}
+use Rattle.floats.specs.Laws.RootBeside.{root-fits}
 use Rattle.floats.specs.Laws.Sqrt.{Root}
 use Rattle.floats.specs.Laws.RootPowers.{root64, root-least, root-most}
 use Rattle.plane.specs.Vector2 as vector2
@@ -286,17 +287,13 @@ module _ (e : Float) (E : ℕ) (e-fits : T (fits binary64 e)) (e-value : HasValu
   between-ends : (t : Float) → T (fits binary64 t) → T (le f0 t) → T (le t beforeEnd)
       → T (fuzzyGtEps (t ⊗ len) f0 e) × T (fuzzyLtEps (t ⊗ len) len e)
   between-ends t fit lo hi =
-      let y = between-finite f0 t beforeEnd (diff-finite f0 0 0 unit zero-is) (diff-finite beforeEnd 31 0 32 beforeEnd-is) lo hi in
+      let y = between-finite f0 t beforeEnd zero-finite (diff-finite beforeEnd 31 0 32 beforeEnd-is) lo hi in
       let u = units64 t y fit in
       let l = le-over f0 t 0 0 (u .p) (u .n) unit unit-pos zero-is (u .is) .0 lo in
       let m = le-diff t beforeEnd (u .p) (u .n) unit 31 0 32 unit-pos (lit< tt) (u .is) beforeEnd-is .0 hi in
       (after-start t fit (u .p) (u .n) (u .is) l m, before-end t fit (u .p) (u .n) (u .is) l m)
 
 -- ---- together
-pub either : (a b : Bool) {P : Type 0} → (T a → P) → (T b → P) → T (a || b) → P
-either true b f g t = f tt
-either false b f g t = g t
-
 first-not : (a b : Bool) → T (not a) → (a && b) ≡ false
 first-not true b t = absurd t
 first-not false b t = refl
@@ -304,10 +301,6 @@ first-not false b t = refl
 second-not : (a b : Bool) → T (not b) → (a && b) ≡ false
 second-not true b t = is-false b t
 second-not false b t = refl
-
-sqrt-fits : (x : Float) → T (fits binary64 x) → T (fits binary64 (F64.sqrt x))
-unfolding F64.sqrt
-sqrt-fits x t = rootOf-fits binary64 x t
 
 -- an epsilon of usual size is above zero
 pub eps-between : (square e : Float) → T (fits binary64 e) → T (usual square e) → Between e (2 ^ 40) 1 1024
@@ -355,7 +348,7 @@ module _ (t : Float) (v : Vector2) (e : Float) (t-fits : T (fits binary64 t)) (e
   within-inside h =
       let len = F64.sqrt square in
       let b = between-ends e (e-between .X) e-fits (e-between .value) (e-between .some) (e-between .most) len (root .R)
-      (sqrt-fits square square-fits) (root .value) least most t t-fits
+      (root-fits square square-fits) (root .value) least most t t-fits
       (and-l (t ≽ f0) (t ≼ beforeEnd) h) (and-r (t ≽ f0) (t ≼ beforeEnd) h) in
       is-true _ (and-i (fuzzyGtEps (t ⊗ len) f0 e) (fuzzyLtEps (t ⊗ len) len e) (b .0) (b .1))
 
@@ -370,10 +363,10 @@ module _ (t : Float) (v : Vector2) (e : Float) (t-fits : T (fits binary64 t)) (e
       end y =
           second-not (fuzzyGtEps (t ⊗ len) f0 e) (fuzzyLtEps (t ⊗ len) len e)
           (beyond-end e (e-between .X) e-fits (e-between .value) (e-between .some) (e-between .most) len (root .R)
-          (sqrt-fits square square-fits) (root .value) least most t t-fits y)
+          (root-fits square square-fits) (root .value) least most t t-fits y)
 
       start : T (t ≼ neg step) → (fuzzyGtEps (t ⊗ len) f0 e && fuzzyLtEps (t ⊗ len) len e) ≡ false
       start y =
           first-not (fuzzyGtEps (t ⊗ len) f0 e) (fuzzyLtEps (t ⊗ len) len e)
           (before-start e (e-between .X) e-fits (e-between .value) (e-between .some) (e-between .most) len (root .R)
-          (sqrt-fits square square-fits) (root .value) least most t t-fits y)
+          (root-fits square square-fits) (root .value) least most t t-fits y)

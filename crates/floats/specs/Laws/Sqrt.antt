@@ -38,6 +38,7 @@ use lib.Ieee.{Float, nan, inf, fin, Format, binary32, binary64, prec, low, up, d
 use lib.Ieee.Digits.{back, size-lt, size-reaches}
 use lib.Ieee.Exact.{HasValue}
 use lib.Ieee.Fits.{two, up-pos}
+use Rattle.float_laws.specs.Powers.{pred, twice}
 use Rattle.float_laws.specs.Best.{Held, held-pow}
 use Rattle.float_laws.specs.Count.{counted, held-of}
 use Rattle.float_laws.specs.Signed.{own-diff, diff-same}
@@ -77,9 +78,6 @@ placed p R P h l = go (leb (size R) p) (leb→le (size R) p) (nleb→lt (size R)
     -- all its digits fit
     small : size R ≤ p → Placed p R
     small g = record { w = R; j = 0; is = sym (mul-one R); least = l; few = lt-of-lt-of-le (size-lt R) (pow-mono g) }
-
-    pred : (p : ℕ) → 2 ≤ p → p ≡ suc (p - 1)
-    pred p h = omega arith
 
     -- its last place is that of the digits beyond p
     large : p < size R → Placed p R
@@ -174,10 +172,6 @@ module _ (f : Format) (X : ℕ) (some : 0 < X) (r : Float) (fit : T (fits f r)) 
       room : (f : Format) → prec f - 1 + (prec f - 1) ≤ low f
       room binary32 = lit≤ tt
       room binary64 = lit≤ tt
-
-  twice : (f : Format) → 2 ^ prec f ≡ 2 * 2 ^ (prec f - 1)
-  twice binary32 = refl
-  twice binary64 = refl
 
   near-at : (2 ^ prec f * 2 ^ prec f * (X * 2 ^ low f) ≤ h .R * h .R * ((2 ^ prec f + 1) * (2 ^ prec f + 1)))
       × (2 ^ prec f * 2 ^ prec f * (h .R * h .R) ≤ X * 2 ^ low f * ((2 ^ prec f + 2) * (2 ^ prec f + 2)))

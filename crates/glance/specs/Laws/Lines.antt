@@ -12,6 +12,7 @@ use lib.Ieee.{Float, nan, inf, fin, binary64, ofBits, fits, neg, lt, le, eq, mul
 use lib.Ieee.Bits.{ofBits-fits, is-true}
 use lib.Ieee.Exact.{HasValue}
 use lib.Ieee.Fits.{sub-fits, div-fits, neg-fits, and-l, and-r}
+use Rattle.float_laws.specs.Tests.{either, left-of, right-of}
 use Rattle.float_laws.specs.Signed.{Diff, own-diff, neg-diff, signed-of, ups, downs}
 use Rattle.float_laws.specs.Order.{lt-over}
 use Rattle.float_laws.specs.Rounded.{Rounded, mul-rounded, div-rounded, signed-by}
@@ -31,7 +32,6 @@ use Rattle.crossing.specs.Laws.Within.{
   step,
   afterEnd-is,
   step-is,
-  either,
   eps-between,
   within-outside,
 }
@@ -43,14 +43,6 @@ use Rattle.glance.specs.Glance.{beforeStart, quotientOutside, crossesOut
 beforeStart-is : Diff beforeStart 0 1 32
 unfolding ofBits
 beforeStart-is = omega arith
-
-left : (a b : Bool) → T a → T (a || b)
-left true b t = tt
-left false b t = absurd t
-
-right : (a b : Bool) → T b → T (a || b)
-right true b t = tt
-right false b t = t
 
 -- ---- n of X units and the sign s, d of Y units and the sign t
 module _ (n d : Float) (s t : Bool) (X Y : ℕ) (n-fits : T (fits binary64 n)) (n-value : HasValue n s X unit)
@@ -116,10 +108,10 @@ module _ (n d : Float) (s t : Bool) (X Y : ℕ) (n-fits : T (fits binary64 n)) (
       plain false false e X Y L h = absurd (true≢false (sym e))
 
   end : 33 * Y < X * 32 → s ≡ t → T (outside (n ⊘ d))
-  end h e = left (n ⊘ d ≽ afterEnd) (n ⊘ d ≼ neg step) (at-least e h)
+  end h e = left-of (n ⊘ d ≽ afterEnd) (n ⊘ d ≼ neg step) (at-least e h)
 
   start : 1 * Y < X * 32 → s ≡ not t → T (outside (n ⊘ d))
-  start h e = right (n ⊘ d ≽ afterEnd) (n ⊘ d ≼ neg step) (at-most e h)
+  start h e = right-of (n ⊘ d ≽ afterEnd) (n ⊘ d ≼ neg step) (at-most e h)
 
   -- beyond both limits, or before both
   beyond : T (n ≻ d ⊗ afterEnd) → T (n ≻ d ⊗ beforeStart) → T (outside (n ⊘ d))

@@ -27,7 +27,7 @@ use Rattle.checks.specs.Laws.Fine.{Between, epsilon-fine}
 use Rattle.checks.specs.Laws.Inside.{inside, of-coordinate, of-bulge}
 use Rattle.checks.specs.Laws.Later.{fine-left, fine-right, later-fine}
 use Rattle.crossing.specs.PlineSegIntersect as pair
-use Rattle.crossing.specs.Laws.Within.{either}
+use Rattle.float_laws.specs.Tests.{either}
 use Rattle.glance.specs.Looked.{pointFine, segmentFine, epsilonFine, pairFine}
 
 -- ---- what is fine as a chain is fine as a list

@@ -23,7 +23,7 @@ use Rattle.crossing.specs.declared.line_line_intersect.LineLineIntr.{LineLineIn
 use Rattle.crossing.specs.declared.line_line_intersect.LineLineIntr.the-variants.{TrueIntersect, FalseIntersect}
 use Rattle.grid.specs.Floats.Small.{Small, Vec, vec-sub, perp, dots}
 use Rattle.grid.specs.Floats.Zero.{Eps, near-zero}
-use Rattle.grid.specs.Floats.Length.{gap, gap-square, Long, long}
+use Rattle.grid.specs.Floats.Length.{gap, gap-square, Long, long, level}
 use Rattle.grid.specs.Floats.Reach.{Reaches}
 use Rattle.grid.specs.Floats.Range.{within-yes, within-says}
 use Rattle.grid.specs.Floats.Ratio.{Ratio, ratio}
@@ -47,9 +47,6 @@ no-point x y e = (root x (omega arith), root y (omega arith))
 positive : (k : ℕ) → (k ≡ 0 → ⊥) → 0 < k
 positive zero h = absurd (h refl)
 positive (suc k) h = zero-lt-suc k
-
-level : (p n : ℕ) → gap p n ≡ 0 → p ≡ n
-level p n e = omega arith
 
 module _ (v u : Vector2) (A : Vec 21 v) (B : Vec 21 u) (h : perp v u A B .p ≡ perp v u A B .n → ⊥) where
   pub long-first : 0 < square v A

@@ -24,6 +24,9 @@ use Rattle.grid.specs.Floats.Small.{Vec, dots}
 abbrev pub gap : ℕ → ℕ → ℕ
 gap p n = (p - n) + (n - p)
 
+pub level : (p n : ℕ) → gap p n ≡ 0 → p ≡ n
+level p n e = omega arith
+
 pub gap-square : (p n : ℕ) → gap p n * gap p n + (p * n + n * p) ≡ p * p + n * n
 gap-square p n = go (leb n p) (leb→le n p) (nleb→lt n p)
   where

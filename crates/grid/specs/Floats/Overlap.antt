@@ -12,7 +12,7 @@ use lib.Dec.{T, leb, leb→le, le→leb, nleb→lt, eqb, eqb→eq, not-T, T-not}
 use lib.Ieee.Fits.{eq→eqb}
 use lib.Ieee.{Float}
 use lib.Ieee.Bits.{is-true, is-false}
-use Rattle.float_laws.specs.Order.{same-test}
+use Rattle.float_laws.specs.Tests.{same-test}
 use Rattle.float_laws.specs.Roundings.{Sized}
 use Rattle.float_laws.specs.Binary64.{unit}
 use Rattle.floats.specs.Ops.{_⊖_, _⊗_, f0, f1}

@@ -26,20 +26,17 @@ use Rattle.crossing.specs.declared.line_line_intersect.LineLineIntr.{LineLineIn
 use Rattle.crossing.specs.declared.line_line_intersect.LineLineIntr.the-variants.{NoIntersect, TrueIntersect}
 use Rattle.grid.specs.Floats.Small.{Small, Vec, vec-sub, small-sub, perp}
 use Rattle.grid.specs.Floats.Zero.{Eps, near-zero, near-point}
-use Rattle.grid.specs.Floats.Length.{gap, Long, long}
+use Rattle.grid.specs.Floats.Length.{gap, Long, long, level}
 use Rattle.grid.specs.Floats.Reach.{on-axis}
 use Rattle.grid.specs.Floats.Range.{within-yes, within-says}
 use Rattle.grid.specs.Floats.Ratio.{ratio}
 use Rattle.grid.specs.Floats.Crossing.{square, square-is, Inside}
-use Rattle.grid.specs.Floats.Span.{Place, risen}
+use Rattle.grid.specs.Floats.Span.{Place, risen, Which}
 use Rattle.grid.specs.Floats.Overlap.{Overlapped, overlap-says}
 
 -- ---- a vector that is a point, and one that is not
 abbrev pub IsZero : (v : Vector2) → Vec 21 v → Type 0
 IsZero v A = (A .x .p ≡ A .x .n) × (A .y .p ≡ A .y .n)
-
-level : (p n : ℕ) → gap p n ≡ 0 → p ≡ n
-level p n e = omega arith
 
 pub some-square : (v : Vector2) (A : Vec 21 v) → (IsZero v A → ⊥) → 0 < square v A
 some-square v A h = go (gap (A .x .p) (A .x .n)) (gap (A .y .p) (A .y .n)) (λ x y. h (level _ _ x, level _ _ y))
@@ -221,7 +218,7 @@ pub record Spanned (r : LineLineIntr) (xp xn zp zn dp dn : ℕ) : Type 0 where
   pub Ph : ℕ
   pub Nh : ℕ
   pub rises : Pl + Nh ≤ Ph + Nl
-  pub which : ((Pl ≡ P0) × (Nl ≡ N0) × (Ph ≡ P1) × (Nh ≡ N1)) ⊎ ((Pl ≡ P1) × (Nl ≡ N1) × (Ph ≡ P0) × (Nh ≡ N0))
+  pub which : Which P0 N0 P1 N1 Pl Nl Ph Nh
   pub answer : Overlapped r Pl Nl Ph Nh (gap dp dn)
 
 module _ (e : Float) (num den : ℕ) (h : Eps e num den) (v1 u1 u2 w w2 u : Vector2)

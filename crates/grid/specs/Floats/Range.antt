@@ -108,6 +108,10 @@ beyond : (A D a b L R E T S num den : ℕ) → 0 < D → 0 < L → 0 < den → A
 beyond A D a b L R E T S num den P Q Z e h k most least near same =
     by-epsilon a S L E D num den Q Z same (squares a R E D S L (far A D a b L R E T P e h k most least) near)
 
+-- a bound of one unit less
+cut : (A W L : ℕ) → 0 < L → 2 ^ 54 * (A * L) ≤ 2 ^ 54 * (W * L) + 2 ^ 23 * (L * L) → 2 ^ 54 * A ≤ 2 ^ 54 * W + 2 ^ 23 * L
+cut A W L Q x = le-of-mul-le-mul-right {m = 2 ^ 54 * A} {n = 2 ^ 54 * W + 2 ^ 23 * L} {k = L} (omega arith) Q
+
 -- a product of at most 2 ^ 44 and 2 ^ 22
 size : (p n L R : ℕ) → p ≤ n + 2 ^ 44 * L → R ≤ 2 ^ 22 * L → p * R + n * 0 ≤ p * 0 + n * R + 2 ^ 66 * (L * L)
 size p n L R x y = omega (arith, mul-le-mul-right R x, mul-le-mul-left L y)
@@ -171,15 +175,9 @@ module _ (e : Float) (num den : ℕ) (h : Eps e num den)
 
   w-least : 2 ^ 54 * (g .R + eu .E) ≤ 2 ^ 54 * w-size .count + 2 ^ 23 * unit
   w-least = cut (g .R + eu .E) (w-size .count) unit unit-pos (w-size .least)
-    where
-      cut : (A W L : ℕ) → 0 < L → 2 ^ 54 * (A * L) ≤ 2 ^ 54 * (W * L) + 2 ^ 23 * (L * L) → 2 ^ 54 * A ≤ 2 ^ 54 * W + 2 ^ 23 * L
-      cut A W L Q x = le-of-mul-le-mul-right {m = 2 ^ 54 * A} {n = 2 ^ 54 * W + 2 ^ 23 * L} {k = L} (omega arith) Q
 
   w-most : 2 ^ 54 * w-size .count ≤ 2 ^ 54 * (g .R + eu .E) + 2 ^ 23 * unit
   w-most = cut (w-size .count) (g .R + eu .E) unit unit-pos (w-size .most)
-    where
-      cut : (W A L : ℕ) → 0 < L → 2 ^ 54 * (W * L) ≤ 2 ^ 54 * (A * L) + 2 ^ 23 * (L * L) → 2 ^ 54 * W ≤ 2 ^ 54 * A + 2 ^ 23 * L
-      cut W A L Q x = le-of-mul-le-mul-right {m = 2 ^ 54 * W} {n = 2 ^ 54 * A + 2 ^ 23 * L} {k = L} (omega arith) Q
 
   w-fits : T (fits binary64 (len ⊕ e))
   w-fits = add-fits binary64 len e

@@ -31,6 +31,11 @@ one-is : Diff f1 unit 0 unit
 unfolding ofBits
 one-is = omega arith
 
+-- of two parameters the one is the lower and the other the upper
+abbrev pub Which : ℕ → ℕ → ℕ → ℕ → ℕ → ℕ → ℕ → ℕ → Type 0
+Which P0 N0 P1 N1 Pl Nl Ph Nh =
+    ((Pl ≡ P0) × (Nl ≡ N0) × (Ph ≡ P1) × (Nh ≡ N1)) ⊎ ((Pl ≡ P1) × (Nl ≡ N1) × (Ph ≡ P0) × (Nh ≡ N0))
+
 not-less : (p q : ℕ) → (q < p → ⊥) → p ≤ q
 not-less p q h = le-of-suc-le-suc (lt-of-not-le h)
 
@@ -79,7 +84,7 @@ module _ (D : ℕ) (C : 0 < D) (few : D ≤ 2 ^ 21) where
     pub lower : Place (s .t0) Pl Nl D
     pub upper : Place (s .t1) Ph Nh D
     pub rises : Pl + Nh ≤ Ph + Nl
-    pub which : ((Pl ≡ P0) × (Nl ≡ N0) × (Ph ≡ P1) × (Nh ≡ N1)) ⊎ ((Pl ≡ P1) × (Nl ≡ N1) × (Ph ≡ P0) × (Nh ≡ N0))
+    pub which : Which P0 N0 P1 N1 Pl Nl Ph Nh
 
   pub risen : (a b : Float) (P0 N0 P1 N1 : ℕ) → Place a P0 N0 D → Place b P1 N1 D → Risen (rising a b) P0 N0 P1 N1
   unfolding rising

@@ -8,7 +8,7 @@ use lib.Dec.{T, eqb, eqb→eq}
 use lib.Ieee.{Float, binary64, fits, lt}
 use lib.Ieee.Fits.{eq→eqb}
 use Rattle.float_laws.specs.Signed.{Diff}
-use Rattle.float_laws.specs.Order.{same-test}
+use Rattle.float_laws.specs.Tests.{same-test}
 use Rattle.floats.specs.Ops.{_⊖_}
 use Rattle.floats.specs.F64
 use Rattle.floats.specs.Laws.Leaves.{abs-lt}

@@ -9,16 +9,11 @@ use lib.Dec.{T}
 use lib.IntN.{ℤ}
 use lib.Ieee.{Float, nan, inf, fin, up, down, neg, lt}
 use lib.Ieee.Fits.{down-pos, and-i, and-l, and-r}
+use Rattle.float_laws.specs.Tests.{same-test}
 use Rattle.float_laws.specs.Signed.{ups, downs}
 use Rattle.float_laws.specs.Order.{lt-diff}
 use Rattle.float_laws.specs.Chains.{written-diff}
 use Rattle.floats.specs.F64
-
-same : (a b : Bool) → (T a → T b) → (T b → T a) → a ≡ b
-same true true f g = refl
-same false false f g = refl
-same true false f g = absurd (f tt)
-same false true f g = absurd (g tt)
 
 -- of two sizes, M / c and N / d, with signs
 sizes : (s t : Bool) (M c N d : ℕ)
@@ -41,7 +36,7 @@ finite-below s m e t n d =
     let both = sizes s t (m * up e) (down e) (n * up d) (down d) in
     let a = lt (fin s m e) (fin t n d) in
     let b = lt (fin (not t) n d) (fin s m e) in
-    same (lt (fin false m e) (fin t n d)) (a && b)
+    same-test (lt (fin false m e) (fin t n d)) (a && b)
     (λ h. and-i a b (below .1 (both .0 (size .0 h) .0)) (above .1 (both .0 (size .0 h) .1)))
     (λ h. size .1 (both .1 (below .0 (and-l a b h), above .0 (and-r a b h))))
 
