@@ -17,7 +17,7 @@ use native.Mathlib.Nat.{
 }
 use native.Mathlib.Omega.{arith}
 use lib.Pow.{pow-add, pow-pos, pow-mono}
-use lib.Ieee.{Format, binary32, binary64, prec, low, size}
+use lib.Ieee.{Format, prec, low, size}
 use lib.Ieee.Digits.{size-le, size-reaches}
 use lib.Ieee.Fits.{two}
 use lib.Ieee.Order.{drop, kept}

@@ -3,8 +3,8 @@ use mathlib.Core.Path.{_≡_, refl, sym, ap, _∙_, subst}
 use Prim.Native.Nat.{ℕ, zero, suc, _+_, _-_, _*_, _/_, _^_, _≤_, _<_}
 use native.Mathlib.Nat.{mul-pos, zero-mul, zero-lt-suc}
 use native.Mathlib.Omega.{arith}
-use mathlib.Core.Bool.{Bool, true, false, not, _||_, _&&_, Bool·beq, true≢false, false≢true}
-use lib.IntN.{ℤ, pos}
+use mathlib.Core.Bool.{Bool, true, false, not, _||_, Bool·beq, true≢false, false≢true}
+use lib.IntN.{pos}
 use lib.Dec.{T, eqb, leb, leb→le, nleb→lt, eqb→eq}
 use lib.Ieee.{
   Float,

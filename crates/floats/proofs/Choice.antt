@@ -1,6 +1,6 @@
 -- The three ends of `min` and `max`: the second operand is a NaN, the test picks the first, or it does not. The test, `first`, is
 -- one that no NaN passes.
-use mathlib.Core.Path.{_≡_, refl, sym, ap, _∙_, subst}
+use mathlib.Core.Path.{_≡_, refl, sym, _∙_, subst}
 use mathlib.Core.Bool.{Bool, true, false, cond, true≢false}
 use lib.Dec.{T}
 use lib.Ieee.{Float, nan, inf, fin, isNan, lt, ne}

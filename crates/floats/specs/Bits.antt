@@ -2,7 +2,7 @@
 -- A reader believes this file. Agree.antt proves that the value of each answer is what F64.antt says of the operands' values.
 use Prim.Native.Nat.{ℕ, _%_, _^_}
 use mathlib.Core.Bool.{Bool, cond}
-use lib.Ieee.{binary64, isNan, nanBits, ofBits, toBits, lt}
+use lib.Ieee.{binary64, nanBits, ofBits, toBits, lt}
 use Rattle.floats.specs.F64
 
 -- the one NaN that is answered: 7FF8000000000000

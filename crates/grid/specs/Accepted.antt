@@ -20,7 +20,6 @@ use Rattle.plane.specs.declared.pline_vertex.PlineVertex.{PlineVertex}
 use Rattle.checks.specs.declared.fault.Checked.{Checked}
 use Rattle.checks.specs.declared.fault.Checked.the-variants.{Fine}
 use Rattle.checks.specs.Arc.{arcChord}
-use Rattle.checks.specs.Each
 use Rattle.checks.specs.Edges.{powers}
 use Rattle.checks.specs.FirstFault.{AllFine, none, one, first-fine}
 use Rattle.checks.specs.Limit

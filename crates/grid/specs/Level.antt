@@ -23,7 +23,7 @@ use Rattle.grid.specs.Plane.Sides.{way, across, first, second, across-pa
 use Rattle.grid.specs.Plane.Cross.{Between}
 use Rattle.grid.specs.Plane.Points.{Collinear}
 use Rattle.grid.specs.Plane.Spots.{Same, flip}
-use Rattle.grid.specs.Plane.Spans.{Meet, MeetMore, size, mark}
+use Rattle.grid.specs.Plane.Spans.{Meet, MeetMore}
 use Rattle.grid.specs.Plane.Overlap.{apart-on-axis, collinear-flipped}
 use Rattle.grid.specs.Plane.Parts.{between-parts, least, most, above-zero, below-size}
 use Rattle.grid.specs.Plane.Keeps.{

@@ -15,10 +15,9 @@ use Rattle.crossing.specs.PlineSegIntersect.{plineSegIntr}
 use Rattle.arcs.specs.declared.pline_seg_intr.PlineSegIntr.{PlineSegIntr}
 use Rattle.arcs.specs.declared.pline_seg_intr.PlineSegIntr.the-variants.{NoIntersect, OneIntersect, OverlappingLines}
 use Rattle.crossing.specs.declared.pline_seg_intersect.PlineSegAnswer.the-variants.{Met}
-use Rattle.paths.specs.declared.path.Segment.{Segment}
 use Rattle.paths.specs.Segments.{segmentFrom, segmentCount}
 use Rattle.listings.specs.declared.answer.ListingAnswer.the-variants.{Listed}
-use Rattle.listings.specs.Listing.{Outcome, mutualListing}
+use Rattle.listings.specs.Listing.{mutualListing}
 use Rattle.listings.specs.HasRow.{HasRow}
 
 -- ---- numbers. ℤ has the whole numbers with a sign: `pos n` is n, `natAbs` the size. The float x is a / c: a finite float is

@@ -23,7 +23,6 @@ use Rattle.arcs.specs.declared.pline_seg_intr.PlineSegIntr.the-variants.{
   OverlappingLines,
   OverlappingArcs,
 }
-use Rattle.paths.specs.declared.path.Segment.{Segment}
 use Rattle.paths.specs.Segments.{segmentFrom}
 use Rattle.listings.specs.Complete.{complete}
 use Rattle.grid.specs.Promise.{Spot, On, Epsilon, Kept, Promise, ListingPromise}

@@ -1,7 +1,6 @@
 -- The circle of an arc, worked out once for all its pairs.
-use mathlib.Core.Path.{_≡_, sym, _∙_}
-use mathlib.Core.Bool.{Bool, true, false, cond, true≢false}
-use lib.Ieee.{Float}
+use mathlib.Core.Path.{_≡_, _∙_}
+use mathlib.Core.Bool.{false, cond}
 use Rattle.floats.specs.Ops.{f0}
 use Rattle.plane.specs.PlineSeg.{segArcRadiusAndCenter}
 use Rattle.plane.specs.PlineVertex.{bulgeIsZero}

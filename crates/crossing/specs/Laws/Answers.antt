@@ -1,6 +1,6 @@
 -- The class and the points tell answers of the pair call apart: an answer can be made again from them.
 use Prim.Native.Nat.{ℕ}
-use mathlib.Core.Path.{_≡_, refl, sym, _∙_}
+use mathlib.Core.Path.{_≡_, refl}
 use mathlib.Core.Bool.{cond}
 use lib.Dec.{eqb}
 use Rattle.plane.specs.declared.vector2.Vector2.{Vector2}

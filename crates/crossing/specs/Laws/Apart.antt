@@ -1,19 +1,19 @@
 -- Two circles that are far apart, by the square of the distance of their centres: where `reach`, the radii and epsilon together, is at
 -- least epsilon and not below zero, and its square is below that of the distance, the root is at least `reach` (floats, Laws/RootBeside).
 -- So the distance is neither near zero nor below `reach`, and the answer is that they do not meet.
-use mathlib.Core.Path.{_≡_, refl, sym, ap, _∙_, subst}
-use mathlib.Core.Bool.{Bool, true, false, not, cond, _&&_, _||_}
+use mathlib.Core.Path.{_≡_, ap, _∙_}
+use mathlib.Core.Bool.{Bool, false, not, cond, _&&_, _||_}
 use lib.Dec.{T, not-T}
-use lib.Ieee.{Float, binary64, fits, lt, le}
+use lib.Ieee.{Float, binary64, le}
 use lib.Ieee.Bits.{is-false}
 use lib.Ieee.Fits.{add-fits, and-l, and-r}
 use Rattle.float_laws.specs.Chains.{not-both, le-not-lt, lt-le}
 use Rattle.floats.specs.Ops.{_⊕_, _⊖_, _⊗_, _≺_, _≽_, f0}
 use Rattle.floats.specs.F64
-use Rattle.floats.specs.Laws.RootBeside.{Beyond, root-beyond}
+use Rattle.floats.specs.Laws.RootBeside.{root-beyond}
 use Rattle.plane.specs.Vector2 as vector2
 use Rattle.plane.specs.declared.vector2.Vector2.{Vector2}
-use Rattle.plane.specs.Fuzzy.{fuzzyEqZeroEps, fuzzyGtEps, fuzzyLtEps}
+use Rattle.plane.specs.Fuzzy.{fuzzyEqZeroEps, fuzzyGtEps}
 use Rattle.crossing.specs.declared.circle_circle_intersect.CircleCircleIntr.{CircleCircleIntr}
 use Rattle.crossing.specs.declared.circle_circle_intersect.CircleCircleIntr.the-variants.{NoIntersect}
 use Rattle.crossing.specs.CircleCircle.{circleCircle, sameCenter, meeting}

@@ -1,13 +1,13 @@
 -- A line far from a circle, without the root: c is the line's constant, q the square by whose root it is divided, s the radius and
 -- epsilon together. w and z are guesses that the test itself proves good: w is no less than the root, since its square is above q,
 -- and z is above s. If z * w is still below |c|, then |c| / root is at least z. Nothing here asks how w and z were found.
-use mathlib.Core.Path.{_≡_, refl, sym, _∙_, subst}
-use Prim.Native.Nat.{ℕ, zero, suc, _+_, _*_, _^_, _≤_, _<_}
-use native.Mathlib.Nat.{mul-pos, mul-le-mul-left, mul-le-mul-right, le-trans, le-of-lt, lt-of-mul-lt-mul-right}
+use mathlib.Core.Path.{_≡_, refl, sym, subst}
+use Prim.Native.Nat.{ℕ, _+_, _*_, _^_, _≤_, _<_}
+use native.Mathlib.Nat.{mul-pos, mul-le-mul-left, mul-le-mul-right, le-of-lt}
 use native.Mathlib.Omega.{arith}
-use mathlib.Core.Bool.{Bool, true, false, not, _&&_}
+use mathlib.Core.Bool.{Bool, true, false, _&&_}
 use lib.Dec.{T, lit<}
-use lib.Ieee.{Float, nan, inf, fin, binary64, low, ofBits, fits, lt, le}
+use lib.Ieee.{Float, binary64, ofBits, fits, le}
 use lib.Ieee.Bits.{is-true}
 use lib.Ieee.Exact.{HasValue}
 use lib.Ieee.Fits.{and-l, and-r}
@@ -15,7 +15,7 @@ use Rattle.float_laws.specs.Best.{Held}
 use Rattle.float_laws.specs.Count.{held-of}
 use Rattle.float_laws.specs.Signed.{Diff, own-diff}
 use Rattle.float_laws.specs.Chains.{lt-le}
-use Rattle.float_laws.specs.Rounded.{Rounded, mul-rounded, div-rounded}
+use Rattle.float_laws.specs.Rounded.{mul-rounded, div-rounded}
 use Rattle.float_laws.specs.Roundings.{rounded-ge, rounded-below, rounded-above}
 use Rattle.float_laws.specs.Binary64.{unit, unit-is, unit-pos, Between, between64}
 use Rattle.floats.specs.Ops.{_⊕_, _⊗_, _⊘_, _≺_, _≻_, _≼_, _≽_}

@@ -2,7 +2,7 @@
 -- radii, and s is less than it by twice epsilon: where the square of s is above that of the distance, the distance is at most s (floats,
 -- Laws/RootBeside). Then the distance and epsilon together are at most `gap`, since s and epsilon are below it: no rounding crosses
 -- the float `gap`. So the circles do not meet, be their centres near each other or not.
-use mathlib.Core.Path.{_≡_, refl, sym, ap, _∙_, subst}
+use mathlib.Core.Path.{_≡_, refl}
 use Prim.Native.Nat.{ℕ, _+_, _*_, _≤_, _<_}
 use native.Mathlib.Nat.{mul-le-mul-right}
 use native.Mathlib.Omega.{arith}

@@ -1,9 +1,9 @@
 -- What `pick` answers, by which of its operands are NaNs, and what a comparison that says yes tells of them.
-use mathlib.Core.Path.{_≡_, refl, sym, ap, _∙_, subst}
-use mathlib.Core.Bool.{Bool, true, false, not, cond, _&&_, false≢true, true≢false}
-use Prim.Native.Nat.{ℕ, _+_, _*_, _≤_, _<_}
-use native.Mathlib.Nat.{not-le-of-lt, le-of-lt, lt-irrefl, lt-trans}
-use lib.Dec.{T, ltb, ltb→lt, not-T}
+use mathlib.Core.Path.{_≡_, refl, sym, ap, subst}
+use mathlib.Core.Bool.{Bool, true, false, not, cond, false≢true}
+use Prim.Native.Nat.{ℕ, _*_}
+use native.Mathlib.Nat.{le-of-lt}
+use lib.Dec.{T, ltb, ltb→lt}
 use lib.Arith.{le→nltb}
 use lib.Ieee.{Float, nan, inf, fin, binary64, up, down, nanBits, isNan, lt, below}
 use lib.Ieee.Bits.{is-false}

@@ -2,32 +2,12 @@
 -- digits hold none is nearer or as near.
 -- A tie would be a count M, halfway between two values, whose square is X * 2 ^ low. But the digits of X are few, so those of its
 -- root are few too: M itself would be held, and it would be nearer than both.
-use mathlib.Core.Path.{_≡_, refl, sym, ap, _∙_, subst}
+use mathlib.Core.Path.{_≡_, sym, ap, _∙_, subst}
 use mathlib.Core.Logic.{_⊎_, inl, inr}
 use Prim.Native.Nat.{ℕ, zero, suc, _+_, _-_, _*_, _/_, _%_, _^_, _≤_, _<_}
-use native.Mathlib.Nat.{
-  mul-pos,
-  mul-one,
-  zero-mul,
-  mul-assoc,
-  mul-right-comm,
-  mul-div-cancel,
-  mul-le-mul,
-  mul-le-mul-right,
-  mul-lt-mul-of-pos-right,
-  le-of-mul-le-mul-right,
-  le-refl,
-  le-trans,
-  le-of-eq,
-  le-of-lt,
-  lt-of-le-of-lt,
-  lt-of-lt-of-le,
-  eq-or-lt-of-le,
-  pow-succ',
-}
+use native.Mathlib.Nat.{mul-pos, mul-one, zero-mul, mul-assoc, mul-right-comm, mul-div-cancel, mul-le-mul, mul-le-mul-right, mul-lt-mul-of-pos-right, le-of-mul-le-mul-right, le-trans, le-of-eq, le-of-lt, lt-of-le-of-lt, lt-of-lt-of-le, eq-or-lt-of-le, pow-succ'}
 use native.Mathlib.Omega.{arith}
 use mathlib.Core.Bool.{Bool, true, false, cond, true≢false}
-use lib.IntN.{ℤ}
 use lib.Dec.{T, eqb, eqb→eq}
 use lib.Pow.{pow-add, pow-pos, pow-mono, pow-lt}
 use lib.Ieee.{Float, nan, inf, fin, Format, binary32, binary64, prec, emax, low, up, down, fits, round}

@@ -2,15 +2,15 @@
 -- where it is above x, at most s. No margin is needed: a product that rounds to less than the float x is less than x, and a root is not
 -- rounded across the float s.
 use mathlib.Core.Path.{_≡_, refl, sym, ap, subst}
-use Prim.Native.Nat.{ℕ, zero, suc, _+_, _-_, _*_, _^_, _≤_, _<_}
+use Prim.Native.Nat.{ℕ, zero, suc, _+_, _-_, _*_, _≤_, _<_}
 use native.Mathlib.Nat.{mul-pos, lt-of-mul-lt-mul-right, zero-lt-suc, eq-or-lt-of-le}
 use native.Mathlib.Omega.{arith}
 use mathlib.Core.Bool.{Bool, true, false}
 use mathlib.Core.Logic.{_⊎_, inl, inr}
 use lib.Dec.{T}
-use lib.Ieee.{Float, nan, inf, fin, binary64, low, up, down, fits, lt, le, mul}
+use lib.Ieee.{Float, nan, inf, fin, binary64, up, down, fits, le, mul}
 use lib.Ieee.Exact.{HasValue}
-use lib.Ieee.Fits.{mul-fits, up-pos}
+use lib.Ieee.Fits.{up-pos}
 use lib.Ieee.Scale.{finite}
 use Rattle.float_laws.specs.Count.{counted}
 use Rattle.float_laws.specs.Signed.{Diff, ups, downs, own-diff, size-above}

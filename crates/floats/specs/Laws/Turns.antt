@@ -1,8 +1,8 @@
 -- A root under way, on plain numbers: what holds before each turn, and what a turn does to it.
 -- N is n * 2 ^ 53, and the unit is 2 ^ k. Twice what is left of N after root * root is `rest` units, and that is less than twice
 -- what one more unit in the root would take: (root + unit) * (root + unit) - root * root is root + root + unit units.
-use mathlib.Core.Path.{_≡_, refl, sym, ap, _∙_, subst}
-use Prim.Native.Nat.{ℕ, zero, suc, _+_, _-_, _*_, _/_, _^_, _≤_, _<_}
+use mathlib.Core.Path.{_≡_, refl, sym, ap, subst}
+use Prim.Native.Nat.{ℕ, suc, _+_, _-_, _*_, _/_, _^_, _≤_, _<_}
 use native.Mathlib.Nat.{pow-succ', zero-add}
 use native.Mathlib.Omega.{arith}
 use mathlib.Core.Bool.{Bool, true, false, not, cond}

@@ -1,9 +1,9 @@
 -- Tests against an epsilon from 1/1024 to 1/2 on whole numbers: near zero is zero, near equal is equal.
-use mathlib.Core.Path.{_≡_, refl, sym, ap, _∙_}
+use mathlib.Core.Path.{_≡_, sym, ap, _∙_}
 use Prim.Native.Nat.{ℕ, suc, _+_, _*_, _≤_, _<_}
 use native.Mathlib.Nat.{mul-le-mul-right, zero-lt-suc, le-of-suc-le-suc, lt-of-not-le, le-antisymm}
 use native.Mathlib.Omega.{arith}
-use mathlib.Core.Bool.{Bool, true, false, _&&_}
+use mathlib.Core.Bool.{Bool, _&&_}
 use lib.Dec.{T, eqb, eqb→eq}
 use lib.Ieee.{Float, binary64, fits, lt}
 use lib.Ieee.Fits.{eq→eqb}

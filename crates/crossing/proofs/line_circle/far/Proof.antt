@@ -1,5 +1,5 @@
 -- `crossing::line_circle::far` meets its contract: its yes is the test of `Laws/FarLine`.
-use mathlib.Core.Path.{_≡_, sym, ap, _∙_, subst}
+use mathlib.Core.Path.{_≡_, sym, ap, _∙_}
 use mathlib.Core.Bool.{Bool, true, _&&_}
 use lib.Dec.{T}
 use lib.Ieee.{Float}

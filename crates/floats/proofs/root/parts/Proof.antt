@@ -1,6 +1,6 @@
 -- `floats::root::parts` meets its contract: what is left of the pattern below its field are the digits, and each return is an end
 -- of the definition.
-use mathlib.Core.Path.{ap, sym, _∙_}
+use mathlib.Core.Path.{ap, _∙_}
 use Prim.Native.Nat.{ℕ, _+_, _/_, _^_}
 use borrow.Author.Needs.{needs}
 use Rattle.floats.specs.Root

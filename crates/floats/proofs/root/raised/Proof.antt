@@ -1,6 +1,5 @@
 -- `floats::root::raised` meets its contract. The loop's invariant is `Raise`, and the measure e, which falls with each turn.
 use native.Mathlib.Omega.{arith}
-use Rattle.floats.specs.Root
 use Rattle.floats.proofs.Raise.{Raise, start, step, stop}
 use Rattle.floats.proofs.root.raised.Statement.{statement}
 use Rattle.floats.proofs.root.raised.Tie as tie
