@@ -1,10 +1,12 @@
--- One turn of the loop that reads digits: what is left is nothing, or a first byte and what is left after that.
+-- One turn of the loop that reads digits: what is left is nothing, or a first byte and what is left after that. And the tests on
+-- the first byte, for `search`.
 use Prim.Native.Nat.{ℕ, _+_, _*_, _≤_, _<_}
 use mathlib.Core.Path.{_≡_}
-use mathlib.Core.Bool.{Bool}
+use mathlib.Core.Bool.{Bool, cond}
 use mathlib.Core.List.{List}
 use native.Mathlib.Numerals.{add-one}
 use borrow.Author.Tests.{lt-ltb, le-ltb, eq-eqb, ne-eqb}
+use lib.Dec.{eqb, ltb}
 use lib.ListN.{length, drop, getD, drop-of-length-le}
 use lib.Seq.{drop-cons}
 use Rattle.layout_text.specs.Layout.{whole}
@@ -46,3 +48,19 @@ module _ (text : List ℕ) (i : ℕ) where
   pub first-at : i < length text → kindOf (getD text i 0) ≡ firstKind (drop i text)
   unfolding firstKind
   first-at h = rw (drop-cons text i 0 h)
+
+-- a test on the first byte, by what a call said of it
+module _ {A : Type 0} (t : List ℕ) (kind k : ℕ) (x y r : A) (is : kind ≡ firstKind t) where
+  pub first-is : kind ≡ k → r ≡ x → r ≡ cond (eqb (firstKind t) k) x y
+  first-is h e = rw (← is, eq-eqb _ _ h) e
+
+  pub first-is-not : (kind ≡ k → ⊥) → r ≡ y → r ≡ cond (eqb (firstKind t) k) x y
+  first-is-not h e = rw (← is, ne-eqb _ _ h) e
+
+  pub first-above : k < kind → r ≡ x → r ≡ cond (ltb k (firstKind t)) x y
+  first-above h e = rw (← is, lt-ltb _ _ h) e
+
+  pub first-within : kind ≤ k → r ≡ y → r ≡ cond (ltb k (firstKind t)) x y
+  first-within h e = rw (← is, le-ltb _ _ h) e
+
+pub ruleset first-byte = (first-is, first-is-not, first-above, first-within)

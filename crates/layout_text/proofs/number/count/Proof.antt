@@ -2,9 +2,9 @@
 -- nothing.
 use native.Mathlib.Omega.{arith}
 use borrow.Author.Needs.{needs}
-use borrow.Author.Tests.{eq-eqb, ne-eqb}
 use lib.Seq.{drop-drop}
 use Rattle.layout_text.specs.Reader.{countOf}
+use Rattle.layout_text.proofs.Digits.{first-byte}
 use Rattle.layout_text.proofs.number.count.Statement.{statement}
 use Rattle.layout_text.proofs.number.count.Tie as tie
 
@@ -14,6 +14,4 @@ count-spec =
     tie.close
     (tie.spec
     (λ c. search needs) (λ c. omega (arith, c .before .kind-at .ensures .1 (omega arith))) (λ c. search needs)
-    (λ c. simp (← c .before .before .kind-at .ensures .0, eq-eqb _ _ (c .before .if1 .taken), drop-drop, c .zero .ensures))
-    (λ c. search needs)
-    (λ c. simp (← c .before .before .kind-at .ensures .0, ne-eqb _ _ (c .before .if1 .left), c .positive .ensures)))
+    (λ c. simp drop-drop (search first-byte)) (λ c. search needs) (λ c. search first-byte))
