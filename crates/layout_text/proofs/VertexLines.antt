@@ -1,17 +1,49 @@
--- One turn of a loop over vertices: the line at hand, then the lines that are left.
+-- A vertex's line, number by number, and one turn of a loop over vertices: the line at hand, then the lines that are left.
 use Prim.Native.Nat.{ℕ, zero, suc, _+_, _*_, _-_, _≤_, _<_}
 use mathlib.Core.Path.{_≡_, refl, sym, ap, _∙_}
+use mathlib.Core.Bool.{Bool}
 use mathlib.Core.List.{List, [], _∷_}
 use native.Mathlib.Omega.{arith}
 use lib.ListN.{length, drop, set, length-set}
 use lib.Seq.{sets}
 use lib.Ieee.{Float}
-use Rattle.layout_text.specs.Layout.{Vertex}
+use Rattle.layout_text.specs.Limits as limit
+use Rattle.layout_text.specs.Layout.{Vertex, whole}
 use Rattle.layout_text.specs.Numbers.{coordinate, bulge, pathOf}
 use Rattle.layout_text.specs.Reader.{Got, nothing, got, Passed, stuck, over, passed, andThen, vertexOf, verticesOf}
-use Rattle.layout_text.specs.Shown.{shownVertex, numbersOf, Filled}
+use Rattle.layout_text.specs.Reader.{space, newline, wholeOf}
+use Rattle.layout_text.specs.Shown.{shownNumber, shownVertex, numbersOf, Filled}
+use Rattle.layout_text.proofs.Told.{no-number, a-number}
+use Rattle.layout_text.specs.declared.number.Number.{Number}
+use Rattle.layout_text.specs.declared.number.Number.the-variants as Number·
 use Rattle.layout_text.specs.declared.vertex.Corner.{Corner}
 use Rattle.layout_text.specs.declared.vertex.Corner.the-variants as Corner·
+
+-- ---- a line, by what each call told of its number
+
+module _ (text t : List ℕ) (x : Number) (x-is : shownNumber text x ≡ wholeOf limit.coordinate space t) where
+  pub no-x : x ≡ Number·.Broken → nothing ≡ numbersOf (vertexOf t)
+  unfolding vertexOf numbersOf
+  no-x e = simp (no-number text x-is e)
+
+  module _ (x-minus : Bool) (x-size after-x : ℕ) (x-whole : x ≡ Number·.Whole x-minus x-size after-x) (y : Number)
+      (y-is : shownNumber text y ≡ wholeOf limit.coordinate space (drop after-x text)) where
+    pub no-y : y ≡ Number·.Broken → nothing ≡ numbersOf (vertexOf t)
+    unfolding vertexOf numbersOf
+    no-y e = simp (a-number text x-is x-whole, no-number text y-is e)
+
+    module _ (y-minus : Bool) (y-size after-y : ℕ) (y-whole : y ≡ Number·.Whole y-minus y-size after-y) (b : Number)
+        (b-is : shownNumber text b ≡ wholeOf limit.bulge newline (drop after-y text)) where
+      pub no-b : b ≡ Number·.Broken → nothing ≡ numbersOf (vertexOf t)
+      unfolding vertexOf numbersOf
+      no-b e = simp (a-number text x-is x-whole, a-number text y-is y-whole, no-number text b-is e)
+
+      pub all-three : (b-minus : Bool) (b-size after-b : ℕ) → b ≡ Number·.Whole b-minus b-size after-b → (vx vy vb : Float)
+          → vx ≡ coordinate (whole x-minus x-size) → vy ≡ coordinate (whole y-minus y-size) → vb ≡ bulge (whole b-minus b-size)
+          → got (vx ∷ vy ∷ vb ∷ []) (drop after-b text) ≡ numbersOf (vertexOf t)
+      unfolding vertexOf numbersOf
+      all-three b-minus b-size after-b e vx vy vb is-x is-y is-b =
+          simp (a-number text x-is x-whole, a-number text y-is y-whole, a-number text b-is e, is-x, is-y, is-b)
 
 -- ---- the line at hand
 
