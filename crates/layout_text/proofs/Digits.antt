@@ -9,35 +9,32 @@ use borrow.Author.Tests.{lt-ltb, le-ltb, eq-eqb, ne-eqb}
 use lib.Dec.{eqb, ltb}
 use lib.ListN.{length, drop, getD, drop-of-length-le}
 use lib.Seq.{drop-cons}
+use lib.IntN.{ℤ}
 use Rattle.layout_text.specs.Layout.{whole}
-use Rattle.layout_text.specs.Reader.{nothing, got, other, kindOf, firstKind, digitsOf}
+use Rattle.layout_text.specs.Reader.{Got, nothing, got, other, kindOf, firstKind, digitsOf}
 
-module _ (text : List ℕ) (negative : Bool) (most end n i : ℕ) where
-  pub at-end : length text ≤ i → digitsOf negative most end n (drop i text) ≡ nothing
+-- `all` is what the whole reads as; the digits so far are n, and k is what the call said of the byte at i
+module _ (text : List ℕ) (negative : Bool) (most end n i : ℕ) (all : Got ℤ) (inv : digitsOf negative most end n (drop i text) ≡ all) where
+  pub at-end : length text ≤ i → nothing ≡ all
   unfolding digitsOf
-  at-end h = rw (drop-of-length-le)
+  at-end h = rw (drop-of-length-le) at inv
 
-  module _ (inside : i < length text) where
-    pub at-mark : 9 < kindOf (getD text i 0) → kindOf (getD text i 0) ≡ end
-        → digitsOf negative most end n (drop i text) ≡ got (whole negative n) (drop (i + 1) text)
+  module _ (inside : i < length text) (k : ℕ) (is : k ≡ kindOf (getD text i 0)) where
+    pub at-mark : 9 < k → k ≡ end → got (whole negative n) (drop (i + 1) text) ≡ all
     unfolding digitsOf
-    at-mark h e = rw (drop-cons text i 0 inside, add-one, lt-ltb _ _ h, eq-eqb _ _ e)
+    at-mark h e = rw (drop-cons text i 0 inside, ← add-one i, ← is, lt-ltb _ _ h, eq-eqb _ _ e) at inv
 
-    pub at-other : 9 < kindOf (getD text i 0) → (kindOf (getD text i 0) ≡ end → ⊥)
-        → digitsOf negative most end n (drop i text) ≡ nothing
+    pub at-other : 9 < k → (k ≡ end → ⊥) → nothing ≡ all
     unfolding digitsOf
-    at-other h e = rw (drop-cons text i 0 inside, lt-ltb _ _ h, ne-eqb _ _ e)
+    at-other h e = rw (drop-cons text i 0 inside, ← is, lt-ltb _ _ h, ne-eqb _ _ e) at inv
 
-    pub at-beyond : kindOf (getD text i 0) ≤ 9 → most < n * 10 + kindOf (getD text i 0)
-        → digitsOf negative most end n (drop i text) ≡ nothing
+    pub at-beyond : k ≤ 9 → most < n * 10 + k → nothing ≡ all
     unfolding digitsOf
-    at-beyond h g = rw (drop-cons text i 0 inside, le-ltb _ _ h, lt-ltb _ _ g)
+    at-beyond h g = rw (drop-cons text i 0 inside, ← is, le-ltb _ _ h, lt-ltb _ _ g) at inv
 
-    pub at-digit : kindOf (getD text i 0) ≤ 9 → n * 10 + kindOf (getD text i 0) ≤ most
-        → digitsOf negative most end (n * 10 + kindOf (getD text i 0)) (drop (i + 1) text)
-        ≡ digitsOf negative most end n (drop i text)
+    pub at-digit : k ≤ 9 → n * 10 + k ≤ most → digitsOf negative most end (n * 10 + k) (drop (i + 1) text) ≡ all
     unfolding digitsOf
-    at-digit h g = rw (drop-cons text i 0 inside, add-one, le-ltb _ _ h, le-ltb _ _ g)
+    at-digit h g = rw (add-one, is) (rw (drop-cons text i 0 inside, ← is, le-ltb _ _ h, le-ltb _ _ g, is) at inv)
 
 -- the first byte of what is left at i
 module _ (text : List ℕ) (i : ℕ) where
