@@ -3,16 +3,16 @@
 use Prim.Native.Nat.{ℕ, zero, suc, _≤_, _<_}
 use mathlib.Core.Path.{_≡_, refl, sym, ap, _∙_, subst}
 use mathlib.Core.Bool.{Bool, true, false}
-use mathlib.Core.List.{List, [], _∷_}
+use mathlib.Core.List.{List}
 use native.Mathlib.Omega.{arith}
 use borrow.Author.Tests.{le-ltb, lt-ltb}
 use lib.ListN.{length, drop, drop-of-length-le}
 use lib.Seq.{drop-cons}
 use lib.IntN.{ℤ, pos}
 use Rattle.layout_text.specs.Limits as limit
-use Rattle.layout_text.specs.Layout.{Vertex, Layout, size, whole}
-use Rattle.layout_text.specs.Reader.{Got, nothing, got, Passed, stuck, over, passed, other, space, newline, countOf}
-use Rattle.layout_text.specs.Reader.{verticesOf, linesOf, broken, layout, reads}
+use Rattle.layout_text.specs.Layout.{Vertex, size, whole}
+use Rattle.layout_text.specs.Reader.{Got, nothing, got, stuck, over, passed, other, space, newline, countOf}
+use Rattle.layout_text.specs.Reader.{verticesOf, linesOf, broken, reads}
 use Rattle.layout_text.specs.Shown.{shownNumber, shownPlace, Fitting}
 use Rattle.layout_text.specs.Laws.Sound.{count-spelt}
 use Rattle.layout_text.proofs.Told.{a-number}

@@ -1,7 +1,7 @@
 -- `layout_text::number::digits` meets its contract. The loop's invariant: what is left of the text, after the digits so far,
 -- reads as the whole does. Assumes nothing.
 use Prim.Native.Nat.{_≤_, _-_}
-use mathlib.Core.Path.{_≡_, refl, sym, _∙_}
+use mathlib.Core.Path.{_≡_, refl}
 use native.Mathlib.Omega.{arith}
 use borrow.Author.Needs.{needs}
 use lib.ListN.{length, drop}
