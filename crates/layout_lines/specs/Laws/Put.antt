@@ -32,6 +32,14 @@ put-join {a} {b} {old} {mid} {now} {at} {k} {next} p q =
     let long = length-append a b in
     record { holds = q .holds ∙ from ∙ sets-append a b old at; after = omega (arith, p .after, q .after, long) }
 
+-- the same, by the most bytes that they may be
+pub in-join : {m n : ℕ} {a b old mid now : List ℕ} {at k next : ℕ} → PutIn m a old at mid k → PutIn n b mid k now next
+    → PutIn (m + n) (a ++ b) old at now next
+in-join p q = record { is-put = put-join (p .is-put) (q .is-put); short = omega (arith, p .short, q .short) }
+
+pub within : {m n : ℕ} {a old now : List ℕ} {at next : ℕ} → m ≤ n → PutIn m a old at now next → PutIn n a old at now next
+within h p = record { is-put = p .is-put; short = omega (arith, p .short) }
+
 -- ---- decimal digits
 
 pub small-long : (n : ℕ) → n < 10 → length (decimal n) ≡ 1
