@@ -10,14 +10,10 @@ unfolding isOurs
 is-ours-spec =
     tie.close
     (tie.spec
-    (λ c. search needs) (λ c. search picks depth 11)
-    (λ c. search needs) (λ c. search picks depth 11)
-    (λ c. search needs) (λ c. search picks depth 11)
-    (λ c. search needs) (λ c. search picks depth 11)
-    (λ c. search needs) (λ c. search picks depth 11)
-    (λ c. search needs) (λ c. search picks depth 11)
-    (λ c. search needs) (λ c. search picks depth 11)
-    (λ c. search needs) (λ c. search picks depth 11)
+    (λ c. search needs) (λ c. search picks depth 11) (λ c. search needs) (λ c. search picks depth 11)
+    (λ c. search needs) (λ c. search picks depth 11) (λ c. search needs) (λ c. search picks depth 11)
+    (λ c. search needs) (λ c. search picks depth 11) (λ c. search needs) (λ c. search picks depth 11)
+    (λ c. search needs) (λ c. search picks depth 11) (λ c. search needs) (λ c. search picks depth 11)
     (λ c. search needs) (λ c. search picks depth 11)
     (λ c. search needs) (λ c. search needs) (λ c. search needs) (λ c. search needs)
     (λ c.
