@@ -33,16 +33,11 @@ unfolding classText
 put-class-spec =
     tie.close
     (tie.spec
-    (λ c. search needs) (λ c. search needs) (λ c. search needs)
-    (λ c. search named)
-    (λ c. search needs) (λ c. search needs) (λ c. search needs)
-    (λ c. search named)
-    (λ c. search needs) (λ c. search needs) (λ c. search needs)
-    (λ c. search named)
-    (λ c. search needs) (λ c. search needs) (λ c. search needs)
-    (λ c. search named)
-    (λ c. search needs) (λ c. search needs) (λ c. search needs)
-    (λ c. search named)
+    (λ c. search needs) (λ c. search needs) (λ c. search needs) (λ c. search named)
+    (λ c. search needs) (λ c. search needs) (λ c. search needs) (λ c. search named)
+    (λ c. search needs) (λ c. search needs) (λ c. search needs) (λ c. search named)
+    (λ c. search needs) (λ c. search needs) (λ c. search needs) (λ c. search named)
+    (λ c. search needs) (λ c. search needs) (λ c. search needs) (λ c. search named)
     (λ c. search needs) (λ c. search needs) (λ c. search needs)
     (λ c.
     let put = c .before .before in
