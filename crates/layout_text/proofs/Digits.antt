@@ -14,7 +14,8 @@ use Rattle.layout_text.specs.Layout.{whole}
 use Rattle.layout_text.specs.Reader.{Got, nothing, got, other, kindOf, firstKind, digitsOf}
 
 -- `all` is what the whole reads as; the digits so far are n, and k is what the call said of the byte at i
-module _ (text : List ℕ) (negative : Bool) (most end n i : ℕ) (all : Got ℤ) (inv : digitsOf negative most end n (drop i text) ≡ all) where
+module _ (text : List ℕ) (negative : Bool) (most end n i : ℕ) (all : Got ℤ)
+    (inv : digitsOf negative most end n (drop i text) ≡ all) where
   pub at-end : length text ≤ i → nothing ≡ all
   unfolding digitsOf
   at-end h = rw (drop-of-length-le) at inv

@@ -111,7 +111,8 @@ module _ (text : List ℕ) (n i at : ℕ) (all : Passed) (inv : passed (vertices
     pub pass-broken : r ≡ Corner·.Broken → stuck ≡ all
     pass-broken e = rw (lines-broken n i _ inside (no-line text is e)) at inv
 
-    pub pass-line : (x y b : Float) (next : ℕ) → r ≡ Corner·.At x y b next → passed (verticesOf (n - (i + 1)) (drop next text)) ≡ all
+    pub pass-line : (x y b : Float) (next : ℕ) → r ≡ Corner·.At x y b next
+        → passed (verticesOf (n - (i + 1)) (drop next text)) ≡ all
     pass-line x y b next e =
         let line = a-line text is e in
         after-passed (line .v) (verticesOf (n - (i + 1)) (drop next text)) ∙ rw (lines-read n i _ inside (line .is)) at inv

@@ -41,7 +41,8 @@ returns-4 c =
     let first = second .before .before .before .before in
     let told = first .before .before .before in
     let room = told .before .before .before in
-    both-written _ _ _ (room .before .if1 .left) (room .if2 .left) _ _ _ _ _ _ (fit told) (first .fill .ensures) (second .fill2 .ensures)
+    both-written _ _ _ (room .before .if1 .left) (room .if2 .left) _ _ _ _ _ _ (fit told)
+    (first .fill .ensures) (second .fill2 .ensures)
 
 pub read-layout-spec : {M : Type 1} → statement M
 read-layout-spec =

@@ -34,7 +34,8 @@ paths : (c : tie.After-end)
     let m = at-m s in
     let n = at-n m in
     let text = now (n .before .before .before .before .before .args .text) in
-    Paths text (n .n .given .0 .1 .0) (m .m .given .0 .1 .0) (m .m .given .0 .1 .1 .0) (s .second .given .0 .0) (c .end .given .0 .0)
+    Paths text (n .n .given .0 .1 .0) (m .m .given .0 .1 .0) (m .m .given .0 .1 .1 .0)
+    (s .second .given .0 .0) (c .end .given .0 .0)
 paths c =
     let s = c .before .before .before .before in
     record {
