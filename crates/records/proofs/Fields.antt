@@ -1,11 +1,10 @@
 -- One turn of the loop that looks through a line's fields.
 use Prim.Native.Nat.{ℕ, suc, _+_, _*_, _-_, _≤_, _<_}
-use mathlib.Core.Path.{_≡_, _∙_}
+use mathlib.Core.Path.{_≡_}
 use mathlib.Core.Bool.{Bool, true, false}
 use mathlib.Core.List.{List}
 use native.Mathlib.Omega.{arith}
 use native.Mathlib.Nat.{sub-eq-zero-of-le}
-use native.Mathlib.Numerals.{add-one}
 use borrow.Author.Tests.{eq-eqb, ne-eqb}
 use lib.ListN.{getD}
 use Rattle.records.specs.Text.{afterOf, fieldAt, fieldsFrom, isNumber}
@@ -13,9 +12,7 @@ use Rattle.records.specs.declared.text.Field.{Field}
 
 -- what is left from field i on: this field, then the rest
 left : (n i : ℕ) → i < n → n - i ≡ suc (n - (i + 1))
-left n i inside =
-    let one : n - i ≡ n - (i + 1) + 1 = omega arith in
-    one ∙ add-one _
+left n i inside = omega arith
 
 -- `all` is what is said of all fields
 module _ (n : ℕ) (body : List ℕ) (i : ℕ) (all : Bool) (inv : fieldsFrom n body (n - i) i ≡ all) where
