@@ -7,8 +7,22 @@ use Rattle.records.proofs.on_crossing.is_answer.Tie as tie
 returns-2 : tie.Need-returns-2
 unfolding isAnswer
 returns-2 c =
-    let test = c .before .before .before .before .before .before .before .before .before in
-    simp (← test .before .value .ensures, test .if1 .left) (cc)
+    let third = c .before .before in
+    let second = third .before .before in
+    let first = second .before .before in
+    let test = first .before .before .before in
+    simp (
+      ← test .before .value .ensures,
+      test .if1 .left,
+      ← first .before .number .ensures,
+      ← first .same .ensures,
+      ← second .before .number2 .ensures,
+      ← second .same2 .ensures,
+      ← third .before .number3 .ensures,
+      ← third .same3 .ensures,
+      ← c .before .number4 .ensures,
+      ← c .same4 .ensures,
+    )
 
 pub is-answer-spec : {M : Type 1} → statement M
 unfolding isAnswer
