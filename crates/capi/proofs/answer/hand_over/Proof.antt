@@ -19,6 +19,6 @@ pub hand-over-spec : {M : Type 1} → statement M
 hand-over-spec =
     tie.close
     (tie.spec
-    returns (search needs) returns-2 (search needs)
-    (λ c. simp length-set (omega arith)) (λ c. simp length-set (omega arith)) (λ c. search needs) (search needs)
+    returns (λ c. search needs) returns-2 (λ c. search needs)
+    (λ c. simp length-set (omega arith)) (λ c. simp length-set (omega arith)) (λ c. search needs) (λ c. search needs)
     returns-3)
