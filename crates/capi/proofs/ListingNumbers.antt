@@ -2,30 +2,24 @@
 -- handing a listing over.
 use Prim.Native.Nat.{ℕ, zero, suc, _+_, _<_, _≤_}
 use native.Mathlib.Omega.{arith}
-use mathlib.Core.Path.{_≡_, refl, sym, ap, _∙_, subst}
-use mathlib.Core.Bool.{Bool, true, false}
-use mathlib.Core.List.{List, [], _∷_, _++_}
+use mathlib.Core.Path.{_≡_, sym, ap, _∙_, subst}
+use mathlib.Core.Bool.{Bool}
+use mathlib.Core.List.{List, _++_}
 use borrow.Author.Tests.{lt-ltb, le-ltb}
 use lib.Ieee.{Float}
 use lib.ListN.{length}
 use Rattle.checks.specs.declared.fault.Checked.{Checked}
 use Rattle.checks.specs.declared.fault.Checked.the-variants.{Fine, Bad}
-use Rattle.checks.specs.declared.fault.Item.the-variants.{Epsilon, X, Y, Bulge}
-use Rattle.checks.specs.Fault.{at}
-use Rattle.checks.specs.Each
 use Rattle.checks.specs.First.{first as firstFault}
 use Rattle.checks.specs.Laws.Chains.{first-append}
-use Rattle.plane.specs.declared.pline_vertex.PlineVertex.{PlineVertex}
-use Rattle.paths.specs.declared.path.Segment.{Segment}
-use Rattle.paths.specs.Path.{vertex, vertexCount}
-use Rattle.paths.specs.Segments.{segmentFrom, segmentCount}
+use Rattle.paths.specs.Path.{vertexCount}
+use Rattle.paths.specs.Segments.{segmentCount}
 use Rattle.paths.specs.Shape.{shape}
 use Rattle.paths.specs.Check.{along, ofVertex, ofSegment, vertexChecks, arcChecks, pathChecks}
 use Rattle.listings.specs.declared.row.Row.{Row}
 use Rattle.listings.specs.declared.row.Look.{Look}
 use Rattle.listings.specs.declared.answer.ListingAnswer.{ListingAnswer}
 use Rattle.listings.specs.Order.{Pair, mutualPairs, selfPairs}
-use Rattle.listings.specs.Rows.{rowsOf, lookedAt}
 use Rattle.listings.specs.Look.{look}
 use Rattle.listings.specs.Listing.{
   Outcome,
@@ -39,7 +33,7 @@ use Rattle.listings.specs.Listing.{
   selfListing,
 }
 use Rattle.capi.specs.HandedListing.{HandedListing, code, counted}
-use Rattle.capi.proofs.Numbers.{Small, fine, refused, and, epsilon, coordinate, bulge, arc-chord}
+use Rattle.capi.proofs.Numbers.{Small, fine, refused, and, smalls}
 
 -- ---- lists of checks
 append : (cs ds : List Checked) → Small (firstFault cs) → Small (firstFault ds) → Small (firstFault (cs ++ ds))
@@ -57,16 +51,10 @@ path-small : (path : List Float) (closed : Bool) (owner : ℕ) → Small (firstF
 unfolding ofVertex ofSegment
 path-small path closed owner =
     append (vertexChecks path owner) (arcChecks path closed owner)
-    (each (ofVertex path owner) at-vertex 0 (vertexCount path))
-    (each (ofSegment path owner) at-segment 0 (segmentCount path closed))
-  where
-    at-vertex : (i : ℕ) → Small (firstFault (ofVertex path owner i))
-    at-vertex i =
-        let v = vertex path i in
-        and (coordinate (v .x) (at owner i X)) (and (coordinate (v .y) (at owner i Y)) (and (bulge (v .bulge) (at owner i Bulge)) fine))
+    (each (ofVertex path owner) (λ i. search smalls depth 8) 0 (vertexCount path))
+    (each (ofSegment path owner) (λ i. search smalls depth 4) 0 (segmentCount path closed))
 
-    at-segment : (i : ℕ) → Small (firstFault (ofSegment path owner i))
-    at-segment i = let s = segmentFrom path i in and (arc-chord (s .v1) (s .v2) owner i) fine
+ruleset listings = (shape-small, path-small, append, smalls)
 
 -- ---- an outcome's code
 of-checked : (c : Checked) (rows : List Row) (looked : ℕ) (i : List ℕ) (p : List Float) → Small c
@@ -84,23 +72,15 @@ pub mutual-small : (first : List Float) (firstClosed : Bool) (second : List Floa
     (i : List ℕ) (p : List Float) → code (mutualListing first firstClosed second secondClosed eps i p .answer) < 512
 unfolding mutualListing
 mutual-small first firstClosed second secondClosed eps i p =
-    let c0 : List Checked = Each.epsilon eps (at 0 0 Epsilon) ∷ shape first 0 ∷ shape second 1 ∷ [] in
-    let c1 = pathChecks first firstClosed 0 in
     of-outcome (mutualChecks first firstClosed second secondClosed eps) (look first second eps)
-    (mutualPairs (segmentCount first firstClosed) (segmentCount second secondClosed)) i p
-    (append (c0 ++ c1) (pathChecks second secondClosed 1)
-    (append c0 c1
-    (and (epsilon eps (at 0 0 Epsilon)) (and (shape-small first 0) (and (shape-small second 1) fine)))
-    (path-small first firstClosed 0))
-    (path-small second secondClosed 1))
+    (mutualPairs (segmentCount first firstClosed) (segmentCount second secondClosed)) i p (search listings depth 10)
 
 pub self-small : (path : List Float) (closed : Bool) (eps : Float) (i : List ℕ) (p : List Float)
     → code (selfListing path closed eps i p .answer) < 512
 unfolding selfListing
 self-small path closed eps i p =
-    let c0 : List Checked = Each.epsilon eps (at 0 0 Epsilon) ∷ shape path 0 ∷ [] in
     of-outcome (selfChecks path closed eps) (look path path eps) (selfPairs (segmentCount path closed) closed) i p
-    (append c0 (pathChecks path closed 0) (and (epsilon eps (at 0 0 Epsilon)) (and (shape-small path 0) fine)) (path-small path closed 0))
+    (search listings depth 10)
 
 -- ---- the two ends
 module _ (o : Outcome) (a : ListingAnswer) (i : List ℕ) (p : List Float) where

@@ -77,11 +77,11 @@ module _ (x : Float) (p : Place) where
   unfolding Each.bulge
   bulge = and finite (refused _ 3 p (omega arith))
 
-  radius : Small (Each.radius x p)
+  pub radius : Small (Each.radius x p)
   unfolding Each.radius
   radius = and finite (refused _ 9 p (omega arith))
 
-  center : Small (Each.center x p)
+  pub center : Small (Each.center x p)
   unfolding Each.center
   center = and finite (refused _ 9 p (omega arith))
 
@@ -94,11 +94,13 @@ pub arc-chord : (a b : PlineVertex) (owner index : ℕ) → Small (arcChord a b 
 unfolding arcChord
 arc-chord a b owner index = chord _ _ (bulgeIsZero a)
 
+pub ruleset smalls = (and, fine, epsilon, coordinate, bulge, radius, center, arc-chord)
+
 -- ---- a call's
 module _ {I A : Type 0} (refused : ℕ → A) (met : I → A) (number : A → ℕ) where
-  settled : (c : Checked) (i : I) → Small c → ((n : ℕ) → number (refused n) ≡ n) → number (met i) < 256
+  settled : (c : Checked) (i : I) → Small c → ((n : ℕ) → number (refused n) ≡ n) → ((j : I) → number (met j) < 256)
       → number (settle refused met c i) < 256
-  settled Fine i small own cases = cases
+  settled Fine i small own cases = cases i
   settled (Bad f) i small own cases = subst (λ (n : ℕ). n < 256) (sym (own (f .number))) (small .below)
 
 line-line-case : (i : LineLineIntr) → ofLineLine (ofLines.Met i) .number < 256
@@ -112,13 +114,7 @@ pub line-line : (v1 v2 u1 u2 : Vector2) (eps : Float) → ofLineLine (lines.line
 unfolding ofLineLine lines.lineLineIntr lines.look
 line-line v1 v2 u1 u2 eps =
     settled ofLines.Refused ofLines.Met (λ (a : LineLineAnswer). ofLineLine a .number)
-    (lines.look v1 v2 u1 u2 eps) (lineLine v1 v2 u1 u2 eps)
-    (and (epsilon eps _)
-    (and (coordinate (v1 .x) _) (and (coordinate (v1 .y) _)
-    (and (coordinate (v2 .x) _) (and (coordinate (v2 .y) _)
-    (and (coordinate (u1 .x) _) (and (coordinate (u1 .y) _)
-    (and (coordinate (u2 .x) _) (and (coordinate (u2 .y) _) fine)))))))))
-    (λ n. refl) (line-line-case (lineLine v1 v2 u1 u2 eps))
+    (lines.look v1 v2 u1 u2 eps) (lineLine v1 v2 u1 u2 eps) (search smalls depth 20) (λ n. refl) line-line-case
 
 line-circle-case : (i : LineCircleIntr) → ofLineCircle (ofLineAndCircle.Met i) .number < 256
 unfolding ofLineCircle
@@ -131,12 +127,7 @@ pub line-circle : (p0 p1 : Vector2) (r : Float) (c : Vector2) (eps : Float)
 unfolding ofLineCircle lineAndCircle.lineCircleIntr lineAndCircle.look
 line-circle p0 p1 r c eps =
     settled ofLineAndCircle.Refused ofLineAndCircle.Met (λ (a : LineCircleAnswer). ofLineCircle a .number)
-    (lineAndCircle.look p0 p1 r c eps) (lineCircle p0 p1 r c eps)
-    (and (epsilon eps _)
-    (and (coordinate (p0 .x) _) (and (coordinate (p0 .y) _)
-    (and (coordinate (p1 .x) _) (and (coordinate (p1 .y) _)
-    (and (radius r _) (and (center (c .x) _) (and (center (c .y) _) fine))))))))
-    (λ n. refl) (line-circle-case (lineCircle p0 p1 r c eps))
+    (lineAndCircle.look p0 p1 r c eps) (lineCircle p0 p1 r c eps) (search smalls depth 20) (λ n. refl) line-circle-case
 
 circle-circle-case : (i : CircleCircleIntr) → ofCircleCircle (ofCircles.Met i) .number < 256
 unfolding ofCircleCircle
@@ -150,11 +141,7 @@ pub circle-circle : (r1 : Float) (c1 : Vector2) (r2 : Float) (c2 : Vector2) (eps
 unfolding ofCircleCircle circles.circleCircleIntr circles.look
 circle-circle r1 c1 r2 c2 eps =
     settled ofCircles.Refused ofCircles.Met (λ (a : CircleCircleAnswer). ofCircleCircle a .number)
-    (circles.look r1 c1 r2 c2 eps) (circleCircle r1 c1 r2 c2 eps)
-    (and (epsilon eps _)
-    (and (radius r1 _) (and (center (c1 .x) _) (and (center (c1 .y) _)
-    (and (radius r2 _) (and (center (c2 .x) _) (and (center (c2 .y) _) fine)))))))
-    (λ n. refl) (circle-circle-case (circleCircle r1 c1 r2 c2 eps))
+    (circles.look r1 c1 r2 c2 eps) (circleCircle r1 c1 r2 c2 eps) (search smalls depth 20) (λ n. refl) circle-circle-case
 
 pline-seg-case : (i : PlineSegIntr) → ofPlineSeg (ofPairs.Met i) .number < 256
 unfolding ofPlineSeg
@@ -169,11 +156,4 @@ pub pline-seg : (v1 v2 u1 u2 : PlineVertex) (eps : Float) → ofPlineSeg (pairs.
 unfolding ofPlineSeg pairs.plineSegIntr pairs.look
 pline-seg v1 v2 u1 u2 eps =
     settled ofPairs.Refused ofPairs.Met (λ (a : PlineSegAnswer). ofPlineSeg a .number)
-    (pairs.look v1 v2 u1 u2 eps) (plineSeg v1 v2 u1 u2 eps)
-    (and (epsilon eps _)
-    (and (coordinate (v1 .x) _) (and (coordinate (v1 .y) _) (and (bulge (v1 .bulge) _)
-    (and (coordinate (v2 .x) _) (and (coordinate (v2 .y) _)
-    (and (coordinate (u1 .x) _) (and (coordinate (u1 .y) _) (and (bulge (u1 .bulge) _)
-    (and (coordinate (u2 .x) _) (and (coordinate (u2 .y) _)
-    (and (arc-chord v1 v2 _ _) (and (arc-chord u1 u2 _ _) fine)))))))))))))
-    (λ n. refl) (pline-seg-case (plineSeg v1 v2 u1 u2 eps))
+    (pairs.look v1 v2 u1 u2 eps) (plineSeg v1 v2 u1 u2 eps) (search smalls depth 20) (λ n. refl) pline-seg-case

@@ -1,15 +1,14 @@
 -- One turn of the loop that puts rows, and the ends of the writer.
-use Prim.Native.Nat.{ℕ, zero, suc, _+_, _*_, _-_, _/_, _≤_, _<_}
-use mathlib.Core.Path.{_≡_, refl, sym, ap, _∙_}
+use Prim.Native.Nat.{ℕ, suc, _+_, _-_, _≤_, _<_}
+use mathlib.Core.Path.{_≡_}
 use mathlib.Core.Bool.{Bool, true, false}
-use mathlib.Core.List.{List, []}
+use mathlib.Core.List.{List}
 use native.Mathlib.Omega.{arith}
-use borrow.Author.Tests.{lt-ltb, le-ltb, le-leb, lt-leb}
 use lib.ListN.{length}
 use lib.Ieee.{Float}
-use Rattle.layout_lines.specs.Lines.{rowAt, rowsText, refusedText, answerText}
-use Rattle.layout_lines.specs.Put.{Put, PutIn}
-use Rattle.layout_lines.specs.Written.{Lines, line}
+use Rattle.layout_lines.specs.Lines.{rowAt, rowsText}
+use Rattle.layout_lines.specs.Put.{Put}
+use Rattle.layout_lines.specs.Written.{Lines}
 use Rattle.layout_lines.specs.Laws.Put.{put-none, put-join}
 use Rattle.layout_lines.specs.declared.Written.the-variants as Written·
 

@@ -3,17 +3,17 @@
 use Prim.Native.Nat.{ℕ, zero, suc, _≤_, _<_}
 use mathlib.Core.Path.{_≡_, refl, sym, ap, _∙_, subst}
 use mathlib.Core.Bool.{Bool, true, false}
-use mathlib.Core.List.{List, [], _∷_}
+use mathlib.Core.List.{List}
 use native.Mathlib.Omega.{arith}
 use borrow.Author.Tests.{le-ltb, lt-ltb}
 use lib.ListN.{length, drop, drop-of-length-le}
 use lib.Seq.{drop-cons}
 use lib.IntN.{ℤ, pos}
 use Rattle.layout_text.specs.Limits as limit
-use Rattle.layout_text.specs.Layout.{Vertex, Layout, size, whole}
-use Rattle.layout_text.specs.Reader.{Got, nothing, got, Passed, stuck, over, passed, other, space, newline, countOf}
-use Rattle.layout_text.specs.Reader.{verticesOf, linesOf, broken, layout, reads}
-use Rattle.layout_text.specs.Shown.{shownNumber, shownPlace}
+use Rattle.layout_text.specs.Layout.{Vertex, size, whole}
+use Rattle.layout_text.specs.Reader.{Got, nothing, got, stuck, over, passed, other, space, newline, countOf}
+use Rattle.layout_text.specs.Reader.{verticesOf, linesOf, broken, reads}
+use Rattle.layout_text.specs.Shown.{shownNumber, shownPlace, Fitting}
 use Rattle.layout_text.specs.Laws.Sound.{count-spelt}
 use Rattle.layout_text.proofs.Told.{a-number}
 use Rattle.layout_text.specs.declared.number.Number.{Number}
@@ -74,39 +74,61 @@ pub too-long : (text : List ℕ) → limit.bytes < length text → reads text �
 unfolding reads
 too-long text h = rw (lt-ltb _ _ h)
 
-module _ (text : List ℕ) (short : length text ≤ limit.bytes) where
-  lines-missing : linesOf text ≡ nothing → reads text ≡ broken
-  unfolding reads
-  lines-missing e = rw (le-ltb _ _ short, e)
+module _ (text : List ℕ) where
+  -- what is read up to a place: both counts; then both paths
+  pub record Counts (n m at : ℕ) : Type 0 where
+    pub after-n : ℕ
+    pub short : length text ≤ limit.bytes
+    pub n-is : Count limit.vertices space n text (drop after-n text)
+    pub m-is : Count limit.vertices newline m (drop after-n text) (drop at text)
 
-  pub no-count : countOf limit.vertices space text ≡ nothing → reads text ≡ broken
-  unfolding linesOf
-  no-count e = lines-missing (rw e)
+  pub record Paths (n m first second at : ℕ) : Type 0 where
+    pub counts : Counts n m first
+    pub one : Over (verticesOf n (drop first text)) (drop second text)
+    pub two : Over (verticesOf m (drop second text)) (drop at text)
 
-  module _ {n : ℕ} {t1 : List ℕ} (cn : Count limit.vertices space n text t1) where
-    pub no-count-2 : countOf limit.vertices newline t1 ≡ nothing → reads text ≡ broken
+  module _ (short : length text ≤ limit.bytes) where
+    lines-missing : linesOf text ≡ nothing → reads text ≡ broken
+    unfolding reads
+    lines-missing e = rw (le-ltb _ _ short, e)
+
+    pub no-count : countOf limit.vertices space text ≡ nothing → reads text ≡ broken
     unfolding linesOf
-    no-count-2 e = lines-missing (rw (cn .is, e))
+    no-count e = lines-missing (rw e)
 
-    module _ {m : ℕ} {t2 : List ℕ} (cm : Count limit.vertices newline m t1 t2) where
-      pub no-first : verticesOf n t2 ≡ nothing → reads text ≡ broken
-      unfolding linesOf
-      no-first e = lines-missing (rw (cn .is, cm .is, e))
+    pub no-count-2 : {n : ℕ} {t : List ℕ} → Count limit.vertices space n text t → countOf limit.vertices newline t ≡ nothing
+        → reads text ≡ broken
+    unfolding linesOf
+    no-count-2 c e = lines-missing (rw (c .is, e))
 
-      module _ {first : List Vertex} {t3 : List ℕ} (f : verticesOf n t2 ≡ got first t3) where
-        pub no-second : verticesOf m t3 ≡ nothing → reads text ≡ broken
-        unfolding linesOf
-        no-second e = lines-missing (rw (cn .is, cm .is, f, e))
+  module _ {n m first : ℕ} (c : Counts n m first) where
+    pub no-first : verticesOf n (drop first text) ≡ nothing → reads text ≡ broken
+    unfolding linesOf
+    no-first e = lines-missing (c .short) (rw (c .n-is .is, c .m-is .is, e))
 
-        module _ {second : List Vertex} {t4 : List ℕ} (s : verticesOf m t3 ≡ got second t4) where
-          lines-there : linesOf text ≡ got (record { first = first; second = second }) t4
-          unfolding linesOf
-          lines-there = rw (cn .is, cm .is, f, s)
+    pub no-second : {t : List ℕ} → Over (verticesOf n (drop first text)) t → verticesOf m t ≡ nothing → reads text ≡ broken
+    unfolding linesOf
+    no-second one e = lines-missing (c .short) (rw (c .n-is .is, c .m-is .is, one .is, e))
 
-          pub text-left : (b : ℕ) (rest : List ℕ) → t4 ≡ b ∷ rest → reads text ≡ broken
-          unfolding reads
-          text-left b rest e = rw (le-ltb _ _ short, lines-there, e)
+  module _ {n m first second at : ℕ} (p : Paths n m first second at) where
+    lines-there : linesOf text ≡ got (record { first = p .one .a; second = p .two .a }) (drop at text)
+    unfolding linesOf
+    lines-there = rw (p .counts .n-is .is, p .counts .m-is .is, p .one .is, p .two .is)
 
-          pub text-over : t4 ≡ [] → reads text ≡ layout (record { first = first; second = second })
-          unfolding reads
-          text-over e = rw (le-ltb _ _ short, lines-there, e)
+    pub text-left : at < length text → reads text ≡ broken
+    unfolding reads
+    text-left h = rw (le-ltb _ _ (p .counts .short), lines-there, drop-cons text at 0 h)
+
+    pub text-over : length text ≤ at → Fitting text n m first second
+    unfolding reads
+    text-over h =
+        let none = drop-of-length-le text h in
+        record {
+          first = p .one .a;
+          second = p .two .a;
+          is = rw (le-ltb _ _ (p .counts .short), lines-there, none);
+          first-read = p .one .is;
+          second-read = p .two .is ∙ ap (got (p .two .a)) none;
+          n-within = p .counts .n-is .within;
+          m-within = p .counts .m-is .within;
+        }

@@ -1,13 +1,12 @@
 -- What an answer of the code, told apart, says of what the definition has read.
 use mathlib.Core.Path.{_≡_, sym, ap, _∙_}
 use mathlib.Core.Bool.{Bool}
-use mathlib.Core.List.{List, [], _∷_}
+use mathlib.Core.List.{List}
 use Prim.Native.Nat.{ℕ}
 use lib.ListN.{drop}
 use lib.IntN.{ℤ}
-use lib.Ieee.{Float}
 use Rattle.layout_text.specs.Layout.{whole}
-use Rattle.layout_text.specs.Reader.{Got, nothing, got, Passed, stuck, over}
+use Rattle.layout_text.specs.Reader.{Got, nothing, got}
 use Rattle.layout_text.specs.Shown.{shownNumber}
 use Rattle.layout_text.specs.declared.number.Number.{Number}
 use Rattle.layout_text.specs.declared.number.Number.the-variants as Number·

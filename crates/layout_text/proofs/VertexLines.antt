@@ -1,17 +1,49 @@
--- One turn of a loop over vertices: the line at hand, then the lines that are left.
-use Prim.Native.Nat.{ℕ, zero, suc, _+_, _*_, _-_, _≤_, _<_}
+-- A vertex's line, number by number, and one turn of a loop over vertices: the line at hand, then the lines that are left.
+use Prim.Native.Nat.{ℕ, suc, _+_, _-_, _≤_, _<_}
 use mathlib.Core.Path.{_≡_, refl, sym, ap, _∙_}
+use mathlib.Core.Bool.{Bool}
 use mathlib.Core.List.{List, [], _∷_}
 use native.Mathlib.Omega.{arith}
-use lib.ListN.{length, drop, set, length-set}
+use lib.ListN.{drop, set}
 use lib.Seq.{sets}
 use lib.Ieee.{Float}
-use Rattle.layout_text.specs.Layout.{Vertex}
+use Rattle.layout_text.specs.Limits as limit
+use Rattle.layout_text.specs.Layout.{Vertex, whole}
 use Rattle.layout_text.specs.Numbers.{coordinate, bulge, pathOf}
 use Rattle.layout_text.specs.Reader.{Got, nothing, got, Passed, stuck, over, passed, andThen, vertexOf, verticesOf}
-use Rattle.layout_text.specs.Shown.{shownVertex, numbersOf, Filled}
+use Rattle.layout_text.specs.Reader.{space, newline, wholeOf}
+use Rattle.layout_text.specs.Shown.{shownNumber, shownVertex, numbersOf, Filled}
+use Rattle.layout_text.proofs.Told.{no-number, a-number}
+use Rattle.layout_text.specs.declared.number.Number.{Number}
+use Rattle.layout_text.specs.declared.number.Number.the-variants as Number·
 use Rattle.layout_text.specs.declared.vertex.Corner.{Corner}
 use Rattle.layout_text.specs.declared.vertex.Corner.the-variants as Corner·
+
+-- ---- a line, by what each call told of its number
+
+module _ (text t : List ℕ) (x : Number) (x-is : shownNumber text x ≡ wholeOf limit.coordinate space t) where
+  pub no-x : x ≡ Number·.Broken → nothing ≡ numbersOf (vertexOf t)
+  unfolding vertexOf numbersOf
+  no-x e = simp (no-number text x-is e)
+
+  module _ (x-minus : Bool) (x-size after-x : ℕ) (x-whole : x ≡ Number·.Whole x-minus x-size after-x) (y : Number)
+      (y-is : shownNumber text y ≡ wholeOf limit.coordinate space (drop after-x text)) where
+    pub no-y : y ≡ Number·.Broken → nothing ≡ numbersOf (vertexOf t)
+    unfolding vertexOf numbersOf
+    no-y e = simp (a-number text x-is x-whole, no-number text y-is e)
+
+    module _ (y-minus : Bool) (y-size after-y : ℕ) (y-whole : y ≡ Number·.Whole y-minus y-size after-y) (b : Number)
+        (b-is : shownNumber text b ≡ wholeOf limit.bulge newline (drop after-y text)) where
+      pub no-b : b ≡ Number·.Broken → nothing ≡ numbersOf (vertexOf t)
+      unfolding vertexOf numbersOf
+      no-b e = simp (a-number text x-is x-whole, a-number text y-is y-whole, no-number text b-is e)
+
+      pub all-three : (b-minus : Bool) (b-size after-b : ℕ) → b ≡ Number·.Whole b-minus b-size after-b → (vx vy vb : Float)
+          → vx ≡ coordinate (whole x-minus x-size) → vy ≡ coordinate (whole y-minus y-size) → vb ≡ bulge (whole b-minus b-size)
+          → got (vx ∷ vy ∷ vb ∷ []) (drop after-b text) ≡ numbersOf (vertexOf t)
+      unfolding vertexOf numbersOf
+      all-three b-minus b-size after-b e vx vy vb is-x is-y is-b =
+          simp (a-number text x-is x-whole, a-number text y-is y-whole, a-number text b-is e, is-x, is-y, is-b)
 
 -- ---- the line at hand
 
@@ -65,16 +97,25 @@ module _ (n i : ℕ) (t : List ℕ) where
     unfolding verticesOf
     lines-read e = rw (left n i inside, e)
 
--- ---- passing them
+-- ---- passing them: `all` is what is left after all lines, and i of n are passed
 
 after-passed : (v : Vertex) (g : Got (List Vertex)) → passed g ≡ passed (andThen g (λ vs r. got (v ∷ vs) r))
 after-passed v nothing = refl
 after-passed v (got vs r) = refl
 
-pub pass-line : (n i : ℕ) (t : List ℕ) → i < n → {numbers : List Float} {rest : List ℕ} → Line (vertexOf t) numbers rest
-    → passed (verticesOf (n - (i + 1)) rest) ≡ passed (verticesOf (n - i) t)
-pass-line n i t h {numbers} {rest} line =
-    after-passed (line .v) (verticesOf (n - (i + 1)) rest) ∙ sym (ap passed (lines-read n i t h (line .is)))
+module _ (text : List ℕ) (n i at : ℕ) (all : Passed) (inv : passed (verticesOf (n - i) (drop at text)) ≡ all) where
+  pub pass-end : n ≤ i → over (drop at text) ≡ all
+  pass-end h = rw (lines-end n i _ h) at inv
+
+  module _ (inside : i < n) (r : Corner) (is : shownVertex text r ≡ numbersOf (vertexOf (drop at text))) where
+    pub pass-broken : r ≡ Corner·.Broken → stuck ≡ all
+    pass-broken e = rw (lines-broken n i _ inside (no-line text is e)) at inv
+
+    pub pass-line : (x y b : Float) (next : ℕ) → r ≡ Corner·.At x y b next
+        → passed (verticesOf (n - (i + 1)) (drop next text)) ≡ all
+    pass-line x y b next e =
+        let line = a-line text is e in
+        after-passed (line .v) (verticesOf (n - (i + 1)) (drop next text)) ∙ rw (lines-read n i _ inside (line .is)) at inv
 
 -- ---- writing them
 
@@ -99,16 +140,24 @@ three-set old k x y b =
     let two : k + 2 ≡ suc (suc k) = omega arith in
     rw (one, two)
 
-pub store-line : (n i : ℕ) (t : List ℕ) → i < n → {x y b : Float} {rest : List ℕ} → Line (vertexOf t) (x ∷ y ∷ b ∷ []) rest
-    → (old : List Float) (k : ℕ)
-    → stored (verticesOf (n - (i + 1)) rest) (set (set (set old k x) (k + 1) y) (k + 2) b) (k + 3)
-    ≡ stored (verticesOf (n - i) t) old k
-store-line n i t h {x} {y} {b} {rest} line old k =
-    let g = verticesOf (n - (i + 1)) rest in
-    let three : k + 3 ≡ suc (suc (suc k)) = omega arith in
-    let written = three-set old k x y b ∙ ap (sets old k) (line .numbered) in
-    rw (written, three) (after-stored (line .v) g old k)
-    ∙ sym (ap (λ (got-them : Got (List Vertex)). stored got-them old k) (lines-read n i t h (line .is)))
+-- `all` is what stands once all lines are written, and i of n are written to `old`, up to k
+module _ (text : List ℕ) (n i at : ℕ) (all : Stored) (old : List Float) (k : ℕ)
+    (inv : stored (verticesOf (n - i) (drop at text)) old k ≡ all) where
+  pub store-end : n ≤ i → kept old ≡ all
+  store-end h = rw (lines-end n i _ h) at inv
+
+  module _ (inside : i < n) (r : Corner) (is : shownVertex text r ≡ numbersOf (vertexOf (drop at text))) where
+    pub store-broken : r ≡ Corner·.Broken → gone ≡ all
+    store-broken e = rw (lines-broken n i _ inside (no-line text is e)) at inv
+
+    pub store-line : (x y b : Float) (next : ℕ) → r ≡ Corner·.At x y b next
+        → stored (verticesOf (n - (i + 1)) (drop next text)) (set (set (set old k x) (k + 1) y) (k + 2) b) (k + 3) ≡ all
+    store-line x y b next e =
+        let line = a-line text is e in
+        let three : k + 3 ≡ suc (suc (suc k)) = omega arith in
+        let written = three-set old k x y b ∙ ap (sets old k) (line .numbered) in
+        rw (written, three) (after-stored (line .v) (verticesOf (n - (i + 1)) (drop next text)) old k)
+        ∙ rw (lines-read n i _ inside (line .is)) at inv
 
 pub filled-broken : (h : Got (List Vertex)) (old now : List Float) → gone ≡ stored h old 0 → Filled h old now
 filled-broken h old now s vs rest is =

@@ -1,6 +1,6 @@
 -- Bytes put one after the other are put as one; digits, and how many they are.
-use Prim.Native.Nat.{ℕ, zero, suc, _+_, _-_, _*_, _/_, _%_, _^_, _≤_, _<_}
-use mathlib.Core.Path.{_≡_, refl, sym, ap, _∙_, subst}
+use Prim.Native.Nat.{ℕ, zero, suc, _+_, _-_, _/_, _%_, _^_, _≤_, _<_}
+use mathlib.Core.Path.{_≡_, refl, ap, _∙_}
 use mathlib.Core.List.{List, [], _∷_, _++_}
 use native.Mathlib.Nat.{add-zero}
 use native.Mathlib.Omega.{arith}
@@ -31,6 +31,14 @@ put-join {a} {b} {old} {mid} {now} {at} {k} {next} p q =
     let from : sets mid k b ≡ sets (sets old at a) (at + length a) b = rw (p .holds, p .after) in
     let long = length-append a b in
     record { holds = q .holds ∙ from ∙ sets-append a b old at; after = omega (arith, p .after, q .after, long) }
+
+-- the same, by the most bytes that they may be
+pub in-join : {m n : ℕ} {a b old mid now : List ℕ} {at k next : ℕ} → PutIn m a old at mid k → PutIn n b mid k now next
+    → PutIn (m + n) (a ++ b) old at now next
+in-join p q = record { is-put = put-join (p .is-put) (q .is-put); short = omega (arith, p .short, q .short) }
+
+pub within : {m n : ℕ} {a old now : List ℕ} {at next : ℕ} → m ≤ n → PutIn m a old at now next → PutIn n a old at now next
+within h p = record { is-put = p .is-put; short = omega (arith, p .short) }
 
 -- ---- decimal digits
 
@@ -97,11 +105,11 @@ module _ (word out : List ℕ) (at i : ℕ) where
 pub hex-after : (k n : ℕ) {old now : List ℕ} {at next : ℕ} → Put (hex k n) old at now next → next ≡ at + k
 hex-after k n {at = at} p = p .after ∙ ap (λ (l : ℕ). at + l) (hex-long k n)
 
-pub decimal-in : (n : ℕ) → n < 10 ^ 20 → {old now : List ℕ} {at next : ℕ} → Put (decimal n) old at now next
-    → PutIn 20 (decimal n) old at now next
-decimal-in n h p = record { is-put = p; short = omega (arith, p .after, decimal-long 19 n h) }
-
 -- a word of at most so many bytes
 pub word-in : (most : ℕ) {word old now : List ℕ} {at next : ℕ} → Put word old at now next → length word ≤ most
     → PutIn most word old at now next
 word-in most p h = record { is-put = p; short = omega (arith, p .after) }
+
+pub decimal-in : (n : ℕ) → n < 10 ^ 20 → {old now : List ℕ} {at next : ℕ} → Put (decimal n) old at now next
+    → PutIn 20 (decimal n) old at now next
+decimal-in n h p = word-in 20 p (decimal-long 19 n h)

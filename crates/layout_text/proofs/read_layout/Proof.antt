@@ -1,6 +1,8 @@
 -- `layout_text::read_layout` meets its contract: it writes only what `shape_of` has found to be there. Assumes nothing.
 use native.Mathlib.Omega.{arith}
 use borrow.Author.Needs.{needs}
+use denote.Ref.{now}
+use Rattle.layout_text.specs.Shown.{Fitting}
 use Rattle.layout_text.proofs.Ends.{first-short, second-short, form-broken, both-written, fits-of}
 use Rattle.layout_text.proofs.read_layout.Statement.{statement}
 use Rattle.layout_text.proofs.read_layout.Tie as tie
@@ -17,29 +19,30 @@ returns-3 c =
     let room = shape .before in
     form-broken _ _ _ (room .before .if1 .left) (room .if2 .left) _ (shape .shape-of .ensures) (c .enum-told .given .1)
 
+fit : (c : tie.After-n)
+    → let text = now (c .before .before .before .before .before .before .before .before .args .text) in
+    let at = c .n .given .0 in
+    Fitting text (at .0) (at .1 .0) (at .1 .1 .0) (at .1 .1 .1 .0)
+fit c = fits-of _ (c .before .before .shape-of .ensures) (c .n .given .1)
+
 fill-requires : tie.Need-fill-requires
 fill-requires c κs =
     let told = c .before .before in
-    let shape = told .before .before in
-    let fit = fits-of _ (shape .shape-of .ensures) (told .n .given .1) in
-    omega (arith, fit .n-within, shape .before .before .if1 .left)
+    omega (arith, fit told .n-within, told .before .before .before .before .if1 .left)
 
 fill-requires-2 : tie.Need-fill-requires-2
 fill-requires-2 c κs =
     let told = c .before .before .before .before .before .before in
-    let shape = told .before .before in
-    let fit = fits-of _ (shape .shape-of .ensures) (told .n .given .1) in
-    omega (arith, fit .m-within, shape .before .if2 .left)
+    omega (arith, fit told .m-within, told .before .before .before .if2 .left)
 
 returns-4 : tie.Need-returns-4
 returns-4 c =
     let second = c .before .before in
     let first = second .before .before .before .before in
     let told = first .before .before .before in
-    let shape = told .before .before in
-    let room = shape .before in
-    let fit = fits-of _ (shape .shape-of .ensures) (told .n .given .1) in
-    both-written _ _ _ (room .before .if1 .left) (room .if2 .left) _ _ _ _ _ _ fit (first .fill .ensures) (second .fill2 .ensures)
+    let room = told .before .before .before in
+    both-written _ _ _ (room .before .if1 .left) (room .if2 .left) _ _ _ _ _ _ (fit told)
+    (first .fill .ensures) (second .fill2 .ensures)
 
 pub read-layout-spec : {M : Type 1} → statement M
 read-layout-spec =

@@ -1,9 +1,9 @@
 -- A byte that is no other one is told by its kind.
 use Prim.Native.Nat.{ℕ, _+_, _-_, _≤_, _<_}
-use mathlib.Core.Path.{_≡_, refl, sym, ap, _∙_}
+use mathlib.Core.Path.{_≡_, sym, ap, _∙_}
 use mathlib.Core.Bool.{Bool, true, false, not, cond}
 use native.Mathlib.Omega.{arith}
-use borrow.Author.Tests.{lt-ltb, le-ltb, ne-eqb}
+use borrow.Author.Tests.{lt-ltb, le-ltb}
 use lib.Dec.{T, ltb, eqb, ltb→lt, nltb→le, eqb→eq}
 use Rattle.layout_text.specs.Reader.{kindOf, space, newline, minus, other}
 
@@ -45,6 +45,9 @@ byte-of b =
         let back : b ≡ 48 + (b - 48) = omega arith in
         back ∙ sym (byte-digit (b - 48) small)
     go false l m em s es n en false ed h = absurd (omega arith)
+
+pub byte-is : (b k : ℕ) → k < other → kindOf b ≡ k → b ≡ byteOf k
+byte-is b k h e = byte-of b (omega arith) ∙ ap byteOf e
 
 -- a digit's byte
 pub digit-byte : (b : ℕ) → kindOf b < 10 → b ≡ 48 + kindOf b

@@ -1,21 +1,19 @@
 -- What has the form is read: a number's digits with what ends it, a vertex's line, the lines of a path.
 use Prim.Native.Nat.{ℕ, zero, suc, _+_, _*_, _/_, _%_, _≤_, _<_}
-use mathlib.Core.Path.{_≡_, refl, sym, ap, _∙_, subst}
-use mathlib.Core.Bool.{Bool, true, false, not, cond}
+use mathlib.Core.Path.{_≡_, refl, ap, _∙_}
+use mathlib.Core.Bool.{Bool, true, false}
 use mathlib.Core.List.{List, [], _∷_, _++_, append-assoc, append-nil}
-use native.Mathlib.Nat.{not-suc-le-zero, zero-add}
 use native.Mathlib.Omega.{arith}
 use borrow.Author.Tests.{lt-ltb, le-ltb, eq-eqb, ne-eqb}
-use lib.Dec.{T, ltb, ltb→lt, nltb→le}
 use lib.ListN.{length}
 use lib.IntN.{ℤ, pos, negsuc}
 use Rattle.layout_text.specs.Limits as limit
 use Rattle.layout_text.specs.Layout.{Vertex, Layout, VertexWithin, EachWithin, none, more, Within, size, whole}
 use Rattle.layout_text.specs.Decimal.{decimal}
 use Rattle.layout_text.specs.Form.{wholeText, vertexText, verticesText, textOf}
-use Rattle.layout_text.specs.Reader.{Got, nothing, got, andThen, kindOf, firstKind, digitsOf, positiveOf, zeroOf, countOf}
+use Rattle.layout_text.specs.Reader.{got, kindOf, firstKind, digitsOf, positiveOf, zeroOf, countOf}
 use Rattle.layout_text.specs.Reader.{wholeOf, vertexOf, verticesOf, linesOf, space, newline, minus}
-use Rattle.layout_text.specs.Laws.Decimal.{decimal-small, decimal-large}
+use Rattle.layout_text.specs.Laws.Decimal.{decimal-small, decimal-large, by-digits}
 use Rattle.layout_text.specs.Laws.Bytes.{kind-digit}
 
 -- the last digit of a number of several stands before what follows
@@ -31,20 +29,12 @@ first-of : (d : ℕ) (t : List ℕ) → d < 10 → firstKind ((48 + d) ∷ t) �
 unfolding firstKind
 first-of d t h = kind-digit d h
 
--- of a number above 0 it is one of 1 to 9; by induction on a number above m
-first-in : (k m : ℕ) (t : List ℕ) → m < k → 0 < m → (0 < firstKind (decimal m ++ t)) × (firstKind (decimal m ++ t) < 10)
-first-in zero m t h p = absurd (not-suc-le-zero h)
-first-in (suc k) m t h p = go (ltb m 10) (ltb→lt m 10) (nltb→le m 10) (first-in k (m / 10) ((48 + m % 10) ∷ t))
-  where
-    go : (small : Bool) → (T small → m < 10) → (T (not small) → 10 ≤ m)
-        → (m / 10 < k → 0 < m / 10
-        → (0 < firstKind (decimal (m / 10) ++ ((48 + m % 10) ∷ t))) × (firstKind (decimal (m / 10) ++ ((48 + m % 10) ∷ t)) < 10))
-        → (0 < firstKind (decimal m ++ t)) × (firstKind (decimal m ++ t) < 10)
-    go true small large rest = let g = small tt in rw (one-digit m t g, first-of m t g) (p, g)
-    go false small large rest = let g = large tt in rw (last-digit m t g) (rest (omega arith) (omega arith))
-
+-- of a number above 0 it is one of 1 to 9
 pub first-digit : (m : ℕ) (t : List ℕ) → 0 < m → (0 < firstKind (decimal m ++ t)) × (firstKind (decimal m ++ t) < 10)
-first-digit m t p = first-in (suc m) m t (omega arith) p
+first-digit =
+    by-digits (λ m t. 0 < m → (0 < firstKind (decimal m ++ t)) × (firstKind (decimal m ++ t) < 10))
+    (λ m t small p. rw (one-digit m t small, first-of m t small) (p, small))
+    (λ m t large rest p. rw (last-digit m t large) (rest (omega arith)))
 
 -- ---- digits
 
@@ -56,26 +46,18 @@ module _ (negative : Bool) (most end : ℕ) where
       let below : d ≤ 9 = omega arith in
       rw (kind-digit d h, le-ltb _ _ below, le-ltb _ _ g)
 
-  digits-in : (k m : ℕ) (t : List ℕ) → m < k → m ≤ most
-      → digitsOf negative most end 0 (decimal m ++ t) ≡ digitsOf negative most end m t
-  digits-in zero m t h g = absurd (not-suc-le-zero h)
-  digits-in (suc k) m t h g = go (ltb m 10) (ltb→lt m 10) (nltb→le m 10) (digits-in k (m / 10) ((48 + m % 10) ∷ t))
-    where
-      go : (small : Bool) → (T small → m < 10) → (T (not small) → 10 ≤ m)
-          → (m / 10 < k → m / 10 ≤ most
-          → digitsOf negative most end 0 (decimal (m / 10) ++ ((48 + m % 10) ∷ t)) ≡ digitsOf negative most end (m / 10) ((48 + m % 10) ∷ t))
-          → digitsOf negative most end 0 (decimal m ++ t) ≡ digitsOf negative most end m t
-      go true small large rest =
-          let s = small tt in
-          let e : 0 * 10 + m ≡ m = omega arith in
-          rw (one-digit m t s) (digit-step 0 m t s (omega arith) ∙ ap (λ (n : ℕ). digitsOf negative most end n t) e)
-      go false small large rest =
-          let l = large tt in
-          let e : m / 10 * 10 + m % 10 ≡ m = omega arith in
-          rw (last-digit m t l)
-          (rest (omega arith) (omega arith)
-          ∙ digit-step (m / 10) (m % 10) t (omega arith) (omega arith)
-          ∙ ap (λ (n : ℕ). digitsOf negative most end n t) e)
+  digits-in : (m : ℕ) (t : List ℕ) → m ≤ most → digitsOf negative most end 0 (decimal m ++ t) ≡ digitsOf negative most end m t
+  digits-in =
+      by-digits (λ m t. m ≤ most → digitsOf negative most end 0 (decimal m ++ t) ≡ digitsOf negative most end m t)
+      (λ m t small h.
+      let e : 0 * 10 + m ≡ m = omega arith in
+      rw (one-digit m t small) (digit-step 0 m t small (omega arith) ∙ ap (λ (n : ℕ). digitsOf negative most end n t) e))
+      (λ m t large rest h.
+      let e : m / 10 * 10 + m % 10 ≡ m = omega arith in
+      rw (last-digit m t large)
+      (rest (omega arith)
+      ∙ digit-step (m / 10) (m % 10) t (omega arith) (omega arith)
+      ∙ ap (λ (n : ℕ). digitsOf negative most end n t) e))
 
   module _ (e : ℕ) (ends : kindOf e ≡ end) (mark : 9 < end) where
     digits-end : (n : ℕ) (t : List ℕ) → digitsOf negative most end n (e ∷ t) ≡ got (whole negative n) t
@@ -89,7 +71,7 @@ module _ (negative : Bool) (most end : ℕ) where
         let first = first-digit m (e ∷ t) p in
         let digit : firstKind (decimal m ++ (e ∷ t)) ≤ 9 = omega (arith, first .1) in
         rw (ne-eqb (firstKind (decimal m ++ (e ∷ t))) 0 (λ z. omega (arith, z, first .0)), le-ltb _ _ digit)
-        (digits-in (suc m) m (e ∷ t) (omega arith) h ∙ digits-end m t)
+        (digits-in m (e ∷ t) h ∙ digits-end m t)
 
 -- ---- numbers, with what ends them
 

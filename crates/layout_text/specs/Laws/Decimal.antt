@@ -1,12 +1,12 @@
--- Decimal digits: those of a number below ten, of a larger one, of n with one more digit after it; how many there are.
-use Prim.Native.Nat.{ℕ, zero, suc, _+_, _*_, _/_, _%_, _^_, _≤_, _<_}
-use mathlib.Core.Path.{_≡_, refl, sym, ap, _∙_}
+-- Decimal digits: those of a number below ten, of a larger one, of n with one more digit after it; and how to argue on all of them.
+use Prim.Native.Nat.{ℕ, zero, suc, _+_, _*_, _/_, _%_, _≤_, _<_}
+use mathlib.Core.Path.{_≡_, refl, ap, _∙_}
 use mathlib.Core.Bool.{Bool, true, false, not}
 use mathlib.Core.List.{List, [], _∷_, _++_}
 use native.Mathlib.Nat.{not-suc-le-zero}
 use native.Mathlib.Omega.{arith}
 use borrow.Author.Tests.{lt-ltb, le-ltb}
-use lib.Dec.{T, ltb, nltb→le}
+use lib.Dec.{T, ltb, ltb→lt, nltb→le}
 use Rattle.layout_text.specs.Decimal.{decimal, decimalIn}
 
 -- more room for digits than n + 1 adds none
@@ -39,3 +39,19 @@ decimal-more n d h g =
     let tenth : (n * 10 + d) / 10 ≡ n = omega arith in
     let last : (n * 10 + d) % 10 ≡ d = omega arith in
     decimal-large (n * 10 + d) (omega arith) ∙ rw (tenth, last)
+
+-- ---- an argument on the digits of m before a text: for one digit, and for more by that on the tenth, the last digit in the text
+
+module _ (P : ℕ → List ℕ → Type 0) (one : (m : ℕ) (t : List ℕ) → m < 10 → P m t)
+    (more : (m : ℕ) (t : List ℕ) → 10 ≤ m → P (m / 10) ((48 + m % 10) ∷ t) → P m t) where
+  -- by induction on a number above m
+  digits-below : (k m : ℕ) (t : List ℕ) → m < k → P m t
+  digits-below zero m t h = absurd (not-suc-le-zero h)
+  digits-below (suc k) m t h = go (ltb m 10) (ltb→lt m 10) (nltb→le m 10) (digits-below k (m / 10) ((48 + m % 10) ∷ t))
+    where
+      go : (small : Bool) → (T small → m < 10) → (T (not small) → 10 ≤ m) → (m / 10 < k → P (m / 10) ((48 + m % 10) ∷ t)) → P m t
+      go true small large rest = one m t (small tt)
+      go false small large rest = let g = large tt in more m t g (rest (omega arith))
+
+  pub by-digits : (m : ℕ) (t : List ℕ) → P m t
+  by-digits m t = digits-below (suc m) m t (omega arith)

@@ -1,11 +1,10 @@
 -- A whole number's float: a negative one's is that of its magnitude, negated.
-use Prim.Native.Nat.{ℕ, zero, suc, _+_, _*_, _≤_, _<_, _^_}
-use mathlib.Core.Path.{_≡_, refl, sym, ap, _∙_}
+use Prim.Native.Nat.{ℕ, zero, suc, _+_, _*_, _^_}
+use mathlib.Core.Path.{_≡_, refl}
 use mathlib.Core.Bool.{Bool, true, false, cond}
-use native.Mathlib.Omega.{arith}
 use lib.Dec.{ltb}
-use lib.IntN.{ℤ, pos, negsuc}
-use lib.Ieee.{Float, inf, Format, binary64, prec, low, emax, neg, odd, units, round, ofInt}
+use lib.IntN.{pos}
+use lib.Ieee.{inf, Format, binary64, prec, low, emax, neg, odd, units, round, ofInt}
 use Rattle.layout_text.specs.Layout.{whole}
 use Rattle.layout_text.specs.Numbers.{coordinate}
 

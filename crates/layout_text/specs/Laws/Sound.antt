@@ -2,13 +2,13 @@
 use Prim.Native.Nat.{ℕ, zero, suc, _+_, _*_, _≤_, _<_}
 use mathlib.Core.Path.{_≡_, refl, sym, ap, _∙_, subst}
 use mathlib.Core.Bool.{Bool, true, false, not, cond}
-use mathlib.Core.List.{List, [], _∷_, _++_, append-assoc, append-nil}
+use mathlib.Core.List.{List, [], _∷_, _++_, append-assoc}
 use native.Mathlib.Nat.{pos-of-ne-zero}
 use native.Mathlib.Omega.{arith}
-use borrow.Author.Tests.{lt-ltb, le-ltb, eq-eqb, ne-eqb, eqb-false}
-use lib.Dec.{T, ltb, eqb, ltb→lt, nltb→le, eqb→eq}
+use borrow.Author.Tests.{le-ltb, eqb-false}
+use lib.Dec.{T, ltb, eqb, nltb→le, eqb→eq}
 use lib.ListN.{length, drop}
-use lib.IntN.{ℤ, pos, negsuc}
+use lib.IntN.{ℤ, pos}
 use Rattle.layout_text.specs.Limits as limit
 use Rattle.layout_text.specs.Layout.{Vertex, Layout, VertexWithin, EachWithin, none, more, Within, size, whole}
 use Rattle.layout_text.specs.Decimal.{decimal}
@@ -16,7 +16,7 @@ use Rattle.layout_text.specs.Form.{wholeText, vertexText, verticesText, 
 use Rattle.layout_text.specs.Reader.{Got, nothing, got, andThen, kindOf, firstKind, digitsOf, positiveOf, zeroOf, countOf}
 use Rattle.layout_text.specs.Reader.{wholeOf, vertexOf, verticesOf, linesOf, space, newline, minus, other}
 use Rattle.layout_text.specs.Laws.Decimal.{decimal-small, decimal-more}
-use Rattle.layout_text.specs.Laws.Bytes.{byteOf, byte-of, digit-byte}
+use Rattle.layout_text.specs.Laws.Bytes.{byteOf, byte-is, digit-byte}
 
 -- ---- taking apart
 
@@ -63,10 +63,8 @@ module _ (negative : Bool) (most end : ℕ) (known : end < other) {z : ℤ} {res
           (cond beyond nothing (digitsOf negative most end (n * 10 + kindOf b) t)) ≡ got z rest
           → Spelt negative most end n (b ∷ t) z rest
       go true digit true ended beyond within longer e =
-          let k = ended tt in
-          let is-end : b ≡ byteOf end = byte-of b (subst (λ (j : ℕ). j < other) (sym k) known) ∙ ap byteOf k in
           let same : t ≡ rest = cc in
-          record { m = n; is = cc; fits = h; grown = omega arith; spelt = rw (is-end, same) }
+          record { m = n; is = cc; fits = h; grown = omega arith; spelt = rw (byte-is b end known (ended tt), same) }
       go true digit false ended beyond within longer e = never e
       go false digit ended is true within longer e = never e
       go false digit ended is false within longer e =
@@ -147,7 +145,7 @@ minus-text (suc m) p z e = rw e (refl, refl)
 minus-first : (text : List ℕ) → firstKind text ≡ minus → text ≡ 45 ∷ drop 1 text
 unfolding firstKind byteOf
 minus-first [] k = absurd (omega (arith, k))
-minus-first (b ∷ t) k = ap (λ (c : ℕ). c ∷ t) (byte-of b (omega (arith, k)) ∙ ap byteOf k)
+minus-first (b ∷ t) k = ap (λ (c : ℕ). c ∷ t) (byte-is b minus (omega arith) k)
 
 module _ (most end : ℕ) (known : end < other) {z : ℤ} {rest : List ℕ} where
   -- the text after a 0
@@ -164,10 +162,8 @@ module _ (most end : ℕ) (known : end < other) {z : ℤ} {rest : List ℕ} wher
       go : (ended : Bool) → (T ended → kindOf b ≡ end) → cond ended (got (pos 0) t) nothing ≡ got z rest
           → (b ∷ t ≡ byteOf end ∷ rest) × (z ≡ pos 0)
       go true ended e =
-          let k = ended tt in
-          let is-end : b ≡ byteOf end = byte-of b (subst (λ (j : ℕ). j < other) (sym k) known) ∙ ap byteOf k in
           let same : t ≡ rest = cc in
-          (rw (is-end, same), cc)
+          (rw (byte-is b end known (ended tt), same), cc)
       go false ended e = never e
 
   pub count-spelt : (text : List ℕ) → countOf most end text ≡ got z rest → CountText most end text z rest

@@ -12,12 +12,6 @@ returns c = no-room _ _ (omega arith)
 returns-2 : tie.Need-returns-2
 returns-2 c = refused _ _ (c .before .before .if1 .left) (c .before .if2 .taken)
 
-slice-write-out-2 : tie.Need-slice-write-out-2
-slice-write-out-2 c = simp length-set (omega arith)
-
-slice-write-out-3 : tie.Need-slice-write-out-3
-slice-write-out-3 c = simp length-set (omega arith)
-
 returns-3 : tie.Need-returns-3
 returns-3 c = written _ _ (c .before .if1 .left) (c .if2 .left)
 
@@ -25,5 +19,6 @@ pub hand-over-spec : {M : Type 1} → statement M
 hand-over-spec =
     tie.close
     (tie.spec
-    returns (search needs) returns-2 (search needs) slice-write-out-2 slice-write-out-3 (λ c. search needs) (search needs)
+    returns (λ c. search needs) returns-2 (λ c. search needs)
+    (λ c. simp length-set (omega arith)) (λ c. simp length-set (omega arith)) (λ c. search needs) (λ c. search needs)
     returns-3)

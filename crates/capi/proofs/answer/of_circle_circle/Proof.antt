@@ -11,7 +11,7 @@ unfolding ofCircleCircle refusal case
 of-circle-circle-spec =
     tie.close
     (tie.spec
-    (search needs) (search needs) (search needs) (search needs) (search needs) (search needs) (search needs) (search needs)
-    (search needs) (search needs) (search needs)
+    (λ c. search needs) (λ c. search needs) (λ c. search needs) (λ c. search needs) (λ c. search needs) (λ c. search needs)
+    (λ c. search needs) (λ c. search needs) (λ c. search needs) (λ c. search needs) (λ c. search needs)
     (λ c. search (as-refused ofCircleCircle)) (λ c. search (as-met ofCircleCircle Met)) (λ c. search (as-met ofCircleCircle Met))
     (λ c. search (as-met ofCircleCircle Met)) (λ c. search (as-met ofCircleCircle Met)))

@@ -11,7 +11,7 @@ unfolding ofLineCircle refusal case
 of-line-circle-spec =
     tie.close
     (tie.spec
-    (search needs) (search needs) (search needs) (search needs) (search needs) (search needs) (search needs) (search needs)
-    (search needs)
+    (λ c. search needs) (λ c. search needs) (λ c. search needs) (λ c. search needs) (λ c. search needs) (λ c. search needs)
+    (λ c. search needs) (λ c. search needs) (λ c. search needs)
     (λ c. search (as-refused ofLineCircle)) (λ c. search (as-met ofLineCircle Met)) (λ c. search (as-met ofLineCircle Met))
     (λ c. search (as-met ofLineCircle Met)))

@@ -11,8 +11,8 @@ unfolding ofLineLine refusal case
 of-line-line-spec =
     tie.close
     (tie.spec
-    (search needs) (search needs) (search needs) (search needs) (search needs) (search needs) (search needs) (search needs)
-    (search needs) (search needs) (search needs)
+    (λ c. search needs) (λ c. search needs) (λ c. search needs) (λ c. search needs) (λ c. search needs) (λ c. search needs)
+    (λ c. search needs) (λ c. search needs) (λ c. search needs) (λ c. search needs) (λ c. search needs)
     (λ c. search (as-refused ofLineLine)) (λ c. search (as-met ofLineLine Met))
     (λ c.
     let true-intersect = c .before .before in

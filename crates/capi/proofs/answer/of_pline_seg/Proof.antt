@@ -11,8 +11,9 @@ unfolding ofPlineSeg refusal case
 of-pline-seg-spec =
     tie.close
     (tie.spec
-    (search needs) (search needs) (search needs) (search needs) (search needs) (search needs) (search needs) (search needs)
-    (search needs) (search needs) (search needs) (search needs) (search needs) (search needs) (search needs)
+    (λ c. search needs) (λ c. search needs) (λ c. search needs) (λ c. search needs) (λ c. search needs) (λ c. search needs)
+    (λ c. search needs) (λ c. search needs) (λ c. search needs) (λ c. search needs) (λ c. search needs) (λ c. search needs)
+    (λ c. search needs) (λ c. search needs) (λ c. search needs)
     (λ c. search (as-refused ofPlineSeg)) (λ c. search (as-met ofPlineSeg Met)) (λ c. search (as-met ofPlineSeg Met))
     (λ c. search (as-met ofPlineSeg Met)) (λ c. search (as-met ofPlineSeg Met)) (λ c. search (as-met ofPlineSeg Met))
     (λ c. search (as-met ofPlineSeg Met)))

@@ -4,9 +4,6 @@ use Rattle.capi.specs.Handed
 use Rattle.capi.proofs.answer.refusal.Statement.{statement}
 use Rattle.capi.proofs.answer.refusal.Tie as tie
 
-returns : tie.Need-returns
-unfolding Handed.refusal
-returns c = refl
-
 pub refusal-spec : {M : Type 1} → statement M
-refusal-spec = tie.close (tie.spec returns)
+unfolding Handed.refusal
+refusal-spec = tie.close (tie.spec (λ c. refl))

@@ -10,7 +10,7 @@ pub vj-circle-circle-intr-spec : {M : Type 1} → statement M
 vj-circle-circle-intr-spec =
     tie.close
     (tie.spec
-    (search needs) (search needs)
+    (λ c. search needs) (λ c. search needs)
     (λ c κs. search (small ofCircleCircle, circle-circle))
-    (search needs)
+    (λ c. search needs)
     (λ c. search (handed ofCircleCircle)))

@@ -10,7 +10,7 @@ pub vj-line-circle-intr-spec : {M : Type 1} → statement M
 vj-line-circle-intr-spec =
     tie.close
     (tie.spec
-    (search needs) (search needs)
+    (λ c. search needs) (λ c. search needs)
     (λ c κs. search (small ofLineCircle, line-circle))
-    (search needs)
+    (λ c. search needs)
     (λ c. search (handed ofLineCircle)))

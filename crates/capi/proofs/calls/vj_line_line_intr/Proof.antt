@@ -10,7 +10,7 @@ pub vj-line-line-intr-spec : {M : Type 1} → statement M
 vj-line-line-intr-spec =
     tie.close
     (tie.spec
-    (search needs) (search needs)
+    (λ c. search needs) (λ c. search needs)
     (λ c κs. search (small ofLineLine, line-line))
-    (search needs)
+    (λ c. search needs)
     (λ c. search (handed ofLineLine)))

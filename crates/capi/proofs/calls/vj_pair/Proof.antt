@@ -10,7 +10,7 @@ pub vj-pair-spec : {M : Type 1} → statement M
 vj-pair-spec =
     tie.close
     (tie.spec
-    (search needs) (search needs)
+    (λ c. search needs) (λ c. search needs)
     (λ c κs. search (small ofPlineSeg, pline-seg))
-    (search needs)
+    (λ c. search needs)
     (λ c. search (handed ofPlineSeg)))

@@ -19,4 +19,5 @@ pub hand-counts-spec : {M : Type 1} → statement M
 hand-counts-spec =
     tie.close
     (tie.spec
-    (search needs) add-result (search needs) (search needs) (λ c. search needs) returns (search needs) returns-2)
+    (λ c. search needs) add-result (λ c. search needs) (λ c. search needs) (λ c. search needs) returns (λ c. search needs)
+    returns-2)

@@ -9,7 +9,7 @@ vj-mutual-spec =
     tie.close
     (tie.spec
     (λ c. no-room _ _ _ _ (c .if1 .taken))
-    (search needs)
+    (λ c. search needs)
     (λ c κs. search (small, mutual-small))
-    (search needs) (search needs) (search needs)
+    (λ c. search needs) (λ c. search needs) (λ c. search needs)
     (λ c. search handed))

@@ -1,7 +1,7 @@
 -- `layout_lines::put::bits` meets its contract: only a NaN differs from itself, and its bits are those that the kit's text has
 -- for it. Assumes nothing.
 use mathlib.Core.Path.{_≡_, refl, sym, ap, _∙_, subst}
-use mathlib.Core.Bool.{Bool, true, false, not}
+use mathlib.Core.Bool.{false, not}
 use borrow.Author.Needs.{needs}
 use lib.Dec.{T}
 use lib.Ieee.{Float, nan, inf, fin, binary64, isNan, ne, eq, toBits}

@@ -5,16 +5,10 @@ use Rattle.layout_lines.specs.Lines.{glyph}
 use Rattle.layout_lines.proofs.put.glyph.Statement.{statement}
 use Rattle.layout_lines.proofs.put.glyph.Tie as tie
 
-returns : tie.Need-returns
-unfolding glyph
-returns c = simp (lt-ltb _ _ (c .if1 .taken))
-
-returns-2 : tie.Need-returns-2
-unfolding glyph
-returns-2 c = simp (le-ltb _ _ (c .if1 .left))
-
 pub glyph-spec : {M : Type 1} → statement M
+unfolding glyph
 glyph-spec =
     tie.close
     (tie.spec
-    (λ c. search needs) (λ c. search needs) returns (λ c. search needs) (λ c. search needs) returns-2)
+    (λ c. search needs) (λ c. search needs) (λ c. simp (lt-ltb _ _ (c .if1 .taken)))
+    (λ c. search needs) (λ c. search needs) (λ c. simp (le-ltb _ _ (c .if1 .left))))

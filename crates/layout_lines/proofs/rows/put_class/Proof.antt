@@ -24,25 +24,20 @@ unfolding classText
 short class = search (either, lit≤) depth 8
 
 -- the name of n, put where the class is n
-named : {class : ℕ} (n : ℕ) → class ≡ n → {old now : List ℕ} {at next : ℕ} → Put (classText n) old at now next
+named : (class n : ℕ) (old now : List ℕ) (at next : ℕ) → class ≡ n → Put (classText n) old at now next
     → PutIn 7 (classText class) old at now next
-named n e p = rw e (word-in 7 p (short n))
+named class n old now at next e p = rw e (word-in 7 p (short n))
 
 pub put-class-spec : {M : Type 1} → statement M
 unfolding classText
 put-class-spec =
     tie.close
     (tie.spec
-    (λ c. search needs) (λ c. search needs) (λ c. search needs)
-    (λ c. let put = c .before .before in named 1 (put .before .before .before .if1 .taken) (put .put-word .ensures))
-    (λ c. search needs) (λ c. search needs) (λ c. search needs)
-    (λ c. let put = c .before .before in named 2 (put .before .before .before .if2 .taken) (put .put-word2 .ensures))
-    (λ c. search needs) (λ c. search needs) (λ c. search needs)
-    (λ c. let put = c .before .before in named 3 (put .before .before .before .if3 .taken) (put .put-word3 .ensures))
-    (λ c. search needs) (λ c. search needs) (λ c. search needs)
-    (λ c. let put = c .before .before in named 4 (put .before .before .before .if4 .taken) (put .put-word4 .ensures))
-    (λ c. search needs) (λ c. search needs) (λ c. search needs)
-    (λ c. let put = c .before .before in named 5 (put .before .before .before .if5 .taken) (put .put-word5 .ensures))
+    (λ c. search needs) (λ c. search needs) (λ c. search needs) (λ c. search named)
+    (λ c. search needs) (λ c. search needs) (λ c. search needs) (λ c. search named)
+    (λ c. search needs) (λ c. search needs) (λ c. search needs) (λ c. search named)
+    (λ c. search needs) (λ c. search needs) (λ c. search needs) (λ c. search named)
+    (λ c. search needs) (λ c. search needs) (λ c. search needs) (λ c. search named)
     (λ c. search needs) (λ c. search needs) (λ c. search needs)
     (λ c.
     let put = c .before .before in

@@ -4,7 +4,7 @@ use native.Mathlib.Omega.{arith}
 use borrow.Author.Needs.{needs}
 use borrow.Author.Tests.{lt-ltb, le-ltb}
 use Rattle.layout_lines.specs.Lines.{pointsText}
-use Rattle.layout_lines.specs.Laws.Put.{put-none, put-join}
+use Rattle.layout_lines.specs.Laws.Put.{put-none, in-join, within}
 use Rattle.layout_lines.proofs.rows.put_points.Statement.{statement}
 use Rattle.layout_lines.proofs.rows.put_points.Tie as tie
 
@@ -19,10 +19,7 @@ returns-2 c =
     let x1 = y1 .before .before .before .before in
     let class = x1 .before .before in
     rw (le-ltb _ 1 (class .before .if1 .left), lt-ltb _ 3 (class .if2 .taken))
-    (record {
-      is-put = put-join (x1 .put-number .ensures .is-put) (y1 .put-number2 .ensures .is-put);
-      short = omega (arith, x1 .put-number .ensures .short, y1 .put-number2 .ensures .short);
-    })
+    (within (omega arith) (in-join (x1 .put-number .ensures) (y1 .put-number2 .ensures)))
 
 returns-3 : tie.Need-returns-3
 unfolding pointsText
@@ -32,18 +29,9 @@ returns-3 c =
     let y1 = x2 .before .before .before .before in
     let x1 = y1 .before .before .before .before in
     let class = x1 .before .before in
-    let one = put-join (x1 .put-number3 .ensures .is-put) (y1 .put-number4 .ensures .is-put) in
+    let one = in-join (x1 .put-number3 .ensures) (y1 .put-number4 .ensures) in
     rw (le-ltb _ 1 (class .before .before .if1 .left), le-ltb _ 3 (class .before .if2 .left), lt-ltb _ 6 (class .if3 .taken))
-    (record {
-      is-put = put-join (put-join one (x2 .put-number5 .ensures .is-put)) (y2 .put-number6 .ensures .is-put);
-      short = omega (
-        arith,
-        x1 .put-number3 .ensures .short,
-        y1 .put-number4 .ensures .short,
-        x2 .put-number5 .ensures .short,
-        y2 .put-number6 .ensures .short,
-      );
-    })
+    (in-join (in-join one (x2 .put-number5 .ensures)) (y2 .put-number6 .ensures))
 
 returns-4 : tie.Need-returns-4
 unfolding pointsText

@@ -8,11 +8,6 @@ use Rattle.layout_text.specs.Shown.{shownNumber}
 use Rattle.layout_text.proofs.number.zero.Statement.{statement}
 use Rattle.layout_text.proofs.number.zero.Tie as tie
 
-add-t6 : tie.Need-add-t6
-add-t6 c =
-    let inside = c .before .kind-at .ensures .1 (omega arith) in
-    omega arith
-
 returns : tie.Need-returns
 unfolding zeroOf shownNumber
 returns c = simp (← c .before .kind-at .ensures .0, eq-eqb _ _ (c .if1 .taken), drop-drop)
@@ -22,4 +17,6 @@ unfolding zeroOf shownNumber
 returns-2 c = simp (← c .before .kind-at .ensures .0, ne-eqb _ _ (c .if1 .left))
 
 pub zero-spec : {M : Type 1} → statement M
-zero-spec = tie.close (tie.spec (λ c. search needs) add-t6 returns returns-2)
+zero-spec =
+    tie.close
+    (tie.spec (λ c. search needs) (λ c. omega (arith, c .before .kind-at .ensures .1 (omega arith))) returns returns-2)

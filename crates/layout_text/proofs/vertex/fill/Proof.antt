@@ -1,14 +1,13 @@
 -- `layout_text::vertex::fill` meets its contract. The loop's invariant: the lines that are left, written after what stands now,
 -- give what all of them give. Assumes nothing.
-use Prim.Native.Nat.{_≤_, _*_, _-_}
-use mathlib.Core.Path.{_≡_, refl, sym, ap, _∙_}
+use Prim.Native.Nat.{_*_, _-_}
+use mathlib.Core.Path.{_≡_, refl}
 use native.Mathlib.Nat.{sub-zero}
 use native.Mathlib.Omega.{arith}
 use borrow.Author.Needs.{needs}
 use lib.ListN.{length, drop, length-set}
 use Rattle.layout_text.specs.Reader.{verticesOf}
-use Rattle.layout_text.proofs.VertexLines.{no-line, a-line, lines-end, lines-broken, stored, store-line, filled-broken}
-use Rattle.layout_text.proofs.VertexLines.{filled-end}
+use Rattle.layout_text.proofs.VertexLines.{stored, store-broken, store-line, store-end, filled-broken, filled-end}
 use Rattle.layout_text.proofs.vertex.fill.Statement.{statement}
 use Rattle.layout_text.proofs.vertex.fill.Tie as tie
 
@@ -23,39 +22,14 @@ abbrev μ-loop : tie.MeasureT-loop
 loop-holds : tie.Need-loop-holds Inv-loop μ-loop
 loop-holds c = (refl, refl, rw sub-zero)
 
-returns : tie.Need-returns Inv-loop μ-loop
-returns c =
-    let read = c .before .before in
-    let turn = read .before in
-    let none = no-line _ (read .vertex .ensures) (c .enum-told .given .1) in
-    let broken = lines-broken _ _ _ (turn .loop-test .taken) none in
-    filled-broken _ _ _ (rw broken at (turn .before .loop .inv .2))
-
-slice-write-out-2 : tie.Need-slice-write-out-2 Inv-loop μ-loop
-slice-write-out-2 c = simp length-set (omega arith)
-
-slice-write-out-3 : tie.Need-slice-write-out-3 Inv-loop μ-loop
-slice-write-out-3 c = simp length-set (omega arith)
-
-loop-again : tie.Need-loop-again Inv-loop μ-loop
-loop-again c =
-    let line = c .before in
-    let read = line .before .before in
-    let turn = read .before in (
-      omega arith,
-      simp length-set (turn .before .loop .inv .1),
-      store-line _ _ _ (turn .loop-test .taken) (a-line _ (read .vertex .ensures) (line .v .given .1)) _ _
-          ∙ turn .before .loop .inv .2,
-    )
-
-returns-2 : tie.Need-returns-2 Inv-loop μ-loop
-returns-2 c = filled-end _ _ _ (rw (lines-end _ _ _ (c .loop-test .left)) at (c .before .loop .inv .2))
-
 pub fill-spec : {M : Type 1} → statement M
 fill-spec =
     tie.close
     (tie.spec
-    Inv-loop μ-loop loop-holds (λ c. search needs) (λ c. search needs) (λ c. search needs) returns
+    Inv-loop μ-loop loop-holds (λ c. search needs) (λ c. search needs) (λ c. search needs)
+    (λ c. filled-broken _ _ _ (search store-broken))
     (λ c. search needs) (λ c. search needs) (λ c. search needs) (λ c. search needs) (λ c. search needs)
-    slice-write-out-2 (λ c. search needs) (λ c. search needs) slice-write-out-3 (λ c. search needs)
-    (λ c. search needs) (λ c. search needs) loop-again (λ c. search needs) returns-2)
+    (λ c. simp length-set (omega arith)) (λ c. search needs) (λ c. search needs)
+    (λ c. simp length-set (omega arith)) (λ c. search needs) (λ c. search needs) (λ c. search needs)
+    (λ c. (omega arith, simp length-set (search needs), search store-line)) (λ c. search needs)
+    (λ c. filled-end _ _ _ (search store-end)))

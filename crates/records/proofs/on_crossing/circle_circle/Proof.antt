@@ -4,13 +4,10 @@ use Rattle.records.specs.OnCrossing
 use Rattle.records.proofs.on_crossing.circle_circle.Statement.{statement}
 use Rattle.records.proofs.on_crossing.circle_circle.Tie as tie
 
-returns : tie.Need-returns
-unfolding OnCrossing.circleCircle
-returns c = cc
-
 pub circle-circle-spec : {M : Type 1} → statement M
+unfolding OnCrossing.circleCircle
 circle-circle-spec =
     tie.close
     (tie.spec
     (λ c. search needs) (λ c. search needs) (λ c. search needs) (λ c. search needs) (λ c. search needs)
-    (λ c. search needs) (λ c. search needs) (λ c. search needs) returns)
+    (λ c. search needs) (λ c. search needs) (λ c. search needs) (λ c. cc))

@@ -4,13 +4,10 @@ use Rattle.records.specs.OnCrossing
 use Rattle.records.proofs.on_crossing.line_line.Statement.{statement}
 use Rattle.records.proofs.on_crossing.line_line.Tie as tie
 
-returns : tie.Need-returns
-unfolding OnCrossing.lineLine
-returns c = cc
-
 pub line-line-spec : {M : Type 1} → statement M
+unfolding OnCrossing.lineLine
 line-line-spec =
     tie.close
     (tie.spec
     (λ c. search needs) (λ c. search needs) (λ c. search needs) (λ c. search needs) (λ c. search needs)
-    (λ c. search needs) (λ c. search needs) (λ c. search needs) returns)
+    (λ c. search needs) (λ c. search needs) (λ c. search needs) (λ c. cc))

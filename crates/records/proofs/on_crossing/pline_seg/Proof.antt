@@ -4,13 +4,10 @@ use Rattle.records.specs.OnCrossing
 use Rattle.records.proofs.on_crossing.pline_seg.Statement.{statement}
 use Rattle.records.proofs.on_crossing.pline_seg.Tie as tie
 
-returns : tie.Need-returns
-unfolding OnCrossing.plineSeg
-returns c = cc
-
 pub pline-seg-spec : {M : Type 1} → statement M
+unfolding OnCrossing.plineSeg
 pline-seg-spec =
     tie.close
     (tie.spec
     (λ c. search needs) (λ c. search needs) (λ c. search needs) (λ c. search needs) (λ c. search needs)
-    (λ c. search needs) (λ c. search needs) (λ c. search needs) returns)
+    (λ c. search needs) (λ c. search needs) (λ c. search needs) (λ c. cc))

@@ -4,12 +4,9 @@ use Rattle.records.specs.OnPlane
 use Rattle.records.proofs.on_plane.dist_squared.Statement.{statement}
 use Rattle.records.proofs.on_plane.dist_squared.Tie as tie
 
-returns : tie.Need-returns
-unfolding OnPlane.distSquared
-returns c = cc
-
 pub dist-squared-spec : {M : Type 1} → statement M
+unfolding OnPlane.distSquared
 dist-squared-spec =
     tie.close
     (tie.spec
-    (λ c. search needs) (λ c. search needs) (λ c. search needs) (λ c. search needs) (λ c. search needs) returns)
+    (λ c. search needs) (λ c. search needs) (λ c. search needs) (λ c. search needs) (λ c. search needs) (λ c. cc))

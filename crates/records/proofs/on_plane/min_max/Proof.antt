@@ -4,13 +4,10 @@ use Rattle.records.specs.OnPlane
 use Rattle.records.proofs.on_plane.min_max.Statement.{statement}
 use Rattle.records.proofs.on_plane.min_max.Tie as tie
 
-returns : tie.Need-returns
-unfolding OnPlane.minMax
-returns c = cc
-
 pub min-max-spec : {M : Type 1} → statement M
+unfolding OnPlane.minMax
 min-max-spec =
     tie.close
     (tie.spec
     (λ c. search needs) (λ c. search needs) (λ c. search needs) (λ c. search needs) (λ c. search needs)
-    (λ c. search needs) (λ c. search needs) returns)
+    (λ c. search needs) (λ c. search needs) (λ c. cc))

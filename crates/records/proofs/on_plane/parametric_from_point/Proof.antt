@@ -4,13 +4,10 @@ use Rattle.records.specs.OnPlane
 use Rattle.records.proofs.on_plane.parametric_from_point.Statement.{statement}
 use Rattle.records.proofs.on_plane.parametric_from_point.Tie as tie
 
-returns : tie.Need-returns
-unfolding OnPlane.parametricFromPoint
-returns c = cc
-
 pub parametric-from-point-spec : {M : Type 1} → statement M
+unfolding OnPlane.parametricFromPoint
 parametric-from-point-spec =
     tie.close
     (tie.spec
     (λ c. search needs) (λ c. search needs) (λ c. search needs) (λ c. search needs) (λ c. search needs)
-    (λ c. search needs) (λ c. search needs) returns)
+    (λ c. search needs) (λ c. search needs) (λ c. cc))

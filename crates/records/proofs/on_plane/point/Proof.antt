@@ -4,12 +4,9 @@ use Rattle.records.specs.OnPlane
 use Rattle.records.proofs.on_plane.point.Statement.{statement}
 use Rattle.records.proofs.on_plane.point.Tie as tie
 
-returns : tie.Need-returns
-unfolding OnPlane.pointAt
-returns c = cc
-
 pub point-spec : {M : Type 1} → statement M
+unfolding OnPlane.pointAt
 point-spec =
     tie.close
     (tie.spec
-    (λ c. search needs) (λ c. search needs) (λ c. search needs) (λ c. search needs) returns)
+    (λ c. search needs) (λ c. search needs) (λ c. search needs) (λ c. search needs) (λ c. cc))

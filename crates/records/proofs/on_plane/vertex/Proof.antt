@@ -4,13 +4,10 @@ use Rattle.records.specs.OnPlane
 use Rattle.records.proofs.on_plane.vertex.Statement.{statement}
 use Rattle.records.proofs.on_plane.vertex.Tie as tie
 
-returns : tie.Need-returns
-unfolding OnPlane.vertexAt
-returns c = cc
-
 pub vertex-spec : {M : Type 1} → statement M
+unfolding OnPlane.vertexAt
 vertex-spec =
     tie.close
     (tie.spec
     (λ c. search needs) (λ c. search needs) (λ c. search needs) (λ c. search needs) (λ c. search needs)
-    (λ c. search needs) returns)
+    (λ c. search needs) (λ c. cc))

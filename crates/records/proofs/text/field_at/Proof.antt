@@ -12,17 +12,11 @@ use Rattle.records.proofs.text.field_at.Tie as tie
 sixteen : (at : ℕ) → at + 16 - at ≡ 16
 sixteen at = omega arith
 
-returns : tie.Need-returns
-unfolding fieldAt
-returns c = simp (lt-ltb _ _ (c .if1 .taken))
-
-returns-2 : tie.Need-returns-2
-unfolding fieldAt
-returns-2 c = simp (le-ltb _ _ (c .before .before .if1 .left), c .word .ensures, sixteen)
-
 pub field-at-spec : {M : Type 1} → statement M
+unfolding fieldAt
 field-at-spec =
     tie.close
     (tie.spec
-    (λ c. search needs) (λ c. search needs) returns (λ c. search needs) (λ c. search needs) (λ c. search needs)
-    (λ c. search needs) returns-2)
+    (λ c. search needs) (λ c. search needs) (λ c. simp (lt-ltb _ _ (c .if1 .taken))) (λ c. search needs) (λ c. search needs)
+    (λ c. search needs) (λ c. search needs)
+    (λ c. simp (le-ltb _ _ (c .before .before .if1 .left), c .word .ensures, sixteen)))

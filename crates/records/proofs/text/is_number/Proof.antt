@@ -4,18 +4,9 @@ use Rattle.records.specs.Text.{isNumber}
 use Rattle.records.proofs.text.is_number.Statement.{statement}
 use Rattle.records.proofs.text.is_number.Tie as tie
 
-enum-told : tie.Need-enum-told
-enum-told c = search needs
-
-returns : tie.Need-returns
-unfolding isNumber
-returns c =
-    simp (c .enum-told .given .1)
-
-returns-2 : tie.Need-returns-2
-unfolding isNumber
-returns-2 c =
-    simp (c .enum-told2 .given .1)
-
 pub is-number-spec : {M : Type 1} → statement M
-is-number-spec = tie.close (tie.spec enum-told (λ c. search needs) returns returns-2)
+unfolding isNumber
+is-number-spec =
+    tie.close
+    (tie.spec
+    (λ c. search needs) (λ c. search needs) (λ c. simp (c .enum-told .given .1)) (λ c. simp (c .enum-told2 .given .1)))

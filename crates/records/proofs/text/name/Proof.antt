@@ -4,15 +4,12 @@ use Rattle.records.specs.Text.{nameOf}
 use Rattle.records.proofs.text.name.Statement.{statement}
 use Rattle.records.proofs.text.name.Tie as tie
 
-returns : tie.Need-returns
-unfolding nameOf
-returns c = cc
-
 pub name-spec : {M : Type 1} → statement M
+unfolding nameOf
 name-spec =
     tie.close
     (tie.spec
     (λ c. search needs) (λ c. search needs) (λ c. search needs) (λ c. search needs) (λ c. search needs)
     (λ c. search needs) (λ c. search needs) (λ c. search needs) (λ c. search needs) (λ c. search needs)
     (λ c. search needs) (λ c. search needs) (λ c. search needs) (λ c. search needs) (λ c. search needs)
-    (λ c. search needs) (λ c. search needs) (λ c. search needs) returns)
+    (λ c. search needs) (λ c. search needs) (λ c. search needs) (λ c. cc))

@@ -1,10 +1,9 @@
 -- `records::text::number` meets its contract: a NaN's pattern is read as the one NaN, which 0/0 is. Assumes nothing.
-use Prim.Native.Nat.{ℕ}
 use mathlib.Core.Path.{_≡_, refl, sym, ap, _∙_, subst}
 use mathlib.Core.Bool.{true}
 use borrow.Author.Needs.{needs}
 use lib.Dec.{T}
-use lib.Ieee.{Float, nan, inf, fin, binary64, isNan, nanBits, ofBits, ofFields, div}
+use lib.Ieee.{Float, nan, inf, fin, binary64, isNan, ofBits, ofFields, div}
 use lib.Ieee.Bits.{nanBits-is}
 use Rattle.arcs.specs.Laws.Branches.{denied}
 use Rattle.records.specs.Text.{numberAt}

@@ -1,7 +1,7 @@
 -- `records::text::word` meets its contract. The loop's invariant: what is left of the field, after the value so far, spells
 -- what the whole field does. Assumes nothing.
 use Prim.Native.Nat.{_≤_, _-_}
-use mathlib.Core.Path.{_≡_, refl, sym, _∙_}
+use mathlib.Core.Path.{_≡_, refl}
 use native.Mathlib.Omega.{arith}
 use borrow.Author.Needs.{needs}
 use lib.ListN.{length, drop}
@@ -19,24 +19,9 @@ abbrev μ-loop : tie.MeasureT-loop
 loop-holds : tie.Need-loop-holds Inv-loop μ-loop
 loop-holds c = (omega arith, refl)
 
-returns : tie.Need-returns Inv-loop μ-loop
-returns c =
-    let read = c .before .before in
-    let h = rw (c .before .digit .ensures) at (c .if1 .taken) in
-    sym (at-other _ _ _ (read .before .loop-test .taken) h) ∙ read .before .before .loop .inv .1
-
-loop-again : tie.Need-loop-again Inv-loop μ-loop
-loop-again c =
-    let read = c .before .before in
-    let h = rw (c .before .digit .ensures) at (c .if1 .left) in
-    (omega arith, rw (c .before .digit .ensures) (at-digit _ _ _ (read .before .loop-test .taken) h ∙ read .before .before .loop .inv .1))
-
-returns-2 : tie.Need-returns-2 Inv-loop μ-loop
-returns-2 c = sym (at-end _ _ _ (c .loop-test .left)) ∙ c .before .loop .inv .1
-
 pub word-spec : {M : Type 1} → statement M
 word-spec =
     tie.close
     (tie.spec
-    Inv-loop μ-loop loop-holds (omega arith) (λ c. search needs) returns (omega arith) (omega arith) (omega arith)
-    (omega arith) loop-again returns-2)
+    Inv-loop μ-loop loop-holds (omega arith) (λ c. search needs) (λ c. search at-other) (omega arith) (omega arith) (omega arith)
+    (omega arith) (λ c. (omega arith, search at-digit)) (λ c. search at-end))
