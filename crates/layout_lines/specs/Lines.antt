@@ -1,7 +1,7 @@
 -- The text of an answer: a refusal's line, or a line with the counts and a line for each row. A row is two segments' indices, the
 -- class's name, and the points that the class has, each number as the sixteen hex digits of its bits.
 use Prim.Native.Nat.{ℕ, zero, suc, _+_, _*_, _/_, _%_}
-use mathlib.Core.Bool.{Bool, cond}
+use mathlib.Core.Bool.{cond}
 use mathlib.Core.List.{List, [], _∷_, _++_}
 use lib.Dec.{ltb, eqb}
 use lib.ListN.{getD}

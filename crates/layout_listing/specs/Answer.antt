@@ -6,7 +6,6 @@ use mathlib.Core.List.{List}
 use lib.Dec.{ltb}
 use lib.Ieee.{Float, binary64, ofBits}
 use lib.ListN.{length, replicate}
-use Rattle.layout_text.specs.Layout.{Layout}
 use Rattle.layout_text.specs.Numbers.{pathOf}
 use Rattle.layout_text.specs.Reader.{Taken, broken, layout, reads}
 use Rattle.layout_lines.specs.declared.Written.{Written}

@@ -10,8 +10,8 @@ use lib.ListN.{length, drop, drop-of-length-le}
 use lib.Seq.{drop-cons}
 use lib.IntN.{ℤ, pos}
 use Rattle.layout_text.specs.Limits as limit
-use Rattle.layout_text.specs.Layout.{Vertex, size, whole}
-use Rattle.layout_text.specs.Reader.{Got, nothing, got, stuck, over, passed, other, space, newline, countOf}
+use Rattle.layout_text.specs.Layout.{Vertex, size}
+use Rattle.layout_text.specs.Reader.{Got, nothing, got, stuck, over, passed, other, space, newline, countOf, whole}
 use Rattle.layout_text.specs.Reader.{verticesOf, linesOf, broken, reads}
 use Rattle.layout_text.specs.Shown.{shownNumber, shownPlace, Fitting}
 use Rattle.layout_text.specs.Laws.Sound.{count-spelt}

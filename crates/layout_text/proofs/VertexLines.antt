@@ -8,9 +8,9 @@ use lib.ListN.{drop, set}
 use lib.Seq.{sets}
 use lib.Ieee.{Float}
 use Rattle.layout_text.specs.Limits as limit
-use Rattle.layout_text.specs.Layout.{Vertex, whole}
+use Rattle.layout_text.specs.Layout.{Vertex}
 use Rattle.layout_text.specs.Numbers.{coordinate, bulge, pathOf}
-use Rattle.layout_text.specs.Reader.{Got, nothing, got, Passed, stuck, over, passed, andThen, vertexOf, verticesOf}
+use Rattle.layout_text.specs.Reader.{Got, nothing, got, Passed, stuck, over, passed, andThen, vertexOf, verticesOf, whole}
 use Rattle.layout_text.specs.Reader.{space, newline, wholeOf}
 use Rattle.layout_text.specs.Shown.{shownNumber, shownVertex, numbersOf, Filled}
 use Rattle.layout_text.proofs.Told.{no-number, a-number}

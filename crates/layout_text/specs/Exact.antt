@@ -1,13 +1,13 @@
 -- The floats of a layout's numbers are exact: that of a coordinate is the whole number, that of a bulge n is n / 65,536.
 -- `HasValue x s a c` says that x is finite, has the sign s, and is a / c in size.
-use Prim.Native.Nat.{ℕ, zero, suc, _+_, _-_, _*_, _^_, _≤_, _<_}
+use Prim.Native.Nat.{ℕ, suc, _+_, _-_, _*_, _^_, _≤_, _<_}
 use mathlib.Core.Path.{_≡_, refl, sym, ap, _∙_, subst}
 use mathlib.Core.Bool.{Bool, true, false}
 use native.Mathlib.Nat.{eq-of-mul-eq-mul-right, lt-of-lt-of-le, lt-of-le-of-lt}
 use native.Mathlib.Omega.{arith}
 use lib.Pow.{pow-add, pow-lt, pow-mono, shl-lt}
 use lib.IntN.{ℤ, pos, negsuc}
-use lib.Ieee.{Float, nan, inf, fin, Format, binary64, prec, low, emax, up, down, unlike, round, ofInt, ofBits, ofFields, div}
+use lib.Ieee.{Float, nan, inf, fin, Format, binary64, prec, low, emax, up, down, round, ofInt, ofBits, ofFields, div}
 use lib.Ieee.Fits.{down-pos}
 use lib.Ieee.Exact.{HasValue, round-exact}
 use lib.Ieee.Back.{round-whole}

@@ -1,9 +1,8 @@
 -- A layout: two paths, whose vertices are whole numbers. It says nothing of how a layout is stored.
 use Prim.Native.Nat.{ℕ, suc, _≤_}
-use mathlib.Core.Bool.{Bool, true, false}
 use mathlib.Core.List.{List, [], _∷_}
 use lib.ListN.{length}
-use lib.IntN.{ℤ, pos, negsuc, negℤ}
+use lib.IntN.{ℤ, pos, negsuc}
 use Rattle.layout_text.specs.Limits as limit
 
 -- x, y, and the bulge in 65,536ths
@@ -22,11 +21,6 @@ pub record Layout : Type 0 where
 abbrev pub size : ℤ → ℕ
 size (pos n) = n
 size (negsuc n) = suc n
-
--- n, or -n
-abbrev pub whole : Bool → ℕ → ℤ
-whole false n = pos n
-whole true n = negℤ (pos n)
 
 -- ---- the limits
 

@@ -8,7 +8,6 @@ use lib.ListN.{length}
 use lib.Seq.{sets}
 use lib.Ieee.{Float}
 use Rattle.layout_text.specs.Limits as limit
-use Rattle.layout_text.specs.Layout.{Layout}
 use Rattle.layout_text.specs.Numbers.{pathOf}
 use Rattle.layout_text.specs.Reader.{Taken, broken, layout, reads}
 use Rattle.layout_text.specs.declared.Reading.{Reading}

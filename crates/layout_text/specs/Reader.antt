@@ -5,9 +5,9 @@ use mathlib.Core.Bool.{Bool, true, false, cond}
 use mathlib.Core.List.{List, [], _∷_}
 use lib.Dec.{ltb, eqb}
 use lib.ListN.{length, drop}
-use lib.IntN.{ℤ, pos}
+use lib.IntN.{ℤ, pos, negℤ}
 use Rattle.layout_text.specs.Limits as limit
-use Rattle.layout_text.specs.Layout.{Vertex, Layout, size, whole}
+use Rattle.layout_text.specs.Layout.{Vertex, Layout, size}
 
 -- ---- what was read, and what is left
 
@@ -27,6 +27,13 @@ pub data Passed : Type 0 where
 abbrev pub passed : {A : Type 0} → Got A → Passed
 passed nothing = stuck
 passed (got a rest) = over rest
+
+-- ---- numbers
+
+-- n, or -n
+abbrev pub whole : Bool → ℕ → ℤ
+whole false n = pos n
+whole true n = negℤ (pos n)
 
 -- ---- bytes
 

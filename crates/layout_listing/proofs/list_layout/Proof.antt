@@ -1,11 +1,9 @@
 -- `layout_listing::list_layout` meets its contract: a text that breaks its form is answered by 10's line; else both paths are the
 -- fronts of their buffers, and the answer is their listing's.
-use mathlib.Core.Path.{_≡_, refl, sym, _∙_}
-use Prim.Native.Nat.{_*_}
+use mathlib.Core.Path.{sym}
 use native.Mathlib.Omega.{arith}
 use borrow.Author.Needs.{needs}
 use denote.Ref.{now}
-use lib.ListN.{length}
 use lib.Seq.{length-take-le}
 use Rattle.layout_listing.specs.Answer.{answerTo}
 use Rattle.layout_listing.specs.Laws.Ends.{no-room, Fronts, counted, refused-is, roomy, broken-answer, listed-answer}

@@ -1,5 +1,4 @@
 -- `layout_listing::list_paths` meets its contract: it writes the lines of what the listing answers.
-use mathlib.Core.Path.{refl}
 use borrow.Author.Needs.{needs}
 use denote.Ref.{now}
 use Rattle.layout_listing.specs.Answer.{linesFor}

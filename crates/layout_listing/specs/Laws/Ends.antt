@@ -1,15 +1,15 @@
 -- The ends of answering a text: no room, a refusal's line, the lines of a listing; and what the reader's answer says of the buffers.
 use mathlib.Core.Path.{_≡_, refl, sym, ap, _∙_}
-use mathlib.Core.Bool.{Bool, true, false, cond, _||_}
+use mathlib.Core.Bool.{Bool, false}
 use mathlib.Core.List.{List, [], _∷_}
-use Prim.Native.Nat.{ℕ, suc, _+_, _*_, _/_, _≤_, _<_}
+use Prim.Native.Nat.{ℕ, _+_, _*_, _/_, _≤_, _<_}
 use native.Mathlib.Omega.{arith}
 use borrow.Author.Tests.{lt-ltb, le-ltb, lt-leb}
-use lib.Dec.{ltb, leb}
+use lib.Dec.{ltb}
 use lib.Ieee.{Float, binary64, ofBits}
 use lib.ListN.{length, replicate, length-replicate, take, drop}
 use lib.Seq.{sets, sets-eq, length-sets, take-at}
-use Rattle.layout_text.specs.Layout.{Vertex, Layout, Within}
+use Rattle.layout_text.specs.Layout.{Vertex, Layout}
 use Rattle.layout_text.specs.Numbers.{pathOf}
 use Rattle.layout_text.specs.Reader.{Taken, broken, layout, reads}
 use Rattle.layout_text.specs.Exactly.{read-is-text}
@@ -22,8 +22,8 @@ use Rattle.layout_lines.specs.Lines.{refusedText, answerText}
 use Rattle.layout_lines.specs.Written.{Lines, RefusalLine, AnswerLines}
 use Rattle.listings.specs.declared.answer.ListingAnswer.{ListingAnswer}
 use Rattle.listings.specs.declared.answer.ListingAnswer.the-variants.{Refused, Listed}
-use Rattle.listings.specs.Listing.{Outcome, Leaves, mutualListing}
-use Rattle.listings.specs.Laws.Counts.{Fits, mutual-fits}
+use Rattle.listings.specs.Listing.{Leaves, mutualListing}
+use Rattle.listings.specs.Laws.Counts.{mutual-fits}
 use Rattle.layout_listing.specs.Answer.{
   epsilon,
   noIndices,
