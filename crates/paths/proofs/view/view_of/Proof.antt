@@ -67,7 +67,7 @@ use denote.Triple.Walked.{
 }
 use denote.Exit.{yes}
 use Rattle.paths.specs.declared.view.PathView.{PathView}
-use Rattle.paths.proofs.Shown.{D, L}
+use Rattle.paths.proofs.Forwarded.{D, L}
 use Rattle.paths.proofs.view.PathView.Laws as T′
 use Rattle.paths.proofs.view.view_of.Key.{name as #this}
 use Rattle.paths.proofs.view.view_of as this
