@@ -1,5 +1,5 @@
--- `paths::check::check_arcs` meets its contract: it is a loop of `Laws/Along` over the segments, as `find_in_vertices` is one over
--- the vertices.
+-- `paths::check::check_arcs` meets its contract: it is a loop of `Laws/Along` over the segments, as `find_in_vertices` is one
+-- over the vertices.
 use mathlib.Core.Path.{ap, _∙_}
 use Prim.Native.Nat.{_-_}
 use native.Mathlib.Omega.{arith}
