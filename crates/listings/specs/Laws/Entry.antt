@@ -26,7 +26,6 @@ use Rattle.listings.specs.Order.{Pair, mutualPairs, selfPairs}
 use Rattle.listings.specs.Rows.{rowsOf, lookedAt}
 use Rattle.listings.specs.Look.{look}
 use Rattle.listings.specs.Listing.{
-  Outcome,
   Leaves,
   roomCheck,
   outcomeOf,
@@ -109,7 +108,8 @@ module _ (first : List Float) (firstClosed : Bool) (second : List Float) (second
         paths-ready first second firstClosed secondClosed job
         (ap (λ (x : Float). Each.epsilon x (at 0 0 Epsilon)) same ∙ eps) (inner .1) (outer .1) n m
 
-    pub mutual-listed : (job : Job) (r : ListingAnswer) (i₀ i : List ℕ) (p₀ p : List Float) → job .own ≡ false → job .epsilon ≡ epsilon
+    pub mutual-listed : (job : Job) (r : ListingAnswer) (i₀ i : List ℕ) (p₀ p : List Float) → job .own ≡ false
+        → job .epsilon ≡ epsilon
         → job .n ≡ segmentCount first firstClosed → job .m ≡ segmentCount second secondClosed
         → Leaves (listed (look first second (job .epsilon)) (every job) i₀ p₀) r i p
         → Leaves (mutualListing first firstClosed second secondClosed epsilon i₀ p₀) r i p
@@ -149,14 +149,15 @@ module _ (path : List Float) (closed : Bool) (epsilon : Float) where
     self-ready job same n m =
         paths-ready path path closed closed job (ap (λ (x : Float). Each.epsilon x (at 0 0 Epsilon)) same ∙ self-eps) (whole .1) (whole .1) n m
 
-    pub self-listed : (job : Job) (r : ListingAnswer) (i₀ i : List ℕ) (p₀ p : List Float) → job .own ≡ true → job .epsilon ≡ epsilon
-        → job .closed ≡ closed → job .n ≡ segmentCount path closed → job .m ≡ segmentCount path closed
+    pub self-listed : (job : Job) (r : ListingAnswer) (i₀ i : List ℕ) (p₀ p : List Float) → job .own ≡ true
+        → job .epsilon ≡ epsilon → job .closed ≡ closed → job .n ≡ segmentCount path closed → job .m ≡ segmentCount path closed
         → Leaves (listed (look path path (job .epsilon)) (every job) i₀ p₀) r i p
         → Leaves (selfListing path closed epsilon i₀ p₀) r i p
     unfolding selfListing checkSelf
     self-listed job r i₀ i p₀ p own same flag n m =
         outcome-listed (selfChecks path closed epsilon) path path job i₀ p₀ e same
-        (self-every job own (m ∙ sym n) ∙ ap (λ (k : ℕ). selfPairs k (job .closed)) n ∙ ap (selfPairs (segmentCount path closed)) flag)
+        (self-every job own (m ∙ sym n) ∙ ap (λ (k : ℕ). selfPairs k (job .closed)) n
+        ∙ ap (selfPairs (segmentCount path closed)) flag)
 
   pub self-refused : (x : Fault) (i₀ : List ℕ) (p₀ : List Float) → checkSelf path closed epsilon ≡ Bad x
       → Leaves (selfListing path closed epsilon i₀ p₀) (Refused (x .number)) i₀ p₀

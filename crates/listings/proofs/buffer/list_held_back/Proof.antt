@@ -95,7 +95,7 @@ returns c =
     let ps = job_of.every (a .job) in
     let e = f .before .before .before .lesser .ensures in
     let d = done f in
-    held-back F ps (now (a .indices)) (now (a .points)) (most f) (page F ps (most f)) (joins F ps (most f))
+    held-back F ps (now (a .indices)) (now (a .points)) (joins F ps (most f))
     (omega (arith, e, start f .pre .1)) (sym (d .ended) ∙ t .if1 .taken) _ _ no-indices _ _ no-points _ _
     (d .rows) (d .pairs) (omega (arith, e, long-no-indices)) (omega (arith, e, long-no-points))
     (d .indices) (d .points) (k .copy-rows .ensures .0) (k .copy-rows .ensures .1)

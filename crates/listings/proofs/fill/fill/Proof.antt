@@ -52,7 +52,10 @@ inner : (c : At-loop2)
     (outer c .loop .i) (c .loop2 .j) (c .loop2 .rows) (c .loop2 .pairs) (c .loop2 .indices) (c .loop2 .points)
 inner c = let a = start (outer c) .args in c .loop2 .inv (now (a .indices)) (now (a .points)) (outer c .loop .inv)
 
--- j is one that goes with i
+-- i is a segment of the first path, and j one that goes with it
+inside : (c : At-loop2) → outer c .loop .i < start (outer c) .args .job .n
+inside c = c .before .before .before .before .if1 .taken
+
 below : (c : tie.In-loop2 Inv-loop2 μ-loop2 Inv-loop μ-loop)
     → c .before .loop2 .j < job_of.to (start (outer (c .before)) .args .job) (outer (c .before) .loop .i)
 below c = rw (← c .before .before .to .ensures) (c .loop2-test .taken)
@@ -86,7 +89,7 @@ look-requires c κs =
     let p = c .before in
     let a = start (outer p) .args in (
       at-segment (p .before .before .before .segment-from .result) (now (a .first)) (now (a .second)) (a .job) (outer p .loop .i)
-          (start (outer p) .pre .0 .pairs) (p .before .before .before .before .if1 .taken) (p .before .before .before .segment-from .ensures),
+          (start (outer p) .pre .0 .pairs) (inside p) (p .before .before .before .segment-from .ensures),
       (
         start (outer p) .pre .0 .keeps,
         (
@@ -101,7 +104,7 @@ loop2-again c =
     let k = c .before .before in
     let p = k .before .before in
     λ x y s.
-    passes (p .loop2 .inv x y s) (p .before .before .before .before .if1 .taken) (below (k .before)) (seen k ∙ c .enum-told .given .1)
+    passes (p .loop2 .inv x y s) (inside p) (below (k .before)) (seen k ∙ c .enum-told .given .1)
 
 add-pairs : tie.Need-add-pairs Inv-loop2 μ-loop2 Inv-loop μ-loop
 add-pairs c = omega (arith, few-pairs (c .before .before .before .before))
@@ -111,7 +114,7 @@ loop2-again-2 c =
     let k = c .before .before in
     let p = k .before .before in
     λ x y s.
-    looks (p .loop2 .inv x y s) (p .before .before .before .before .if1 .taken) (below (k .before)) (seen k ∙ c .enum-told2 .given .1)
+    looks (p .loop2 .inv x y s) (inside p) (below (k .before)) (seen k ∙ c .enum-told2 .given .1)
 
 same-length : tie.Need-same-length Inv-loop2 μ-loop2 Inv-loop μ-loop
 same-length c = inner (c .before .before .before .before .before .before) .indices
@@ -124,7 +127,7 @@ returns c =
     let m = c .before .before in
     let k = m .before .before in
     let p = k .before .before in
-    stops (inner p) (p .before .before .before .before .if1 .taken) (below (k .before)) _ (seen k ∙ m .seen .given .1) (c .if2 .taken)
+    stops (inner p) (inside p) (below (k .before)) _ (seen k ∙ m .seen .given .1) (c .if2 .taken)
 
 put-row-requires : tie.Need-put-row-requires Inv-loop2 μ-loop2 Inv-loop μ-loop
 put-row-requires c κs =
@@ -152,14 +155,12 @@ loop2-again-3 c =
     let p = k .before .before in
     λ x y s.
     rw (w .0, w .1)
-    (makes (p .loop2 .inv x y s) (p .before .before .before .before .if1 .taken) (below (k .before)) _ (seen k ∙ m .seen .given .1) (e .if2 .left))
+    (makes (p .loop2 .inv x y s) (inside p) (below (k .before)) _ (seen k ∙ m .seen .given .1) (e .if2 .left))
 
 loop-again : tie.Need-loop-again Inv-loop2 μ-loop2 Inv-loop μ-loop
 loop-again c =
     let p = c .before .before in
-    let o = outer p in
-    let i = p .before .before .before .before .if1 .taken in
-    rw (c .from .ensures) (next-i (inner p) i (rw (← p .before .to .ensures) (c .before .loop2-test .left)))
+    rw (c .from .ensures) (next-i (inner p) (inside p) (rw (← p .before .to .ensures) (c .before .loop2-test .left)))
 
 returns-2 : tie.Need-returns-2 Inv-loop2 μ-loop2 Inv-loop μ-loop
 returns-2 c = ends (c .before .before .loop .inv) (c .if1 .left)
