@@ -1,7 +1,7 @@
 -- Lists of checks one after the other, `along`: what a loop over them has left at i of n, and that they are fine exactly if
 -- each is.
 use mathlib.Core.Path.{_≡_, refl, sym, ap, _∙_}
-use mathlib.Core.Logic.{inl, inr}
+use mathlib.Core.Logic.{_↔_, inl, inr}
 use mathlib.Core.List.{List}
 use Prim.Native.Nat.{ℕ, zero, suc, _+_, _-_, _≤_, _<_, zero-le}
 use native.Mathlib.Nat.{eq-or-lt-of-le, sub-zero}
@@ -61,8 +61,12 @@ module _ (checks : ℕ → List Checked) where
       first-append (checks i) (along checks (i + 1) k)
       ∙ later-fine (first (checks i)) (first (along checks (i + 1) k)) .1 (each i (omega arith) (omega arith), rest)
 
-  pub fine-each : (n : ℕ) → first (along checks 0 n) ≡ Fine → (j : ℕ) → j < n → first (checks j) ≡ Fine
+  fine-each : (n : ℕ) → first (along checks 0 n) ≡ Fine → (j : ℕ) → j < n → first (checks j) ≡ Fine
   fine-each n e j h = each-fine n 0 e j zero-le (omega (arith, h))
 
   pub fine-all : (n : ℕ) → ((j : ℕ) → j < n → first (checks j) ≡ Fine) → first (along checks 0 n) ≡ Fine
   fine-all n each = all-fine n 0 (λ j l h. each j (omega (arith, h)))
+
+  pub along-fine : (n : ℕ) {P : ℕ → Type 0} → ((i : ℕ) → (first (checks i) ≡ Fine) ↔ P i)
+      → ((first (along checks 0 n) ≡ Fine) ↔ ((i : ℕ) → i < n → P i))
+  along-fine n each = (λ e i l. each i .0 (fine-each n e i l), λ h. fine-all n (λ i l. each i .1 (h i l)))
