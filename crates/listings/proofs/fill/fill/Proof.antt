@@ -66,20 +66,14 @@ seen : (c : tie.After-look Inv-loop2 μ-loop2 Inv-loop μ-loop)
     let a = start (outer p) .args in
     look (now (a .first)) (now (a .second)) (a .job .epsilon) (outer p .loop .i) (p .loop2 .j) ≡ c .look .result
 seen c =
-    let p = c .before .before in
-    let a = start (outer p) .args in
-    sym (look-on (p .before .before .before .segment-from .result) (now (a .first)) (now (a .second)) (a .job .epsilon)
-    (outer p .loop .i) (p .loop2 .j) (p .before .before .before .segment-from .ensures))
-    ∙ sym (c .look .ensures)
+    let s = c .before .before .before .before .before in
+    sym (look-on _ _ _ _ _ _ (s .segment-from .ensures)) ∙ sym (c .look .ensures)
 
 few-pairs : (c : At-loop2) → c .loop2 .pairs ≤ 16777216
 few-pairs c = let ready = start (outer c) .pre .0 .pairs in few (inner c) (ready .few) (ready .few-second)
 
 loop-holds : tie.Need-loop-holds Inv-loop2 μ-loop2 Inv-loop μ-loop
-loop-holds c =
-    let a = c .before .before .before .before .before .args in
-    starts (look (now (a .first)) (now (a .second)) (a .job .epsilon)) (a .job) (a .write) (a .at) (a .room) (a .start-i) (a .start-j)
-    (now (a .indices)) (now (a .points)) (search needs) (search needs)
+loop-holds c = starts _ _ _ _ _ _ _ _ _ (search needs) (search needs)
 
 loop2-holds : tie.Need-loop2-holds Inv-loop2 μ-loop2 Inv-loop μ-loop
 loop2-holds c = λ x y s. s
@@ -87,16 +81,11 @@ loop2-holds c = λ x y s. s
 look-requires : tie.Need-look-requires Inv-loop2 μ-loop2 Inv-loop μ-loop
 look-requires c κs =
     let p = c .before in
-    let a = start (outer p) .args in (
-      at-segment (p .before .before .before .segment-from .result) (now (a .first)) (now (a .second)) (a .job) (outer p .loop .i)
-          (start (outer p) .pre .0 .pairs) (inside p) (p .before .before .before .segment-from .ensures),
-      (
-        start (outer p) .pre .0 .keeps,
-        (
-          p .before .before .kept-of .ensures,
-          omega (arith, below c, to-within (a .job) (outer p .loop .i)),
-        ),
-      ),
+    let s = start (outer p) in
+    let h = s .pre .0 in
+    let within : p .loop2 .j < s .args .job .m = omega (arith, below c, to-within (s .args .job) (outer p .loop .i)) in (
+      at-segment _ _ _ _ _ (h .pairs) (inside p) (p .before .before .before .segment-from .ensures),
+      (h .keeps, (p .before .before .kept-of .ensures, within)),
     )
 
 loop2-again : tie.Need-loop2-again Inv-loop2 μ-loop2 Inv-loop μ-loop
