@@ -1,1 +1,1 @@
-mod Shown
+mod Forwarded

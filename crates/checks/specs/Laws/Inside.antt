@@ -1,11 +1,11 @@
--- Numbers that pass their checks, told by comparisons alone: |x| is at most the limit if x is and -x is, for all floats; a NaN is at
--- most nothing. So a vertex whose three numbers are inside leaves a chain of checks as it was.
-use mathlib.Core.Path.{_≡_, refl, sym, ap, _∙_}
+-- Numbers that pass their checks, told by comparisons alone: |x| is at most the limit if x is and -x is, for all floats; a NaN
+-- is at most nothing. So a vertex whose three numbers are inside leaves a chain of checks as it was.
+use mathlib.Core.Path.{_≡_, sym, ap, _∙_}
 use mathlib.Core.Bool.{Bool, true, false, not, _&&_}
-use Prim.Native.Nat.{ℕ, _+_, _*_, _<_, _≤_}
+use Prim.Native.Nat.{ℕ, _+_, _*_, _≤_}
 use native.Mathlib.Omega.{arith}
 use lib.Dec.{T}
-use lib.Ieee.{Float, nan, inf, fin, up, down, ofBits, neg, le}
+use lib.Ieee.{Float, nan, inf, fin, up, down, ofBits, neg}
 use lib.Ieee.Fits.{down-pos, and-l, and-r}
 use lib.Ieee.Scale.{finite}
 use Rattle.float_laws.specs.Signed.{ups, downs}
@@ -20,9 +20,9 @@ use Rattle.checks.specs.Fault.{later}
 use Rattle.checks.specs.First.{first}
 use Rattle.checks.specs.Limit
 use Rattle.checks.specs.Lists.{vertexChecks}
-use Rattle.checks.specs.Laws.Chains.{VertexFine, vertex-first, vertex-fine}
+use Rattle.checks.specs.Laws.Chains.{VertexFine, vertex-first, vertex-listed}
 use Rattle.checks.specs.Laws.Fine.{Within}
-use Rattle.checks.specs.Laws.Later.{fine-left, fine-right}
+use Rattle.checks.specs.Laws.Later.{fine-right}
 
 abbrev pub inside : Float → Float → Bool
 inside most x = (x ≼ most) && (neg most ≼ x)
@@ -70,7 +70,8 @@ unfolding ofBits neg
 of-bulge x h = inside-within Limit.bulge x tt tt h
 
 -- ---- a vertex
-pub all-passed : (x y bulge : Float) (owner index : ℕ) → T (vertexInside x y bulge) → first (vertexChecks x y bulge owner index) ≡ Fine
+pub all-passed : (x y bulge : Float) (owner index : ℕ) → T (vertexInside x y bulge)
+    → first (vertexChecks x y bulge owner index) ≡ Fine
 all-passed x y bulge owner index h =
     let point = inside Limit.coordinate x && inside Limit.coordinate y in
     let at = and-l point (inside Limit.bulge bulge) h in
@@ -82,7 +83,7 @@ all-passed x y bulge owner index h =
       };
       bulge = of-bulge bulge (and-r point (inside Limit.bulge bulge) h);
     } in
-    sym (fine-left _) ∙ sym (vertex-first Fine x y owner bulge index) ∙ vertex-fine Fine x y owner bulge index .1 (refl, fine)
+    vertex-listed x y owner bulge index .1 fine
 
 pub vertex-passed : (f : Checked) (x y bulge : Float) (owner index : ℕ) → T (vertexInside x y bulge)
     → f ≡ vertexAfter f x y bulge owner index

@@ -1,7 +1,7 @@
 -- The first fault of two checks: `later` is associative, `Fine` its unit; it is fine exactly if both are, and bad exactly as the
 -- first that is not fine.
-use mathlib.Core.Path.{_≡_, refl}
-use mathlib.Core.Logic.{_↔_, _⊎_, inl, inr}
+use mathlib.Core.Path.{_≡_, refl, sym, _∙_}
+use mathlib.Core.Logic.{_↔_, _⊎_, inl, inr, Iff·trans, Iff·and}
 use Rattle.checks.specs.declared.fault.Fault.{Fault}
 use Rattle.checks.specs.declared.fault.Checked.{Checked}
 use Rattle.checks.specs.declared.fault.Checked.the-variants.{Fine, Bad}
@@ -25,6 +25,16 @@ pub later-fine : (f g : Checked) → (later f g ≡ Fine) ↔ ((f ≡ Fine) × (
 unfolding later
 later-fine Fine g = (λ e. (refl, e), λ e. e .1)
 later-fine (Bad f) g = (λ e. (e, cc), λ e. e .0)
+
+-- what a check is that passes, in other words: it is the same as another; it stands after another; it stands alone
+pub same-fine : {c d : Checked} {F : Type 0} → c ≡ d → ((d ≡ Fine) ↔ F) → ((c ≡ Fine) ↔ F)
+same-fine e = Iff·trans (λ h. sym e ∙ h, λ h. e ∙ h)
+
+pub then-fine : {f g : Checked} {F G : Type 0} → ((f ≡ Fine) ↔ F) → ((g ≡ Fine) ↔ G) → ((later f g ≡ Fine) ↔ (F × G))
+then-fine {f} {g} p q = Iff·trans (later-fine f g) (Iff·and p q)
+
+pub alone-fine : {c : Checked} {F : Type 0} → ((c ≡ Fine) ↔ F) → ((later c Fine ≡ Fine) ↔ F)
+alone-fine {c} = same-fine (fine-right c)
 
 pub later-bad : (f g : Checked) (x : Fault) → (later f g ≡ Bad x) ↔ ((f ≡ Bad x) ⊎ ((f ≡ Fine) × (g ≡ Bad x)))
 unfolding later

@@ -1,6 +1,6 @@
 -- The pair call's look finds no fault: from its numbers one by one, and from the glance at them.
-use mathlib.Core.Path.{_≡_, refl, sym, ap, _∙_}
-use mathlib.Core.Bool.{Bool, true, false, not, cond, _&&_, _||_}
+use mathlib.Core.Path.{_≡_, refl, _∙_}
+use mathlib.Core.Bool.{Bool, true, false, cond, _&&_, _||_}
 use mathlib.Core.List.{List, [], _∷_, _++_}
 use Prim.Native.Nat.{ℕ}
 use lib.Dec.{T}
@@ -25,25 +25,11 @@ use Rattle.checks.specs.Laws.Chains as chains
 use Rattle.checks.specs.Laws.Chord.{squareLeast, long-fine}
 use Rattle.checks.specs.Laws.Fine.{Between, epsilon-fine}
 use Rattle.checks.specs.Laws.Inside.{inside, of-coordinate, of-bulge}
-use Rattle.checks.specs.Laws.Later.{fine-left, fine-right, later-fine}
+use Rattle.checks.specs.Laws.Later.{fine-right, later-fine}
 use Rattle.crossing.specs.PlineSegIntersect as pair
-use Rattle.float_laws.specs.Tests.{either}
 use Rattle.glance.specs.Looked.{pointFine, segmentFine, epsilonFine, pairFine}
 
--- ---- what is fine as a chain is fine as a list
-vertex-list : (v : PlineVertex) (owner index : ℕ) → chains.VertexFine (v .x) (v .y) (v .bulge)
-    → first (vertexChecks (v .x) (v .y) (v .bulge) owner index) ≡ Fine
-vertex-list v owner index f =
-    sym (fine-left _)
-    ∙ sym (chains.vertex-first Fine (v .x) (v .y) owner (v .bulge) index)
-    ∙ chains.vertex-fine Fine (v .x) (v .y) owner (v .bulge) index .1 (refl, f)
-
-point-list : (v : PlineVertex) (owner index : ℕ) → chains.PointFine (v .x) (v .y) → first (pointChecks (v .x) (v .y) owner index) ≡ Fine
-point-list v owner index f =
-    sym (fine-left _)
-    ∙ sym (chains.point-first Fine (v .x) (v .y) owner index)
-    ∙ chains.point-fine Fine (v .x) (v .y) owner index .1 (refl, f)
-
+-- ---- by its numbers
 both-fine : (cs ds : List Checked) → first cs ≡ Fine → first ds ≡ Fine → first (cs ++ ds) ≡ Fine
 both-fine cs ds e f = chains.first-append cs ds ∙ later-fine (first cs) (first ds) .1 (e, f)
 
@@ -53,8 +39,8 @@ pub record Sound (v1 v2 : PlineVertex) (owner : ℕ) : Type 0 where
   pub end : chains.PointFine (v2 .x) (v2 .y)
   pub arc : arcChord v1 v2 owner 0 ≡ Fine
 
-pub look-fine : (v1 v2 u1 u2 : PlineVertex) (epsilon : Float) → Each.epsilon epsilon (at 0 0 Epsilon) ≡ Fine → Sound v1 v2 0 → Sound u1 u2 1
-    → pair.look v1 v2 u1 u2 epsilon ≡ Fine
+pub look-fine : (v1 v2 u1 u2 : PlineVertex) (epsilon : Float) → Each.epsilon epsilon (at 0 0 Epsilon) ≡ Fine
+    → Sound v1 v2 0 → Sound u1 u2 1 → pair.look v1 v2 u1 u2 epsilon ≡ Fine
 unfolding pair.look
 look-fine v1 v2 u1 u2 epsilon e fv fu =
     let eps = Each.epsilon epsilon (at 0 0 Epsilon) in
@@ -68,10 +54,10 @@ look-fine v1 v2 u1 u2 epsilon e fv fu =
     let c5 : List Checked = arc-v ∷ arc-u ∷ [] in
     let f0 : first c0 ≡ Fine = fine-right eps ∙ e in
     let f5 : first c5 ≡ Fine = later-fine arc-v (later arc-u Fine) .1 (fv .arc, fine-right arc-u ∙ fu .arc) in
-    let f1 = both-fine c0 c1 f0 (vertex-list v1 0 0 (fv .start)) in
-    let f2 = both-fine (c0 ++ c1) c2 f1 (point-list v2 0 1 (fv .end)) in
-    let f3 = both-fine (c0 ++ c1 ++ c2) c3 f2 (vertex-list u1 1 0 (fu .start)) in
-    let f4 = both-fine (c0 ++ c1 ++ c2 ++ c3) c4 f3 (point-list u2 1 1 (fu .end)) in
+    let f1 = both-fine c0 c1 f0 (chains.vertex-listed (v1 .x) (v1 .y) 0 (v1 .bulge) 0 .1 (fv .start)) in
+    let f2 = both-fine (c0 ++ c1) c2 f1 (chains.point-listed (v2 .x) (v2 .y) 0 1 .1 (fv .end)) in
+    let f3 = both-fine (c0 ++ c1 ++ c2) c3 f2 (chains.vertex-listed (u1 .x) (u1 .y) 1 (u1 .bulge) 0 .1 (fu .start)) in
+    let f4 = both-fine (c0 ++ c1 ++ c2 ++ c3) c4 f3 (chains.point-listed (u2 .x) (u2 .y) 1 1 .1 (fu .end)) in
     both-fine (c0 ++ c1 ++ c2 ++ c3 ++ c4) c5 f4 f5
 
 -- ---- by the glance

@@ -1,9 +1,10 @@
--- What a caller knows of a listing that was not refused: no more rows than both slices have room for. And the slices are as long as
--- they were.
-use mathlib.Core.Path.{_≡_, refl, sym, ap, _∙_}
+-- What a caller knows of a listing that was not refused: no more rows than both slices have room for. And the slices are as long
+-- as they were.
+use mathlib.Core.Path.{_≡_, refl}
+use mathlib.Core.Logic.{Iff·rfl}
 use mathlib.Core.Bool.{Bool, true, false, cond}
 use mathlib.Core.List.{List, [], _∷_, _++_}
-use Prim.Native.Nat.{ℕ, _+_, _*_, _≤_}
+use Prim.Native.Nat.{ℕ, _≤_}
 use native.Mathlib.Omega.{arith}
 use borrow.Author.Tests.{ltb-false}
 use lib.Dec.{ltb}
@@ -12,10 +13,10 @@ use lib.ListN.{length, length-append, length-drop, drop}
 use Rattle.checks.specs.declared.fault.Item.the-variants.{Rows}
 use Rattle.checks.specs.declared.fault.Checked.{Checked}
 use Rattle.checks.specs.declared.fault.Checked.the-variants.{Fine, Bad}
-use Rattle.checks.specs.Fault.{at, refuse, later, bad}
+use Rattle.checks.specs.Fault.{at, refuse, bad}
 use Rattle.checks.specs.First.{first as firstFault}
-use Rattle.checks.specs.Laws.Chains.{first-append}
-use Rattle.checks.specs.Laws.Later.{fine-right, later-fine}
+use Rattle.checks.specs.Laws.Chains.{append-fine}
+use Rattle.checks.specs.Laws.Later.{alone-fine}
 use Rattle.paths.specs.Segments.{segmentCount}
 use Rattle.listings.specs.declared.row.Row.{Row}
 use Rattle.listings.specs.declared.row.Look.{Look}
@@ -67,10 +68,9 @@ outcome-fits : (checks : List Checked) (f : ℕ → ℕ → Look) (ps : List Pai
     → Fits (outcome checks f ps i₀ p₀) (room i₀ p₀) i₀ p₀
 unfolding outcome
 outcome-fits checks f ps i₀ p₀ =
-    let c = roomCheck (rowsOf f ps) i₀ p₀ in
-    of-checked (rowsOf f ps) (lookedAt f ps) i₀ p₀ (firstFault (checks ++ (c ∷ [])))
-    (λ e. later-fine (firstFault checks) c .0
-    (ap (later (firstFault checks)) (sym (fine-right c)) ∙ sym (first-append checks (c ∷ [])) ∙ e) .1)
+    let last : List Checked = roomCheck (rowsOf f ps) i₀ p₀ ∷ [] in
+    of-checked (rowsOf f ps) (lookedAt f ps) i₀ p₀ (firstFault (checks ++ last))
+    (λ e. append-fine checks last Iff·rfl (alone-fine Iff·rfl) .0 e .1)
 
 pub mutual-fits : (first : List Float) (firstClosed : Bool) (second : List Float) (secondClosed : Bool) (epsilon : Float)
     (i₀ : List ℕ) (p₀ : List Float) → Fits (mutualListing first firstClosed second secondClosed epsilon i₀ p₀) (room i₀ p₀) i₀ p₀

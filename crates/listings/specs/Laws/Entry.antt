@@ -26,7 +26,6 @@ use Rattle.listings.specs.Order.{Pair, mutualPairs, selfPairs}
 use Rattle.listings.specs.Rows.{rowsOf, lookedAt}
 use Rattle.listings.specs.Look.{look}
 use Rattle.listings.specs.Listing.{
-  Outcome,
   Leaves,
   roomCheck,
   outcomeOf,
@@ -62,6 +61,16 @@ module _ (checks : List Checked) (f : ℕ → ℕ → Look) (ps : List Pair) (i�
   outcome-bad x e =
       let c = roomCheck (rowsOf f ps) i₀ p₀ in
       rw (found ∙ ap (λ (t : Checked). later t c) e) (record { answer = refl; indices = refl; points = refl })
+
+-- found fine, the outcome is the listing of the job's pairs
+outcome-listed : (checks : List Checked) (first second : List Float) (job : Job) (i₀ : List ℕ) (p₀ : List Float)
+    {epsilon : Float} {ps : List Pair} {r : ListingAnswer} {i : List ℕ} {p : List Float}
+    → firstFault checks ≡ Fine → job .epsilon ≡ epsilon → every job ≡ ps
+    → Leaves (listed (look first second (job .epsilon)) (every job) i₀ p₀) r i p
+    → Leaves (outcome checks (look first second epsilon) ps i₀ p₀) r i p
+outcome-listed checks first second job i₀ p₀ {epsilon} {ps} {r} {i} {p} e same pairs h =
+    let g : Leaves (listed (look first second epsilon) ps i₀ p₀) r i p = rw (pairs, same) at h in
+    rw (outcome-fine checks (look first second epsilon) ps i₀ p₀ e) g
 
 -- ---- two paths
 module _ (first : List Float) (firstClosed : Bool) (second : List Float) (secondClosed : Bool) (epsilon : Float) where
@@ -99,17 +108,15 @@ module _ (first : List Float) (firstClosed : Bool) (second : List Float) (second
         paths-ready first second firstClosed secondClosed job
         (ap (λ (x : Float). Each.epsilon x (at 0 0 Epsilon)) same ∙ eps) (inner .1) (outer .1) n m
 
-    pub mutual-listed : (job : Job) (r : ListingAnswer) (i₀ i : List ℕ) (p₀ p : List Float) → job .own ≡ false → job .epsilon ≡ epsilon
+    pub mutual-listed : (job : Job) (r : ListingAnswer) (i₀ i : List ℕ) (p₀ p : List Float) → job .own ≡ false
+        → job .epsilon ≡ epsilon
         → job .n ≡ segmentCount first firstClosed → job .m ≡ segmentCount second secondClosed
         → Leaves (listed (look first second (job .epsilon)) (every job) i₀ p₀) r i p
         → Leaves (mutualListing first firstClosed second secondClosed epsilon i₀ p₀) r i p
     unfolding mutualListing checkMutual
-    mutual-listed job r i₀ i p₀ p own same n m h =
-        let ps = mutual-every job own ∙ ap (λ (k : ℕ). mutualPairs k (job .m)) n ∙ ap (mutualPairs (segmentCount first firstClosed)) m in
-        let g : Leaves (listed (look first second epsilon) (mutualPairs (segmentCount first firstClosed) (segmentCount second secondClosed)) i₀ p₀) r i p =
-        rw (ps, same) at h in
-        rw (outcome-fine (mutualChecks first firstClosed second secondClosed epsilon) (look first second epsilon)
-        (mutualPairs (segmentCount first firstClosed) (segmentCount second secondClosed)) i₀ p₀ e) g
+    mutual-listed job r i₀ i p₀ p own same n m =
+        outcome-listed (mutualChecks first firstClosed second secondClosed epsilon) first second job i₀ p₀ e same
+        (mutual-every job own ∙ ap (λ (k : ℕ). mutualPairs k (job .m)) n ∙ ap (mutualPairs (segmentCount first firstClosed)) m)
 
   pub mutual-refused : (x : Fault) (i₀ : List ℕ) (p₀ : List Float) → checkMutual first firstClosed second secondClosed epsilon ≡ Bad x
       → Leaves (mutualListing first firstClosed second secondClosed epsilon i₀ p₀) (Refused (x .number)) i₀ p₀
@@ -142,15 +149,15 @@ module _ (path : List Float) (closed : Bool) (epsilon : Float) where
     self-ready job same n m =
         paths-ready path path closed closed job (ap (λ (x : Float). Each.epsilon x (at 0 0 Epsilon)) same ∙ self-eps) (whole .1) (whole .1) n m
 
-    pub self-listed : (job : Job) (r : ListingAnswer) (i₀ i : List ℕ) (p₀ p : List Float) → job .own ≡ true → job .epsilon ≡ epsilon
-        → job .closed ≡ closed → job .n ≡ segmentCount path closed → job .m ≡ segmentCount path closed
+    pub self-listed : (job : Job) (r : ListingAnswer) (i₀ i : List ℕ) (p₀ p : List Float) → job .own ≡ true
+        → job .epsilon ≡ epsilon → job .closed ≡ closed → job .n ≡ segmentCount path closed → job .m ≡ segmentCount path closed
         → Leaves (listed (look path path (job .epsilon)) (every job) i₀ p₀) r i p
         → Leaves (selfListing path closed epsilon i₀ p₀) r i p
     unfolding selfListing checkSelf
-    self-listed job r i₀ i p₀ p own same flag n m h =
-        let ps = self-every job own (m ∙ sym n) ∙ ap (λ (k : ℕ). selfPairs k (job .closed)) n ∙ ap (selfPairs (segmentCount path closed)) flag in
-        let g : Leaves (listed (look path path epsilon) (selfPairs (segmentCount path closed) closed) i₀ p₀) r i p = rw (ps, same) at h in
-        rw (outcome-fine (selfChecks path closed epsilon) (look path path epsilon) (selfPairs (segmentCount path closed) closed) i₀ p₀ e) g
+    self-listed job r i₀ i p₀ p own same flag n m =
+        outcome-listed (selfChecks path closed epsilon) path path job i₀ p₀ e same
+        (self-every job own (m ∙ sym n) ∙ ap (λ (k : ℕ). selfPairs k (job .closed)) n
+        ∙ ap (selfPairs (segmentCount path closed)) flag)
 
   pub self-refused : (x : Fault) (i₀ : List ℕ) (p₀ : List Float) → checkSelf path closed epsilon ≡ Bad x
       → Leaves (selfListing path closed epsilon i₀ p₀) (Refused (x .number)) i₀ p₀

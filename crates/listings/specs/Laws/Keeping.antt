@@ -45,13 +45,13 @@ unfolding keep
 keep-length path zero epsilon l = refl
 keep-length path (suc j) epsilon l = put-length (keep path j epsilon l) j _ ∙ keep-length path j epsilon l
 
--- a number that stands elsewhere than at the three
-elsewhere : (l : List Float) (a n : ℕ) (x y z : Float) → ((n ≡ a) → ⊥) → ((n ≡ a + 1) → ⊥) → ((n ≡ a + 2) → ⊥)
+-- a number that stands before the three
+before : (l : List Float) (a n : ℕ) (x y z : Float) → n < a
     → getD (set (set (set l a x) (a + 1) y) (a + 2) z) n nan ≡ getD l n nan
-elsewhere l a n x y z p q r =
-    getD-set-other (set (set l a x) (a + 1) y) (a + 2) n z nan r
-    ∙ getD-set-other (set l a x) (a + 1) n y nan q
-    ∙ getD-set-other l a n x nan p
+before l a n x y z h =
+    getD-set-other (set (set l a x) (a + 1) y) (a + 2) n z nan (λ (e : n ≡ a + 2). omega arith)
+    ∙ getD-set-other (set l a x) (a + 1) n y nan (λ (e : n ≡ a + 1). omega arith)
+    ∙ getD-set-other l a n x nan (λ (e : n ≡ a). omega arith)
 
 -- the three
 module _ (l : List Float) (a : ℕ) (x y z : Float) (room : a + 3 ≤ length l) where
@@ -90,12 +90,9 @@ put-other : (l : List Float) (i j : ℕ) (k : Kept) → i < j → keptAt (put l 
 unfolding keptAt
 put-other l i j k h =
     three _ _
-    (elsewhere l (j * 3) (i * 3) _ _ _ (λ (e : i * 3 ≡ j * 3). omega arith) (λ (e : i * 3 ≡ j * 3 + 1). omega arith)
-    (λ (e : i * 3 ≡ j * 3 + 2). omega arith))
-    (elsewhere l (j * 3) (i * 3 + 1) _ _ _ (λ (e : i * 3 + 1 ≡ j * 3). omega arith) (λ (e : i * 3 + 1 ≡ j * 3 + 1). omega arith)
-    (λ (e : i * 3 + 1 ≡ j * 3 + 2). omega arith))
-    (elsewhere l (j * 3) (i * 3 + 2) _ _ _ (λ (e : i * 3 + 2 ≡ j * 3). omega arith) (λ (e : i * 3 + 2 ≡ j * 3 + 1). omega arith)
-    (λ (e : i * 3 + 2 ≡ j * 3 + 2). omega arith))
+    (before l (j * 3) (i * 3) _ _ _ (omega arith))
+    (before l (j * 3) (i * 3 + 1) _ _ _ (omega arith))
+    (before l (j * 3) (i * 3 + 2) _ _ _ (omega arith))
 
 pub keep-at : (path : List Float) (m : ℕ) (epsilon : Float) (l : List Float) → m * 3 ≤ length l → (j : ℕ) → j < m
     → keptAt (keep path m epsilon l) j ≡ ofSegment (segmentFrom path j) epsilon
@@ -107,8 +104,8 @@ keep-at path (suc m) epsilon l h j b =
   where
     go : (j ≡ m) ⊎ (j < m) → (j < m → keptAt (keep path m epsilon l) j ≡ ofSegment (segmentFrom path j) epsilon)
         → keptAt (put (keep path m epsilon l) m (ofSegment (segmentFrom path m) epsilon)) j ≡ ofSegment (segmentFrom path j) epsilon
-    go (inr s) before = put-other (keep path m epsilon l) j m _ s ∙ before s
-    go (inl e) before =
+    go (inr s) rest = put-other (keep path m epsilon l) j m _ s ∙ rest s
+    go (inl e) rest =
         ap (keptAt (put (keep path m epsilon l) m (ofSegment (segmentFrom path m) epsilon))) e
         ∙ put-same (keep path m epsilon l) m _ (omega (arith, keep-length path m epsilon l))
         ∙ ap (λ (i : ℕ). ofSegment (segmentFrom path i) epsilon) (sym e)

@@ -1,5 +1,5 @@
 -- The state of the loop that fills rows, at the pair (i, j), and its steps: what the proof of `fill` cites, place by place.
-use mathlib.Core.Path.{_≡_, refl, ap, _∙_}
+use mathlib.Core.Path.{_≡_, refl, _∙_}
 use mathlib.Core.Bool.{Bool, true, false, cond, _&&_}
 use mathlib.Core.List.{List, [], _∷_}
 use Prim.Native.Nat.{ℕ, _+_, _-_, _*_, _≤_, _<_}
@@ -77,53 +77,34 @@ module _ {look : ℕ → ℕ → Look} {job : Job} {write : Bool} {at room start
   pub ends : job .n ≤ i
       → Filled job write at (whole look job at room startI startJ)
       (record { rows = rows; pairs = pairs; i = i; j = j; ended = true }) i₀ l p₀ p
-  ends beyond =
-      filling.ends look job room write at (whole look job at room startI startJ) i₀ p₀ i j rows pairs l p (s .left) beyond (s .within)
+  ends beyond = filling.ends look job room write at _ i₀ p₀ i j rows pairs l p (s .left) beyond (s .within)
+
+  -- on to another pair with the same rows
+  on : {i′ j′ pairs′ : ℕ}
+      → Left write at (whole look job at room startI startJ) (page look (job_of.left job i′ j′) (room - rows)) rows pairs′ i₀ l p₀ p
+      → i′ ≤ job .n → State look job write at room startI startJ i₀ p₀ i′ j′ rows pairs′ l p
+  on left within = record { left = left; fits = s .fits; within = within; indices = s .indices; points = s .points }
 
   module _ (inside : i < job .n) where
     pub next-i : job_of.to job i ≤ j
         → State look job write at room startI startJ i₀ p₀ (i + 1) (job_of.from job (i + 1)) rows pairs l p
     next-i beyond =
-        let w = whole look job at room startI startJ in
-        record {
-          left = filling.next-i look job room write at w i₀ p₀ i j rows pairs l p inside (s .left) beyond;
-          fits = s .fits;
-          within = omega (arith, inside);
-          indices = s .indices;
-          points = s .points;
-        }
+        on (filling.next-i look job room write at _ i₀ p₀ i j rows pairs l p inside (s .left) beyond) (omega (arith, inside))
 
     module _ (below : j < job_of.to job i) where
       pub passes : look i j ≡ Passed → State look job write at room startI startJ i₀ p₀ i (j + 1) rows pairs l p
-      passes e =
-          let w = whole look job at room startI startJ in
-          record {
-            left = filling.passes look job room write at w i₀ p₀ i j rows pairs l p inside (s .left) below e;
-            fits = s .fits;
-            within = s .within;
-            indices = s .indices;
-            points = s .points;
-          }
+      passes e = on (filling.passes look job room write at _ i₀ p₀ i j rows pairs l p inside (s .left) below e) (s .within)
 
       pub looks : look i j ≡ Nothing → State look job write at room startI startJ i₀ p₀ i (j + 1) rows (pairs + 1) l p
-      looks e =
-          let w = whole look job at room startI startJ in
-          record {
-            left = filling.looks look job room write at w i₀ p₀ i j rows pairs l p inside (s .left) below e;
-            fits = s .fits;
-            within = s .within;
-            indices = s .indices;
-            points = s .points;
-          }
+      looks e = on (filling.looks look job room write at _ i₀ p₀ i j rows pairs l p inside (s .left) below e) (s .within)
 
       module _ (r : Row) (e : look i j ≡ Made r) where
         pub makes : rows < room
             → State look job write at room startI startJ i₀ p₀
             i (j + 1) (rows + 1) (pairs + 1) (putIndices write l rows r) (putPoints write p rows r)
         makes fits =
-            let w = whole look job at room startI startJ in
             record {
-              left = filling.makes look job room write at w i₀ p₀ i j rows pairs l p inside (s .left) below r e fits;
+              left = filling.makes look job room write at _ i₀ p₀ i j rows pairs l p inside (s .left) below r e fits;
               fits = omega (arith, fits);
               within = s .within;
               indices = length-sets l (rows * indicesARow) (flat indicesOf (kept write (r ∷ []))) ∙ s .indices;
@@ -133,6 +114,4 @@ module _ {look : ℕ → ℕ → Look} {job : Job} {write : Bool} {at room start
         pub stops : room ≤ rows
             → Filled job write at (whole look job at room startI startJ)
             (record { rows = rows; pairs = pairs; i = i; j = j; ended = false }) i₀ l p₀ p
-        stops full =
-            let w = whole look job at room startI startJ in
-            filling.stops look job room write at w i₀ p₀ i j rows pairs l p inside (s .left) below r e full
+        stops full = filling.stops look job room write at _ i₀ p₀ i j rows pairs l p inside (s .left) below r e full

@@ -1,9 +1,9 @@
 -- The outcome of a listing whose numbers were found fine, from pages: all rows on one page; rows held back and then copied; rows
 -- held back, the rest counted, and then filled in behind them; and too many rows.
 use mathlib.Core.Path.{_≡_, refl, sym, ap, _∙_}
-use mathlib.Core.Bool.{Bool, true, false}
-use mathlib.Core.List.{List, [], _∷_, _++_}
-use Prim.Native.Nat.{ℕ, _+_, _-_, _*_, _/_, _≤_, _<_, min}
+use mathlib.Core.Bool.{true, false}
+use mathlib.Core.List.{List, _++_}
+use Prim.Native.Nat.{ℕ, _+_, _-_, _*_, _≤_, _<_}
 use native.Mathlib.Nat.{mul-le-mul, le-refl, add-mul, sub-zero}
 use native.Mathlib.Omega.{arith}
 use borrow.Author.Tests.{le-ltb, lt-ltb}
@@ -16,7 +16,7 @@ use Rattle.listings.specs.declared.row.Look.{Look}
 use Rattle.listings.specs.declared.order.Job.{Job}
 use Rattle.listings.specs.declared.fill.Filling.{Filling}
 use Rattle.listings.specs.declared.answer.ListingAnswer.the-variants.{Refused, Listed}
-use Rattle.listings.specs.Row.{indicesARow, pointsARow, indicesOf, pointsOf, flat}
+use Rattle.listings.specs.Row.{indicesOf, pointsOf, flat}
 use Rattle.listings.specs.Order.{Pair, pairsFrom}
 use Rattle.listings.specs.Rows.{rowsOf, lookedAt}
 use Rattle.listings.specs.Listing.{Outcome, Leaves, over, room, roomCheck, outcomeOf}
@@ -57,7 +57,7 @@ module _ (look : ℕ → ℕ → Look) (ps : List Pair) (i₀ : List ℕ) (p₀ 
   fit-points n h = omega (arith, h)
 
   -- ---- no pair is left after a page with room for k rows
-  module _ (k : ℕ) (q : Page) (j : Joins look ps k q) (within : k ≤ room i₀ p₀) (ended : empty (q .rest) ≡ true) where
+  module _ {k : ℕ} {q : Page} (j : Joins look ps k q) (within : k ≤ room i₀ p₀) (ended : empty (q .rest) ≡ true) where
     all : q .rows ≡ rows
     all = whole-rows look j ended
 
@@ -166,17 +166,12 @@ hold look job k m r a₀ a b₀ b same g e x y =
       points = f .points ∙ just-all pointsOf 4 (λ r. refl) (q .rows) b₀ k n y;
     }
 
-module _ (look : ℕ → ℕ → Look) (job : Job) (k i j m : ℕ) (a : List ℕ) (b : List Float) (held : Held look job k i j m a b)
-    (i₀ : List ℕ) (p₀ : List Float) (fits : k ≤ room i₀ p₀) where
+module _ {look : ℕ → ℕ → Look} {job : Job} {k i j m : ℕ} {a : List ℕ} {b : List Float} (held : Held look job k i j m a b) where
   abbrev ps : List Pair
   ps = job_of.every job
 
   abbrev front : Page
   front = page look ps k
-
-  -- the page behind it
-  abbrev pub behind : Page
-  behind = page look (job_of.left job i j) (room i₀ p₀ - k)
 
   first-rows : rowsOf look ps ≡ front .rows ++ rowsOf look (job_of.left job i j)
   first-rows =
@@ -191,59 +186,65 @@ module _ (look : ℕ → ℕ → Look) (job : Job) (k i j m : ℕ) (a : List ℕ
   pub held-points : length b ≡ k * 4
   held-points = ap length (held .points) ∙ flat-length pointsOf 4 (λ r. refl) (front .rows) ∙ ap (λ (n : ℕ). n * 4) count-front
 
-  -- pairs are left behind that page too
-  pub behind-refused : empty (behind .rest) ≡ false → (x : List ℕ) (y : List Float) → x ≡ i₀ → y ≡ p₀
-      → Leaves (listed look ps i₀ p₀) (Refused 8) x y
-  behind-refused e =
-      let n = too-many look (joins look (job_of.left job i j) (room i₀ p₀ - k)) e in
-      let l = length-append (front .rows) (rowsOf look (job_of.left job i j)) in
-      is-refused look ps i₀ p₀ (omega (arith, n, l, ap length first-rows, count-front, fits))
+  module _ (i₀ : List ℕ) (p₀ : List Float) (fits : k ≤ room i₀ p₀) where
+    -- the page behind it
+    abbrev pub behind : Page
+    behind = page look (job_of.left job i j) (room i₀ p₀ - k)
 
-  module _ (ended : empty (behind .rest) ≡ true) where
-    both : rowsOf look ps ≡ front .rows ++ behind .rows
-    both =
-        let j = joins look (job_of.left job i j) (room i₀ p₀ - k) in
-        first-rows ∙ ap (λ (rs : List Row). front .rows ++ rs) (sym (whole-rows look j ended))
+    -- pairs are left behind that page too
+    pub behind-refused : empty (behind .rest) ≡ false → (x : List ℕ) (y : List Float) → x ≡ i₀ → y ≡ p₀
+        → Leaves (listed look ps i₀ p₀) (Refused 8) x y
+    behind-refused e =
+        let n = too-many look (joins look (job_of.left job i j) (room i₀ p₀ - k)) e in
+        let l = length-append (front .rows) (rowsOf look (job_of.left job i j)) in
+        is-refused look ps i₀ p₀ (omega (arith, n, l, ap length first-rows, count-front, fits))
 
-    looked : lookedAt look ps ≡ m + behind .looked
-    looked =
-        let j = joins look (job_of.left job i j) (room i₀ p₀ - k) in
-        omega (arith, joins look ps k .looked, ap (lookedAt look) (held .rest), whole-looked look j ended, held .pairs)
+    module _ (ended : empty (behind .rest) ≡ true) where
+      both : rowsOf look ps ≡ front .rows ++ behind .rows
+      both =
+          let j = joins look (job_of.left job i j) (room i₀ p₀ - k) in
+          first-rows ∙ ap (λ (rs : List Row). front .rows ++ rs) (sym (whole-rows look j ended))
 
-    count-both : length (rowsOf look ps) ≡ k + length (behind .rows)
-    count-both = omega (arith, ap length both, length-append (front .rows) (behind .rows), count-front)
+      looked : lookedAt look ps ≡ m + behind .looked
+      looked =
+          let j = joins look (job_of.left job i j) (room i₀ p₀ - k) in
+          omega (arith, joins look ps k .looked, ap (lookedAt look) (held .rest), whole-looked look j ended, held .pairs)
 
-    few-behind : k + length (behind .rows) ≤ room i₀ p₀
-    few-behind = omega (arith, joins look (job_of.left job i j) (room i₀ p₀ - k) .few, fits)
+      count-both : length (rowsOf look ps) ≡ k + length (behind .rows)
+      count-both = omega (arith, ap length both, length-append (front .rows) (behind .rows), count-front)
 
-    -- the numbers of one kind, copied and then stored behind
-    stored-both : {A : Type 0} (numbers : Row → List A) (width : ℕ) → ((r : Row) → length (numbers r) ≡ width)
-        → (old held : List A) → held ≡ flat numbers (front .rows) → room i₀ p₀ * width ≤ length old
-        → sets (paste old 0 held (k * width)) (k * width) (flat numbers (behind .rows)) ≡ over old (flat numbers (rowsOf look ps))
-    stored-both {A} numbers width each old held is long =
-        let front-long = flat-length numbers width each (front .rows) in
-        let behind-long = flat-length numbers width each (behind .rows) in
-        let k-long : k * width ≡ length (flat numbers (front .rows)) = ap (λ (n : ℕ). n * width) (sym count-front) ∙ sym front-long in
-        let in-all : (k + length (behind .rows)) * width ≤ room i₀ p₀ * width = mul-le-mul few-behind (le-refl width) in
-        let end : k * width + length (flat numbers (behind .rows)) ≤ length old =
-        omega (arith, behind-long, add-mul k (length (behind .rows)) width, in-all, long) in
-        ap (λ (l : List A). sets (paste old 0 l (k * width)) (k * width) (flat numbers (behind .rows))) is
-        ∙ ap (λ (l : List A). sets l (k * width) (flat numbers (behind .rows)))
-        (paste-all old (flat numbers (front .rows)) (k * width) k-long)
-        ∙ sets-beyond old (flat numbers (front .rows)) (flat numbers (behind .rows)) (k * width) (sym k-long) end
-        ∙ ap (over old) (sym (flat-append numbers (front .rows) (behind .rows)) ∙ ap (flat numbers) (sym both))
+      few-behind : k + length (behind .rows) ≤ room i₀ p₀
+      few-behind = omega (arith, joins look (job_of.left job i j) (room i₀ p₀ - k) .few, fits)
 
-    -- u and v: the slices with the rows that were held back copied to their fronts
-    pub behind-listed : (n l : ℕ) (u x : List ℕ) (v y : List Float) → n ≡ k + length (behind .rows) → l ≡ m + behind .looked
-        → u ≡ paste i₀ 0 a (k * 3) → v ≡ paste p₀ 0 b (k * 4)
-        → x ≡ sets u (k * 3) (flat indicesOf (behind .rows)) → y ≡ sets v (k * 4) (flat pointsOf (behind .rows))
-        → Leaves (listed look ps i₀ p₀) (Listed n l) x y
-    behind-listed n l u x v y count pairs to-u to-v to-x to-y =
-        let all = room i₀ p₀ in
-        let front-indices = ap (λ (d : List ℕ). sets d (k * 3) (flat indicesOf (behind .rows))) to-u in
-        let front-points = ap (λ (d : List Float). sets d (k * 4) (flat pointsOf (behind .rows))) to-v in
-        let long-indices = fit-indices look ps i₀ p₀ all (le-refl all) in
-        let long-points = fit-points look ps i₀ p₀ all (le-refl all) in
-        is-listed look ps i₀ p₀ (omega (arith, count-both, few-behind)) n l x y (count ∙ sym count-both) (pairs ∙ sym looked)
-        (to-x ∙ front-indices ∙ stored-both indicesOf 3 (λ r. refl) i₀ a (held .indices) long-indices)
-        (to-y ∙ front-points ∙ stored-both pointsOf 4 (λ r. refl) p₀ b (held .points) long-points)
+      -- the numbers of one kind, copied and then stored behind
+      stored-both : {A : Type 0} (numbers : Row → List A) (width : ℕ) → ((r : Row) → length (numbers r) ≡ width)
+          → (old held : List A) → held ≡ flat numbers (front .rows) → room i₀ p₀ * width ≤ length old
+          → sets (paste old 0 held (k * width)) (k * width) (flat numbers (behind .rows)) ≡ over old (flat numbers (rowsOf look ps))
+      stored-both {A} numbers width each old held is long =
+          let front-long = flat-length numbers width each (front .rows) in
+          let behind-long = flat-length numbers width each (behind .rows) in
+          let k-long : k * width ≡ length (flat numbers (front .rows)) =
+          ap (λ (n : ℕ). n * width) (sym count-front) ∙ sym front-long in
+          let in-all : (k + length (behind .rows)) * width ≤ room i₀ p₀ * width = mul-le-mul few-behind (le-refl width) in
+          let end : k * width + length (flat numbers (behind .rows)) ≤ length old =
+          omega (arith, behind-long, add-mul k (length (behind .rows)) width, in-all, long) in
+          ap (λ (l : List A). sets (paste old 0 l (k * width)) (k * width) (flat numbers (behind .rows))) is
+          ∙ ap (λ (l : List A). sets l (k * width) (flat numbers (behind .rows)))
+          (paste-all old (flat numbers (front .rows)) (k * width) k-long)
+          ∙ sets-beyond old (flat numbers (front .rows)) (flat numbers (behind .rows)) (k * width) (sym k-long) end
+          ∙ ap (over old) (sym (flat-append numbers (front .rows) (behind .rows)) ∙ ap (flat numbers) (sym both))
+
+      -- u and v: the slices with the rows that were held back copied to their fronts
+      pub behind-listed : (n l : ℕ) (u x : List ℕ) (v y : List Float) → n ≡ k + length (behind .rows) → l ≡ m + behind .looked
+          → u ≡ paste i₀ 0 a (k * 3) → v ≡ paste p₀ 0 b (k * 4)
+          → x ≡ sets u (k * 3) (flat indicesOf (behind .rows)) → y ≡ sets v (k * 4) (flat pointsOf (behind .rows))
+          → Leaves (listed look ps i₀ p₀) (Listed n l) x y
+      behind-listed n l u x v y count pairs to-u to-v to-x to-y =
+          let all = room i₀ p₀ in
+          let front-indices = ap (λ (d : List ℕ). sets d (k * 3) (flat indicesOf (behind .rows))) to-u in
+          let front-points = ap (λ (d : List Float). sets d (k * 4) (flat pointsOf (behind .rows))) to-v in
+          let long-indices = fit-indices look ps i₀ p₀ all (le-refl all) in
+          let long-points = fit-points look ps i₀ p₀ all (le-refl all) in
+          is-listed look ps i₀ p₀ (omega (arith, count-both, few-behind)) n l x y (count ∙ sym count-both) (pairs ∙ sym looked)
+          (to-x ∙ front-indices ∙ stored-both indicesOf 3 (λ r. refl) i₀ a (held .indices) long-indices)
+          (to-y ∙ front-points ∙ stored-both pointsOf 4 (λ r. refl) p₀ b (held .points) long-points)

@@ -1,7 +1,7 @@
 -- Lists of checks one after the other, `along`: what a loop over them has left at i of n, and that they are fine exactly if
 -- each is.
 use mathlib.Core.Path.{_≡_, refl, sym, ap, _∙_}
-use mathlib.Core.Logic.{inl, inr}
+use mathlib.Core.Logic.{_↔_, inl, inr}
 use mathlib.Core.List.{List}
 use Prim.Native.Nat.{ℕ, zero, suc, _+_, _-_, _≤_, _<_, zero-le}
 use native.Mathlib.Nat.{eq-or-lt-of-le, sub-zero}
@@ -15,30 +15,36 @@ use Rattle.checks.specs.Laws.Chains.{first-append}
 use Rattle.checks.specs.Laws.Later.{fine-right, later-assoc, later-fine}
 use Rattle.paths.specs.Check.{along}
 
--- a fault that was found stays the first, whatever is left
-pub fault-stays : (g rest : Checked) (x : Fault) → g ≡ Bad x → later g rest ≡ Bad x
-unfolding later
-fault-stays g rest x e = ap (λ (f : Checked). later f rest) e
+-- ---- a loop over n of them, which has found g before i: what is left after g has the first fault of the whole
+pub record Looking (checks : ℕ → List Checked) (n : ℕ) (whole g : Checked) (i : ℕ) : Type 0 where
+  pub left : later g (first (along checks i (n - i))) ≡ whole
 
+pub looking : (checks : ℕ → List Checked) (n : ℕ) (f : Checked) → Looking checks n (later f (first (along checks 0 n))) f 0
+looking checks n f = record { left = simp sub-zero }
+
+module _ {checks : ℕ → List Checked} {n : ℕ} {whole g : Checked} {i : ℕ} (l : Looking checks n whole g i) where
+  -- a fault that was found stays the first, whatever is left
+  pub found : (x : Fault) → g ≡ Bad x → Bad x ≡ whole
+  unfolding later
+  found x e = sym (ap (λ (f : Checked). later f (first (along checks i (n - i)))) e) ∙ l .left
+
+  pub turned : {h : Checked} → i < n → h ≡ later g (first (checks i)) → Looking checks n whole h (i + 1)
+  turned lt e =
+      let rest = along checks (i + 1) (n - (i + 1)) in
+      let more : n - i ≡ suc (n - (i + 1)) = omega arith in
+      let step =
+      later-assoc g (first (checks i)) (first rest)
+      ∙ ap (later g) (sym (first-append (checks i) rest))
+      ∙ ap (λ (k : ℕ). later g (first (along checks i k))) (sym more) in
+      record { left = ap (λ (f : Checked). later f (first rest)) e ∙ step ∙ l .left }
+
+  pub ended : n ≤ i → g ≡ whole
+  ended h =
+      let none : n - i ≡ 0 = omega arith in
+      sym (ap (λ (k : ℕ). later g (first (along checks i k))) none ∙ fine-right g) ∙ l .left
+
+-- ---- fine
 module _ (checks : ℕ → List Checked) where
-  -- ---- a loop over n of them
-  pub along-step : (n i : ℕ) (g : Checked) → i < n
-      → later g (first (along checks i (n - i))) ≡ later (later g (first (checks i))) (first (along checks (i + 1) (n - (i + 1))))
-  along-step n i g h =
-      let e : n - i ≡ suc (n - (i + 1)) = omega arith in
-      ap (λ (k : ℕ). later g (first (along checks i k))) e
-      ∙ ap (later g) (first-append (checks i) (along checks (i + 1) (n - (i + 1))))
-      ∙ sym (later-assoc g (first (checks i)) (first (along checks (i + 1) (n - (i + 1)))))
-
-  pub along-start : (n : ℕ) (g : Checked) → later g (first (along checks 0 (n - 0))) ≡ later g (first (along checks 0 n))
-  along-start n g = simp sub-zero
-
-  pub along-end : (n i : ℕ) (g : Checked) → n ≤ i → later g (first (along checks i (n - i))) ≡ g
-  along-end n i g h =
-      let e : n - i ≡ 0 = omega arith in
-      ap (λ (k : ℕ). later g (first (along checks i k))) e ∙ fine-right g
-
-  -- ---- fine
   each-fine : (k i : ℕ) → first (along checks i k) ≡ Fine → (j : ℕ) → i ≤ j → j < i + k → first (checks j) ≡ Fine
   each-fine zero i e j l h = absurd (omega (arith, l, h))
   each-fine (suc k) i e j l h =
@@ -55,8 +61,12 @@ module _ (checks : ℕ → List Checked) where
       first-append (checks i) (along checks (i + 1) k)
       ∙ later-fine (first (checks i)) (first (along checks (i + 1) k)) .1 (each i (omega arith) (omega arith), rest)
 
-  pub fine-each : (n : ℕ) → first (along checks 0 n) ≡ Fine → (j : ℕ) → j < n → first (checks j) ≡ Fine
+  fine-each : (n : ℕ) → first (along checks 0 n) ≡ Fine → (j : ℕ) → j < n → first (checks j) ≡ Fine
   fine-each n e j h = each-fine n 0 e j zero-le (omega (arith, h))
 
   pub fine-all : (n : ℕ) → ((j : ℕ) → j < n → first (checks j) ≡ Fine) → first (along checks 0 n) ≡ Fine
   fine-all n each = all-fine n 0 (λ j l h. each j (omega (arith, h)))
+
+  pub along-fine : (n : ℕ) {P : ℕ → Type 0} → ((i : ℕ) → (first (checks i) ≡ Fine) ↔ P i)
+      → ((first (along checks 0 n) ≡ Fine) ↔ ((i : ℕ) → i < n → P i))
+  along-fine n each = (λ e i l. each i .0 (fine-each n e i l), λ h. fine-all n (λ i l. each i .1 (h i l)))

@@ -1,6 +1,6 @@
 -- What a path is that was found fine, and only such a path is found fine: the facts that callers' proofs go on with.
-use mathlib.Core.Path.{_≡_, refl, sym, _∙_}
-use mathlib.Core.Logic.{_↔_}
+use mathlib.Core.Path.{_≡_, refl}
+use mathlib.Core.Logic.{_↔_, Iff·rfl, Iff·trans}
 use mathlib.Core.Bool.{Bool, true, false, cond, true≢false}
 use mathlib.Core.List.{List}
 use Prim.Native.Nat.{ℕ, _<_}
@@ -17,7 +17,7 @@ use Rattle.checks.specs.declared.fault.Checked.the-variants.{Fine}
 use Rattle.checks.specs.Fault.{at}
 use Rattle.checks.specs.Limit
 use Rattle.checks.specs.First.{first}
-use Rattle.checks.specs.Laws.Later.{fine-left, fine-right, later-fine}
+use Rattle.checks.specs.Laws.Later.{then-fine, alone-fine}
 use Rattle.checks.specs.Laws.Fine.{neither, chord-fine}
 use Rattle.checks.specs.Laws.Chains as chains
 use Rattle.paths.specs.declared.path.Segment.{Segment}
@@ -25,9 +25,9 @@ use Rattle.paths.specs.Path.{vertexCount, vertex}
 use Rattle.paths.specs.Shape.{broken, tooLong, refused, shape}
 use Rattle.paths.specs.Segments.{segmentCount, segmentFrom}
 use Rattle.checks.specs.Arc.{arcChord}
-use Rattle.paths.specs.Check.{ofVertex, ofSegment, vertexChecks, arcChecks, pathChecks, checkPath}
+use Rattle.paths.specs.Check.{ofVertex, ofSegment, vertexChecks, arcChecks, checkPath}
 use Rattle.paths.specs.Table as table
-use Rattle.paths.specs.Laws.Along.{fine-each, fine-all}
+use Rattle.paths.specs.Laws.Along.{along-fine}
 use Rattle.paths.specs.Laws.Segments.{count-within, after-within}
 
 -- ---- a vertex, an arc, a segment, a path
@@ -70,45 +70,21 @@ arc-fine a b owner index =
 module _ (path : List Float) (owner i : ℕ) where
   vertex-fine : (first (ofVertex path owner i) ≡ Fine) ↔ VertexFine (vertex path i)
   unfolding ofVertex
-  vertex-fine =
-      let v = vertex path i in
-      let exact = chains.vertex-fine Fine (v .x) (v .y) owner (v .bulge) i in
-      let listed = chains.vertex-first Fine (v .x) (v .y) owner (v .bulge) i ∙ fine-left _ in
-      (λ e. exact .0 (listed ∙ e) .1, λ f. sym listed ∙ exact .1 (refl, f))
+  vertex-fine = let v = vertex path i in chains.vertex-listed (v .x) (v .y) owner (v .bulge) i
 
   segment-arc-fine : (first (ofSegment path owner i) ≡ Fine) ↔ ArcFine (segmentFrom path i .v1) (segmentFrom path i .v2)
   unfolding ofSegment
-  segment-arc-fine =
-      let s = segmentFrom path i in
-      let exact = arc-fine (s .v1) (s .v2) owner i in
-      let alone = fine-right (arcChord (s .v1) (s .v2) owner i) in
-      (λ e. exact .0 (sym alone ∙ e), λ f. alone ∙ exact .1 f)
+  segment-arc-fine = let s = segmentFrom path i in alone-fine (arc-fine (s .v1) (s .v2) owner i)
 
 pub path-fine : (f : Checked) (path : List Float) (closed : Bool) (owner : ℕ)
     → (checkPath f path closed owner ≡ Fine) ↔ ((f ≡ Fine) × PathFine path closed)
 unfolding checkPath
 path-fine f path closed owner =
-    let v = vertexChecks path owner in
-    let a = arcChecks path closed owner in
-    let n = vertexCount path in
-    let m = segmentCount path closed in
-    let outer = later-fine f (first (pathChecks path closed owner)) in
-    let inner = later-fine (first v) (first a) in
-    let apart = chains.first-append v a in (
-      λ e.
-          let o = outer .0 e in
-          let b = inner .0 (sym apart ∙ o .1) in (
-            o .0,
-            record {
-              vertices = λ i l. vertex-fine path owner i .0 (fine-each (ofVertex path owner) n (b .0) i l);
-              arcs = λ i l. segment-arc-fine path owner i .0 (fine-each (ofSegment path owner) m (b .1) i l);
-            },
-          ),
-      λ h.
-          let all-v = fine-all (ofVertex path owner) n (λ i l. vertex-fine path owner i .1 (h .1 .vertices i l)) in
-          let all-a = fine-all (ofSegment path owner) m (λ i l. segment-arc-fine path owner i .1 (h .1 .arcs i l)) in
-          outer .1 (h .0, apart ∙ inner .1 (all-v, all-a)),
-    )
+    let vertices = along-fine (ofVertex path owner) (vertexCount path) (vertex-fine path owner) in
+    let arcs = along-fine (ofSegment path owner) (segmentCount path closed) (segment-arc-fine path owner) in
+    let all = chains.append-fine (vertexChecks path owner) (arcChecks path closed owner) vertices arcs in
+    Iff·trans (then-fine Iff·rfl all)
+    (λ h. (h .0, record { vertices = h .1 .0; arcs = h .1 .1 }), λ h. (h .0, (h .1 .vertices, h .1 .arcs)))
 
 -- so both ends of every segment are fine, and its arc
 pub segment-fine : (path : List Float) (closed : Bool) → PathFine path closed

@@ -1,48 +1,41 @@
--- `checks::arc::arc_chord` meets its contract: each return is an end of the definition, by the calls and tests on its way;
--- of a chord that is long enough by its self dot the check has nothing to say (`Laws/Chord`).
+-- `checks::arc::arc_chord` meets its contract: past the first test it is the check of the chord that was worked out, and of a
+-- chord that is long enough by its self dot that check has nothing to say (`Laws/Chord`).
+use mathlib.Core.Path.{_≡_}
 use borrow.Author.Needs.{needs}
+use Rattle.plane.specs.Vector2.{length}
+use Rattle.checks.specs.declared.fault.Item.the-variants.{Chord}
+use Rattle.checks.specs.Fault.{at}
+use Rattle.checks.specs.Each
 use Rattle.checks.specs.Arc
 use Rattle.checks.specs.Laws.Chord.{long-fine}
 use Rattle.checks.proofs.arc.arc_chord.Statement.{statement}
 use Rattle.checks.proofs.arc.arc_chord.Tie as tie
 
+of-arc : (c : tie.After-sub)
+    → (let a = c .before .before .before .before .before .args in
+    Arc.arcChord (a .a) (a .b) (a .owner) (a .index) ≡ Each.chord (length (c .sub .result)) (at (a .owner) (a .index) Chord))
+unfolding Arc.arcChord
+of-arc c =
+    let ends = c .before .before in
+    let test = ends .before in
+    simp (
+      ← test .before .bulge-is-zero .ensures,
+      test .if1 .left,
+      ← ends .pos .ensures,
+      ← c .before .pos2 .ensures,
+      ← c .sub .ensures,
+    )
+
 returns : tie.Need-returns
 unfolding Arc.arcChord
 returns c = simp (← c .before .bulge-is-zero .ensures, c .if1 .taken)
-
--- long enough by its self dot
-returns-2 : tie.Need-returns-2
-unfolding Arc.arcChord
-returns-2 c =
-    let chord = c .before .before in
-    let ends = chord .before .before in
-    simp (
-      ← ends .before .before .bulge-is-zero .ensures,
-      ends .before .if1 .left,
-      ← ends .pos .ensures,
-      ← chord .before .pos2 .ensures,
-      ← chord .sub .ensures,
-      long-fine _ _ (c .before .length-squared .ensures) (c .if2 .taken),
-    )
-
-returns-3 : tie.Need-returns-3
-unfolding Arc.arcChord
-returns-3 c =
-    let chord = c .before .before .before .before in
-    let ends = chord .before .before in
-    simp (
-      ← ends .before .before .bulge-is-zero .ensures,
-      ends .before .if1 .left,
-      ← ends .pos .ensures,
-      ← chord .before .pos2 .ensures,
-      ← chord .sub .ensures,
-      ← c .before .length .ensures,
-      ← c .chord .ensures,
-    )
 
 pub arc-chord-spec : {M : Type 1} → statement M
 arc-chord-spec =
     tie.close
     (tie.spec
-    (search needs) returns (search needs) (search needs) (search needs) (search needs) returns-2 (search needs)
-    (search needs) returns-3)
+    (λ c. search needs) returns (λ c. search needs) (λ c. search needs) (λ c. search needs) (λ c. search needs)
+    (λ c. let s = c .before in
+    simp (of-arc (s .before), long-fine _ _ (s .length-squared .ensures) (c .if2 .taken)))
+    (λ c. search needs) (λ c. search needs)
+    (λ c. let l = c .before in simp (of-arc (l .before .before .before), ← l .length .ensures, ← c .chord .ensures)))

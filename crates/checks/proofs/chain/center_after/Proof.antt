@@ -4,14 +4,7 @@ use Rattle.checks.specs.Chain.{centerAfter}
 use Rattle.checks.proofs.chain.center_after.Statement.{statement}
 use Rattle.checks.proofs.chain.center_after.Tie as tie
 
-returns : tie.Need-returns
-unfolding centerAfter
-returns c =
-    let p1 = c .before in
-    simp (← p1 .center .ensures, ← c .later .ensures)
-
 pub center-after-spec : {M : Type 1} → statement M
+unfolding centerAfter
 center-after-spec =
-    tie.close
-    (tie.spec
-    (search needs) (search needs) returns)
+    tie.close (tie.spec (λ c. search needs) (λ c. search needs) (λ c. simp (← c .before .center .ensures, ← c .later .ensures)))

@@ -4,14 +4,8 @@ use Rattle.checks.specs.Chain.{coordinateAfter}
 use Rattle.checks.proofs.chain.coordinate_after.Statement.{statement}
 use Rattle.checks.proofs.chain.coordinate_after.Tie as tie
 
-returns : tie.Need-returns
-unfolding coordinateAfter
-returns c =
-    let p1 = c .before in
-    simp (← p1 .coordinate .ensures, ← c .later .ensures)
-
 pub coordinate-after-spec : {M : Type 1} → statement M
+unfolding coordinateAfter
 coordinate-after-spec =
     tie.close
-    (tie.spec
-    (search needs) (search needs) returns)
+    (tie.spec (λ c. search needs) (λ c. search needs) (λ c. simp (← c .before .coordinate .ensures, ← c .later .ensures)))

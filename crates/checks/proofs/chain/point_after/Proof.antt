@@ -4,14 +4,10 @@ use Rattle.checks.specs.Chain.{pointAfter}
 use Rattle.checks.proofs.chain.point_after.Statement.{statement}
 use Rattle.checks.proofs.chain.point_after.Tie as tie
 
-returns : tie.Need-returns
-unfolding pointAfter
-returns c =
-    let p1 = c .before in
-    simp (← p1 .coordinate-after .ensures, ← c .coordinate-after2 .ensures)
-
 pub point-after-spec : {M : Type 1} → statement M
+unfolding pointAfter
 point-after-spec =
     tie.close
     (tie.spec
-    (search needs) (search needs) returns)
+    (λ c. search needs) (λ c. search needs)
+    (λ c. simp (← c .before .coordinate-after .ensures, ← c .coordinate-after2 .ensures)))

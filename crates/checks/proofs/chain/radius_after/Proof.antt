@@ -4,14 +4,7 @@ use Rattle.checks.specs.Chain.{radiusAfter}
 use Rattle.checks.proofs.chain.radius_after.Statement.{statement}
 use Rattle.checks.proofs.chain.radius_after.Tie as tie
 
-returns : tie.Need-returns
-unfolding radiusAfter
-returns c =
-    let p1 = c .before in
-    simp (← p1 .radius .ensures, ← c .later .ensures)
-
 pub radius-after-spec : {M : Type 1} → statement M
+unfolding radiusAfter
 radius-after-spec =
-    tie.close
-    (tie.spec
-    (search needs) (search needs) returns)
+    tie.close (tie.spec (λ c. search needs) (λ c. search needs) (λ c. simp (← c .before .radius .ensures, ← c .later .ensures)))

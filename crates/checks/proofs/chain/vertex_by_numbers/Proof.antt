@@ -4,14 +4,10 @@ use Rattle.checks.specs.Chain.{vertexAfter}
 use Rattle.checks.proofs.chain.vertex_by_numbers.Statement.{statement}
 use Rattle.checks.proofs.chain.vertex_by_numbers.Tie as tie
 
-returns : tie.Need-returns
-unfolding vertexAfter
-returns c =
-    let p1 = c .before in
-    simp (← p1 .point-after .ensures, ← c .bulge-after .ensures)
-
 pub vertex-by-numbers-spec : {M : Type 1} → statement M
+unfolding vertexAfter
 vertex-by-numbers-spec =
     tie.close
     (tie.spec
-    (search needs) (search needs) returns)
+    (λ c. search needs) (λ c. search needs)
+    (λ c. simp (← c .before .point-after .ensures, ← c .bulge-after .ensures)))

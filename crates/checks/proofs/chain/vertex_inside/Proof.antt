@@ -3,8 +3,9 @@ use borrow.Author.Needs.{needs}
 use Rattle.checks.proofs.chain.vertex_inside.Statement.{statement}
 use Rattle.checks.proofs.chain.vertex_inside.Tie as tie
 
-returns : tie.Need-returns
-returns c = simp (← c .before .before .inside .ensures, ← c .before .inside2 .ensures, ← c .inside3 .ensures)
-
 pub vertex-inside-spec : {M : Type 1} → statement M
-vertex-inside-spec = tie.close (tie.spec (search needs) (search needs) (search needs) returns)
+vertex-inside-spec =
+    tie.close
+    (tie.spec
+    (λ c. search needs) (λ c. search needs) (λ c. search needs)
+    (λ c. simp (← c .before .before .inside .ensures, ← c .before .inside2 .ensures, ← c .inside3 .ensures)))

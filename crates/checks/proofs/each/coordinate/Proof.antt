@@ -4,16 +4,11 @@ use Rattle.checks.specs.Each.{coordinate}
 use Rattle.checks.proofs.each.coordinate.Statement.{statement}
 use Rattle.checks.proofs.each.coordinate.Tie as tie
 
-returns : tie.Need-returns
-unfolding coordinate
-returns c =
-    let p1 = c .before in
-    let p2 = p1 .before in
-    let p3 = p2 .before in
-    simp (← p3 .finite .ensures, ← p2 .beyond .ensures, ← p1 .refuse .ensures, ← c .later .ensures)
-
 pub coordinate-spec : {M : Type 1} → statement M
+unfolding coordinate
 coordinate-spec =
     tie.close
     (tie.spec
-    (search needs) (search needs) (search needs) (search needs) returns)
+    (λ c. search needs) (λ c. search needs) (λ c. search needs) (λ c. search needs)
+    (λ c. let p = c .before .before in
+    simp (← p .before .finite .ensures, ← p .beyond .ensures, ← c .before .refuse .ensures, ← c .later .ensures)))

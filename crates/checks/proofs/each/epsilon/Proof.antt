@@ -4,15 +4,10 @@ use Rattle.checks.specs.Each.{epsilon}
 use Rattle.checks.proofs.each.epsilon.Statement.{statement}
 use Rattle.checks.proofs.each.epsilon.Tie as tie
 
-returns : tie.Need-returns
-unfolding epsilon
-returns c =
-    let p1 = c .before in
-    let p2 = p1 .before in
-    simp (← p2 .not-finite .ensures, ← p1 .outside .ensures, ← c .refuse .ensures)
-
 pub epsilon-spec : {M : Type 1} → statement M
+unfolding epsilon
 epsilon-spec =
     tie.close
     (tie.spec
-    (search needs) (search needs) (search needs) returns)
+    (λ c. search needs) (λ c. search needs) (λ c. search needs)
+    (λ c. simp (← c .before .before .not-finite .ensures, ← c .before .outside .ensures, ← c .refuse .ensures)))

@@ -4,19 +4,11 @@ use Rattle.checks.specs.Fault.{later}
 use Rattle.checks.proofs.fault.later.Statement.{statement}
 use Rattle.checks.proofs.fault.later.Tie as tie
 
-enum-told : tie.Need-enum-told
-enum-told c = search needs
-
-returns : tie.Need-returns
-unfolding later
-returns c = simp (c .enum-told .given .1)
-
-returns-2 : tie.Need-returns-2
-unfolding later
-returns-2 c = simp (c .before .earlier .given .1)
-
 pub later-spec : {M : Type 1} → statement M
+unfolding later
 later-spec =
     tie.close
     (tie.spec
-    enum-told (search needs) returns returns-2)
+    (λ c. search needs) (λ c. search needs)
+    (λ c. simp (c .enum-told .given .1))
+    (λ c. simp (c .before .earlier .given .1)))

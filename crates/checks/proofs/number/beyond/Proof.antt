@@ -4,12 +4,6 @@ use Rattle.checks.specs.Number.{beyond}
 use Rattle.checks.proofs.number.beyond.Statement.{statement}
 use Rattle.checks.proofs.number.beyond.Tie as tie
 
-returns : tie.Need-returns
-unfolding beyond
-returns c = simp (← c .abs .ensures)
-
 pub beyond-spec : {M : Type 1} → statement M
-beyond-spec =
-    tie.close
-    (tie.spec
-    (search needs) returns)
+unfolding beyond
+beyond-spec = tie.close (tie.spec (λ c. search needs) (λ c. simp (← c .abs .ensures)))

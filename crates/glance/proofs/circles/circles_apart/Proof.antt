@@ -4,22 +4,12 @@ use Rattle.glance.specs.Glance
 use Rattle.glance.proofs.circles.circles_apart.Statement.{statement}
 use Rattle.glance.proofs.circles.circles_apart.Tie as tie
 
-returns : tie.Need-returns
-unfolding Glance.circlesApart
-returns c =
-    let p1 = c .before in
-    let p2 = p1 .before in
-    let p3 = p2 .before in
-    let p4 = p3 .before in
-    simp (
-      ← p4 .sub .ensures,
-      ← p3 .dot .ensures,
-      ← p2 .apart .ensures,
-      ← p1 .abs .ensures,
-      ← c .nested .ensures,
-    )
-
 pub circles-apart-spec : {M : Type 1} → statement M
+unfolding Glance.circlesApart
 circles-apart-spec =
-    tie.close (tie.spec (λ c κs. search needs) (λ c κs. search needs) (λ c κs. search needs) (λ c κs. search needs)
-    (λ c κs. search needs) returns)
+    tie.close
+    (tie.spec
+    (λ c. search needs) (λ c. search needs) (λ c. search needs) (λ c. search needs) (λ c. search needs)
+    (λ c. let p = c .before .before in
+    let d = p .before in
+    simp (← d .before .sub .ensures, ← d .dot .ensures, ← p .apart .ensures, ← c .before .abs .ensures, ← c .nested .ensures)))

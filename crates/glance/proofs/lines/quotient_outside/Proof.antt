@@ -4,9 +4,6 @@ use Rattle.glance.specs.Glance
 use Rattle.glance.proofs.lines.quotient_outside.Statement.{statement}
 use Rattle.glance.proofs.lines.quotient_outside.Tie as tie
 
-returns : tie.Need-returns
-unfolding Glance.quotientOutside
-returns c = refl
-
 pub quotient-outside-spec : {M : Type 1} → statement M
-quotient-outside-spec = tie.close (tie.spec returns)
+unfolding Glance.quotientOutside
+quotient-outside-spec = tie.close (tie.spec (λ c. refl))

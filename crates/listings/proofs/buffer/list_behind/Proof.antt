@@ -16,6 +16,9 @@ use Rattle.listings.proofs.buffer.list_behind.Tie as tie
 abbrev start : tie.After-fill → tie.Start
 start c = c .before .before .before .before .before .before .before .before .before .before
 
+abbrev counted : tie.After-copy-rows → tie.After-fill
+counted c = c .before .before .before .before .before .before .before .before
+
 -- counting writes nothing
 same-indices : (c : tie.After-fill) → c .fill .last .1 .1 .1 .1 .1 .1 .1 .1 .1 .0 ≡ now (start c .args .indices)
 same-indices c = c .fill .ensures .indices
@@ -23,35 +26,18 @@ same-indices c = c .fill .ensures .indices
 same-points : (c : tie.After-fill) → c .fill .last .1 .1 .1 .1 .1 .1 .1 .1 .1 .1 .0 ≡ now (start c .args .points)
 same-points c = c .fill .ensures .points
 
--- what is held back
-long-indices : (c : tie.Start) → length (now (c .args .held-indices)) ≡ 6144
-long-indices c =
-    let a = c .args in
-    held-indices (look (now (a .first)) (now (a .second)) (a .job .epsilon)) (a .job) 2048 (a .i) (a .j) (a .pairs)
-    (now (a .held-indices)) (now (a .held-points)) (c .pre .1 .1 .1) (now (a .indices)) (now (a .points))
-    (omega (arith, c .pre .1 .0, c .pre .1 .1 .0))
-
-long-points : (c : tie.Start) → length (now (c .args .held-points)) ≡ 8192
-long-points c =
-    let a = c .args in
-    held-points (look (now (a .first)) (now (a .second)) (a .job .epsilon)) (a .job) 2048 (a .i) (a .j) (a .pairs)
-    (now (a .held-indices)) (now (a .held-points)) (c .pre .1 .1 .1) (now (a .indices)) (now (a .points))
-    (omega (arith, c .pre .1 .0, c .pre .1 .1 .0))
-
 -- the rows that were held back are copied
 copied-indices : (c : tie.After-copy-rows)
-    → let f = c .before .before .before .before .before .before .before .before in
-    c .copy-rows .last .1 .1 .1 .0 ≡ paste (now (start f .args .indices)) 0 (now (start f .args .held-indices)) 6144
+    → (let a = start (counted c) .args in
+    c .copy-rows .last .1 .1 .1 .0 ≡ paste (now (a .indices)) 0 (now (a .held-indices)) 6144)
 copied-indices c =
-    let f = c .before .before .before .before .before .before .before .before in
-    c .copy-rows .ensures .0 ∙ ap (λ l. paste l 0 (now (start f .args .held-indices)) 6144) (same-indices f)
+    c .copy-rows .ensures .0 ∙ ap (λ l. paste l 0 (now (start (counted c) .args .held-indices)) 6144) (same-indices (counted c))
 
 copied-points : (c : tie.After-copy-rows)
-    → let f = c .before .before .before .before .before .before .before .before in
-    c .copy-rows .last .1 .1 .1 .1 .0 ≡ paste (now (start f .args .points)) 0 (now (start f .args .held-points)) 8192
+    → (let a = start (counted c) .args in
+    c .copy-rows .last .1 .1 .1 .1 .0 ≡ paste (now (a .points)) 0 (now (a .held-points)) 8192)
 copied-points c =
-    let f = c .before .before .before .before .before .before .before .before in
-    c .copy-rows .ensures .1 ∙ ap (λ l. paste l 0 (now (start f .args .held-points)) 8192) (same-points f)
+    c .copy-rows .ensures .1 ∙ ap (λ l. paste l 0 (now (start (counted c) .args .held-points)) 8192) (same-points (counted c))
 
 fill-requires : tie.Need-fill-requires
 fill-requires c κs =
@@ -62,15 +48,14 @@ copy-rows-requires : tie.Need-copy-rows-requires
 copy-rows-requires c κs =
     let f = c .before .before .before .before .before .before .before in
     let h = start f .pre .1 in (
-      (omega (arith, long-indices (start f)), omega (arith, long-points (start f))),
+      (omega (arith, held-indices (h .1 .1)), omega (arith, held-points (h .1 .1))),
       (omega (arith, ap length (same-indices f), h .0, h .1 .0), omega (arith, ap length (same-points f), h .0, h .1 .0)),
     )
 
 fill-requires-2 : tie.Need-fill-requires-2
 fill-requires-2 c κs =
     let k = c .before .before .before .before .before .before in
-    let f = k .before .before .before .before .before .before .before .before in
-    let h = start f .pre in
+    let h = start (counted k) .pre in
     let on-indices = ap length (copied-indices k) in
     let on-points = ap length (copied-points k) in
     (h .0, (h .1 .1 .1 .within, (h .1 .1 .0, (omega (arith, h .1 .0, on-indices), omega (arith, h .1 .0, on-points)))))
@@ -78,7 +63,7 @@ fill-requires-2 c κs =
 add-t29 : tie.Need-add-t29
 add-t29 c =
     let k = c .before .before .before .before .before in
-    let s = start (k .before .before .before .before .before .before .before .before .before .before .before .before .before .before .before) in
+    let s = start (counted (k .before .before .before .before .before .before .before)) in
     let a = s .args in
     let F = look (now (a .first)) (now (a .second)) (a .job .epsilon) in
     let ready = s .pre .0 .pairs in
@@ -95,11 +80,10 @@ returns c =
     let f = t .before .before .before .before .before in
     let a = start f .args in
     let h = start f .pre .1 in
-    let F = look (now (a .first)) (now (a .second)) (a .job .epsilon) in
-    let counted = rw (h .0) at (f .fill .ensures .ended) in
+    let ended = rw (h .0) at (f .fill .ensures .ended) in
     let done = rw (h .0) at (g .fill2 .ensures) in
-    behind-listed F (a .job) 2048 (a .i) (a .j) (a .pairs) (now (a .held-indices)) (now (a .held-points)) (h .1 .1)
-    (now (a .indices)) (now (a .points)) (omega (arith, h .0, h .1 .0)) (sym counted ∙ t .if1 .taken) _ _ _ _ _ _
+    behind-listed (h .1 .1) (now (a .indices)) (now (a .points)) (omega (arith, h .0, h .1 .0)) (sym ended ∙ t .if1 .taken)
+    _ _ _ _ _ _
     (done .rows) (ap (λ (n : ℕ). a .pairs + n) (done .pairs)) (copied-indices k) (copied-points k) (done .indices) (done .points)
 
 returns-2 : tie.Need-returns-2
@@ -107,10 +91,8 @@ returns-2 c =
     let f = c .before .before .before .before .before in
     let a = start f .args in
     let h = start f .pre .1 in
-    let F = look (now (a .first)) (now (a .second)) (a .job .epsilon) in
-    let counted = rw (h .0) at (f .fill .ensures .ended) in
-    behind-refused F (a .job) 2048 (a .i) (a .j) (a .pairs) (now (a .held-indices)) (now (a .held-points)) (h .1 .1)
-    (now (a .indices)) (now (a .points)) (omega (arith, h .0, h .1 .0)) (sym counted ∙ c .if1 .left)
+    let ended = rw (h .0) at (f .fill .ensures .ended) in
+    behind-refused (h .1 .1) (now (a .indices)) (now (a .points)) (omega (arith, h .0, h .1 .0)) (sym ended ∙ c .if1 .left)
     _ _ (same-indices f) (same-points f)
 
 pub list-behind-spec : {M : Type 1} → statement M

@@ -1,5 +1,5 @@
--- `listings::buffer::list_held_back` meets its contract: the buffer is a page of all pairs. Where it ends the listing, it is copied;
--- where it is as long as the slices and pairs are left, there are too many rows; else the rest follows behind it.
+-- `listings::buffer::list_held_back` meets its contract: the buffer is a page of all pairs. Where it ends the listing, it is
+-- copied; where it is as long as the slices and pairs are left, there are too many rows; else the rest follows behind it.
 use mathlib.Core.Path.{_≡_, refl, sym, ap, _∙_}
 use mathlib.Core.Bool.{true}
 use mathlib.Core.List.{List}
@@ -10,11 +10,12 @@ use denote.Ref.{now}
 use lib.Ieee.{Float, binary64, ofBits}
 use lib.ListN.{length, replicate, length-replicate}
 use lib.Seq.{length-sets}
-use Rattle.listings.specs.declared.row.Row.{Row}
+use Rattle.listings.specs.declared.row.Look.{Look}
+use Rattle.listings.specs.Order.{Pair}
 use Rattle.listings.specs.Row.{indicesOf, pointsOf, flat}
 use Rattle.listings.specs.Look.{look}
 use Rattle.listings.specs.Laws.Job as job_of
-use Rattle.listings.specs.Laws.Pages.{page, joins, too-many}
+use Rattle.listings.specs.Laws.Pages.{Page, page, joins, too-many}
 use Rattle.listings.specs.Laws.Filling.{Filled}
 use Rattle.listings.specs.Laws.Outcome.{filled-first, is-refused, held-back, hold}
 use Rattle.listings.proofs.buffer.list_held_back.Statement.{statement}
@@ -36,39 +37,36 @@ long-no-indices = let z : ℕ = 0 in length-replicate 6144 z
 long-no-points : length no-points ≡ 8192
 long-no-points = let z : Float = ofBits binary64 0 in length-replicate 8192 z
 
-abbrev held : tie.After-fill → List Row
-held c =
-    let a = start c .args in
-    page (look (now (a .first)) (now (a .second)) (a .job .epsilon)) (job_of.every (a .job)) (c .before .before .before .lesser .result) .rows
+-- the pairs, and the page of them that the buffer is
+abbrev looks : tie.After-fill → ℕ → ℕ → Look
+looks c = let a = start c .args in look (now (a .first)) (now (a .second)) (a .job .epsilon)
 
--- the buffer is a page of all pairs
-done : (c : tie.After-fill)
-    → let a = start c .args in
-    Filled (a .job) true 0
-    (page (look (now (a .first)) (now (a .second)) (a .job .epsilon)) (job_of.every (a .job)) (c .before .before .before .lesser .result))
-    (c .fill .result)
-    no-indices (c .fill .last .1 .1 .1 .1 .1 .1 .1 .1 .1 .0)
-    no-points (c .fill .last .1 .1 .1 .1 .1 .1 .1 .1 .1 .1 .0)
-done c =
-    let a = start c .args in
-    filled-first (look (now (a .first)) (now (a .second)) (a .job .epsilon)) (a .job) (c .before .before .before .before .from .result)
-    (c .before .before .before .lesser .result) (c .fill .result) _ _ _ _
-    (c .before .before .before .before .from .ensures) (c .fill .ensures)
+abbrev pairs : tie.After-fill → List Pair
+pairs c = job_of.every (start c .args .job)
 
 abbrev most : tie.After-fill → ℕ
 most c = c .before .before .before .lesser .result
 
+abbrev front : tie.After-fill → Page
+front c = page (looks c) (pairs c) (most c)
+
+done : (c : tie.After-fill)
+    → Filled (start c .args .job) true 0 (front c) (c .fill .result)
+    no-indices (c .fill .last .1 .1 .1 .1 .1 .1 .1 .1 .1 .0)
+    no-points (c .fill .last .1 .1 .1 .1 .1 .1 .1 .1 .1 .1 .0)
+done c =
+    let f = c .before .before .before .before in
+    filled-first (looks c) (start c .args .job) (f .from .result) (most c) (c .fill .result) _ _ _ _
+    (f .from .ensures) (c .fill .ensures)
+
 few : (c : tie.After-fill) → c .fill .result .rows ≤ most c
-few c =
-    let a = start c .args in
-    let j = joins (look (now (a .first)) (now (a .second)) (a .job .epsilon)) (job_of.every (a .job)) (most c) in
-    omega (arith, done c .rows, j .few)
+few c = omega (arith, done c .rows, joins (looks c) (pairs c) (most c) .few)
 
 long-indices : (c : tie.After-fill) → length (c .fill .last .1 .1 .1 .1 .1 .1 .1 .1 .1 .0) ≡ 6144
-long-indices c = ap length (done c .indices) ∙ length-sets no-indices 0 (flat indicesOf (held c)) ∙ long-no-indices
+long-indices c = ap length (done c .indices) ∙ length-sets no-indices 0 (flat indicesOf (front c .rows)) ∙ long-no-indices
 
 long-points : (c : tie.After-fill) → length (c .fill .last .1 .1 .1 .1 .1 .1 .1 .1 .1 .1 .0) ≡ 8192
-long-points c = ap length (done c .points) ∙ length-sets no-points 0 (flat pointsOf (held c)) ∙ long-no-points
+long-points c = ap length (done c .points) ∙ length-sets no-points 0 (flat pointsOf (front c .rows)) ∙ long-no-points
 
 fill-requires : tie.Need-fill-requires
 fill-requires c κs =
@@ -91,11 +89,9 @@ returns c =
     let t = k .before .before .before .before .before in
     let f = t .before .before .before in
     let a = start f .args in
-    let F = look (now (a .first)) (now (a .second)) (a .job .epsilon) in
-    let ps = job_of.every (a .job) in
     let e = f .before .before .before .lesser .ensures in
     let d = done f in
-    held-back F ps (now (a .indices)) (now (a .points)) (most f) (page F ps (most f)) (joins F ps (most f))
+    held-back (looks f) (pairs f) (now (a .indices)) (now (a .points)) (joins (looks f) (pairs f) (most f))
     (omega (arith, e, start f .pre .1)) (sym (d .ended) ∙ t .if1 .taken) _ _ no-indices _ _ no-points _ _
     (d .rows) (d .pairs) (omega (arith, e, long-no-indices)) (omega (arith, e, long-no-points))
     (d .indices) (d .points) (k .copy-rows .ensures .0) (k .copy-rows .ensures .1)
@@ -104,21 +100,18 @@ returns-2 : tie.Need-returns-2
 returns-2 c =
     let f = c .before .before .before .before in
     let a = start f .args in
-    let F = look (now (a .first)) (now (a .second)) (a .job .epsilon) in
-    let ps = job_of.every (a .job) in
-    let more = too-many F (joins F ps (most f)) (sym (done f .ended) ∙ c .before .if1 .left) in
+    let more = too-many (looks f) (joins (looks f) (pairs f) (most f)) (sym (done f .ended) ∙ c .before .if1 .left) in
     let e = f .before .before .before .lesser .ensures in
-    is-refused F ps (now (a .indices)) (now (a .points)) (omega (arith, more, e, start f .pre .1, c .if2 .taken)) _ _ refl refl
+    is-refused (looks f) (pairs f) (now (a .indices)) (now (a .points)) (omega (arith, more, e, start f .pre .1, c .if2 .taken))
+    _ _ refl refl
 
 list-behind-requires : tie.Need-list-behind-requires
 list-behind-requires c κs =
     let o = c .before .before .before .before in
     let f = o .before .before .before .before in
-    let a = start f .args in
-    let F = look (now (a .first)) (now (a .second)) (a .job .epsilon) in
     let all : most f ≡ 2048 = omega (arith, f .before .before .before .lesser .ensures, o .if2 .left) in
-    let behind = hold F (a .job) 2048 (most f) (f .fill .result) no-indices _ no-points _ all (done f) (o .before .if1 .left)
-    long-no-indices long-no-points in
+    let behind = hold (looks f) (start f .args .job) 2048 (most f) (f .fill .result) no-indices _ no-points _ all (done f)
+    (o .before .if1 .left) long-no-indices long-no-points in
     (start f .pre .0, (start f .pre .1, (omega (arith, o .if2 .left), behind)))
 
 pub list-held-back-spec : {M : Type 1} → statement M

@@ -1,13 +1,12 @@
--- `listings::buffer::list_kept` meets its contract: where every pair could have a row, the page of all pairs is the listing; else rows are
--- held back.
-use mathlib.Core.Path.{_≡_, _∙_}
-use native.Mathlib.Nat.{mul-le-mul, le-refl}
+-- `listings::buffer::list_kept` meets its contract: where every pair could have a row, the page of all pairs is the listing; else
+-- rows are held back.
+use native.Mathlib.Nat.{mul-le-mul}
 use native.Mathlib.Omega.{arith}
 use borrow.Author.Needs.{needs}
 use denote.Ref.{now}
 use Rattle.listings.specs.Look.{look}
 use Rattle.listings.specs.Laws.Job as job_of
-use Rattle.listings.specs.Laws.Pages.{page, joins}
+use Rattle.listings.specs.Laws.Pages.{joins}
 use Rattle.listings.specs.Laws.Outcome.{filled-first, no-more, on-one-page}
 use Rattle.listings.proofs.buffer.list_kept.Statement.{statement}
 use Rattle.listings.proofs.buffer.list_kept.Tie as tie
@@ -35,7 +34,7 @@ returns c =
     let room = n .lesser .result in
     let done = filled-first F (a .job) (f .before .before .before .from .result) room (f .fill .result)
     (now (a .indices)) _ (now (a .points)) _ (f .before .before .before .from .ensures) (f .fill .ensures) in
-    on-one-page F ps (now (a .indices)) (now (a .points)) room (page F ps room) (joins F ps room) (omega (arith, n .lesser .ensures))
+    on-one-page F ps (now (a .indices)) (now (a .points)) (joins F ps room) (omega (arith, n .lesser .ensures))
     (no-more F (a .job) room (t .if1 .taken)) _ _ _ _ (done .rows) (done .pairs) (done .indices) (done .points)
 
 pub list-kept-spec : {M : Type 1} → statement M

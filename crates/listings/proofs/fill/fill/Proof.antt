@@ -52,7 +52,10 @@ inner : (c : At-loop2)
     (outer c .loop .i) (c .loop2 .j) (c .loop2 .rows) (c .loop2 .pairs) (c .loop2 .indices) (c .loop2 .points)
 inner c = let a = start (outer c) .args in c .loop2 .inv (now (a .indices)) (now (a .points)) (outer c .loop .inv)
 
--- j is one that goes with i
+-- i is a segment of the first path, and j one that goes with it
+inside : (c : At-loop2) → outer c .loop .i < start (outer c) .args .job .n
+inside c = c .before .before .before .before .if1 .taken
+
 below : (c : tie.In-loop2 Inv-loop2 μ-loop2 Inv-loop μ-loop)
     → c .before .loop2 .j < job_of.to (start (outer (c .before)) .args .job) (outer (c .before) .loop .i)
 below c = rw (← c .before .before .to .ensures) (c .loop2-test .taken)
@@ -63,20 +66,14 @@ seen : (c : tie.After-look Inv-loop2 μ-loop2 Inv-loop μ-loop)
     let a = start (outer p) .args in
     look (now (a .first)) (now (a .second)) (a .job .epsilon) (outer p .loop .i) (p .loop2 .j) ≡ c .look .result
 seen c =
-    let p = c .before .before in
-    let a = start (outer p) .args in
-    sym (look-on (p .before .before .before .segment-from .result) (now (a .first)) (now (a .second)) (a .job .epsilon)
-    (outer p .loop .i) (p .loop2 .j) (p .before .before .before .segment-from .ensures))
-    ∙ sym (c .look .ensures)
+    let s = c .before .before .before .before .before in
+    sym (look-on _ _ _ _ _ _ (s .segment-from .ensures)) ∙ sym (c .look .ensures)
 
 few-pairs : (c : At-loop2) → c .loop2 .pairs ≤ 16777216
 few-pairs c = let ready = start (outer c) .pre .0 .pairs in few (inner c) (ready .few) (ready .few-second)
 
 loop-holds : tie.Need-loop-holds Inv-loop2 μ-loop2 Inv-loop μ-loop
-loop-holds c =
-    let a = c .before .before .before .before .before .args in
-    starts (look (now (a .first)) (now (a .second)) (a .job .epsilon)) (a .job) (a .write) (a .at) (a .room) (a .start-i) (a .start-j)
-    (now (a .indices)) (now (a .points)) (search needs) (search needs)
+loop-holds c = starts _ _ _ _ _ _ _ _ _ (search needs) (search needs)
 
 loop2-holds : tie.Need-loop2-holds Inv-loop2 μ-loop2 Inv-loop μ-loop
 loop2-holds c = λ x y s. s
@@ -84,16 +81,11 @@ loop2-holds c = λ x y s. s
 look-requires : tie.Need-look-requires Inv-loop2 μ-loop2 Inv-loop μ-loop
 look-requires c κs =
     let p = c .before in
-    let a = start (outer p) .args in (
-      at-segment (p .before .before .before .segment-from .result) (now (a .first)) (now (a .second)) (a .job) (outer p .loop .i)
-          (start (outer p) .pre .0 .pairs) (p .before .before .before .before .if1 .taken) (p .before .before .before .segment-from .ensures),
-      (
-        start (outer p) .pre .0 .keeps,
-        (
-          p .before .before .kept-of .ensures,
-          omega (arith, below c, to-within (a .job) (outer p .loop .i)),
-        ),
-      ),
+    let s = start (outer p) in
+    let h = s .pre .0 in
+    let within : p .loop2 .j < s .args .job .m = omega (arith, below c, to-within (s .args .job) (outer p .loop .i)) in (
+      at-segment _ _ _ _ _ (h .pairs) (inside p) (p .before .before .before .segment-from .ensures),
+      (h .keeps, (p .before .before .kept-of .ensures, within)),
     )
 
 loop2-again : tie.Need-loop2-again Inv-loop2 μ-loop2 Inv-loop μ-loop
@@ -101,7 +93,7 @@ loop2-again c =
     let k = c .before .before in
     let p = k .before .before in
     λ x y s.
-    passes (p .loop2 .inv x y s) (p .before .before .before .before .if1 .taken) (below (k .before)) (seen k ∙ c .enum-told .given .1)
+    passes (p .loop2 .inv x y s) (inside p) (below (k .before)) (seen k ∙ c .enum-told .given .1)
 
 add-pairs : tie.Need-add-pairs Inv-loop2 μ-loop2 Inv-loop μ-loop
 add-pairs c = omega (arith, few-pairs (c .before .before .before .before))
@@ -111,7 +103,7 @@ loop2-again-2 c =
     let k = c .before .before in
     let p = k .before .before in
     λ x y s.
-    looks (p .loop2 .inv x y s) (p .before .before .before .before .if1 .taken) (below (k .before)) (seen k ∙ c .enum-told2 .given .1)
+    looks (p .loop2 .inv x y s) (inside p) (below (k .before)) (seen k ∙ c .enum-told2 .given .1)
 
 same-length : tie.Need-same-length Inv-loop2 μ-loop2 Inv-loop μ-loop
 same-length c = inner (c .before .before .before .before .before .before) .indices
@@ -124,7 +116,7 @@ returns c =
     let m = c .before .before in
     let k = m .before .before in
     let p = k .before .before in
-    stops (inner p) (p .before .before .before .before .if1 .taken) (below (k .before)) _ (seen k ∙ m .seen .given .1) (c .if2 .taken)
+    stops (inner p) (inside p) (below (k .before)) _ (seen k ∙ m .seen .given .1) (c .if2 .taken)
 
 put-row-requires : tie.Need-put-row-requires Inv-loop2 μ-loop2 Inv-loop μ-loop
 put-row-requires c κs =
@@ -152,14 +144,12 @@ loop2-again-3 c =
     let p = k .before .before in
     λ x y s.
     rw (w .0, w .1)
-    (makes (p .loop2 .inv x y s) (p .before .before .before .before .if1 .taken) (below (k .before)) _ (seen k ∙ m .seen .given .1) (e .if2 .left))
+    (makes (p .loop2 .inv x y s) (inside p) (below (k .before)) _ (seen k ∙ m .seen .given .1) (e .if2 .left))
 
 loop-again : tie.Need-loop-again Inv-loop2 μ-loop2 Inv-loop μ-loop
 loop-again c =
     let p = c .before .before in
-    let o = outer p in
-    let i = p .before .before .before .before .if1 .taken in
-    rw (c .from .ensures) (next-i (inner p) i (rw (← p .before .to .ensures) (c .before .loop2-test .left)))
+    rw (c .from .ensures) (next-i (inner p) (inside p) (rw (← p .before .to .ensures) (c .before .loop2-test .left)))
 
 returns-2 : tie.Need-returns-2 Inv-loop2 μ-loop2 Inv-loop μ-loop
 returns-2 c = ends (c .before .before .loop .inv) (c .if1 .left)

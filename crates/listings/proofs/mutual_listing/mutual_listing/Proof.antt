@@ -22,28 +22,19 @@ list-requires : tie.Need-list-requires
 list-requires c κs =
     let m = c .before .before in
     let n = m .before in
-    let t = n .before in
-    let a = start (t .before .before) .args in
-    mutual-ready (now (a .first)) (a .first-closed) (now (a .second)) (a .second-closed) (a .epsilon) (fine t)
-    _ refl (n .segment-count .ensures) (m .segment-count2 .ensures)
+    mutual-ready _ _ _ _ _ (fine (n .before)) _ refl (n .segment-count .ensures) (m .segment-count2 .ensures)
 
 returns : tie.Need-returns
 returns c =
     let l = c .before .before .before .before in
     let m = l .before .before .before in
     let n = m .before in
-    let t = n .before in
-    let a = start (t .before .before) .args in
-    mutual-listed (now (a .first)) (a .first-closed) (now (a .second)) (a .second-closed) (a .epsilon) (fine t)
-    _ (l .list .result) (now (a .indices)) _ (now (a .points)) _
-    refl refl (n .segment-count .ensures) (m .segment-count2 .ensures) (l .list .ensures)
+    mutual-listed _ _ _ _ _ (fine (n .before)) _ _ _ _ _ _ refl refl (n .segment-count .ensures) (m .segment-count2 .ensures)
+    (l .list .ensures)
 
 returns-2 : tie.Need-returns-2
 returns-2 c =
-    let k = c .before .before .before in
-    let a = start k .args in
-    mutual-refused (now (a .first)) (a .first-closed) (now (a .second)) (a .second-closed) (a .epsilon)
-    _ (now (a .indices)) (now (a .points)) (sym (k .check-mutual .ensures) ∙ c .before .looked .given .1)
+    mutual-refused _ _ _ _ _ _ _ _ (sym (c .before .before .before .check-mutual .ensures) ∙ c .before .looked .given .1)
 
 pub mutual-listing-spec : {M : Type 1} → statement M
 mutual-listing-spec =

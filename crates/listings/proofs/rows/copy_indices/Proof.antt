@@ -5,20 +5,12 @@ use Rattle.listings.specs.Laws.Stores.{Copied, copy-starts, copy-turn, c
 use Rattle.listings.proofs.rows.copy_indices.Statement.{statement}
 use Rattle.listings.proofs.rows.copy_indices.Tie as tie
 
-abbrev Inv-loop : tie.InvT-loop
-Inv-loop from n to₀ k₀ to k = Copied from n to₀ to k
-
-abbrev μ-loop : tie.MeasureT-loop
-μ-loop from n to₀ k₀ to k = n - k
-
 pub copy-indices-spec : {M : Type 1} → statement M
 copy-indices-spec =
     tie.close
     (tie.spec
-    Inv-loop μ-loop
-    (λ c. copy-starts _ _ _)
+    (λ from n to₀ k₀ to k. Copied from n to₀ to k) (λ from n to₀ k₀ to k. n - k) (λ c. copy-starts _ _ _)
     (λ c. search needs) (λ c. search needs) (λ c. search needs) (λ c. search needs) (λ c. search needs)
     (λ c. search needs)
     (λ c. copy-turn _ (c .before .before .loop .inv) (search needs) (search needs) (search needs))
-    (λ c. search needs)
-    (λ c. copy-ends (c .before .loop .inv) (search needs)))
+    (λ c. search needs) (λ c. copy-ends (c .before .loop .inv) (search needs)))

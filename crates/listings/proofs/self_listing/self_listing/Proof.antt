@@ -20,25 +20,17 @@ fine c = sym (c .before .before .check-self .ensures) ∙ c .enum-told .given .1
 list-requires : tie.Need-list-requires
 list-requires c κs =
     let n = c .before .before in
-    let t = n .before in
-    let a = start (t .before .before) .args in
-    self-ready (now (a .path)) (a .closed) (a .epsilon) (fine t) _ refl (n .segment-count .ensures) (n .segment-count .ensures)
+    self-ready _ _ _ (fine (n .before)) _ refl (n .segment-count .ensures) (n .segment-count .ensures)
 
 returns : tie.Need-returns
 returns c =
     let l = c .before .before .before .before in
     let n = l .before .before .before in
-    let t = n .before in
-    let a = start (t .before .before) .args in
-    self-listed (now (a .path)) (a .closed) (a .epsilon) (fine t) _ (l .list .result) (now (a .indices)) _ (now (a .points)) _
-    refl refl refl (n .segment-count .ensures) (n .segment-count .ensures) (l .list .ensures)
+    self-listed _ _ _ (fine (n .before)) _ _ _ _ _ _ refl refl refl (n .segment-count .ensures) (n .segment-count .ensures)
+    (l .list .ensures)
 
 returns-2 : tie.Need-returns-2
-returns-2 c =
-    let k = c .before .before .before in
-    let a = start k .args in
-    self-refused (now (a .path)) (a .closed) (a .epsilon)
-    _ (now (a .indices)) (now (a .points)) (sym (k .check-self .ensures) ∙ c .before .looked .given .1)
+returns-2 c = self-refused _ _ _ _ _ _ (sym (c .before .before .before .check-self .ensures) ∙ c .before .looked .given .1)
 
 pub self-listing-spec : {M : Type 1} → statement M
 self-listing-spec =

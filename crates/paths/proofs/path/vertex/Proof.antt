@@ -4,15 +4,11 @@ use Rattle.paths.specs.Path
 use Rattle.paths.proofs.path.vertex.Statement.{statement}
 use Rattle.paths.proofs.path.vertex.Tie as tie
 
-returns : tie.Need-returns
-unfolding Path.vertex
-returns c =
-    simp (
-    ← c .new .ensures)
-
 pub vertex-spec : {M : Type 1} → statement M
+unfolding Path.vertex
 vertex-spec =
     tie.close
     (tie.spec
-    (λ c. search needs) (λ c. search needs) (λ c. search needs) (λ c. search needs) (λ c. search needs)
-    (λ c. search needs) (λ c. search needs) (λ c. search needs) (λ c. search needs) (λ c. search needs) returns)
+    (λ c. search needs) (λ c. search needs) (λ c. search needs) (λ c. search needs) (λ c. search needs) (λ c. search needs)
+    (λ c. search needs) (λ c. search needs) (λ c. search needs) (λ c. search needs)
+    (λ c. simp (← c .new .ensures)))

@@ -10,28 +10,15 @@ use Rattle.paths.proofs.segments.segment.Tie as tie
 
 segment-from-requires : tie.Need-segment-from-requires
 segment-from-requires c κs =
-    let s = c .before .before .before in
-    omega (arith, count-within (now (s .args .path)) (s .args .closed), c .before .segment-count .ensures)
-
-returns : tie.Need-returns
-unfolding Segments.segment
-returns c =
-    let p1 = c .before in
-    let p2 = p1 .before in
-    simp (
-      ← p2 .segment-count .ensures,
-      lt-ltb _ _ (p1 .if1 .taken),
-      ← c .segment-from .ensures,
-    )
-
-returns-2 : tie.Need-returns-2
-unfolding Segments.segment
-returns-2 c =
-    let p1 = c .before in
-    simp (
-      ← p1 .segment-count .ensures,
-      le-ltb _ _ (c .if1 .left),
-    )
+    let a = c .before .before .before .args in
+    omega (arith, count-within (now (a .path)) (a .closed), c .before .segment-count .ensures)
 
 pub segment-spec : {M : Type 1} → statement M
-segment-spec = tie.close (tie.spec (λ c. search needs) segment-from-requires returns returns-2)
+unfolding Segments.segment
+segment-spec =
+    tie.close
+    (tie.spec
+    (λ c. search needs) segment-from-requires
+    (λ c. let p = c .before in
+    simp (← p .before .segment-count .ensures, lt-ltb _ _ (p .if1 .taken), ← c .segment-from .ensures))
+    (λ c. simp (← c .before .segment-count .ensures, le-ltb _ _ (c .if1 .left))))

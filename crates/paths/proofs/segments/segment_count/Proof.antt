@@ -1,35 +1,33 @@
 -- `paths::segments::segment_count` meets its contract: each return is an end of the definition, by the calls and tests on its
 -- way.
+use mathlib.Core.Path.{_≡_}
+use mathlib.Core.Bool.{cond}
+use Prim.Native.Nat.{_-_}
+use lib.Dec.{ltb}
 use borrow.Author.Needs.{needs}
 use borrow.Author.Tests.{lt-ltb, le-ltb}
-use Rattle.paths.specs.Segments
+use denote.Ref.{now}
+use Rattle.paths.specs.Segments.{segmentCount}
 use Rattle.paths.proofs.segments.segment_count.Statement.{statement}
 use Rattle.paths.proofs.segments.segment_count.Tie as tie
 
+-- past the first test, by the number of vertices
+counted : (c : tie.After-vertex-count)
+    → (let a = c .before .before .before .before .args in let n = c .vertex-count .result in
+    segmentCount (now (a .path)) (a .closed) ≡ cond (ltb n 2) 0 (cond (a .closed) n (n - 1)))
+unfolding segmentCount
+counted c = simp (← c .before .before .refused .ensures, c .before .if1 .left, ← c .vertex-count .ensures)
+
+returns : tie.Need-returns
+unfolding segmentCount
+returns c = simp (← c .before .refused .ensures, c .if1 .taken)
+
 pub segment-count-spec : {M : Type 1} → statement M
-unfolding Segments.segmentCount
 segment-count-spec =
     tie.close
     (tie.spec
+    (λ c. search needs) returns (λ c. search needs)
+    (λ c. rw (counted (c .before)) (simp (lt-ltb _ _ (c .if2 .taken))))
+    (λ c. let p = c .before in rw (counted (p .before)) (simp (le-ltb _ _ (p .if2 .left), c .if3 .taken)))
     (λ c. search needs)
-    (λ c. simp (← c .before .refused .ensures, c .if1 .taken))
-    (λ c. search needs)
-    (λ c. let n = c .before in
-    simp (← n .before .before .refused .ensures, n .before .if1 .left, ← n .vertex-count .ensures, lt-ltb _ _ (c .if2 .taken)))
-    (λ c. let n = c .before .before in
-    simp (
-      ← n .before .before .refused .ensures,
-      n .before .if1 .left,
-      ← n .vertex-count .ensures,
-      le-ltb _ _ (c .before .if2 .left),
-      c .if3 .taken,
-    ))
-    (λ c. search needs)
-    (λ c. let n = c .before .before in
-    simp (
-      ← n .before .before .refused .ensures,
-      n .before .if1 .left,
-      ← n .vertex-count .ensures,
-      le-ltb _ _ (c .before .if2 .left),
-      c .if3 .left,
-    )))
+    (λ c. let p = c .before in rw (counted (p .before)) (simp (le-ltb _ _ (p .if2 .left), c .if3 .left))))

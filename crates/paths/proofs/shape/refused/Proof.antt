@@ -4,14 +4,8 @@ use Rattle.paths.specs.Shape
 use Rattle.paths.proofs.shape.refused.Statement.{statement}
 use Rattle.paths.proofs.shape.refused.Tie as tie
 
-returns : tie.Need-returns
-unfolding Shape.refused
-returns c =
-    let p1 = c .before in
-    simp (
-      ← p1 .broken .ensures,
-      ← c .too-long .ensures,
-    )
-
 pub refused-spec : {M : Type 1} → statement M
-refused-spec = tie.close (tie.spec (λ c. search needs) (λ c. search needs) returns)
+unfolding Shape.refused
+refused-spec =
+    tie.close
+    (tie.spec (λ c. search needs) (λ c. search needs) (λ c. simp (← c .before .broken .ensures, ← c .too-long .ensures)))

@@ -4,12 +4,6 @@ use Rattle.plane.specs.BaseMath
 use Rattle.plane.proofs.base_math.dist_squared.Statement.{statement}
 use Rattle.plane.proofs.base_math.dist_squared.Tie as tie
 
-returns : tie.Need-returns
-unfolding BaseMath.distSquared
-returns c = cc
-
 pub dist-squared-spec : {M : Type 1} → statement M
-dist-squared-spec =
-    tie.close
-    (tie.spec
-    (search needs) (search needs) returns)
+unfolding BaseMath.distSquared
+dist-squared-spec = tie.close (tie.spec (λ c. search needs) (λ c. search needs) (λ c. cc))

@@ -8,21 +8,15 @@ use Rattle.plane.proofs.base_math.parametric_from_point.Tie as tie
 returns : tie.Need-returns
 unfolding BaseMath.parametricFromPoint
 returns c =
-    let branch = c .before .before in
-    let second = branch .before in
-    let first = second .before in
-    simp (← first .abs .ensures, ← second .abs2 .ensures, branch .if1 .taken)
+    let t = c .before .before in
+    simp (← t .before .before .abs .ensures, ← t .before .abs2 .ensures, t .if1 .taken)
 
 returns-2 : tie.Need-returns-2
 unfolding BaseMath.parametricFromPoint
 returns-2 c =
-    let branch = c .before .before in
-    let second = branch .before in
-    let first = second .before in
-    simp (← first .abs .ensures, ← second .abs2 .ensures, branch .if1 .left)
+    let t = c .before .before in
+    simp (← t .before .before .abs .ensures, ← t .before .abs2 .ensures, t .if1 .left)
 
 pub parametric-from-point-spec : {M : Type 1} → statement M
 parametric-from-point-spec =
-    tie.close
-    (tie.spec
-    (search needs) (search needs) returns returns-2)
+    tie.close (tie.spec (λ c. search needs) (λ c. search needs) returns returns-2)

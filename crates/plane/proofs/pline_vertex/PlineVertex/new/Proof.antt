@@ -4,9 +4,6 @@ use Rattle.plane.specs.PlineVertex as vertex
 use Rattle.plane.proofs.pline_vertex.PlineVertex.new.Statement.{statement}
 use Rattle.plane.proofs.pline_vertex.PlineVertex.new.Tie as tie
 
-returns : tie.Need-returns
-unfolding vertex.new
-returns c = refl
-
 pub new-spec : {M : Type 1} → statement M
-new-spec = tie.close (tie.spec returns)
+unfolding vertex.new
+new-spec = tie.close (tie.spec (λ c. refl))

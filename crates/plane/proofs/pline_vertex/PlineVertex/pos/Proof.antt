@@ -4,9 +4,6 @@ use Rattle.plane.specs.PlineVertex as vertex
 use Rattle.plane.proofs.pline_vertex.PlineVertex.pos.Statement.{statement}
 use Rattle.plane.proofs.pline_vertex.PlineVertex.pos.Tie as tie
 
-returns : tie.Need-returns
-unfolding vertex.pos
-returns c = refl
-
 pub pos-spec : {M : Type 1} → statement M
-pos-spec = tie.close (tie.spec returns)
+unfolding vertex.pos
+pos-spec = tie.close (tie.spec (λ c. refl))

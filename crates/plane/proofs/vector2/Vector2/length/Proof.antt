@@ -4,12 +4,6 @@ use Rattle.plane.specs.Vector2 as vector2
 use Rattle.plane.proofs.vector2.Vector2.length.Statement.{statement}
 use Rattle.plane.proofs.vector2.Vector2.length.Tie as tie
 
-returns : tie.Need-returns
-unfolding vector2.length
-returns c = cc
-
 pub length-spec : {M : Type 1} → statement M
-length-spec =
-    tie.close
-    (tie.spec
-    (search needs) (search needs) returns)
+unfolding vector2.length
+length-spec = tie.close (tie.spec (λ c. search needs) (λ c. search needs) (λ c. cc))

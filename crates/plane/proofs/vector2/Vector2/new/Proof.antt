@@ -4,9 +4,6 @@ use Rattle.plane.specs.Vector2 as vector2
 use Rattle.plane.proofs.vector2.Vector2.new.Statement.{statement}
 use Rattle.plane.proofs.vector2.Vector2.new.Tie as tie
 
-returns : tie.Need-returns
-unfolding vector2.new
-returns c = refl
-
 pub new-spec : {M : Type 1} → statement M
-new-spec = tie.close (tie.spec returns)
+unfolding vector2.new
+new-spec = tie.close (tie.spec (λ c. refl))

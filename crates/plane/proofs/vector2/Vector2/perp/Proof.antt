@@ -4,9 +4,6 @@ use Rattle.plane.specs.Vector2 as vector2
 use Rattle.plane.proofs.vector2.Vector2.perp.Statement.{statement}
 use Rattle.plane.proofs.vector2.Vector2.perp.Tie as tie
 
-returns : tie.Need-returns
-unfolding vector2.perp
-returns c = refl
-
 pub perp-spec : {M : Type 1} → statement M
-perp-spec = tie.close (tie.spec returns)
+unfolding vector2.perp
+perp-spec = tie.close (tie.spec (λ c. refl))

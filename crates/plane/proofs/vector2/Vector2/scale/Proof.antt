@@ -4,9 +4,6 @@ use Rattle.plane.specs.Vector2 as vector2
 use Rattle.plane.proofs.vector2.Vector2.scale.Statement.{statement}
 use Rattle.plane.proofs.vector2.Vector2.scale.Tie as tie
 
-returns : tie.Need-returns
-unfolding vector2.scale
-returns c = refl
-
 pub scale-spec : {M : Type 1} → statement M
-scale-spec = tie.close (tie.spec returns)
+unfolding vector2.scale
+scale-spec = tie.close (tie.spec (λ c. refl))

@@ -4,9 +4,6 @@ use Rattle.plane.specs.Vector2 as vector2
 use Rattle.plane.proofs.vector2.Vector2.sub.Statement.{statement}
 use Rattle.plane.proofs.vector2.Vector2.sub.Tie as tie
 
-returns : tie.Need-returns
-unfolding vector2.sub
-returns c = refl
-
 pub sub-spec : {M : Type 1} → statement M
-sub-spec = tie.close (tie.spec returns)
+unfolding vector2.sub
+sub-spec = tie.close (tie.spec (λ c. refl))
