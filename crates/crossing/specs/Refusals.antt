@@ -1,13 +1,10 @@
 -- The refusals of the kernels and of the pair call, exactly when: a call refuses with number n if and only if the first fault among
 -- its numbers, in the order of its list of checks, has that number; and it answers how they meet if and only if every number
 -- passes. Table.antt of the crate `checks` says of each check when it finds which fault.
-use mathlib.Core.Path.{_≡_}
-use Prim.Native.Nat.{ℕ}
-use native.Mathlib.Omega.{arith}
 use lib.Ieee.{Float}
 use Rattle.plane.specs.declared.vector2.Vector2.{Vector2}
 use Rattle.plane.specs.declared.pline_vertex.PlineVertex.{PlineVertex}
-use Rattle.crossing.specs.Settled.{Settled, Apart, settled}
+use Rattle.crossing.specs.Settled.{Settled, Apart, settled, no-number}
 use Rattle.crossing.specs.LineLine.{lineLine}
 use Rattle.crossing.specs.LineCircle.{lineCircle}
 use Rattle.crossing.specs.CircleCircle.{circleCircle}
@@ -21,9 +18,6 @@ use Rattle.crossing.specs.declared.line_circle_intersect.LineCircleAnswe
 use Rattle.crossing.specs.declared.circle_circle_intersect.CircleCircleAnswer.the-variants as ofCircles
 use Rattle.crossing.specs.declared.pline_seg_intersect.PlineSegAnswer.the-variants as ofPairs
 
-never : _≡_ {A = ℕ} 0 1 → ⊥
-never e = omega arith
-
 pub line-line : (v1 v2 u1 u2 : Vector2) (epsilon : Float)
     → Settled ofLines.Refused ofLines.Met
     (lines.lineLineIntr v1 v2 u1 u2 epsilon)
@@ -31,7 +25,7 @@ pub line-line : (v1 v2 u1 u2 : Vector2) (epsilon : Float)
     (lineLine v1 v2 u1 u2 epsilon)
 unfolding lines.lineLineIntr lines.look
 line-line v1 v2 u1 u2 epsilon =
-    let apart : Apart ofLines.Refused ofLines.Met = record { numbers = λ n m e. cc; kinds = λ n i e. never (cc) } in
+    let apart : Apart ofLines.Refused ofLines.Met = record { numbers = λ n m e. cc; kinds = λ n i e. no-number cc } in
     settled ofLines.Refused ofLines.Met apart (lines.checks v1 v2 u1 u2 epsilon) (lineLine v1 v2 u1 u2 epsilon)
 
 pub line-circle : (p0 p1 : Vector2) (radius : Float) (circleCenter : Vector2) (epsilon : Float)
@@ -41,7 +35,7 @@ pub line-circle : (p0 p1 : Vector2) (radius : Float) (circleCenter : Vector2) (e
     (lineCircle p0 p1 radius circleCenter epsilon)
 unfolding lineAndCircle.lineCircleIntr lineAndCircle.look
 line-circle p0 p1 radius circleCenter epsilon =
-    let apart : Apart ofLineAndCircle.Refused ofLineAndCircle.Met = record { numbers = λ n m e. cc; kinds = λ n i e. never (cc) } in
+    let apart : Apart ofLineAndCircle.Refused ofLineAndCircle.Met = record { numbers = λ n m e. cc; kinds = λ n i e. no-number cc } in
     settled ofLineAndCircle.Refused ofLineAndCircle.Met apart
     (lineAndCircle.checks p0 p1 radius circleCenter epsilon)
     (lineCircle p0 p1 radius circleCenter epsilon)
@@ -53,7 +47,7 @@ pub circle-circle : (radius1 : Float) (center1 : Vector2) (radius2 : Float) (cen
     (circleCircle radius1 center1 radius2 center2 epsilon)
 unfolding circles.circleCircleIntr circles.look
 circle-circle radius1 center1 radius2 center2 epsilon =
-    let apart : Apart ofCircles.Refused ofCircles.Met = record { numbers = λ n m e. cc; kinds = λ n i e. never (cc) } in
+    let apart : Apart ofCircles.Refused ofCircles.Met = record { numbers = λ n m e. cc; kinds = λ n i e. no-number cc } in
     settled ofCircles.Refused ofCircles.Met apart
     (circles.checks radius1 center1 radius2 center2 epsilon)
     (circleCircle radius1 center1 radius2 center2 epsilon)
@@ -65,5 +59,5 @@ pub pline-seg : (v1 v2 u1 u2 : PlineVertex) (posEqualEps : Float)
     (plineSeg v1 v2 u1 u2 posEqualEps)
 unfolding pairs.plineSegIntr pairs.look
 pline-seg v1 v2 u1 u2 posEqualEps =
-    let apart : Apart ofPairs.Refused ofPairs.Met = record { numbers = λ n m e. cc; kinds = λ n i e. never (cc) } in
+    let apart : Apart ofPairs.Refused ofPairs.Met = record { numbers = λ n m e. cc; kinds = λ n i e. no-number cc } in
     settled ofPairs.Refused ofPairs.Met apart (pairs.checks v1 v2 u1 u2 posEqualEps) (plineSeg v1 v2 u1 u2 posEqualEps)

@@ -4,6 +4,7 @@ use mathlib.Core.Path.{_≡_, refl, sym, ap, _∙_}
 use mathlib.Core.Logic.{_↔_}
 use mathlib.Core.List.{List}
 use Prim.Native.Nat.{ℕ}
+use native.Mathlib.Omega.{arith}
 use Rattle.checks.specs.declared.fault.Fault.{Fault}
 use Rattle.checks.specs.declared.fault.Checked.{Checked}
 use Rattle.checks.specs.declared.fault.Checked.the-variants.{Fine, Bad}
@@ -47,3 +48,7 @@ module _ {I A : Type 0} (refused : ℕ → A) (met : I → A) (apart : Apart ref
     refused-when = λ n. (to-first n (first checks) refl, from-first n);
     met-when = (to-fine (first checks) refl, λ h. ap answer (first-fine checks .1 h));
   }
+
+-- two kinds of answers are told apart by a number
+pub no-number : _≡_ {A = ℕ} 0 1 → ⊥
+no-number e = omega arith

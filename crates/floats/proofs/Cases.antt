@@ -37,6 +37,7 @@ use Rattle.floats.specs.F64
 use Rattle.floats.specs.Bits
 use Rattle.floats.specs.Agree.{unsigned-abs}
 use Rattle.floats.specs.Laws.RootAt.{rootAt-real}
+use Rattle.floats.specs.Laws.Nan.{zero-over-zero}
 
 -- ---- on patterns
 pub root-zero : 0 ≡ Bits.sqrt 0
@@ -152,10 +153,6 @@ down-none (fin false (suc m) e) t h = absurd (true≢false (sym (is-true _ reach
 
 pub root-number : (x : Float) → le (ofBits binary64 0) x ≡ true → (isNan x ≡ false) × (isNan (F64.sqrt x) ≡ false)
 root-number x h = up-number x (ap (λ (v : Float). le v x) (sym zero-is) ∙ h)
-
-zero-over-zero : div binary64 (ofBits binary64 0) (ofBits binary64 0) ≡ nan
-unfolding div ofBits
-zero-over-zero = refl
 
 pub no-root : (x : Float) → T (fits binary64 x) → le (ofBits binary64 0) x ≡ false
     → div binary64 (ofBits binary64 0) (ofBits binary64 0) ≡ F64.sqrt x

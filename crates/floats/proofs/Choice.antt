@@ -4,14 +4,9 @@ use mathlib.Core.Path.{_≡_, refl, sym, _∙_, subst}
 use mathlib.Core.Bool.{Bool, true, false, cond, true≢false}
 use lib.Dec.{T}
 use lib.Ieee.{Float, nan, inf, fin, isNan, lt, ne}
-use lib.Ieee.Compare.{differs-from-itself, nan-differs}
+use lib.Ieee.Compare.{differs-from-itself}
 use Rattle.floats.specs.F64.{choose}
-
-pub number : (y : Float) → ne y y ≡ false → isNan y ≡ false
-unfolding isNan
-number nan h = absurd (true≢false (sym nan-differs ∙ h))
-number (inf s) h = refl
-number (fin s m e) h = refl
+use Rattle.floats.specs.Laws.Nan.{number}
 
 pub second-nan : (first : Bool) (x y : Float) → ne y y ≡ true → x ≡ choose first x y
 unfolding isNan

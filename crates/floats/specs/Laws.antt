@@ -9,3 +9,4 @@ pub mod Sqrt
 pub mod Leaves
 pub mod RootPowers
 pub mod RootBeside
+pub mod Nan

@@ -1,5 +1,5 @@
 -- What is kept of a segment: src/kept.rt, function by function. Nothing here need be believed: the pair's answer is `plineSeg`'s.
-use mathlib.Core.Bool.{Bool, cond, _&&_, _||_, not}
+use mathlib.Core.Bool.{Bool, cond, _&&_}
 use lib.Ieee.{Float, neg, binary64, ofBits}
 use Rattle.floats.specs.Ops.{_⊕_, _⊖_, _⊗_, _⊘_, _≺_, f0, f1}
 use Rattle.floats.specs.F64

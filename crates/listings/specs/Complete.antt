@@ -1,6 +1,6 @@
 -- No row is left out: where two paths were listed, every pair of their segments that meets in any class but NoIntersect has a row with
 -- its indices.
-use mathlib.Core.Path.{_≡_, refl, sym, ap, _∙_}
+use mathlib.Core.Path.{_≡_, refl}
 use mathlib.Core.Bool.{Bool}
 use mathlib.Core.List.{List}
 use Prim.Native.Nat.{ℕ, zero, suc, _<_, zero-le}
@@ -13,20 +13,18 @@ use Rattle.checks.specs.First.{first as firstFault}
 use Rattle.crossing.specs.PlineSeg.{plineSeg}
 use Rattle.crossing.specs.PlineSegIntr.{classOf}
 use Rattle.arcs.specs.declared.pline_seg_intr.PlineSegIntr.{PlineSegIntr}
-use Rattle.paths.specs.declared.path.Segment.{Segment}
 use Rattle.paths.specs.Segments.{segmentFrom, segmentCount}
 use Rattle.listings.specs.declared.row.Row.{Row}
-use Rattle.listings.specs.declared.row.Look.{Look}
 use Rattle.listings.specs.declared.row.Look.the-variants.{Made}
 use Rattle.listings.specs.declared.answer.ListingAnswer.the-variants.{Refused, Listed}
 use Rattle.listings.specs.Row.{row, lookOf, unlessApart, indicesOf, flat}
-use Rattle.listings.specs.Order.{Pair, mutualPairs}
+use Rattle.listings.specs.Order.{mutualPairs}
 use Rattle.listings.specs.Rows.{rowsOf, lookedAt}
 use Rattle.listings.specs.Look.{look}
-use Rattle.listings.specs.Listing.{Outcome, over, outcomeOf, outcome, roomCheck, mutualChecks, mutualListing}
+use Rattle.listings.specs.Listing.{over, outcomeOf, outcome, mutualChecks, mutualListing}
 use Rattle.listings.specs.Refusals.{all}
 use Rattle.listings.specs.HasRow.{HasRow}
-use Rattle.listings.specs.Laws.Complete.{Within, pairs-have, row-of-pair, row-in-slice}
+use Rattle.listings.specs.Laws.Complete.{pairs-have, row-of-pair, row-in-slice}
 
 -- how segment i of the first path and segment j of the second meet
 abbrev pub pairOf : List Float → List Float → Float → ℕ → ℕ → PlineSegIntr

@@ -3,7 +3,6 @@ use mathlib.Core.List.{List}
 use Prim.Native.Nat.{ℕ}
 use lib.Ieee.{Float}
 use Rattle.crossing.specs.PlineSeg.{plineSeg}
-use Rattle.paths.specs.declared.path.Segment.{Segment}
 use Rattle.paths.specs.Segments.{segmentFrom}
 use Rattle.listings.specs.declared.row.Look.{Look}
 use Rattle.listings.specs.Row.{lookOf}

@@ -1,12 +1,11 @@
 -- The refusals of the listings, exactly when: a listing refuses with number n if and only if the first fault of its checks in order,
 -- 8 the last of them, has that number; it lists if and only if every check passes; and a refusal leaves both slices as they were.
 -- Table.antt of the crates `checks` and `paths` says of each check when it finds which fault; 8 is `too-many` here.
-use mathlib.Core.Path.{_≡_, refl, sym, ap, _∙_}
+use mathlib.Core.Path.{_≡_, refl, sym, ap}
 use mathlib.Core.Bool.{Bool, true, false, cond, true≢false}
 use mathlib.Core.Logic.{_↔_}
 use mathlib.Core.List.{List, [], _∷_, _++_}
 use Prim.Native.Nat.{ℕ, _<_}
-use native.Mathlib.Omega.{arith}
 use borrow.Author.Tests.{ltb-true, lt-ltb}
 use lib.Dec.{ltb}
 use lib.Ieee.{Float}
@@ -17,7 +16,7 @@ use Rattle.checks.specs.declared.fault.Checked.the-variants.{Fine, Bad}
 use Rattle.checks.specs.Fault.{at, bad, refuse}
 use Rattle.checks.specs.First.{first as firstFault}
 use Rattle.crossing.specs.Settle.{settle}
-use Rattle.crossing.specs.Settled.{Settled, Apart, settled}
+use Rattle.crossing.specs.Settled.{Settled, Apart, settled, no-number}
 use Rattle.paths.specs.Segments.{segmentCount}
 use Rattle.listings.specs.declared.row.Row.{Row}
 use Rattle.listings.specs.declared.row.Look.{Look}
@@ -67,11 +66,8 @@ counted c = Listed (c .rows) (c .pairs)
 pub record Untouched (o : Outcome) (indices : List ℕ) (points : List Float) : Type 0 where
   pub kept : (n : ℕ) → o .answer ≡ Refused n → (o .indices ≡ indices) × (o .points ≡ points)
 
-never : _≡_ {A = ℕ} 0 1 → ⊥
-never e = omega arith
-
 apart : Apart Refused counted
-apart = record { numbers = λ n m e. cc; kinds = λ n i e. never (cc) }
+apart = record { numbers = λ n m e. cc; kinds = λ n i e. no-number cc }
 
 -- ---- any listing
 module _ (checks : List Checked) (f : ℕ → ℕ → Look) (ps : List Pair) (indices : List ℕ) (points : List Float) where

@@ -5,7 +5,7 @@ use Prim.Native.Nat.{ℕ, _+_, _-_, _*_, _^_, _≤_, _<_}
 use native.Mathlib.Omega.{arith}
 use mathlib.Core.Bool.{Bool, true, false, not, cond}
 use lib.Dec.{T, lit<}
-use lib.Ieee.{Float, inf, binary64, ofBits, fits, le, lt}
+use lib.Ieee.{Float, inf, binary64, ofBits, fits, lt}
 use lib.Ieee.Bits.{is-false}
 use lib.Ieee.Fits.{add-fits}
 use lib.Ieee.Scale.{finite}

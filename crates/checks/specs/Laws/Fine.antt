@@ -59,6 +59,10 @@ not-below x y a b = go (lt x y) (le y x) (le-not-lt y x b a)
     go true g e = (λ h. absurd (true≢false h), λ t. absurd (subst T e t))
     go false g e = (λ h. subst T (sym e) tt, λ t. refl)
 
+pub not-denied : (b : Bool) → not b ≡ false → T b
+not-denied true h = tt
+not-denied false h = absurd (true≢false h)
+
 pub neither : (a b : Bool) → ((a || b) ≡ false) ↔ ((a ≡ false) × (b ≡ false))
 neither true b = (λ h. absurd (true≢false h), λ h. h .0)
 neither false b = (λ h. (refl, h), λ h. h .1)

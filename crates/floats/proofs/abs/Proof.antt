@@ -10,7 +10,7 @@ use Rattle.floats.specs.F64
 use Rattle.floats.specs.Bits
 use Rattle.floats.specs.Agree.{abs-agrees}
 use Rattle.floats.proofs.Through.{off, value-of, number-of}
-use Rattle.floats.proofs.Choice.{number}
+use Rattle.floats.specs.Laws.Nan.{number}
 use Rattle.floats.proofs.abs.Statement.{statement}
 use Rattle.floats.proofs.abs.Tie as tie
 

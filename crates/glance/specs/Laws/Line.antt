@@ -1,18 +1,18 @@
 -- A line that passes clearly beside a circle: what is kept of it has a number that is not below the root by which the definition
 -- divides, or one so large that the glance does not take it. Then crossing's Laws/FarLine says that the definition finds it far.
-use mathlib.Core.Path.{_≡_, refl, sym, ap, _∙_, subst}
-use mathlib.Core.Bool.{Bool, true, false, not, cond, _&&_}
+use mathlib.Core.Path.{_≡_, refl, sym, subst}
+use mathlib.Core.Bool.{Bool, true, false, cond, _&&_}
 use lib.Dec.{T}
 use lib.Ieee.{Float, binary64, ofBits, fits, neg, le}
-use lib.Ieee.Fits.{add-fits, sub-fits, mul-fits, div-fits, neg-fits, and-i, and-l, and-r}
-use Rattle.floats.specs.Ops.{_⊕_, _⊖_, _⊗_, _⊘_, _≺_, _≼_, _≻_, f0, f1, f2}
+use lib.Ieee.Fits.{add-fits, sub-fits, mul-fits, div-fits, neg-fits, and-l, and-r}
+use Rattle.floats.specs.Ops.{_⊕_, _⊖_, _⊗_, _⊘_, _≺_, _≼_, f0, f1, f2}
 use Rattle.floats.specs.F64
-use Rattle.plane.specs.Fuzzy.{fuzzyEqZero, fuzzyEqZeroEps}
+use Rattle.plane.specs.Fuzzy.{fuzzyEqZero}
 use Rattle.plane.specs.Vector2 as vector2
 use Rattle.plane.specs.declared.vector2.Vector2.{Vector2}
 use Rattle.plane.specs.declared.pline_seg.ArcRadiusCenter.{ArcRadiusCenter}
 use Rattle.crossing.specs.LineCircle.{lineCircle, lineThrough, lineMeets, pointCircle}
-use Rattle.crossing.specs.Laws.FarLine.{moderate, huge, sizes, orders, far-line, line-far}
+use Rattle.crossing.specs.Laws.FarLine.{moderate, huge, far-line, line-far}
 use Rattle.crossing.specs.declared.line_circle.Line.{Line}
 use Rattle.crossing.specs.declared.line_circle_intersect.LineCircleIntr.{LineCircleIntr}
 use Rattle.crossing.specs.declared.line_circle_intersect.LineCircleIntr.the-variants.{NoIntersect}

@@ -1,8 +1,8 @@
 -- Two line segments that are clearly apart: whether the quotient n / d lies clearly outside 0..1 is told from n and d alone.
 -- No margin is needed: a product that rounds to less than a float is less than it, and a quotient that is at least 33/32, or at most
 -- -1/32, rounds to such a one. What the range test says there is in crossing's Laws/Within.
-use mathlib.Core.Path.{_≡_, refl, sym, ap, _∙_, subst}
-use Prim.Native.Nat.{ℕ, _+_, _*_, _^_, _≤_, _<_}
+use mathlib.Core.Path.{_≡_, refl, sym, ap, _∙_}
+use Prim.Native.Nat.{ℕ, _+_, _*_, _≤_, _<_}
 use native.Mathlib.Nat.{mul-pos, mul-le-mul-right, lt-of-mul-lt-mul-right, lt-of-not-le, le-of-lt}
 use native.Mathlib.Omega.{arith}
 use mathlib.Core.Bool.{Bool, true, false, not, cond, _&&_, _||_, true≢false}
@@ -18,7 +18,7 @@ use Rattle.float_laws.specs.Order.{lt-over}
 use Rattle.float_laws.specs.Rounded.{Rounded, mul-rounded, div-rounded, signed-by}
 use Rattle.float_laws.specs.Roundings.{rounded-le, rounded-ge, rounded-below, rounded-above}
 use Rattle.float_laws.specs.Binary64.{unit, unit-pos, units64}
-use Rattle.floats.specs.Ops.{_⊖_, _⊗_, _⊘_, _≺_, _≼_, _≻_, _≽_}
+use Rattle.floats.specs.Ops.{_⊗_, _⊘_, _≺_, _≼_, _≻_, _≽_}
 use Rattle.floats.specs.F64
 use Rattle.plane.specs.Vector2 as vector2
 use Rattle.plane.specs.Fuzzy.{fuzzyEqZeroEps}

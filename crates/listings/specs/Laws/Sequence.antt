@@ -4,12 +4,11 @@ use mathlib.Core.Path.{_≡_, refl, sym, ap, _∙_}
 use mathlib.Core.Bool.{Bool, true, false, cond, not, _&&_, _||_, true≢false}
 use mathlib.Core.List.{List, [], _∷_, _++_}
 use Prim.Native.Nat.{ℕ, zero, suc, _+_, _-_, _≤_, _<_}
-use native.Mathlib.Numerals.{add-one}
 use native.Mathlib.Omega.{arith}
-use borrow.Author.Tests.{eq-eqb, ne-eqb, eqb-true, eqb-false}
+use borrow.Author.Tests.{eq-eqb, ne-eqb, eqb-true}
 use lib.Dec.{eqb}
 use Rattle.listings.specs.declared.order.Job.{Job}
-use Rattle.listings.specs.Order.{Pair, along, pairsFrom, pairs, mutualPairs, neighbours, keep, selfPairs}
+use Rattle.listings.specs.Order.{Pair, along, pairsFrom, mutualPairs, neighbours, keep, selfPairs}
 use Rattle.listings.specs.Laws.Job.{from, to, every}
 
 -- ---- two paths

@@ -2,9 +2,9 @@
 -- before stays.
 use mathlib.Core.Path.{_≡_, sym, ap, _∙_, subst}
 use mathlib.Core.Logic.{_⊎_, inl, inr}
-use mathlib.Core.Bool.{Bool, true, false, not, true≢false}
+use mathlib.Core.Bool.{Bool, false, not}
 use mathlib.Core.List.{List}
-use Prim.Native.Nat.{ℕ, suc, _+_, _≤_, _<_}
+use Prim.Native.Nat.{ℕ, _+_, _≤_, _<_}
 use native.Mathlib.Nat.{eq-or-lt-of-le}
 use native.Mathlib.Omega.{arith}
 use lib.Dec.{T}
@@ -12,6 +12,7 @@ use lib.Ieee.{Float}
 use Rattle.plane.specs.declared.pline_vertex.PlineVertex.{PlineVertex}
 use Rattle.checks.specs.declared.fault.Checked.{Checked}
 use Rattle.checks.specs.Fault.{later}
+use Rattle.checks.specs.Laws.Fine.{not-denied}
 use Rattle.checks.specs.Laws.Inside.{vertexInside, all-passed}
 use Rattle.checks.specs.Laws.Later.{fine-right}
 use Rattle.paths.specs.Path.{vertexCount, vertex}
@@ -39,12 +40,8 @@ one-more path i v b told read h below j l = go (eq-or-lt-of-le (close j i l))
     close : (j i : ℕ) → j < i + 1 → j ≤ i
     close j i l = omega arith
 
-    said : (b : Bool) → not b ≡ false → T b
-    said true e = tt
-    said false e = absurd (true≢false e)
-
     here : Inside (vertex path i)
-    here = subst Inside read (subst T told (said b h))
+    here = subst Inside read (subst T told (not-denied b h))
 
     go : (j ≡ i) ⊎ (j < i) → Inside (vertex path j)
     go (inl e) = subst (λ (k : ℕ). Inside (vertex path k)) (sym e) here

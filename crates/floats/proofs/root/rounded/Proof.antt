@@ -5,7 +5,7 @@ use Prim.Native.Nat.{_+_, _*_, _%_, _^_, _<_}
 use borrow.Author.Needs.{needs}
 use Rattle.floats.specs.Root
 use Rattle.floats.proofs.Through.{off}
-use Rattle.floats.proofs.Choice.{number}
+use Rattle.floats.specs.Laws.Nan.{number}
 use Rattle.floats.proofs.RootBits.{moved, moved-small}
 use Rattle.floats.proofs.root.rounded.Statement.{statement}
 use Rattle.floats.proofs.root.rounded.Tie as tie

@@ -1,6 +1,5 @@
 -- `glance::looked::point_fine` meets its contract: its calls are the definition's, one by one.
 use borrow.Author.Needs.{needs}
-use Rattle.glance.specs.Looked
 use Rattle.glance.proofs.looked.point_fine.Statement.{statement}
 use Rattle.glance.proofs.looked.point_fine.Tie as tie
 

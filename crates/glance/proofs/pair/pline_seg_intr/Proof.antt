@@ -1,7 +1,6 @@
 -- `glance::pair::pline_seg_intr` meets its contract: where the glance finds all numbers fine, so does the look, and the answer is how the
 -- segments meet; elsewhere the call itself is asked.
 use mathlib.Core.Path.{_≡_, sym, ap, _∙_}
-use mathlib.Core.Bool.{Bool, true}
 use lib.Ieee.{Float}
 use denote.Floats.{passes}
 use borrow.Author.Needs.{needs}

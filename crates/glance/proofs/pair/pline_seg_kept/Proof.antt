@@ -1,6 +1,6 @@
 -- `glance::pair::pline_seg_kept` meets its contract: of two segments that are clearly apart the law of `Laws/Pair` says what the pair
 -- call would; elsewhere it is asked.
-use mathlib.Core.Path.{_≡_, sym, ap, _∙_, subst}
+use mathlib.Core.Path.{_≡_, sym, ap, _∙_}
 use mathlib.Core.Bool.{Bool, true}
 use lib.Dec.{T}
 use lib.Ieee.{Float, binary64, fits}

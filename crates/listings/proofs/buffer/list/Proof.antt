@@ -2,7 +2,6 @@
 -- of `list_kept`.
 use mathlib.Core.Path.{_≡_}
 use native.Mathlib.Omega.{arith}
-use denote.Ref.{now}
 use lib.Ieee.{Float, binary64, ofBits}
 use lib.ListN.{length, replicate, length-replicate}
 use Rattle.listings.specs.Laws.Keeping.{kept-ready}

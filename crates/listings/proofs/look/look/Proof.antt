@@ -1,5 +1,5 @@
 -- `listings::look::look` meets its contract: the pair call's own look finds no fault at the pair, so the call may be made.
-use mathlib.Core.Path.{_≡_, sym, ap, _∙_}
+use mathlib.Core.Path.{sym, ap, _∙_}
 use borrow.Author.Needs.{needs}
 use native.Mathlib.Omega.{arith}
 use Rattle.paths.specs.declared.path.Segment.{Segment}

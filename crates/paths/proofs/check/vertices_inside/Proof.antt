@@ -1,7 +1,6 @@
 -- `paths::check::vertices_inside` meets its contract. The loop keeps: the vertices below i are inside.
 use borrow.Author.Needs.{needs}
 use Prim.Native.Nat.{_-_}
-use denote.Ref.{now}
 use Rattle.paths.specs.Path.{vertexCount}
 use Rattle.paths.specs.Laws.Inside.{InsideBelow, none-yet, one-more}
 use Rattle.paths.proofs.check.vertices_inside.Statement.{statement}

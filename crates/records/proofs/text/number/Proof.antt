@@ -1,31 +1,20 @@
 -- `records::text::number` meets its contract: a NaN's pattern is read as the one NaN, which 0/0 is. Assumes nothing.
-use mathlib.Core.Path.{_≡_, refl, sym, ap, _∙_, subst}
-use mathlib.Core.Bool.{true}
+use mathlib.Core.Path.{sym, ap, _∙_}
 use borrow.Author.Needs.{needs}
-use lib.Dec.{T}
-use lib.Ieee.{Float, nan, inf, fin, binary64, isNan, ofBits, ofFields, div}
+use lib.Ieee.{binary64, ofBits}
 use lib.Ieee.Bits.{nanBits-is}
+use Rattle.floats.specs.Laws.Nan.{the-nan, zero-over-zero}
 use Rattle.arcs.specs.Laws.Branches.{denied}
 use Rattle.records.specs.Text.{numberAt}
 use Rattle.records.proofs.text.number.Statement.{statement}
 use Rattle.records.proofs.text.number.Tie as tie
-
-only : (x : Float) → isNan x ≡ true → nan ≡ x
-unfolding isNan
-only nan h = refl
-only (inf s) h = absurd (subst T (sym h) tt)
-only (fin s m e) h = absurd (subst T (sym h) tt)
-
-none : div binary64 (ofBits binary64 0) (ofBits binary64 0) ≡ nan
-unfolding div ofBits ofFields
-none = refl
 
 returns : tie.Need-returns
 unfolding numberAt
 returns c =
     let told = c .before in
     let is = sym (nanBits-is binary64 _) ∙ sym (told .is-nan .ensures) ∙ c .if1 .taken in
-    none ∙ only _ is ∙ ap (ofBits binary64) (told .before .value .ensures)
+    zero-over-zero ∙ the-nan _ is ∙ ap (ofBits binary64) (told .before .value .ensures)
 
 returns-2 : tie.Need-returns-2
 unfolding numberAt
