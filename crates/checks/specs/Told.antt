@@ -6,7 +6,18 @@ use mathlib.Core.List.{List, [], _∷_}
 use Prim.Native.Nat.{ℕ}
 use lib.Dec.{eqb}
 use Rattle.checks.specs.declared.fault.Item.{Item}
-use Rattle.checks.specs.declared.fault.Item.the-variants.{Epsilon, X, Y, Bulge, Radius, CenterX, CenterY, Chord, Length, Rows}
+use Rattle.checks.specs.declared.fault.Item.the-variants.{
+  Epsilon,
+  X,
+  Y,
+  Bulge,
+  Radius,
+  CenterX,
+  CenterY,
+  Chord,
+  Length,
+  Rows,
+}
 use Rattle.checks.specs.declared.fault.Checked.{Checked}
 use Rattle.checks.specs.declared.fault.Checked.the-variants.{Fine, Bad}
 use Rattle.checks.specs.Fault.{at, bad}

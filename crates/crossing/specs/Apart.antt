@@ -49,9 +49,15 @@ point x y = record { x = x; y = y }
 line-line-back : Told → LineLineAnswer
 line-line-back t =
     cond (t .refused) (ofLines.Refused (t .number))
-    (cond (eqb (t .number) 1) (two (λ a b. ofLines.Met (lineLineIs.TrueIntersect a b)) (ofLines.Met lineLineIs.NoIntersect) (t .values))
-    (cond (eqb (t .number) 2) (two (λ a b. ofLines.Met (lineLineIs.Overlapping a b)) (ofLines.Met lineLineIs.NoIntersect) (t .values))
-    (cond (eqb (t .number) 3) (two (λ a b. ofLines.Met (lineLineIs.FalseIntersect a b)) (ofLines.Met lineLineIs.NoIntersect) (t .values))
+    (cond (eqb (t .number) 1)
+    (two (λ a b. ofLines.Met (lineLineIs.TrueIntersect a b))
+    (ofLines.Met lineLineIs.NoIntersect) (t .values))
+    (cond (eqb (t .number) 2)
+    (two (λ a b. ofLines.Met (lineLineIs.Overlapping a b))
+    (ofLines.Met lineLineIs.NoIntersect) (t .values))
+    (cond (eqb (t .number) 3)
+    (two (λ a b. ofLines.Met (lineLineIs.FalseIntersect a b))
+    (ofLines.Met lineLineIs.NoIntersect) (t .values))
     (ofLines.Met lineLineIs.NoIntersect))))
 
 line-line-again : (a : LineLineAnswer) → line-line-back (lines.told a) ≡ a
@@ -69,8 +75,12 @@ line-line = apart-by lines.told line-line-back line-line-again
 line-circle-back : Told → LineCircleAnswer
 line-circle-back t =
     cond (t .refused) (ofLineAndCircle.Refused (t .number))
-    (cond (eqb (t .number) 1) (one (λ a. ofLineAndCircle.Met (lineCircleIs.TangentIntersect a)) (ofLineAndCircle.Met lineCircleIs.NoIntersect) (t .values))
-    (cond (eqb (t .number) 2) (two (λ a b. ofLineAndCircle.Met (lineCircleIs.TwoIntersects a b)) (ofLineAndCircle.Met lineCircleIs.NoIntersect) (t .values))
+    (cond (eqb (t .number) 1)
+    (one (λ a. ofLineAndCircle.Met (lineCircleIs.TangentIntersect a))
+    (ofLineAndCircle.Met lineCircleIs.NoIntersect) (t .values))
+    (cond (eqb (t .number) 2)
+    (two (λ a b. ofLineAndCircle.Met (lineCircleIs.TwoIntersects a b))
+    (ofLineAndCircle.Met lineCircleIs.NoIntersect) (t .values))
     (ofLineAndCircle.Met lineCircleIs.NoIntersect)))
 
 line-circle-again : (a : LineCircleAnswer) → line-circle-back (lineAndCircle.told a) ≡ a
@@ -87,8 +97,12 @@ line-circle = apart-by lineAndCircle.told line-circle-back line-circle-again
 circle-circle-back : Told → CircleCircleAnswer
 circle-circle-back t =
     cond (t .refused) (ofCircles.Refused (t .number))
-    (cond (eqb (t .number) 1) (two (λ a b. ofCircles.Met (circleCircleIs.TangentIntersect (point a b))) (ofCircles.Met circleCircleIs.NoIntersect) (t .values))
-    (cond (eqb (t .number) 2) (four (λ a b c d. ofCircles.Met (circleCircleIs.TwoIntersects (point a b) (point c d))) (ofCircles.Met circleCircleIs.NoIntersect) (t .values))
+    (cond (eqb (t .number) 1)
+    (two (λ a b. ofCircles.Met (circleCircleIs.TangentIntersect (point a b)))
+    (ofCircles.Met circleCircleIs.NoIntersect) (t .values))
+    (cond (eqb (t .number) 2)
+    (four (λ a b c d. ofCircles.Met (circleCircleIs.TwoIntersects (point a b) (point c d)))
+    (ofCircles.Met circleCircleIs.NoIntersect) (t .values))
     (cond (eqb (t .number) 3) (ofCircles.Met circleCircleIs.Overlapping)
     (ofCircles.Met circleCircleIs.NoIntersect))))
 

@@ -1,7 +1,8 @@
 -- What is known of a value r that is (P - N) / c, rounded once, and so of every result of + - * / (Rounded.antt). It is a value of
 -- its format and no NaN. It does not cross a float: if the exact value is at most a float y, so is r. It is exact where the exact
--- value is a value of the format, and so where it is a whole number that the format counts without a gap. It is finite below the format's end, and then it is off by at most
--- half the last place of the power of two that bounds the exact value, and by a 2 ^ prec th of the exact value and half a unit.
+-- value is a value of the format, and so where it is a whole number that the format counts without a gap. It is finite below the
+-- format's end, and then it is off by at most half the last place of the power of two that bounds the exact value, and by a 2 ^ prec th
+-- of the exact value and half a unit.
 use mathlib.Core.Path.{_≡_, refl, sym, ap, _∙_, subst}
 use Prim.Native.Nat.{ℕ, zero, suc, _+_, _-_, _*_, _^_, _≤_, _<_}
 use native.Mathlib.Nat.{
@@ -33,7 +34,19 @@ use lib.Ieee.Fits.{round-is, round-fits, neg-fits}
 use lib.Ieee.Scale.{grid, overflow, finite, round-same}
 use Rattle.float_laws.specs.Best.{Held, held-pow, grid-le, grid-ge}
 use Rattle.float_laws.specs.Count.{Counted, counted, round-count, round-real}
-use Rattle.float_laws.specs.Signed.{Diff, SizeOf, ups, downs, diff-of, own-diff, diff-same, diff-at, diff-finite, units-of, neg-diff}
+use Rattle.float_laws.specs.Signed.{
+  Diff,
+  SizeOf,
+  ups,
+  downs,
+  diff-of,
+  own-diff,
+  diff-same,
+  diff-at,
+  diff-finite,
+  units-of,
+  neg-diff,
+}
 use Rattle.float_laws.specs.Patterns.{odd-neg}
 use Rattle.float_laws.specs.Order.{le-diff}
 use Rattle.float_laws.specs.Chains.{not-both, le-neg, between-finite}

@@ -50,7 +50,12 @@ unfolding endsClear collectEndPoints
 no-ends v1 v2 u1 u2 arc1 arc2 eps h =
     let p = parts (pointOffCircle arc1 u1) (pointOffCircle arc1 u2) (pointOffCircle arc2 v1) (pointOffCircle arc2 v2) h in
     let none = Empty ∷ (Empty ∷ []) in
-    simp (none-added none u1 arc1 eps (p .0), none-added none u2 arc1 eps (p .1), none-added none v1 arc2 eps (p .2), none-added none v2 arc2 eps (p .3))
+    simp (
+      none-added none u1 arc1 eps (p .0),
+      none-added none u2 arc1 eps (p .1),
+      none-added none v1 arc2 eps (p .2),
+      none-added none v2 arc2 eps (p .3),
+    )
 
 -- so what two arcs have in common is told with none
 pub without-ends : (v1 v2 u1 u2 point1 point2 : Vector2) (arc1 arc2 : ArcGeometry) (eps : Float) (clear : Bool) (r : PlineSegIntr)

@@ -5,7 +5,25 @@
 use mathlib.Core.Path.{_≡_, sym, ap, _∙_, subst}
 use mathlib.Core.Logic.{_⊎_, inl, inr}
 use Prim.Native.Nat.{ℕ, zero, suc, _+_, _-_, _*_, _/_, _%_, _^_, _≤_, _<_}
-use native.Mathlib.Nat.{mul-pos, mul-one, zero-mul, mul-assoc, mul-right-comm, mul-div-cancel, mul-le-mul, mul-le-mul-right, mul-lt-mul-of-pos-right, le-of-mul-le-mul-right, le-trans, le-of-eq, le-of-lt, lt-of-le-of-lt, lt-of-lt-of-le, eq-or-lt-of-le, pow-succ'}
+use native.Mathlib.Nat.{
+  mul-pos,
+  mul-one,
+  zero-mul,
+  mul-assoc,
+  mul-right-comm,
+  mul-div-cancel,
+  mul-le-mul,
+  mul-le-mul-right,
+  mul-lt-mul-of-pos-right,
+  le-of-mul-le-mul-right,
+  le-trans,
+  le-of-eq,
+  le-of-lt,
+  lt-of-le-of-lt,
+  lt-of-lt-of-le,
+  eq-or-lt-of-le,
+  pow-succ',
+}
 use native.Mathlib.Omega.{arith}
 use mathlib.Core.Bool.{Bool, true, false, cond, true≢false}
 use lib.Dec.{T, eqb, eqb→eq}

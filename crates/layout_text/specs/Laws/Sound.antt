@@ -13,7 +13,19 @@ use Rattle.layout_text.specs.Limits as limit
 use Rattle.layout_text.specs.Layout.{Vertex, Layout, VertexWithin, EachWithin, none, more, Within, size}
 use Rattle.layout_text.specs.Decimal.{decimal}
 use Rattle.layout_text.specs.Form.{wholeText, vertexText, verticesText, textOf}
-use Rattle.layout_text.specs.Reader.{Got, nothing, got, andThen, kindOf, firstKind, digitsOf, positiveOf, zeroOf, countOf, whole}
+use Rattle.layout_text.specs.Reader.{
+  Got,
+  nothing,
+  got,
+  andThen,
+  kindOf,
+  firstKind,
+  digitsOf,
+  positiveOf,
+  zeroOf,
+  countOf,
+  whole,
+}
 use Rattle.layout_text.specs.Reader.{wholeOf, vertexOf, verticesOf, linesOf, space, newline, minus, other}
 use Rattle.layout_text.specs.Laws.Decimal.{decimal-small, decimal-more}
 use Rattle.layout_text.specs.Laws.Bytes.{byteOf, byte-is, digit-byte}

@@ -21,7 +21,18 @@ use Rattle.listings.specs.Order.{Pair, pairsFrom}
 use Rattle.listings.specs.Rows.{rowsOf, lookedAt}
 use Rattle.listings.specs.Listing.{Outcome, Leaves, over, room, roomCheck, outcomeOf}
 use Rattle.listings.specs.Laws.Job as job_of
-use Rattle.listings.specs.Laws.Pages.{Page, page, empty, Joins, joins, whole-rows, whole-looked, too-many, all-fit, few-rows}
+use Rattle.listings.specs.Laws.Pages.{
+  Page,
+  page,
+  empty,
+  Joins,
+  joins,
+  whole-rows,
+  whole-looked,
+  too-many,
+  all-fit,
+  few-rows,
+}
 use Rattle.listings.specs.Laws.Filling.{Filled}
 use Rattle.listings.specs.Laws.Loop.{few-left, few-on-page}
 use Rattle.listings.specs.Laws.Stores.{sets-over, paste-over, paste-all, over-all, sets-beyond, flat-append, flat-length}

@@ -31,7 +31,8 @@ lookOn v second epsilon i j =
 pub look-on : (v : Segment) (first second : List Float) (epsilon : Float) (i j : ℕ) → v ≡ segmentFrom first i
     → lookOn v second epsilon i j ≡ look first second epsilon i j
 unfolding lookOn look
-look-on v first second epsilon i j e = ap (λ (s : Segment). lookOf i j (plineSeg (s .v1) (s .v2) (segmentFrom second j .v1) (segmentFrom second j .v2) epsilon)) e
+look-on v first second epsilon i j e =
+    ap (λ (s : Segment). lookOf i j (plineSeg (s .v1) (s .v2) (segmentFrom second j .v1) (segmentFrom second j .v2) epsilon)) e
 
 abbrev PairFine : Segment → Segment → Float → Type 0
 PairFine v u epsilon = pair.look (v .v1) (v .v2) (u .v1) (u .v2) epsilon ≡ Fine

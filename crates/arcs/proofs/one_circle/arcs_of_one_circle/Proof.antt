@@ -30,6 +30,8 @@ arcs-of-one-circle-spec =
     (search needs) (search needs) (search needs)
     (λ c. simp (← c .before .before .before .before .before .before .arc2-ends .ensures) (search branches depth 8))
     (λ c. simp (← c .before .before .before .before .before .before .arc2-ends .ensures) (search branches depth 8))
-    (λ c. simp (← c .before .before .before .before .before .before .before .arc2-ends .ensures) (simp (c .if4 .taken) (search branches depth 8)))
-    (λ c. simp (← c .before .before .before .before .before .before .before .arc2-ends .ensures) (simp (c .if4 .left) (search branches depth 8)))
+    (λ c. let t = c .before .before .before in
+    simp (← t .before .before .before .before .arc2-ends .ensures) (simp (c .if4 .taken) (search branches depth 8)))
+    (λ c. let t = c .before .before .before in
+    simp (← t .before .before .before .before .arc2-ends .ensures) (simp (c .if4 .left) (search branches depth 8)))
     (search needs) (search needs) (search needs) returns-5)

@@ -11,4 +11,9 @@ collect-end-points-spec =
     (tie.spec
     (search needs) (search needs) (search needs) (search needs)
     (λ c. let p = c .before .before in
-    simp (← p .before .add-if-on-arc .ensures, ← p .add-if-on-arc2 .ensures, ← c .before .add-if-on-arc3 .ensures, ← c .add-if-on-arc4 .ensures)))
+    simp (
+      ← p .before .add-if-on-arc .ensures,
+      ← p .add-if-on-arc2 .ensures,
+      ← c .before .add-if-on-arc3 .ensures,
+      ← c .add-if-on-arc4 .ensures,
+    )))
