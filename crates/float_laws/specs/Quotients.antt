@@ -4,32 +4,29 @@ use mathlib.Core.Path.{_≡_}
 use Prim.Native.Nat.{ℕ, suc, _+_, _-_, _*_, _^_, _≤_, _<_}
 use native.Mathlib.Nat.{zero-lt-suc, mul-le-mul-right}
 use native.Mathlib.Omega.{arith}
-use mathlib.Core.Bool.{true, false}
+use mathlib.Core.Bool.{Bool, true, false}
 use lib.Ieee.{Float, Format, prec, emax, low, div, binary32, binary64}
+use lib.Ieee.Exact.{HasValue}
 use lib.Dec.{lit≤}
 use Rattle.float_laws.specs.Signed.{Diff, size-above, size-below}
-use Rattle.float_laws.specs.Rounded.{Rounded, div-rounded}
+use Rattle.float_laws.specs.Rounded.{Rounded, div-rounded, signed-by}
 use Rattle.float_laws.specs.Roundings.{rounded-at, Near, rounded-near}
 
 -- ---- one rounding of (p - n) / (q - k), over a divisor above zero: a divisor below zero turns the numerator's sign
-positive : (d : ℕ) → 0 < d → 0 < d * 1
-positive d h = omega arith
-
-same : (p n d : ℕ) → p * 1 * d + n * (d * 1) ≡ p * (d * 1) + n * 1 * d
-same p n d = omega arith
-
 module _ (f : Format) (x y : Float) (p n q k : ℕ) (a : Diff x p n 1) (b : Diff y q k 1) where
+  by-sign : (t : Bool) (D : ℕ) → 0 < D → HasValue y t D 1 → Rounded f (div f x y) (signed-by t p n) (signed-by t n p) D
+  by-sign t D pos v =
+      rounded-at f (div f x y) _ _ _ (signed-by t p n) (signed-by t n p) D (omega arith) pos (same (signed-by t p n) (signed-by t n p) D)
+      (div-rounded f x y p n 1 t D 1 (zero-lt-suc 0) (zero-lt-suc 0) pos a v)
+    where
+      same : (p n d : ℕ) → p * 1 * d + n * (d * 1) ≡ p * (d * 1) + n * 1 * d
+      same p n d = omega arith
+
   pub div-above : k < q → Rounded f (div f x y) p n (q - k)
-  div-above l =
-      let D : 0 < q - k = omega arith in
-      rounded-at f (div f x y) _ _ _ p n (q - k) (positive (q - k) D) D (same p n (q - k))
-      (div-rounded f x y p n 1 false (q - k) 1 (zero-lt-suc 0) (zero-lt-suc 0) D a (size-above y q k 1 l b))
+  div-above l = by-sign false (q - k) (omega arith) (size-above y q k 1 l b)
 
   pub div-below : q < k → Rounded f (div f x y) n p (k - q)
-  div-below l =
-      let D : 0 < k - q = omega arith in
-      rounded-at f (div f x y) _ _ _ n p (k - q) (positive (k - q) D) D (same n p (k - q))
-      (div-rounded f x y p n 1 true (k - q) 1 (zero-lt-suc 0) (zero-lt-suc 0) D a (size-below y q k 1 l b))
+  div-below l = by-sign true (k - q) (omega arith) (size-below y q k 1 l b)
 
 -- ---- how near: any quotient with a numerator up to 2 ^ prec is finite and near; up to 2 ^ k in size, within 2 ^ k / 2 ^ (prec + 1)
 pub quotient-near : (f : Format) (r : Float) (P N D : ℕ) → Rounded f r P N D → 0 < D → P ≤ N + 2 ^ prec f → N ≤ P + 2 ^ prec f

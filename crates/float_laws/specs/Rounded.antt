@@ -134,29 +134,21 @@ div-count f (fin u m e) (fin v n g) s t X Y c d C D P (p, h) (q, k) =
         let r : X * e * (b * d) ≡ X * e * (Y * g) = ap (λ (z : ℕ). X * e * z) k in
         omega arith
 
+-- b is X above a, and d is Y above c: the product of the two differences
+multiplied : (X Y a b c d : ℕ) → X + a ≡ b → Y + c ≡ d → X * Y + (a * d + b * c) ≡ b * d + a * c
+multiplied X Y a b c d x y =
+    let b-is = sym x in
+    let d-is = sym y in
+    let e : b * d ≡ (X + a) * (Y + c) = ap (λ (z : ℕ). z * d) b-is ∙ ap (λ (z : ℕ). (X + a) * z) d-is in
+    omega (arith, e, ap (λ (z : ℕ). z * c) b-is, ap (λ (z : ℕ). a * z) d-is)
+
 -- (p - n) * (q - k), by sign and size
 product-size : (s t : Bool) (X Y p n q k : ℕ) → SizeOf s X p n → SizeOf t Y q k
     → SizeOf (unlike s t) (X * Y) (p * q + n * k) (p * k + n * q)
-product-size true true X Y p n q k a b =
-    let n-is : n ≡ X + p = sym a in
-    let k-is : k ≡ Y + q = sym b in
-    let e1 : n * k ≡ (X + p) * (Y + q) = ap (λ (z : ℕ). z * k) n-is ∙ ap (λ (z : ℕ). (X + p) * z) k-is in
-    omega (arith, e1, ap (λ (z : ℕ). z * q) n-is, ap (λ (z : ℕ). p * z) k-is)
-product-size true false X Y p n q k a b =
-    let n-is : n ≡ X + p = sym a in
-    let q-is : q ≡ Y + k = sym b in
-    let e1 : n * q ≡ (X + p) * (Y + k) = ap (λ (z : ℕ). z * q) n-is ∙ ap (λ (z : ℕ). (X + p) * z) q-is in
-    omega (arith, e1, ap (λ (z : ℕ). z * k) n-is, ap (λ (z : ℕ). p * z) q-is)
-product-size false true X Y p n q k a b =
-    let p-is : p ≡ X + n = sym a in
-    let k-is : k ≡ Y + q = sym b in
-    let e1 : p * k ≡ (X + n) * (Y + q) = ap (λ (z : ℕ). z * k) p-is ∙ ap (λ (z : ℕ). (X + n) * z) k-is in
-    omega (arith, e1, ap (λ (z : ℕ). z * q) p-is, ap (λ (z : ℕ). n * z) k-is)
-product-size false false X Y p n q k a b =
-    let p-is : p ≡ X + n = sym a in
-    let q-is : q ≡ Y + k = sym b in
-    let e1 : p * q ≡ (X + n) * (Y + k) = ap (λ (z : ℕ). z * q) p-is ∙ ap (λ (z : ℕ). (X + n) * z) q-is in
-    omega (arith, e1, ap (λ (z : ℕ). z * k) p-is, ap (λ (z : ℕ). n * z) q-is)
+product-size true true X Y p n q k a b = omega (arith, multiplied X Y p n q k a b)
+product-size true false X Y p n q k a b = omega (arith, multiplied X Y p n k q a b)
+product-size false true X Y p n q k a b = omega (arith, multiplied X Y n p q k a b)
+product-size false false X Y p n q k a b = omega (arith, multiplied X Y n p k q a b)
 
 -- ---- the four operations, by fractions: sums over one denominator, and over any two
 pub add-over : (f : Format) (x y : Float) (p n q k c : ℕ) → 0 < c → Diff x p n c → Diff y q k c

@@ -217,7 +217,7 @@ units-neg f s q k = go (ltb (q * 2 ^ k) (overflow f)) _ _ (odd-neg (suc (prec f)
     go true x y e = e
     go false x y e = refl
 
-rounded-neg : (f : Format) (r : Float) (P N c : ℕ) → Rounded f r P N c → Rounded f (neg r) N P c
+pub rounded-neg : (f : Format) (r : Float) (P N c : ℕ) → Rounded f r P N c → Rounded f (neg r) N P c
 rounded-neg f r P N c h =
     let turned = ap neg (round-is f (h .s) (h .size) c) ∙ units-neg f (h .s) _ _ ∙ sym (round-is f (not (h .s)) (h .size) c) in
     record { s = not (h .s); size = h .size; is = ap neg (h .is) ∙ turned; exact = size (h .s) (h .size) (h .exact) }

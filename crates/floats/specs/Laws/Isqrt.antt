@@ -18,6 +18,9 @@ pub record IsRoot (n q : ℕ) : Type 0 where
 pub sq-lt : (a b : ℕ) → a * a < b * b → a < b
 sq-lt a b h = lt-of-not-le (λ (g : b ≤ a). not-le-of-lt h (mul-le-mul g g))
 
+pub sq-le : (a b : ℕ) → a * a ≤ b * b → a ≤ b
+sq-le a b h = let l : a < b + 1 = sq-lt a (b + 1) (omega arith) in omega arith
+
 pub root-unique : (n q r : ℕ) → IsRoot n q → IsRoot n r → q ≡ r
 root-unique n q r h k =
     let a : q < r + 1 = sq-lt q (r + 1) (lt-of-le-of-lt (h .low) (k .high)) in

@@ -27,6 +27,7 @@ use native.Mathlib.Nat.{
 use native.Mathlib.Omega.{arith}
 use mathlib.Core.Bool.{Bool, true, false, cond, true≢false}
 use lib.Dec.{T, eqb, eqb→eq}
+use lib.Arith.{lt-of-le-ne}
 use lib.Pow.{pow-add, pow-pos, pow-mono, pow-lt}
 use lib.Ieee.{Float, nan, inf, fin, Format, binary32, binary64, prec, emax, low, up, down, fits, round}
 use lib.Ieee.Exact.{HasValue}
@@ -35,7 +36,7 @@ use lib.Ieee.Scale.{grid, overflow}
 use Rattle.float_laws.specs.Best.{Held, Best, held-pow, round-best, grid-le}
 use Rattle.float_laws.specs.Count.{round-count}
 use Rattle.floats.specs.F64.{isqrt, sticky, rootAt, rootOf}
-use Rattle.floats.specs.Laws.Isqrt.{IsRoot, isqrt-is, sq-lt}
+use Rattle.floats.specs.Laws.Isqrt.{IsRoot, isqrt-is, sq-lt, sq-le}
 use Rattle.floats.specs.Laws.RootAt.{rootAt-is, sticky-le}
 
 -- ---- the root by the count
@@ -164,47 +165,31 @@ module _ (p l X R : ℕ) (h : Held p X) (c : Close p (4 * (X * 2 ^ l)) R) where
       (half .0, held-root p (h .j + l) (h .y) (S / 2) (h .few) (omega (arith, half .1)))
 
   -- the point M halfway is held: it lies strictly between, and its square is the number, so R is not nearest
+  halfway : (S : ℕ) → S * S ≡ 4 * (X * 2 ^ l) → (S ≡ 2 * (S / 2)) × Held p (S / 2) × (2 * (S / 2) * (2 * (S / 2)) ≡ 4 * (X * 2 ^ l))
+  halfway S e = let t = tie-held S e in (t .0, t .1, sym (ap (λ (z : ℕ). z * z) (t .0)) ∙ e)
+
   no-tie-below : (Y : ℕ) → Y < R → (Y + R) * (Y + R) ≡ 4 * (X * 2 ^ l) → ⊥
   no-tie-below Y k e =
-      let t = tie-held (Y + R) e in
+      let t = halfway (Y + R) e in
       let M = (Y + R) / 2 in
       let less : M < R = omega (arith, t .0) in
-      clash M (t .0) less (c .below M (t .1) less)
-    where
-      clash : (M : ℕ) → Y + R ≡ 2 * M → M < R → (M + R) * (M + R) ≤ 4 * (X * 2 ^ l) → ⊥
-      clash M s k a =
-          let q : (Y + R) * (Y + R) ≡ 2 * M * (2 * M) = ap (λ (z : ℕ). z * z) s in
-          let b : 2 * M < M + R = omega arith in
-          let d : (2 * M + 1) * (2 * M + 1) ≤ (M + R) * (M + R) = mul-le-mul (omega arith) (omega arith) in
-          omega arith
+      let m = sq-le (M + R) (2 * M) (le-trans (c .below M (t .1) less) (le-of-eq (sym (t .2)))) in
+      omega arith
 
   no-tie-above : (Y : ℕ) → R < Y → (Y + R) * (Y + R) ≡ 4 * (X * 2 ^ l) → ⊥
   no-tie-above Y k e =
-      let t = tie-held (Y + R) e in
+      let t = halfway (Y + R) e in
       let M = (Y + R) / 2 in
       let more : R < M = omega (arith, t .0) in
-      clash M (t .0) more (c .above M (t .1) more)
-    where
-      clash : (M : ℕ) → Y + R ≡ 2 * M → R < M → 4 * (X * 2 ^ l) ≤ (M + R) * (M + R) → ⊥
-      clash M s k a =
-          let q : (Y + R) * (Y + R) ≡ 2 * M * (2 * M) = ap (λ (z : ℕ). z * z) s in
-          let d : (M + R + 1) * (M + R + 1) ≤ 2 * M * (2 * M) = mul-le-mul (omega arith) (omega arith) in
-          omega arith
+      let m = sq-le (2 * M) (M + R) (le-trans (le-of-eq (t .2)) (c .above M (t .1) more)) in
+      omega arith
 
   -- R is nearer than every other value
   below-strict : (Y : ℕ) → Held p Y → Y < R → (Y + R) * (Y + R) < 4 * (X * 2 ^ l)
-  below-strict Y y k = go (eq-or-lt-of-le (c .below Y y k))
-    where
-      go : ((Y + R) * (Y + R) ≡ 4 * (X * 2 ^ l)) ⊎ ((Y + R) * (Y + R) < 4 * (X * 2 ^ l)) → (Y + R) * (Y + R) < 4 * (X * 2 ^ l)
-      go (inl e) = absurd (no-tie-below Y k e)
-      go (inr l) = l
+  below-strict Y y k = lt-of-le-ne (c .below Y y k) (no-tie-below Y k)
 
   above-strict : (Y : ℕ) → Held p Y → R < Y → 4 * (X * 2 ^ l) < (Y + R) * (Y + R)
-  above-strict Y y k = go (eq-or-lt-of-le (c .above Y y k))
-    where
-      go : (4 * (X * 2 ^ l) ≡ (Y + R) * (Y + R)) ⊎ (4 * (X * 2 ^ l) < (Y + R) * (Y + R)) → 4 * (X * 2 ^ l) < (Y + R) * (Y + R)
-      go (inl e) = absurd (no-tie-above Y k (sym e))
-      go (inr l) = l
+  above-strict Y y k = lt-of-le-ne (c .above Y y k) (λ e. no-tie-above Y k (sym e))
 
 -- ---- the root is below the format's end
 root-under : (f : Format) (X : ℕ) → X < overflow f → made f (X * 2 ^ (low f + 2)) < overflow f

@@ -17,7 +17,7 @@ use Rattle.float_laws.specs.Signed.{Diff, ups, downs, own-diff, size-above}
 use Rattle.float_laws.specs.Order.{le-over}
 use Rattle.float_laws.specs.Chains.{none-above, from-above, above-any}
 use Rattle.float_laws.specs.Rounded.{Rounded, mul-rounded}
-use Rattle.float_laws.specs.Roundings.{rounded-below, rounded-above}
+use Rattle.float_laws.specs.Roundings.{rounded-at, rounded-below, rounded-above}
 use Rattle.float_laws.specs.Best.{Held}
 use Rattle.float_laws.specs.Binary64.{unit, unit-is, unit-pos, zero-is, zero-finite, units64}
 use Rattle.floats.specs.Ops.{_⊗_, _≺_, _≽_, f0}
@@ -62,29 +62,28 @@ module _ (s x : Float) (t : Bool) (S p n : ℕ) (held : Held 53 S) (s-value : Ha
   s-is : Diff s (ups t S) (downs t S) unit
   s-is = own-diff s t S unit s-value
 
-  product : Rounded binary64 (s ⊗ s) (ups t S * ups t S + downs t S * downs t S) (ups t S * downs t S + downs t S * ups t S) (unit * unit)
-  product = mul-rounded binary64 s s (ups t S) (downs t S) (ups t S) (downs t S) unit unit unit-pos unit-pos s-is s-is
+  -- the square has no sign
+  square : Rounded binary64 (s ⊗ s) (S * S) 0 (unit * unit)
+  square =
+      rounded-at binary64 (s ⊗ s) _ _ (unit * unit) (S * S) 0 (unit * unit) (mul-pos unit-pos unit-pos) (mul-pos unit-pos unit-pos)
+      (plain t (unit * unit))
+      (mul-rounded binary64 s s (ups t S) (downs t S) (ups t S) (downs t S) unit unit unit-pos unit-pos s-is s-is)
+    where
+      plain : (t : Bool) (L : ℕ)
+          → (ups t S * ups t S + downs t S * downs t S) * L + 0 * L ≡ S * S * L + (ups t S * downs t S + downs t S * ups t S) * L
+      plain true L = omega arith
+      plain false L = omega arith
 
   -- the exact square, by the rounded one
   below : T (s ⊗ s ≺ x) → S * S * unit + n * (unit * unit) < p * (unit * unit)
   below h =
-      plain t unit (rounded-below binary64 (s ⊗ s) _ _ (unit * unit) product (mul-pos unit-pos unit-pos) x p n unit unit-pos x-fits x-is h)
-    where
-      plain : (t : Bool) (L : ℕ)
-          → (ups t S * ups t S + downs t S * downs t S) * L + n * (L * L) < p * (L * L) + (ups t S * downs t S + downs t S * ups t S) * L
-          → S * S * L + n * (L * L) < p * (L * L)
-      plain true L y = omega arith
-      plain false L y = omega arith
+      let l = rounded-below binary64 (s ⊗ s) (S * S) 0 (unit * unit) square (mul-pos unit-pos unit-pos) x p n unit unit-pos x-fits x-is h in
+      omega arith
 
   above : T (x ≺ s ⊗ s) → p * (unit * unit) < S * S * unit + n * (unit * unit)
   above h =
-      plain t unit (rounded-above binary64 (s ⊗ s) _ _ (unit * unit) product (mul-pos unit-pos unit-pos) x p n unit unit-pos x-fits x-is h)
-    where
-      plain : (t : Bool) (L : ℕ)
-          → p * (L * L) + (ups t S * downs t S + downs t S * ups t S) * L < (ups t S * ups t S + downs t S * downs t S) * L + n * (L * L)
-          → p * (L * L) < S * S * L + n * (L * L)
-      plain true L y = omega arith
-      plain false L y = omega arith
+      let l = rounded-above binary64 (s ⊗ s) (S * S) 0 (unit * unit) square (mul-pos unit-pos unit-pos) x p n unit unit-pos x-fits x-is h in
+      omega arith
 
   beyond-finite : T (s ⊗ s ≺ x) → Beyond s (F64.sqrt x)
   beyond-finite h =
