@@ -3,7 +3,6 @@
 -- A tie would be a count M, halfway between two values, whose square is X * 2 ^ low. But the digits of X are few, so those of its
 -- root are few too: M itself would be held, and it would be nearer than both.
 use mathlib.Core.Path.{_≡_, sym, ap, _∙_, subst}
-use mathlib.Core.Logic.{_⊎_, inl, inr}
 use Prim.Native.Nat.{ℕ, zero, suc, _+_, _-_, _*_, _/_, _%_, _^_, _≤_, _<_}
 use native.Mathlib.Nat.{
   mul-pos,
@@ -21,7 +20,6 @@ use native.Mathlib.Nat.{
   le-of-lt,
   lt-of-le-of-lt,
   lt-of-lt-of-le,
-  eq-or-lt-of-le,
   pow-succ',
 }
 use native.Mathlib.Omega.{arith}

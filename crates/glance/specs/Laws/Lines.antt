@@ -44,6 +44,10 @@ beforeStart-is : Diff beforeStart 0 1 32
 unfolding ofBits
 beforeStart-is = omega arith
 
+-- an order of sums over L times e and over L, by what is left without L
+divided : (x y p q e L : ℕ) → p * L + x * (L * e) < y * (L * e) + q * L → p + x * e < y * e + q
+divided x y p q e L h = lt-of-mul-lt-mul-right L {m = p + x * e} {n = y * e + q} (omega arith)
+
 -- ---- n of X units and the sign s, d of Y units and the sign t
 module _ (n d : Float) (s t : Bool) (X Y : ℕ) (n-fits : T (fits binary64 n)) (n-value : HasValue n s X unit)
     (d-value : HasValue d t Y unit) (some : 0 < Y) where
@@ -63,19 +67,17 @@ module _ (n d : Float) (s t : Bool) (X Y : ℕ) (n-fits : T (fits binary64 n)) (
 
     above : T (n ≻ d ⊗ c) → P + downs s X * e < ups s X * e + N
     above h =
-        plain (ups s X) (downs s X) P N e unit
+        divided (downs s X) (ups s X) P N e unit
         (rounded-below binary64 (d ⊗ c) P N (unit * e) product (mul-pos unit-pos E) n (ups s X) (downs s X) unit unit-pos n-fits n-is h)
-      where
-        plain : (x y P N e L : ℕ) → P * L + y * (L * e) < x * (L * e) + N * L → P + y * e < x * e + N
-        plain x y P N e L h = lt-of-mul-lt-mul-right L {m = P + y * e} {n = x * e + N} (omega arith)
 
-    beneath : T (n ≺ d ⊗ c) → ups s X * e + N < P + downs s X * e
+    beneath : T (n ≺ d ⊗ c) → N + ups s X * e < downs s X * e + P
     beneath h =
-        plain (ups s X) (downs s X) P N e unit
-        (rounded-above binary64 (d ⊗ c) P N (unit * e) product (mul-pos unit-pos E) n (ups s X) (downs s X) unit unit-pos n-fits n-is h)
+        let l = rounded-above binary64 (d ⊗ c) P N (unit * e) product (mul-pos unit-pos E) n (ups s X) (downs s X) unit unit-pos
+        n-fits n-is h in
+        divided (ups s X) (downs s X) N P e unit (turned (ups s X * (unit * e)) (N * unit) (P * unit) (downs s X * (unit * e)) l)
       where
-        plain : (x y P N e L : ℕ) → x * (L * e) + N * L < P * L + y * (L * e) → x * e + N < P + y * e
-        plain x y P N e L h = lt-of-mul-lt-mul-right L {m = x * e + N} {n = P + y * e} (omega arith)
+        turned : (a b c d : ℕ) → a + b < c + d → b + a < d + c
+        turned a b c d h = omega arith
 
   quotient : Rounded binary64 (n ⊘ d) (signed-by t (ups s X) (downs s X) * unit) (signed-by t (downs s X) (ups s X) * unit) (Y * unit)
   quotient = div-rounded binary64 n d (ups s X) (downs s X) unit t Y unit unit-pos unit-pos some n-is d-value
@@ -113,32 +115,29 @@ module _ (n d : Float) (s t : Bool) (X Y : ℕ) (n-fits : T (fits binary64 n)) (
   start : 1 * Y < X * 32 → s ≡ not t → T (outside (n ⊘ d))
   start h e = right-of (n ⊘ d ≽ afterEnd) (n ⊘ d ≼ neg step) (at-most e h)
 
-  -- beyond both limits, or before both
+  -- on one side of both limits, the upper where r is false: past the end where n and d have one sign, else before the start
+  past : (r s t : Bool) {A : Type 0}
+      → signed-by r (ups t Y * 33 + downs t Y * 0 + downs s X * 32) (ups t Y * 0 + downs t Y * 33 + ups s X * 32)
+      < signed-by r (ups s X * 32 + (ups t Y * 0 + downs t Y * 33)) (downs s X * 32 + (ups t Y * 33 + downs t Y * 0))
+      → signed-by r (ups t Y * 0 + downs t Y * 1 + downs s X * 32) (ups t Y * 1 + downs t Y * 0 + ups s X * 32)
+      < signed-by r (ups s X * 32 + (ups t Y * 1 + downs t Y * 0)) (downs s X * 32 + (ups t Y * 0 + downs t Y * 1))
+      → (33 * Y < X * 32 → s ≡ t → A) → (1 * Y < X * 32 → s ≡ not t → A) → A
+  past false false false a b f k = f (omega arith) refl
+  past false false true a b f k = k (omega arith) refl
+  past false true false a b f k = absurd (omega arith)
+  past false true true a b f k = absurd (omega arith)
+  past true true true a b f k = f (omega arith) refl
+  past true true false a b f k = k (omega arith) refl
+  past true false true a b f k = absurd (omega arith)
+  past true false false a b f k = absurd (omega arith)
+
   beyond : T (n ≻ d ⊗ afterEnd) → T (n ≻ d ⊗ beforeStart) → T (outside (n ⊘ d))
-  beyond h g = go s t (above afterEnd 33 0 32 afterEnd-is (lit< tt) h) (above beforeStart 0 1 32 beforeStart-is (lit< tt) g) end start
-    where
-      go : (s t : Bool)
-          → ups t Y * 33 + downs t Y * 0 + downs s X * 32 < ups s X * 32 + (ups t Y * 0 + downs t Y * 33)
-          → ups t Y * 0 + downs t Y * 1 + downs s X * 32 < ups s X * 32 + (ups t Y * 1 + downs t Y * 0)
-          → (33 * Y < X * 32 → s ≡ t → T (outside (n ⊘ d))) → (1 * Y < X * 32 → s ≡ not t → T (outside (n ⊘ d)))
-          → T (outside (n ⊘ d))
-      go false false a b f k = f (omega arith) refl
-      go false true a b f k = k (omega arith) refl
-      go true false a b f k = absurd (omega arith)
-      go true true a b f k = absurd (omega arith)
+  beyond h g =
+      past false s t (above afterEnd 33 0 32 afterEnd-is (lit< tt) h) (above beforeStart 0 1 32 beforeStart-is (lit< tt) g) end start
 
   before : T (n ≺ d ⊗ afterEnd) → T (n ≺ d ⊗ beforeStart) → T (outside (n ⊘ d))
-  before h g = go s t (beneath afterEnd 33 0 32 afterEnd-is (lit< tt) h) (beneath beforeStart 0 1 32 beforeStart-is (lit< tt) g) end start
-    where
-      go : (s t : Bool)
-          → ups s X * 32 + (ups t Y * 0 + downs t Y * 33) < ups t Y * 33 + downs t Y * 0 + downs s X * 32
-          → ups s X * 32 + (ups t Y * 1 + downs t Y * 0) < ups t Y * 0 + downs t Y * 1 + downs s X * 32
-          → (33 * Y < X * 32 → s ≡ t → T (outside (n ⊘ d))) → (1 * Y < X * 32 → s ≡ not t → T (outside (n ⊘ d)))
-          → T (outside (n ⊘ d))
-      go true true a b f k = f (omega arith) refl
-      go true false a b f k = k (omega arith) refl
-      go false true a b f k = absurd (omega arith)
-      go false false a b f k = absurd (omega arith)
+  before h g =
+      past true s t (beneath afterEnd 33 0 32 afterEnd-is (lit< tt) h) (beneath beforeStart 0 1 32 beforeStart-is (lit< tt) g) end start
 
   both : T (quotientOutside n d) → T (outside (n ⊘ d))
   unfolding quotientOutside
