@@ -1,39 +1,36 @@
--- `crossing::line_line::crossing` meets its contract: each return is an end of the definition, by the calls and tests
--- on its way.
+-- `crossing::line_line::crossing` meets its contract: each return is an end of the definition, by what the range tests said of the
+-- two parameters.
+use mathlib.Core.Path.{_≡_}
+use mathlib.Core.Bool.{not, cond, _||_}
 use borrow.Author.Needs.{needs}
-use Rattle.crossing.specs.LineLine.{crossing}
+use Rattle.floats.specs.Ops.{_⊘_}
+use Rattle.crossing.specs.LineLine.{crossing, within}
+use Rattle.crossing.specs.declared.line_line_intersect.LineLineIntr.the-variants.{TrueIntersect, FalseIntersect}
 use Rattle.crossing.proofs.line_line.crossing.Statement.{statement}
 use Rattle.crossing.proofs.line_line.crossing.Tie as tie
 
-returns-3 : tie.Need-returns-3
+-- the definition, by the two perp dots
+parameters : (c : tie.After-perp-dot2) →
+    let a = c .before .before .args in
+    let t1 = c .before .perp-dot .result ⊘ a .v-pdot-u in
+    let t2 = c .perp-dot2 .result ⊘ a .v-pdot-u in
+    crossing (a .v) (a .u) (a .w) (a .v-pdot-u) (a .eps)
+    ≡ cond (not (within t1 (a .v) (a .eps)) || not (within t2 (a .u) (a .eps))) (FalseIntersect t1 t2) (TrueIntersect t1 t2)
 unfolding crossing
+parameters c = simp (← c .before .perp-dot .ensures, ← c .perp-dot2 .ensures)
+
+returns-3 : tie.Need-returns-3
 returns-3 c =
     let w = c .before .before .before in
-    simp (
-      ← w .before .before .perp-dot .ensures,
-      ← w .before .perp-dot2 .ensures,
-      ← w .within .ensures,
-      c .before .before .if1 .left,
-      ← c .before .within2 .ensures,
-      c .if2 .left,
-    )
+    simp (parameters (w .before), ← w .within .ensures, c .before .before .if1 .left, ← c .before .within2 .ensures, c .if2 .left)
 
 pub crossing-spec : {M : Type 1} → statement M
-unfolding crossing
 crossing-spec =
     tie.close
     (tie.spec
     (search needs) (search needs) (search needs)
-    (λ c. let p = c .before .before in
-    simp (← p .before .perp-dot .ensures, ← p .perp-dot2 .ensures, ← c .before .within .ensures, c .if1 .taken))
+    (λ c. simp (parameters (c .before .before), ← c .before .within .ensures, c .if1 .taken))
     (search needs)
     (λ c. let w = c .before .before .before in
-    simp (
-      ← w .before .before .perp-dot .ensures,
-      ← w .before .perp-dot2 .ensures,
-      ← w .within .ensures,
-      c .before .before .if1 .left,
-      ← c .before .within2 .ensures,
-      c .if2 .taken,
-    ))
+    simp (parameters (w .before), ← w .within .ensures, c .before .before .if1 .left, ← c .before .within2 .ensures, c .if2 .taken))
     returns-3)
