@@ -2,19 +2,20 @@
 -- a shut name, of which it is known that it is above zero.
 use mathlib.Core.Path.{_≡_, refl, sym, ap, subst}
 use Prim.Native.Nat.{ℕ, _+_, _-_, _*_, _^_, _≤_, _<_}
-use native.Mathlib.Nat.{lt-of-mul-lt-mul-right}
+use native.Mathlib.Nat.{mul-pos, mul-le-mul-right, lt-of-mul-lt-mul-right}
 use native.Mathlib.Omega.{arith}
 use mathlib.Core.Bool.{Bool, false}
 use lib.Dec.{T}
 use lib.Pow.{pow-pos}
-use lib.Ieee.{Float, binary64, low, ofBits, fits, le}
+use lib.Ieee.{Float, binary64, low, ofBits, fits, le, add, mul}
+use lib.Ieee.Bits.{ofBits-fits}
 use lib.Ieee.Exact.{HasValue}
 use lib.Ieee.Scale.{finite}
 use Rattle.float_laws.specs.Signed.{Diff, SizeOf, Units, units-of, size-above, diff-finite}
-use Rattle.float_laws.specs.Order.{le-diff}
+use Rattle.float_laws.specs.Order.{le-diff, le-over}
 use Rattle.float_laws.specs.Chains.{between-finite}
-use Rattle.float_laws.specs.Rounded.{Rounded}
-use Rattle.float_laws.specs.Roundings.{Near, Sized, rounded-near, rounded-size}
+use Rattle.float_laws.specs.Rounded.{Rounded, add-over, mul-rounded}
+use Rattle.float_laws.specs.Roundings.{Near, Sized, rounded-ge, rounded-near, rounded-size}
 
 pub unit : ℕ
 unit = 2 ^ low binary64
@@ -36,6 +37,25 @@ zero-finite = diff-finite (ofBits binary64 0) 0 0 unit zero-is
 
 pub units64 : (x : Float) → T (finite x) → T (fits binary64 x) → Units unit x
 units64 x t h = subst (λ (L : ℕ). Units L x) (sym unit-is) (units-of binary64 x t h)
+
+-- what is not below zero makes a product that is not, and takes nothing away as a summand: the exact results say so, and their
+-- roundings do not cross a float
+pub mul-least : (x y : Float) (p n q : ℕ) → Diff x p n unit → Diff y q 0 unit → n ≤ p → T (le (ofBits binary64 0) (mul binary64 x y))
+mul-least x y p n q a b l =
+    rounded-ge binary64 (mul binary64 x y) _ _ (unit * unit) (mul-rounded binary64 x y p n q 0 unit unit unit-pos unit-pos a b)
+    (mul-pos unit-pos unit-pos) (ofBits binary64 0) 0 0 unit unit-pos (ofBits-fits binary64 0) zero-is (plain unit)
+  where
+    plain : (L : ℕ) → 0 * (L * L) + (p * 0 + n * q) * L ≤ (p * q + n * 0) * L + 0 * (L * L)
+    plain L = omega (arith, mul-le-mul-right (q * L) l)
+
+pub add-least : (x y : Float) (p n q k : ℕ) → T (fits binary64 y) → Diff x p n unit → Diff y q k unit → T (le (ofBits binary64 0) x)
+    → T (le y (add binary64 x y))
+add-least x y p n q k fit a b l =
+    rounded-ge binary64 (add binary64 x y) _ _ unit (add-over binary64 x y p n q k unit unit-pos a b) unit-pos y q k unit unit-pos fit b
+    (plain unit (le-over (ofBits binary64 0) x 0 0 p n unit unit-pos zero-is a .0 l))
+  where
+    plain : (L : ℕ) → 0 + n ≤ p + 0 → q * L + (n + k) * L ≤ (p + q) * L + k * L
+    plain L x = omega (arith, mul-le-mul-right L x)
 
 -- up to 2 ^ k in size: within 2 ^ k / 2 ^ 54
 pub near64 : (r : Float) (P N c k : ℕ) → Rounded binary64 r P N c → 0 < c → P ≤ N + 2 ^ k * c → N ≤ P + 2 ^ k * c → k ≤ 1023

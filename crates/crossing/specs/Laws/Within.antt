@@ -21,7 +21,18 @@ use Rattle.float_laws.specs.Order.{lt-over, le-over, le-diff}
 use Rattle.float_laws.specs.Chains.{le-not-lt, lt-le, between-finite, from-above, from-below}
 use Rattle.float_laws.specs.Rounded.{Rounded, add-over, add-count, mul-rounded, mul-count}
 use Rattle.float_laws.specs.Roundings.{Near, rounded-le, rounded-ge}
-use Rattle.float_laws.specs.Binary64.{unit, unit-pos, zero-is, zero-finite, units64, near64, Between, between64}
+use Rattle.float_laws.specs.Binary64.{
+  unit,
+  unit-pos,
+  zero-is,
+  zero-finite,
+  units64,
+  mul-least,
+  add-least,
+  near64,
+  Between,
+  between64,
+}
 use Rattle.floats.specs.Ops.{_⊕_, _⊗_, _≼_, _≽_, f0}
 use Rattle.floats.specs.F64
 use Rattle.floats.specs.Laws.RootBeside.{root-fits}
@@ -178,22 +189,10 @@ module _ (e : Float) (E : ℕ) (e-fits : T (fits binary64 e)) (e-value : HasValu
     after-start : T (fuzzyGtEps (t ⊗ len) f0 e)
     after-start =
         let m = m-near in
-        let zero-le = rounded-ge binary64 (t ⊗ len) _ _ (unit * unit) product (mul-pos unit-pos unit-pos) f0 0 0 unit unit-pos
-        (ofBits-fits binary64 0) zero-is
-        (scaled p n R unit lo) in
-        let above = le-over f0 (t ⊗ len) 0 0 (m .p) (m .n) unit unit-pos zero-is (m .is) .0 zero-le in
-        let s = add-over binary64 (t ⊗ len) e (m .p) (m .n) E 0 unit unit-pos (m .is) e-is in
-        let more = rounded-ge binary64 (t ⊗ len ⊕ e) _ _ unit s unit-pos e E 0 unit unit-pos e-fits e-is
-        (added (m .p) (m .n) E unit above) in
-        let positive = lt-over f0 e 0 0 E 0 unit unit-pos zero-is e-is .1 (plain E e-some) in
-        lt-le f0 e (t ⊗ len ⊕ e) positive more
+        let least = mul-least t len p n R t-is len-is (omega arith) in
+        lt-le f0 e (t ⊗ len ⊕ e) (lt-over f0 e 0 0 E 0 unit unit-pos zero-is e-is .1 (plain E e-some))
+        (add-least (t ⊗ len) e (m .p) (m .n) E 0 e-fits (m .is) e-is least)
       where
-        scaled : (p n R L : ℕ) → 0 + n ≤ p + 0 → 0 * (L * L) + (p * 0 + n * R) * L ≤ (p * R + n * 0) * L + 0 * (L * L)
-        scaled p n R L x = omega (arith, mul-le-mul-right (R * L) x)
-
-        added : (p n E L : ℕ) → 0 + n ≤ p + 0 → E * L + (n + 0) * L ≤ (p + E) * L + 0 * L
-        added p n E L x = omega (arith, mul-le-mul-right L x)
-
         plain : (E : ℕ) → 0 < E → 0 + 0 < E + 0
         plain E h = omega arith
 
