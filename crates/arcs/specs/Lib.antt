@@ -1,3 +1,4 @@
+-- The sweep of an arc, which points lie on it, and what it shares with a line or with another arc; then laws.
 pub mod ArcSweep
 pub mod ArcGeometry
 pub mod LineAndArc

@@ -1,4 +1,4 @@
--- How an answer goes to a caller in C: a number is returned, and four numbers stand in the lent slice where there is an answer.
+-- How an answer goes to a caller in C, settled here: a number is returned, and of an answer four numbers stand in the lent slice.
 use Prim.Native.Nat.{ℕ, _+_}
 use mathlib.Core.Path.{_≡_}
 use mathlib.Core.Bool.{Bool, true, false, cond, _||_}

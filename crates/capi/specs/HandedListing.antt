@@ -1,5 +1,5 @@
--- How a listing goes to a caller in C: a number is returned, the two counts stand in a third lent slice, and the rows in the two
--- slices that the listing was lent.
+-- How a listing goes to a caller in C, settled here: a number is returned, the two counts stand in a third lent slice, and
+-- the rows in the two slices that the listing was lent.
 use Prim.Native.Nat.{ℕ, _+_}
 use mathlib.Core.Path.{_≡_}
 use mathlib.Core.Bool.{Bool, cond}

@@ -1,4 +1,4 @@
--- The steps of a chain of checks, after a check f: the first fault of f and of what is looked at next.
+-- The steps of a chain of checks in the scope's order, after a check f: the first fault of f and of what is looked at next.
 use Prim.Native.Nat.{ℕ}
 use lib.Ieee.{Float}
 use Rattle.checks.specs.declared.fault.Place.{Place}

@@ -1,4 +1,4 @@
--- A fault and its place, what a check answers, and the first fault of two checks.
+-- A fault, by the scope's number of its refusal, and its place; what a check answers, and the first fault of two checks.
 use Prim.Native.Nat.{ℕ}
 use mathlib.Core.Bool.{Bool, cond}
 use Rattle.checks.specs.declared.fault.Item.{Item}

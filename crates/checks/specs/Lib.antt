@@ -1,3 +1,4 @@
+-- The numbers that are refused: definitions from the refusals' numbers up to lists of checks, and what is proved of them.
 pub mod Refusal
 pub mod Limit
 pub mod Fault

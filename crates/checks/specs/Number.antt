@@ -1,4 +1,4 @@
--- The tests of one number. A NaN is `isNan`'s of the library: it is the value `nan`.
+-- The tests of one number that the scope's table of refusals names. A NaN is `isNan`'s of the library: it is the value `nan`.
 use mathlib.Core.Bool.{Bool, true, false, _||_}
 use lib.Ieee.{Float, nan, inf, fin, isNan}
 use Rattle.floats.specs.Ops.{_≺_, _≻_}

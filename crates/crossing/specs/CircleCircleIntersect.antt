@@ -1,4 +1,4 @@
--- The call of src/circle_circle_intersect.rt: its numbers are looked at first, and the first fault is its answer.
+-- The call of src/circle_circle_intersect.rt: it looks at its numbers first, in the scope's order; the first fault is its answer.
 use mathlib.Core.Bool.{true, false}
 use mathlib.Core.List.{List, [], _∷_, _++_}
 use lib.Ieee.{Float}

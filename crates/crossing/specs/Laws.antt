@@ -1,3 +1,4 @@
+-- Laws that only proofs need. Within, Apart, Nested and FarLine also define the four tests of src/shortcuts.rt.
 pub mod Answers
 pub mod Bulges
 pub mod Order

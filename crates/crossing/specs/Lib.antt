@@ -1,3 +1,4 @@
+-- The three kernels, the pair over them, and the four calls with their refusals; then what is proved of the calls, and laws.
 pub mod LineLine
 pub mod LineCircle
 pub mod CircleCircle

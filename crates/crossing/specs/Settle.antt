@@ -1,4 +1,4 @@
--- What a call answers, by what the look at its numbers found: a fault's number alone, or where there is none what was worked out.
+-- What a call answers, by what the look found: a fault's number alone, as the scope says, or else what was worked out.
 use Prim.Native.Nat.{ℕ}
 use Rattle.checks.specs.declared.fault.Checked.{Checked}
 use Rattle.checks.specs.declared.fault.Checked.the-variants.{Fine, Bad}

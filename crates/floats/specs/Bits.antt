@@ -1,4 +1,4 @@
--- What `floats::bits::abs`, `min`, `max` and `sqrt` answer, for every pattern of 64 bits, those of NaNs included.
+-- What `floats::bits::abs`, `min`, `max` and `sqrt` answer, for every pattern of 64 bits, those of NaNs by the scope's rules.
 -- A reader believes this file. Agree.antt proves that the value of each answer is what F64.antt says of the operands' values.
 use Prim.Native.Nat.{ℕ, _%_, _^_}
 use mathlib.Core.Bool.{Bool, cond}

@@ -1,3 +1,4 @@
+-- How f64 arithmetic is written, and the four float functions on values and on patterns; then what is proved of them, and laws.
 pub mod Ops
 pub mod F64
 pub mod Bits

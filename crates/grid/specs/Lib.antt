@@ -1,3 +1,4 @@
+-- The promise on the plant's grid: its statement first, its proof last, and between them what the proof goes by.
 pub mod Promise
 pub mod Plane
 pub mod Floats

@@ -1,3 +1,4 @@
+-- What two segments between grid points share, over whole numbers: laws for the promise's proof.
 pub mod Whole
 pub mod Ring
 pub mod Order

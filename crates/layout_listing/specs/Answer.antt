@@ -1,5 +1,5 @@
--- The answer of the program `crossings` to a text: "refused 10" where the text breaks its form, else the listing of its two paths,
--- both open, with epsilon 1/1024 and room for 512 rows.
+-- The answer of the scope's text program, `crossings`, to a text: "refused 10" where it breaks its form, else the listing of its
+-- two paths, both open, with epsilon 1/1024 and room for 512 rows.
 use Prim.Native.Nat.{ℕ}
 use mathlib.Core.Bool.{false}
 use mathlib.Core.List.{List}

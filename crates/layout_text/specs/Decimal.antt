@@ -1,4 +1,4 @@
--- A whole number in decimal digits, as bytes: no zero in front, no sign; 0 is one digit.
+-- A whole number in decimal digits, as bytes, in the scope's form: no zero in front, no sign; 0 is one digit.
 use Prim.Native.Nat.{ℕ, zero, suc, _+_, _/_, _%_}
 use mathlib.Core.Bool.{Bool, true, false}
 use mathlib.Core.List.{List, [], _∷_, _++_}

@@ -1,3 +1,4 @@
+-- A layout, its limits and its text, and what the reader promises; beside them the reader's own form, theorems and examples.
 pub mod Limits
 pub mod Layout
 pub mod Decimal

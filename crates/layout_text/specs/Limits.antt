@@ -1,4 +1,4 @@
--- What the numbers of a layout may be, and how much of it there may be. Every form in which a layout is stored has these.
+-- The scope's limits on texts: a layout's numbers, and how much of it there may be. Every form in which it is stored has these.
 use Prim.Native.Nat.{ℕ}
 
 -- the largest magnitude of x and of y

@@ -1,4 +1,4 @@
--- What the reader promises: its answer, and what stands in both buffers after it, for every text and every two buffers.
+-- What the reader of the scope's texts promises: its answer, and what stands in both buffers after it, for any text and buffers.
 use Prim.Native.Nat.{ℕ}
 use mathlib.Core.Path.{_≡_}
 use mathlib.Core.Bool.{Bool, _||_, cond}

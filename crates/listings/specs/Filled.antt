@@ -1,4 +1,4 @@
--- The front part of float rows.
+-- The front part of float rows: the scope's second call.
 use mathlib.Core.Bool.{cond}
 use mathlib.Core.List.{List, []}
 use Prim.Native.Nat.{ℕ, _*_, _/_}

@@ -1,3 +1,4 @@
+-- Laws that only proofs need: from the loop that fills rows up to the outcome of a listing.
 pub mod Job
 pub mod Sequence
 pub mod Order

@@ -1,3 +1,4 @@
+-- Rows, the order of pairs, what a pair gives, and the listings made of them; then what is proved of them, and laws.
 pub mod Row
 pub mod Order
 pub mod Rows

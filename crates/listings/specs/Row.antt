@@ -1,4 +1,4 @@
--- A row of a listing, its numbers in the two lent slices, and the row that a pair of segments makes.
+-- A row of a listing, its numbers in the two lent slices, and the row that a pair of segments makes by the scope's row rule.
 use mathlib.Core.List.{List, [], _∷_, _++_}
 use Prim.Native.Nat.{ℕ, zero, suc}
 use lib.Ieee.{Float}

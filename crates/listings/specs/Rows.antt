@@ -1,4 +1,4 @@
--- The rows of a sequence of pairs, and how many of the pairs are looked at, over any `look` that says what a pair gives.
+-- The scope's row rule: the rows of a sequence of pairs, and how many are looked at, over any `look` that says what a pair gives.
 use mathlib.Core.List.{List, [], _∷_}
 use Prim.Native.Nat.{ℕ, suc}
 use Rattle.listings.specs.declared.row.Row.{Row}

@@ -1,4 +1,5 @@
-// A listing of two looked-at paths into the caller's slices, if all rows fit.
+// A listing of two looked-at paths into the caller's slices, if all rows fit. Refusal 8 is decided here and nowhere else: it is
+// answered if there are more rows than both slices have room for, and then nothing is written.
 ghost use Rattle.listings.specs.Look;
 ghost use Rattle.listings.specs.Rows;
 ghost use Rattle.listings.specs.Listing;

@@ -1,3 +1,4 @@
+-- A lent path: its vertices, shape and segments, the check of its numbers, the view; theorems beside them, and laws.
 pub mod Path
 pub mod Shape
 pub mod Segments

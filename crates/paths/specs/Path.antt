@@ -1,4 +1,4 @@
--- What the numbers of a lent path stand for: x, y and bulge of one vertex after the other.
+-- What the numbers of a path stand for, as the scope has it lent: x, y and bulge of one vertex after the other.
 use mathlib.Core.List.{List}
 use Prim.Native.Nat.{ℕ, _+_, _*_, _/_}
 use lib.ListN.{length, getD}

@@ -1,4 +1,4 @@
--- The segments of a lent path.
+-- The segments of a lent path, by the scope's part on paths.
 use mathlib.Core.Bool.{Bool, cond}
 use mathlib.Core.List.{List}
 use Prim.Native.Nat.{ℕ, _+_, _-_}

@@ -1,4 +1,4 @@
--- What a lent slice is looked at for before its numbers are. The place tells the path and that it is its length.
+-- The scope's 6 and 7: what a lent slice is looked at for before its numbers. The place tells the path and that it is its length.
 use mathlib.Core.Bool.{Bool, not, _||_}
 use mathlib.Core.List.{List}
 use Prim.Native.Nat.{ℕ, _%_}

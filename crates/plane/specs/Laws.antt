@@ -1,1 +1,2 @@
+-- Laws that only proofs need.
 pub mod Near

@@ -1,1 +1,2 @@
+-- How the functions of plane are lent to C for the comparison.
 pub mod Numbers
