@@ -6,7 +6,6 @@ use Prim.Native.Nat.{ℕ, _+_, _*_, _^_, _≤_, _<_}
 use native.Mathlib.Omega.{arith}
 use lib.IntN.{ℤ, pos, natAbs, _+ℤ_, _-ℤ_, _*ℤ_}
 use lib.Ieee.{Float}
-use Rattle.float_laws.specs.Roundings.{Near}
 use Rattle.float_laws.specs.Binary64.{unit, unit-pos}
 use Rattle.floats.specs.Ops.{_⊘_}
 use Rattle.plane.specs.Vector2 as vector2
@@ -21,17 +20,17 @@ use Rattle.grid.specs.Plane.Whole.{diff, naturals}
 use Rattle.grid.specs.Plane.Sides.{way, across, first, second, parallel-across}
 use Rattle.grid.specs.Plane.Cross.{Between, Placed, base, steps-v, steps-u, meeting, meeting-v, meeting-u}
 use Rattle.grid.specs.Plane.Beyond.{long}
-use Rattle.grid.specs.Plane.Parts.{quotient, between-parts, reached-parts, within-parts}
+use Rattle.grid.specs.Plane.Parts.{between-parts, reached-parts, within-parts}
 use Rattle.grid.specs.Plane.Keeps.{slanted-none, slanted-one}
 use Rattle.grid.specs.Floats.Small.{Vec, vec-sub, perp}
 use Rattle.grid.specs.Floats.Zero.{Eps}
-use Rattle.grid.specs.Floats.Length.{gap}
+use Rattle.grid.specs.Floats.Length.{gap, square}
 use Rattle.grid.specs.Floats.Reach.{Reaches}
 use Rattle.grid.specs.Floats.Ratio.{Ratio}
-use Rattle.grid.specs.Floats.Point.{point-x, point-y}
+use Rattle.grid.specs.Floats.Point.{Beside, point}
 use Rattle.grid.specs.Floats.Crossing as crossed
-use Rattle.grid.specs.Floats.Crossing.{square, square-is, long-first, Inside, Crossed, crossing-says}
-use Rattle.grid.specs.Joined.{At, way-at, cross-at, zero-at, size-gap, diff-is}
+use Rattle.grid.specs.Floats.Crossing.{Inside, Crossed, crossing-says}
+use Rattle.grid.specs.Joined.{At, way-at, cross-at, zero-at, size-gap, place-at, diff-is}
 
 -- ---- naturals that are the same
 nearer : (j S S' D D' num den : ℕ) → S ≡ S' → D ≡ D' → j * j * S * (den * den) < 4 * (num * num * (D * D))
@@ -59,7 +58,7 @@ reach P a b m S p n D num den h e f g r =
 
 -- a coordinate near x + way * m / base
 coordinate : (c : Float) (x w m : ℤ) (k a b wp wn p n D : ℕ) → x ≡ diff a b → w ≡ diff wp wn → m ≡ diff p n → k ≡ D
-    → Near unit c (a * D + (wp * p + wn * n)) (b * D + (wp * n + wn * p)) D 1 (2 ^ 30)
+    → Beside c a b wp wn p n D
     → Within c (x *ℤ pos k +ℤ w *ℤ m) k
 coordinate c x w m k a b wp wn p n D e f g h r =
     subst (λ (z : ℕ). Within c (x *ℤ pos z +ℤ w *ℤ m) z) (sym h)
@@ -125,29 +124,33 @@ module _ (e : Float) (num den : ℕ) (h : Eps e num den)
     slant par =
         apart (zero-at (across p1 p2 q1 q2) (perp v u F G .p) (perp v u F G .n) across-is .0 (parallel-across p1 p2 q1 q2 par))
 
-    R1 : Ratio (vector2.perpDot u w ⊘ vector2.perpDot v u) 44
-        (perp u w G H .p) (perp u w G H .n) (perp v u F G .p) (perp v u F G .n)
+    R1 : Ratio 44 (vector2.perpDot u w ⊘ vector2.perpDot v u) (perp u w G H .p) (perp u w G H .n) (perp v u F G .p) (perp v u F G .n)
     R1 = crossed.first e num den h v u w F G H apart
 
-    R2 : Ratio (vector2.perpDot v w ⊘ vector2.perpDot v u) 44
-        (perp v w F H .p) (perp v w F H .n) (perp v u F G .p) (perp v u F G .n)
+    R2 : Ratio 44 (vector2.perpDot v w ⊘ vector2.perpDot v u) (perp v w F H .p) (perp v w F H .n) (perp v u F G .p) (perp v u F G .n)
     R2 = crossed.second e num den h v u w F G H apart
 
-    place-v : (base p1 p2 q1 q2 ≡ R1 .D) × (steps-v p1 p2 q1 q2 ≡ diff (R1 .P) (R1 .N))
-    place-v =
-        quotient (across p1 p2 q1 q2) (first p1 p2 q1 q2) (perp v u F G .p) (perp v u F G .n) (perp u w G H .p) (perp u w G H .n)
-        (R1 .P) (R1 .N) (R1 .D) across-is first-is (R1 .some) (R1 .turned)
+    abbrev D : ℕ
+    D = gap (perp v u F G .p) (perp v u F G .n)
 
-    place-u : (base p1 p2 q1 q2 ≡ R2 .D) × (steps-u p1 p2 q1 q2 ≡ diff (R2 .P) (R2 .N))
+    base-is : base p1 p2 q1 q2 ≡ D
+    base-is = size-gap (across p1 p2 q1 q2) (perp v u F G .p) (perp v u F G .n) across-is
+
+    place-v : steps-v p1 p2 q1 q2 ≡ diff (R1 .P) (R1 .N)
+    place-v =
+        place-at (across p1 p2 q1 q2) (first p1 p2 q1 q2) (perp v u F G .p) (perp v u F G .n) (perp u w G H .p) (perp u w G H .n)
+        (R1 .P) (R1 .N) across-is first-is (R1 .place .some) (R1 .turned)
+
+    place-u : steps-u p1 p2 q1 q2 ≡ diff (R2 .P) (R2 .N)
     place-u =
-        quotient (across p1 p2 q1 q2) (second p1 p2 q1 q2) (perp v u F G .p) (perp v u F G .n) (perp v w F H .p) (perp v w F H .n)
-        (R2 .P) (R2 .N) (R2 .D) across-is second-is (R2 .some) (R2 .turned)
+        place-at (across p1 p2 q1 q2) (second p1 p2 q1 q2) (perp v u F G .p) (perp v u F G .n) (perp v w F H .p) (perp v w F H .n)
+        (R2 .P) (R2 .N) across-is second-is (R2 .place .some) (R2 .turned)
 
     inside : (m : ℤ) (k p n D : ℕ) → k ≡ D → m ≡ diff p n → Between m k → Inside p n D
     inside m k p n D f g x = between-parts p n D .0 (subst (λ (z : ℤ). Between z D) g (subst (λ (z : ℕ). Between m z) f x))
 
     says : Crossed (crossing v u w (vector2.perpDot v u) e) (square v F) (square u G) num den
-        (R1 .P) (R1 .N) (R1 .D) (R2 .P) (R2 .N) (R2 .D)
+        (R1 .P) (R1 .N) D (R2 .P) (R2 .N) D
         (vector2.perpDot u w ⊘ vector2.perpDot v u) (vector2.perpDot v w ⊘ vector2.perpDot v u)
     unfolding R1 R2
     says = crossing-says e num den h v u w F G H apart
@@ -165,29 +168,29 @@ module _ (e : Float) (num den : ℕ) (h : Eps e num den)
         not-both r x y = let z : _≡_ {A = ℕ} 0 1 = cc in omega arith
 
         go : (r : LineLineIntr)
-            → ((r ≡ TrueIntersect t1 t2) × Reaches (square v F) num den (R1 .P) (R1 .N) (R1 .D)
-            × Reaches (square u G) num den (R2 .P) (R2 .N) (R2 .D))
+            → ((r ≡ TrueIntersect t1 t2) × Reaches (square v F) num den (R1 .P) (R1 .N) D
+            × Reaches (square u G) num den (R2 .P) (R2 .N) D)
             ⊎ (r ≡ FalseIntersect t1 t2)
-            → (Inside (R1 .P) (R1 .N) (R1 .D) → Inside (R2 .P) (R2 .N) (R2 .D) → r ≡ TrueIntersect t1 t2)
+            → (Inside (R1 .P) (R1 .N) D → Inside (R2 .P) (R2 .N) D → r ≡ TrueIntersect t1 t2)
             → Kept p1 p2 q1 q2 num den (lineLineOf r v1 v2 u1 u2)
         go r (inr x) y =
             subst (λ (z : LineLineIntr). Kept p1 p2 q1 q2 num den (lineLineOf z v1 v2 u1 u2)) (sym x)
             (slanted-none p1 p2 q1 q2 slant num den
             (λ a b. not-both r x (y
-            (inside (steps-v p1 p2 q1 q2) (base p1 p2 q1 q2) (R1 .P) (R1 .N) (R1 .D) (place-v .0) (place-v .1) a)
-            (inside (steps-u p1 p2 q1 q2) (base p1 p2 q1 q2) (R2 .P) (R2 .N) (R2 .D) (place-u .0) (place-u .1) b))))
+            (inside (steps-v p1 p2 q1 q2) (base p1 p2 q1 q2) (R1 .P) (R1 .N) D base-is place-v a)
+            (inside (steps-u p1 p2 q1 q2) (base p1 p2 q1 q2) (R2 .P) (R2 .N) D base-is place-u b))))
         go r (inl (x, r1, r2)) y =
+            let near = point e num den h v1 v2 A1 A2 (crossed.long-v e num den h v u w F G H apart .some)
+            t1 (R1 .P) (R1 .N) D (R1 .place) r1 in
             subst (λ (z : LineLineIntr). Kept p1 p2 q1 q2 num den (lineLineOf z v1 v2 u1 u2)) (sym x)
             (slanted-one p1 p2 q1 q2 slant num den (pointFromParametric v1 v2 t1)
-            (reach (meeting p1 p2 q1 q2 slant) p1 p2 (steps-v p1 p2 q1 q2) (square v F) (R1 .P) (R1 .N) (R1 .D) num den
-            (meeting-v p1 p2 q1 q2 slant) (place-v .1) (place-v .0) (square-long v F p1 p2 v-at) r1)
-            (reach (meeting p1 p2 q1 q2 slant) q1 q2 (steps-u p1 p2 q1 q2) (square u G) (R2 .P) (R2 .N) (R2 .D) num den
-            (meeting-u p1 p2 q1 q2 slant) (place-u .1) (place-u .0) (square-long u G q1 q2 u-at) r2)
+            (reach (meeting p1 p2 q1 q2 slant) p1 p2 (steps-v p1 p2 q1 q2) (square v F) (R1 .P) (R1 .N) D num den
+            (meeting-v p1 p2 q1 q2 slant) place-v base-is (square-long v F p1 p2 v-at) r1)
+            (reach (meeting p1 p2 q1 q2 slant) q1 q2 (steps-u p1 p2 q1 q2) (square u G) (R2 .P) (R2 .N) D num den
+            (meeting-u p1 p2 q1 q2 slant) place-u base-is (square-long u G q1 q2 u-at) r2)
             (coordinate (pointFromParametric v1 v2 t1 .x) (p1 .x) (p2 .x -ℤ p1 .x) (steps-v p1 p2 q1 q2) (base p1 p2 q1 q2)
-            (A1 .x .p) (A1 .x .n) (F .x .p) (F .x .n) (R1 .P) (R1 .N) (R1 .D) (a1 .at-x) (v-at .at-x) (place-v .1) (place-v .0)
-            (point-x e num den h v1 v2 A1 A2 (square v F) (square-is v F) (long-first v u F G apart)
-            t1 (R1 .P) (R1 .N) (R1 .D) (R1 .rounded) (R1 .some) r1))
+            (A1 .x .p) (A1 .x .n) (F .x .p) (F .x .n) (R1 .P) (R1 .N) D (a1 .at-x) (v-at .at-x) place-v base-is
+            (near .0))
             (coordinate (pointFromParametric v1 v2 t1 .y) (p1 .y) (p2 .y -ℤ p1 .y) (steps-v p1 p2 q1 q2) (base p1 p2 q1 q2)
-            (A1 .y .p) (A1 .y .n) (F .y .p) (F .y .n) (R1 .P) (R1 .N) (R1 .D) (a1 .at-y) (v-at .at-y) (place-v .1) (place-v .0)
-            (point-y e num den h v1 v2 A1 A2 (square v F) (square-is v F) (long-first v u F G apart)
-            t1 (R1 .P) (R1 .N) (R1 .D) (R1 .rounded) (R1 .some) r1)))
+            (A1 .y .p) (A1 .y .n) (F .y .p) (F .y .n) (R1 .P) (R1 .N) D (a1 .at-y) (v-at .at-y) place-v base-is
+            (near .1)))

@@ -3,10 +3,10 @@
 pub mod Small
 pub mod Zero
 pub mod Length
+pub mod Ratio
 pub mod Reach
 pub mod Range
 pub mod Point
-pub mod Ratio
 pub mod Crossing
 pub mod Span
 pub mod Shared

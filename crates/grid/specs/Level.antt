@@ -42,11 +42,12 @@ use Rattle.grid.specs.Plane.Keeps.{
 }
 use Rattle.grid.specs.Floats.Small.{Vec, vec-sub, perp}
 use Rattle.grid.specs.Floats.Zero.{Eps}
-use Rattle.grid.specs.Floats.Length.{gap}
+use Rattle.grid.specs.Floats.Length.{gap, IsZero}
+use Rattle.grid.specs.Floats.Ratio.{Ratio}
 use Rattle.grid.specs.Floats.Span.{Which}
 use Rattle.grid.specs.Floats.Overlap.{Overlapped}
 use Rattle.grid.specs.Floats.Parallel as level
-use Rattle.grid.specs.Floats.Parallel.{IsZero, Placed, PointOn, PointAt, Spanned, point-or-not}
+use Rattle.grid.specs.Floats.Parallel.{PointOn, PointAt, Spanned, point-or-not}
 use Rattle.grid.specs.Joined.{At, way-at, zero-at, point-at, size-gap, place-at}
 use Rattle.grid.specs.Crossed.{across-is, first-is, second-is}
 
@@ -167,24 +168,6 @@ module _ (a b : ℤ) (P0 N0 P1 N1 D : ℕ) (e : a ≡ diff P0 N0) (f : b ≡ dif
           more-of (c .lower) (c .upper),
         ))
 
--- the places of v's ends along u
-marks : (d x z : ℤ) (xp xn zp zn dp dn : ℕ) → d ≡ diff dp dn → x ≡ diff xp xn → z ≡ diff zp zn
-    → (r : LineLineIntr) (s : Spanned r xp xn zp zn dp dn)
-    → (turned d x ≡ diff (s .P0) (s .N0)) × (turned d z ≡ diff (s .P1) (s .N1))
-marks d x z xp xn zp zn dp dn e f g r s = go (s .turned)
-  where
-    go : ((dn ≤ dp) × (s .P0 ≡ xp) × (s .N0 ≡ xn) × (s .P1 ≡ zp) × (s .N1 ≡ zn))
-        ⊎ ((dp ≤ dn) × (s .P0 ≡ xn) × (s .N0 ≡ xp) × (s .P1 ≡ zn) × (s .N1 ≡ zp))
-        → (turned d x ≡ diff (s .P0) (s .N0)) × (turned d z ≡ diff (s .P1) (s .N1))
-    go (inl (l, i, j, k, m)) = (
-      place-at d x dp dn xp xn (s .P0) (s .N0) e f (s .some) (inl (l, i, j)),
-      place-at d z dp dn zp zn (s .P1) (s .N1) e g (s .some) (inl (l, k, m)),
-    )
-    go (inr (l, i, j, k, m)) = (
-      place-at d x dp dn xp xn (s .P0) (s .N0) e f (s .some) (inr (l, i, j)),
-      place-at d z dp dn zp zn (s .P1) (s .N1) e g (s .some) (inr (l, k, m)),
-    )
-
 -- ---- a grid point beside a segment: one exactly if its place is from 0 to 1
 module _ (v1 v2 u1 u2 : Vector2) (r : LineLineIntr) (s t : Float) where
   point-told : (m : ℤ) (k P N D : ℕ) → m ≡ diff P N → k ≡ D → PointOn r (TrueIntersect s t) P N D
@@ -204,22 +187,26 @@ module _ (v1 v2 u1 u2 : Vector2) (r : LineLineIntr) (s t : Float) where
       go (inr (x, y)) = inl (ap (λ (z : LineLineIntr). lineLineOf z v1 v2 u1 u2) x, λ z. y (there .0 z))
 
   -- along one axis: a point at o from the start of a segment that goes d
-  beside-told : (d o : ℤ) (dp dn op on : ℕ) → d ≡ diff dp dn → o ≡ diff op on → (place : Float) (k : Placed place op on dp dn)
+  beside-told : (d o : ℤ) (dp dn op on : ℕ) → d ≡ diff dp dn → o ≡ diff op on → (place : Float) (k : Ratio 21 place op on dp dn)
       → PointOn r (TrueIntersect s t) (k .P) (k .N) (gap dp dn)
       → ToldIf (Between (turned d o) (natAbs d)) (lineLineOf r v1 v2 u1 u2)
   beside-told d o dp dn op on e f place k =
       point-told (turned d o) (natAbs d) (k .P) (k .N) (gap dp dn)
-      (place-at d o dp dn op on (k .P) (k .N) e f (k .some) (k .turned)) (size-gap d dp dn e)
+      (place-at d o dp dn op on (k .P) (k .N) e f (k .place .some) (k .turned)) (size-gap d dp dn e)
 
 -- along one axis: a segment from x to z, along one that goes d from 0
 along-told : (v1 v2 u1 u2 : Vector2) (r : LineLineIntr) (d x z : ℤ) (xp xn zp zn dp dn : ℕ)
     → d ≡ diff dp dn → x ≡ diff xp xn → z ≡ diff zp zn → Spanned r xp xn zp zn dp dn → (turned d x ≡ turned d z → ⊥)
     → ToldBySpans (turned d x) (turned d z) (natAbs d) (lineLineOf r v1 v2 u1 u2)
 along-told v1 v2 u1 u2 r d x z xp xn zp zn dp dn e f g s apart =
-    let m = marks d x z xp xn zp zn dp dn e f g r s in
+    let i = s .start in
+    let j = s .stop in
+    let k = s .ends in
     subst (λ (k : ℕ). ToldBySpans (turned d x) (turned d z) k (lineLineOf r v1 v2 u1 u2)) (sym (size-gap d dp dn e))
-    (spans-told (turned d x) (turned d z) (s .P0) (s .N0) (s .P1) (s .N1) (gap dp dn) (m .0) (m .1)
-    (s .Pl) (s .Nl) (s .Ph) (s .Nh) (s .rises) (s .which) v1 v2 u1 u2 r apart (s .answer))
+    (spans-told (turned d x) (turned d z) (i .P) (i .N) (j .P) (j .N) (gap dp dn)
+    (place-at d x dp dn xp xn (i .P) (i .N) e f (i .place .some) (i .turned))
+    (place-at d z dp dn zp zn (j .P) (j .N) e g (j .place .some) (j .turned))
+    (k .Pl) (k .Nl) (k .Ph) (k .Nh) (k .rises) (k .which) v1 v2 u1 u2 r apart (s .answer))
 
 module _ (e : Float) (num den : ℕ) (h : Eps e num den)
     (v1 v2 u1 u2 : Vector2) (A1 : Vec 20 v1) (A2 : Vec 20 v2) (B1 : Vec 20 u1) (B2 : Vec 20 u2)
@@ -268,20 +255,20 @@ module _ (e : Float) (num den : ℕ) (h : Eps e num den)
     first-told : Same p1 p2 → (s t : Float) → PointAt e u1 u2 v1 B1 B2 A1 answer (TrueIntersect s t)
         → Told p1 p2 q1 q2 (lineLineOf answer v1 v2 u1 u2)
     first-told still s t (inl (k, on)) =
-        first-told-by-x p1 p2 q1 q2 (lineLineOf answer v1 v2 u1 u2) c still (not-zero _ _ _ (at-u .at-x) (k .some))
+        first-told-by-x p1 p2 q1 q2 (lineLineOf answer v1 v2 u1 u2) c still (not-zero _ _ _ (at-u .at-x) (k .place .some))
         (beside-told v1 v2 u1 u2 answer s t (q2 .x -ℤ q1 .x) (p1 .x -ℤ q1 .x) _ _ _ _ (at-u .at-x) (at-w .at-x) _ k on)
     first-told still s t (inr (k, on)) =
-        first-told-by-y p1 p2 q1 q2 (lineLineOf answer v1 v2 u1 u2) c still (not-zero _ _ _ (at-u .at-y) (k .some))
+        first-told-by-y p1 p2 q1 q2 (lineLineOf answer v1 v2 u1 u2) c still (not-zero _ _ _ (at-u .at-y) (k .place .some))
         (beside-told v1 v2 u1 u2 answer s t (q2 .y -ℤ q1 .y) (p1 .y -ℤ q1 .y) _ _ _ _ (at-u .at-y) (at-w .at-y) _ k on)
 
     -- the second is a point
     second-told : Same q1 q2 → (s t : Float) → PointAt e v1 v2 u1 A1 A2 B1 answer (TrueIntersect s t)
         → Told p1 p2 q1 q2 (lineLineOf answer v1 v2 u1 u2)
     second-told still s t (inl (k, on)) =
-        second-told-by-x p1 p2 q1 q2 (lineLineOf answer v1 v2 u1 u2) c still (not-zero _ _ _ (at-v .at-x) (k .some))
+        second-told-by-x p1 p2 q1 q2 (lineLineOf answer v1 v2 u1 u2) c still (not-zero _ _ _ (at-v .at-x) (k .place .some))
         (beside-told v1 v2 u1 u2 answer s t (p2 .x -ℤ p1 .x) (q1 .x -ℤ p1 .x) _ _ _ _ (at-v .at-x) (at-back .at-x) _ k on)
     second-told still s t (inr (k, on)) =
-        second-told-by-y p1 p2 q1 q2 (lineLineOf answer v1 v2 u1 u2) c still (not-zero _ _ _ (at-v .at-y) (k .some))
+        second-told-by-y p1 p2 q1 q2 (lineLineOf answer v1 v2 u1 u2) c still (not-zero _ _ _ (at-v .at-y) (k .place .some))
         (beside-told v1 v2 u1 u2 answer s t (p2 .y -ℤ p1 .y) (q1 .y -ℤ p1 .y) _ _ _ _ (at-v .at-y) (at-back .at-y) _ k on)
 
     -- neither is
@@ -291,13 +278,13 @@ module _ (e : Float) (num den : ℕ) (h : Eps e num den)
         → Told p1 p2 q1 q2 (lineLineOf answer v1 v2 u1 u2)
     segments-told long (inl s) =
         let d = q2 .x -ℤ q1 .x in
-        let slant = not-zero d _ _ (at-u .at-x) (s .some) in
+        let slant = not-zero d _ _ (at-u .at-x) (s .start .place .some) in
         spans-told-by-x p1 p2 q1 q2 (lineLineOf answer v1 v2 u1 u2) c long slant
         (along-told v1 v2 u1 u2 answer d (p1 .x -ℤ q1 .x) (p2 .x -ℤ q1 .x) _ _ _ _ _ _ (at-u .at-x) (at-w .at-x) (at-w2 .at-x) s
         (λ x. long (apart-on-axis p1 p2 q1 q2 (c .parallel) slant (turned-same d (p1 .x) (p2 .x) (q1 .x) x))))
     segments-told long (inr s) =
         let d = q2 .y -ℤ q1 .y in
-        let slant = not-zero d _ _ (at-u .at-y) (s .some) in
+        let slant = not-zero d _ _ (at-u .at-y) (s .start .place .some) in
         let f = collinear-flipped p1 p2 q1 q2 c in
         spans-told-by-y p1 p2 q1 q2 (lineLineOf answer v1 v2 u1 u2) c long slant
         (along-told v1 v2 u1 u2 answer d (p1 .y -ℤ q1 .y) (p2 .y -ℤ q1 .y) _ _ _ _ _ _ (at-u .at-y) (at-w .at-y) (at-w2 .at-y) s

@@ -35,7 +35,8 @@ use Rattle.plane.specs.Fuzzy.{fuzzyInRangeEps, fuzzyGtEps, fuzzyLtEps}
 use Rattle.crossing.specs.LineLine.{within}
 use Rattle.grid.specs.Floats.Zero.{Eps}
 use Rattle.grid.specs.Floats.Length.{Long}
-use Rattle.grid.specs.Floats.Reach.{Reaches}
+use Rattle.grid.specs.Floats.Reach.{Less, Beyond, Reaches}
+use Rattle.grid.specs.Floats.Ratio.{Place, at-most}
 
 -- ---- the epsilon in units
 pub record EpsUnits (e : Float) (num den : ℕ) : Type 0 where
@@ -94,7 +95,7 @@ squares a R E D S L h k =
     omega arith
 
 by-epsilon : (a S L E D num den : ℕ) → 0 < L → 0 < den → E * den ≡ num * L → a * a * (S * (L * L)) < 4 * (E * E * (D * D))
-    → a * a * S * (den * den) < 4 * (num * num * (D * D))
+    → Less S num den D a
 by-epsilon a S L E D num den P Q e h =
     let w = mul-lt-mul-of-pos-right h (mul-pos Q Q) in
     let z : E * den * (E * den) * (D * D) ≡ num * L * (num * L) * (D * D) = ap (λ (x : ℕ). x * x * (D * D)) e in
@@ -104,7 +105,7 @@ beyond : (A D a b L R E T S num den : ℕ) → 0 < D → 0 < L → 0 < den → A
     → 2 ^ 54 * (A * L) ≤ 2 ^ 54 * (T * D) + 2 ^ 1 * (D * L)
     → 2 ^ 54 * (T * R) < 2 ^ 54 * ((b * R + E) * L) + 2 ^ 23 * (L * L)
     → R ≤ 2 ^ 22 * L → L ≤ 1024 * E → S * (L * L) ≤ 2 * (R * R) → E * den ≡ num * L
-    → a * a * S * (den * den) < 4 * (num * num * (D * D))
+    → Less S num den D a
 beyond A D a b L R E T S num den P Q Z e h k most least near same =
     by-epsilon a S L E D num den Q Z same (squares a R E D S L (far A D a b L R E T P e h k most least) near)
 
@@ -121,9 +122,19 @@ size' p n L R x y = omega (arith, mul-le-mul-right R x, mul-le-mul-left L y)
 
 -- ---- the test on the floats
 module _ (e : Float) (num den : ℕ) (h : Eps e num den)
-    (v : Vector2) (S : ℕ) (some : 0 < S) (g : Long v S)
-    (t : Float) (P N D : ℕ) (r : Rounded binary64 t P N D) (C : 0 < D)
-    (u : P ≤ N + 2 ^ 44 * D) (l : N ≤ P + 2 ^ 44 * D) where
+    (v : Vector2) (S : ℕ) (g : Long v S) (t : Float) (P N D : ℕ) (at : Place 44 t P N D) where
+  abbrev r : Rounded binary64 t P N D
+  r = at .rounded
+
+  abbrev C : 0 < D
+  C = at .some
+
+  u : P ≤ N + 2 ^ 44 * D
+  u = at-most (2 ^ 44) P N D (at .P-le) C
+
+  l : N ≤ P + 2 ^ 44 * D
+  l = at-most (2 ^ 44) N P D (at .N-le) C
+
   abbrev len : Float
   len = vector2.length v
 
@@ -184,7 +195,7 @@ module _ (e : Float) (num den : ℕ) (h : Eps e num den)
 
   -- the length is at least 1
   long-enough : unit ≤ g .R
-  long-enough = plain unit (g .R) (g .least 1 (lit≤ tt) some)
+  long-enough = plain unit (g .R) (g .least 1 (lit≤ tt) (g .some))
     where
       plain : (L R : ℕ) → 1 * L ≤ R → L ≤ R
       plain L R x = omega arith
@@ -215,7 +226,7 @@ module _ (e : Float) (num den : ℕ) (h : Eps e num den)
       less p n R W E L Q x y z = omega arith
 
   -- where it is a / D more than 1, the point lies less than two epsilons beyond the end
-  pub beyond-end : T (fuzzyLtEps (t ⊗ len) len e) → (a : ℕ) → a + (N + D) ≡ P → a * a * S * (den * den) < 4 * (num * num * (D * D))
+  pub beyond-end : T (fuzzyLtEps (t ⊗ len) len e) → Beyond S num den D (N + D) P
   beyond-end x a q = go (leb (a + D) (2 * D)) (leb→le (a + D) (2 * D)) (nleb→lt (a + D) (2 * D))
     where
       -- the exact product of the floats t and length is below the float length + epsilon
@@ -232,7 +243,7 @@ module _ (e : Float) (num den : ℕ) (h : Eps e num den)
       size a D N P e = omega arith
 
       -- a parameter above 2 is too far
-      large : 2 * D < a + D → a * a * S * (den * den) < 4 * (num * num * (D * D))
+      large : 2 * D < a + D → Less S num den D a
       large y =
           let s = sized64 t P N D false (a + D) 44 r C (size a D N P q) (up a D N P q u) (lit≤ tt) in
           let two = least-whole binary64 t P N D r C (s .count) 0 unit unit-pos (s .is) 2 0 (lit≤ tt) (lit≤ tt)
@@ -254,7 +265,7 @@ module _ (e : Float) (num den : ℕ) (h : Eps e num den)
               let z : 2 * R < W = lt-of-mul-lt-mul-right L y in
               omega arith
 
-      near : a + D ≤ 2 * D → a * a * S * (den * den) < 4 * (num * num * (D * D))
+      near : a + D ≤ 2 * D → Less S num den D a
       near y =
           let s = sized64 t P N D false (a + D) 1 r C (size a D N P q) y (lit≤ tt) in
           beyond (a + D) D a 1 unit (g .R) (eu .E) (s .count) S num den C unit-pos (h .some) (one a D) (s .least)
@@ -268,7 +279,7 @@ module _ (e : Float) (num den : ℕ) (h : Eps e num den)
               → 2 ^ 54 * (T * R) < 2 ^ 54 * ((1 * R + E) * L) + 2 ^ 23 * (L * L)
           together T R W E L Q x y = omega (arith, mul-le-mul-right L y)
 
-      go : (b : Bool) → (T b → a + D ≤ 2 * D) → (T (not b) → 2 * D < a + D) → a * a * S * (den * den) < 4 * (num * num * (D * D))
+      go : (b : Bool) → (T b → a + D ≤ 2 * D) → (T (not b) → 2 * D < a + D) → Less S num den D a
       go true lo hi = near (lo tt)
       go false lo hi = large (hi tt)
 
@@ -340,7 +351,7 @@ module _ (e : Float) (num den : ℕ) (h : Eps e num den)
       less p n E L Q x y = omega arith
 
   -- where it is a / D below 0, the point lies less than two epsilons before the start
-  pub before-start : T (fuzzyGtEps (t ⊗ len) f0 e) → (a : ℕ) → a + P ≡ N → a * a * S * (den * den) < 4 * (num * num * (D * D))
+  pub before-start : T (fuzzyGtEps (t ⊗ len) f0 e) → Beyond S num den D P N
   before-start x a q = go (leb a (2 * D)) (leb→le a (2 * D)) (nleb→lt a (2 * D))
     where
       -- the exact product of the floats -t and length is below epsilon
@@ -362,7 +373,7 @@ module _ (e : Float) (num den : ℕ) (h : Eps e num den)
           plain : (T R E L : ℕ) → 0 * (L * L) + (0 * 0 + T * R) * L < (0 * R + T * 0) * L + E * (L * L) → T * R < E * L
           plain T R E L y = lt-of-mul-lt-mul-right L {m = T * R} {n = E * L} (omega arith)
 
-      large : 2 * D < a → a * a * S * (den * den) < 4 * (num * num * (D * D))
+      large : 2 * D < a → Less S num den D a
       large y =
           let s = sized64 t P N D true a 44 r C q (up a D N P q l) (lit≤ tt) in
           let two = most-whole binary64 t P N D r C 0 (s .count) unit unit-pos (s .is) 0 2 (lit≤ tt) (lit≤ tt) (more a D N P q y) in
@@ -381,7 +392,7 @@ module _ (e : Float) (num den : ℕ) (h : Eps e num den)
               let z : 2 * R < E = lt-of-mul-lt-mul-right L y in
               omega arith
 
-      near : a ≤ 2 * D → a * a * S * (den * den) < 4 * (num * num * (D * D))
+      near : a ≤ 2 * D → Less S num den D a
       near y =
           let s = sized64 t P N D true a 1 r C q y (lit≤ tt) in
           beyond a D a 0 unit (g .R) (eu .E) (s .count) S num den C unit-pos (h .some) (one a D) (s .least)
@@ -393,7 +404,7 @@ module _ (e : Float) (num den : ℕ) (h : Eps e num den)
           together : (T R E L : ℕ) → 0 < L → T * R < E * L → 2 ^ 54 * (T * R) < 2 ^ 54 * ((0 * R + E) * L) + 2 ^ 23 * (L * L)
           together T R E L Q x = omega arith
 
-      go : (b : Bool) → (T b → a ≤ 2 * D) → (T (not b) → 2 * D < a) → a * a * S * (den * den) < 4 * (num * num * (D * D))
+      go : (b : Bool) → (T b → a ≤ 2 * D) → (T (not b) → 2 * D < a) → Less S num den D a
       go true lo hi = near (lo tt)
       go false lo hi = large (hi tt)
 

@@ -11,7 +11,6 @@ use lib.Ieee.{Float, binary64, ofBits, lt}
 use lib.Ieee.Bits.{is-true, is-false}
 use Rattle.float_laws.specs.Signed.{Diff}
 use Rattle.float_laws.specs.Order.{lt-over}
-use Rattle.float_laws.specs.Rounded.{Rounded}
 use Rattle.float_laws.specs.Roundings.{Near, Sized}
 use Rattle.float_laws.specs.Whole.{most-whole, least-whole}
 use Rattle.float_laws.specs.Binary64.{unit, unit-pos, zero-is, near64, sized64}
@@ -20,12 +19,7 @@ use Rattle.floats.specs.F64
 use Rattle.floats.specs.Laws.Leaves.{min-is, max-is}
 use Rattle.crossing.specs.LineLine.{rising}
 use Rattle.crossing.specs.declared.line_line.Span.{Span}
-
--- t is one rounding of (P - N) / D, both at most 2 ^ 21
-pub record Place (t : Float) (P N D : ℕ) : Type 0 where
-  pub rounded : Rounded binary64 t P N D
-  pub P-le : P ≤ 2 ^ 21
-  pub N-le : N ≤ 2 ^ 21
+use Rattle.grid.specs.Floats.Ratio.{Place, at-most}
 
 one-is : Diff f1 unit 0 unit
 unfolding ofBits
@@ -39,15 +33,14 @@ Which P0 N0 P1 N1 Pl Nl Ph Nh =
 not-less : (p q : ℕ) → (q < p → ⊥) → p ≤ q
 not-less p q h = le-of-suc-le-suc (lt-of-not-le h)
 
-module _ (D : ℕ) (C : 0 < D) (few : D ≤ 2 ^ 21) where
-  at-most : (P N : ℕ) → P ≤ 2 ^ 21 → P ≤ N + 2 ^ 21 * D
-  at-most P N l = omega arith
-
-  place-near : (t : Float) (P N : ℕ) → Place t P N D → Near unit t P N D (2 ^ 21) (2 ^ 54)
-  place-near t P N a = near64 t P N D 21 (a .rounded) C (at-most P N (a .P-le)) (at-most N P (a .N-le)) (lit≤ tt)
+module _ (D : ℕ) (few : D ≤ 2 ^ 21) where
+  place-near : (t : Float) (P N : ℕ) → Place 21 t P N D → Near unit t P N D (2 ^ 21) (2 ^ 54)
+  place-near t P N a =
+      near64 t P N D 21 (a .rounded) (a .some) (at-most (2 ^ 21) P N D (a .P-le) (a .some)) (at-most (2 ^ 21) N P D (a .N-le) (a .some))
+      (lit≤ tt)
 
   -- ---- the order of the exact values is that of the floats
-  pub places-lt : (s t : Float) (P N Q K : ℕ) → Place s P N D → Place t Q K D → P + K < Q + N → T (lt s t)
+  pub places-lt : (s t : Float) (P N Q K : ℕ) → Place 21 s P N D → Place 21 t Q K D → P + K < Q + N → T (lt s t)
   places-lt s t P N Q K a b l =
       let x = place-near s P N a in
       let y = place-near t Q K b in
@@ -64,7 +57,7 @@ module _ (D : ℕ) (C : 0 < D) (few : D ≤ 2 ^ 21) where
           let w = mul-le-mul-right L few in
           omega arith
 
-  no-both : (s t : Float) (P N Q K : ℕ) → Place s P N D → Place t Q K D → T (lt s t) → T (lt t s) → ⊥
+  no-both : (s t : Float) (P N Q K : ℕ) → Place 21 s P N D → Place 21 t Q K D → T (lt s t) → T (lt t s) → ⊥
   no-both s t P N Q K a b l m =
       let x = place-near s P N a in
       let y = place-near t Q K b in
@@ -81,12 +74,12 @@ module _ (D : ℕ) (C : 0 < D) (few : D ≤ 2 ^ 21) where
     pub Nl : ℕ
     pub Ph : ℕ
     pub Nh : ℕ
-    pub lower : Place (s .t0) Pl Nl D
-    pub upper : Place (s .t1) Ph Nh D
+    pub lower : Place 21 (s .t0) Pl Nl D
+    pub upper : Place 21 (s .t1) Ph Nh D
     pub rises : Pl + Nh ≤ Ph + Nl
     pub which : Which P0 N0 P1 N1 Pl Nl Ph Nh
 
-  pub risen : (a b : Float) (P0 N0 P1 N1 : ℕ) → Place a P0 N0 D → Place b P1 N1 D → Risen (rising a b) P0 N0 P1 N1
+  pub risen : (a b : Float) (P0 N0 P1 N1 : ℕ) → Place 21 a P0 N0 D → Place 21 b P1 N1 D → Risen (rising a b) P0 N0 P1 N1
   unfolding rising
   risen a b P0 N0 P1 N1 x y = go (lt b a) (λ t. up t) (λ t. dn t)
     where
@@ -127,15 +120,15 @@ module _ (D : ℕ) (C : 0 < D) (few : D ≤ 2 ^ 21) where
   one-sized : Sized unit f1 false D D (2 ^ 0) (2 ^ 54)
   one-sized = record { count = unit; is = one-is; most = omega arith; least = omega arith }
 
-  exact : (t : Float) (P N : ℕ) → Place t P N D → N ≤ P → P ≤ N + D → Sized unit t false (P - N) D (2 ^ 0) (2 ^ 54)
-  exact t P N a l m = sized64 t P N D false (P - N) 0 (a .rounded) C (omega arith) (omega arith) (lit≤ tt)
+  exact : (t : Float) (P N : ℕ) → Place 21 t P N D → N ≤ P → P ≤ N + D → Sized unit t false (P - N) D (2 ^ 0) (2 ^ 54)
+  exact t P N a l m = sized64 t P N D false (P - N) 0 (a .rounded) (a .some) (omega arith) (omega arith) (lit≤ tt)
 
   -- by what the test is known to say
   pick : (u v : Float) (A : ℕ) (b c : Bool) → b ≡ c → Sized unit (cond c u v) false A D (2 ^ 0) (2 ^ 54)
       → Sized unit (cond b u v) false A D (2 ^ 0) (2 ^ 54)
   pick u v A b c e y = subst (λ (z : Bool). Sized unit (cond z u v) false A D (2 ^ 0) (2 ^ 54)) (sym e) y
 
-  pub from-zero : (t : Float) (P N : ℕ) → Place t P N D → P ≤ N + D → Sized unit (F64.max t f0) false (P - N) D (2 ^ 0) (2 ^ 54)
+  pub from-zero : (t : Float) (P N : ℕ) → Place 21 t P N D → P ≤ N + D → Sized unit (F64.max t f0) false (P - N) D (2 ^ 0) (2 ^ 54)
   from-zero t P N a l =
       subst (λ (z : Float). Sized unit z false (P - N) D (2 ^ 0) (2 ^ 54))
       (sym (max-is t f0 (x .p) (x .n) unit 0 0 unit (x .is) zero-is))
@@ -148,7 +141,7 @@ module _ (D : ℕ) (C : 0 < D) (few : D ≤ 2 ^ 21) where
       go true lo hi =
           let w = lo tt in
           let none : 0 ≡ P - N = omega arith in
-          let most = most-whole binary64 t P N D (a .rounded) C (x .p) (x .n) unit unit-pos (x .is) 0 0 (lit≤ tt) (lit≤ tt)
+          let most = most-whole binary64 t P N D (a .rounded) (a .some) (x .p) (x .n) unit unit-pos (x .is) 0 0 (lit≤ tt) (lit≤ tt)
           (omega arith) in
           let below = is-false (lt f0 t) (not-T (lt f0 t)
           (λ y. never (x .p) (x .n) unit most (lt-over f0 t 0 0 (x .p) (x .n) unit unit-pos zero-is (x .is) .0 y))) in
@@ -171,7 +164,7 @@ module _ (D : ℕ) (C : 0 < D) (few : D ≤ 2 ^ 21) where
               let q : 0 < c = lt-of-mul-lt-mul-right D z in
               omega arith
 
-  pub to-one : (t : Float) (P N : ℕ) → Place t P N D → N ≤ P → Sized unit (F64.min t f1) false (min (P - N) D) D (2 ^ 0) (2 ^ 54)
+  pub to-one : (t : Float) (P N : ℕ) → Place 21 t P N D → N ≤ P → Sized unit (F64.min t f1) false (min (P - N) D) D (2 ^ 0) (2 ^ 54)
   to-one t P N a l =
       subst (λ (z : Float). Sized unit z false (min (P - N) D) D (2 ^ 0) (2 ^ 54))
       (sym (min-is t f1 (x .p) (x .n) unit unit 0 unit (x .is) one-is))
@@ -185,7 +178,7 @@ module _ (D : ℕ) (C : 0 < D) (few : D ≤ 2 ^ 21) where
       go true lo hi =
           let w = lo tt in
           let whole : D ≡ min (P - N) D = omega arith in
-          let least = least-whole binary64 t P N D (a .rounded) C (x .p) (x .n) unit unit-pos (x .is) 1 0 (lit≤ tt) (lit≤ tt)
+          let least = least-whole binary64 t P N D (a .rounded) (a .some) (x .p) (x .n) unit unit-pos (x .is) 1 0 (lit≤ tt) (lit≤ tt)
           (omega arith) in
           let above = is-false (lt t f1) (not-T (lt t f1)
           (λ y. never (x .p) (x .n) unit least (lt-over t f1 (x .p) (x .n) unit 0 unit unit-pos (x .is) one-is .0 y))) in
