@@ -19,9 +19,9 @@ use Rattle.crossing.specs.declared.line_line_intersect.LineLineIntr.the-variant
 use Rattle.grid.specs.Promise.{Spot, Kept}
 use Rattle.grid.specs.Plane.Whole.{diff, same}
 use Rattle.grid.specs.Plane.Order.{turned, turned-same}
-use Rattle.grid.specs.Plane.Sides.{way, across, first, second, across-parallel}
+use Rattle.grid.specs.Plane.Sides.{way, cross, across, first, second, across-parallel}
 use Rattle.grid.specs.Plane.Cross.{Between}
-use Rattle.grid.specs.Plane.Points.{Collinear}
+use Rattle.grid.specs.Plane.Points.{Collinear, line-of-v, cross-flipped}
 use Rattle.grid.specs.Plane.Spots.{Same, flip}
 use Rattle.grid.specs.Plane.Spans.{Meet, MeetMore}
 use Rattle.grid.specs.Plane.Overlap.{apart-on-axis, collinear-flipped}
@@ -30,15 +30,13 @@ use Rattle.grid.specs.Plane.Keeps.{
   Told,
   ToldIf,
   ToldBySpans,
+  told-swapped,
+  told-flipped,
   parallel-kept,
   apart-told,
   both-told,
-  first-told-by-x,
-  first-told-by-y,
-  second-told-by-x,
-  second-told-by-y,
-  spans-told-by-x,
-  spans-told-by-y,
+  point-told,
+  spans-told,
 }
 use Rattle.grid.specs.Floats.Small.{Vec, vec-sub, perp}
 use Rattle.grid.specs.Floats.Zero.{Eps}
@@ -83,72 +81,63 @@ module _ (a b : ℤ) (P0 N0 P1 N1 D : ℕ) (e : a ≡ diff P0 N0) (f : b ≡ dif
 
   -- the lower and the upper of the two
   module _ (Pl Nl Ph Nh : ℕ) (rises : Pl + Nh ≤ Ph + Nl) (which : Which P0 N0 P1 N1 Pl Nl Ph Nh) where
-    low-is : (P0 ≤ N0 + D) ⊎ (P1 ≤ N1 + D) → Pl ≤ Nl + D
-    low-is = go which
+    between : (Pl + N0 ≤ P0 + Nl) × (Pl + N1 ≤ P1 + Nl) × (P0 + Nh ≤ Ph + N0) × (P1 + Nh ≤ Ph + N1)
+    between = go which
       where
-        go : Which P0 N0 P1 N1 Pl Nl Ph Nh → (P0 ≤ N0 + D) ⊎ (P1 ≤ N1 + D) → Pl ≤ Nl + D
-        go (inl (i, j, k, l)) (inl h) = omega arith
-        go (inl (i, j, k, l)) (inr h) = omega arith
-        go (inr (i, j, k, l)) (inl h) = omega arith
-        go (inr (i, j, k, l)) (inr h) = omega arith
+        go : Which P0 N0 P1 N1 Pl Nl Ph Nh
+            → (Pl + N0 ≤ P0 + Nl) × (Pl + N1 ≤ P1 + Nl) × (P0 + Nh ≤ Ph + N0) × (P1 + Nh ≤ Ph + N1)
+        go (inl (i, j, k, l)) = (omega arith, omega arith, omega arith, omega arith)
+        go (inr (i, j, k, l)) = (omega arith, omega arith, omega arith, omega arith)
+
+    low-is : (P0 ≤ N0 + D) ⊎ (P1 ≤ N1 + D) → Pl ≤ Nl + D
+    low-is (inl h) = omega (arith, between .0)
+    low-is (inr h) = omega (arith, between .1)
 
     high-is : (N0 ≤ P0) ⊎ (N1 ≤ P1) → Nh ≤ Ph
-    high-is = go which
-      where
-        go : Which P0 N0 P1 N1 Pl Nl Ph Nh → (N0 ≤ P0) ⊎ (N1 ≤ P1) → Nh ≤ Ph
-        go (inl (i, j, k, l)) (inl h) = omega arith
-        go (inl (i, j, k, l)) (inr h) = omega arith
-        go (inr (i, j, k, l)) (inl h) = omega arith
-        go (inr (i, j, k, l)) (inr h) = omega arith
+    high-is (inl h) = omega (arith, between .2)
+    high-is (inr h) = omega (arith, between .3)
 
     more-low-is : (P0 < N0 + D) ⊎ (P1 < N1 + D) → Pl < Nl + D
-    more-low-is = go which
-      where
-        go : Which P0 N0 P1 N1 Pl Nl Ph Nh → (P0 < N0 + D) ⊎ (P1 < N1 + D) → Pl < Nl + D
-        go (inl (i, j, k, l)) (inl h) = omega arith
-        go (inl (i, j, k, l)) (inr h) = omega arith
-        go (inr (i, j, k, l)) (inl h) = omega arith
-        go (inr (i, j, k, l)) (inr h) = omega arith
+    more-low-is (inl h) = omega (arith, between .0)
+    more-low-is (inr h) = omega (arith, between .1)
 
     more-high-is : (N0 < P0) ⊎ (N1 < P1) → Nh < Ph
-    more-high-is = go which
+    more-high-is (inl h) = omega (arith, between .2)
+    more-high-is (inr h) = omega (arith, between .3)
+
+    -- the lower is one of the two, and the upper is
+    lower-of : (Q : ℕ → ℕ → Type 0) → Q Pl Nl → Q P0 N0 ⊎ Q P1 N1
+    lower-of Q h = go which
       where
-        go : Which P0 N0 P1 N1 Pl Nl Ph Nh → (N0 < P0) ⊎ (N1 < P1) → Nh < Ph
-        go (inl (i, j, k, l)) (inl h) = omega arith
-        go (inl (i, j, k, l)) (inr h) = omega arith
-        go (inr (i, j, k, l)) (inl h) = omega arith
-        go (inr (i, j, k, l)) (inr h) = omega arith
+        go : Which P0 N0 P1 N1 Pl Nl Ph Nh → Q P0 N0 ⊎ Q P1 N1
+        go (inl (i, j, k, l)) = inl (rw (← i, ← j) h)
+        go (inr (i, j, k, l)) = inr (rw (← i, ← j) h)
+
+    upper-of : (Q : ℕ → ℕ → Type 0) → Q Ph Nh → Q P0 N0 ⊎ Q P1 N1
+    upper-of Q h = go which
+      where
+        go : Which P0 N0 P1 N1 Pl Nl Ph Nh → Q P0 N0 ⊎ Q P1 N1
+        go (inl (i, j, k, l)) = inr (rw (← k, ← l) h)
+        go (inr (i, j, k, l)) = inl (rw (← k, ← l) h)
 
     meet-of : Pl ≤ Nl + D → Nh ≤ Ph → Meet a b D
-    meet-of l k = go which
-      where
-        go : Which P0 N0 P1 N1 Pl Nl Ph Nh → Meet a b D
-        go (inl (i, j, m, n)) = (lows .1 (inl (omega arith)), highs .1 (inr (omega arith)))
-        go (inr (i, j, m, n)) = (lows .1 (inr (omega arith)), highs .1 (inl (omega arith)))
+    meet-of l k = (lows .1 (lower-of (λ (P N : ℕ). P ≤ N + D) l), highs .1 (upper-of (λ (P N : ℕ). N ≤ P) k))
 
     more-of : Pl < Nl + D → Nh < Ph → MeetMore a b D
-    more-of l k = go which
-      where
-        go : Which P0 N0 P1 N1 Pl Nl Ph Nh → MeetMore a b D
-        go (inl (i, j, m, n)) = (more-lows .1 (inl (omega arith)), more-highs .1 (inr (omega arith)))
-        go (inr (i, j, m, n)) = (more-lows .1 (inr (omega arith)), more-highs .1 (inl (omega arith)))
+    more-of l k = (more-lows .1 (lower-of (λ (P N : ℕ). P < N + D) l), more-highs .1 (upper-of (λ (P N : ℕ). N < P) k))
 
     differ : (a ≡ b → ⊥) → Pl + Nh ≡ Ph + Nl → ⊥
-    differ n x = n (e ∙ same P0 N0 P1 N1 .1 (go which) ∙ sym f)
-      where
-        go : Which P0 N0 P1 N1 Pl Nl Ph Nh → P0 + N1 ≡ P1 + N0
-        go (inl (i, j, m, o)) = omega arith
-        go (inr (i, j, m, o)) = omega arith
+    differ n x = let s : P0 + N1 ≡ P1 + N0 = omega (arith, between) in n (e ∙ same P0 N0 P1 N1 .1 s ∙ sym f)
 
     -- what the overlap answers
-    spans-told : (v1 v2 u1 u2 : Vector2) (r : LineLineIntr) → (a ≡ b → ⊥) → Overlapped r Pl Nl Ph Nh D
+    spans-answer : (v1 v2 u1 u2 : Vector2) (r : LineLineIntr) → (a ≡ b → ⊥) → Overlapped r Pl Nl Ph Nh D
         → ToldBySpans a b D (lineLineOf r v1 v2 u1 u2)
-    spans-told v1 v2 u1 u2 r n (inl c) = inl (ap (λ (z : LineLineIntr). lineLineOf z v1 v2 u1 u2) (c .is), none (c .why))
+    spans-answer v1 v2 u1 u2 r n (inl c) = inl (ap (λ (z : LineLineIntr). lineLineOf z v1 v2 u1 u2) (c .is), none (c .why))
       where
         none : (Nl + D < Pl) ⊎ (Ph < Nh) → ¬ Meet a b D
         none (inl k) (l, m) = let x = low-is (lows .0 l) in omega arith
         none (inr k) (l, m) = let x = high-is (highs .0 m) in omega arith
-    spans-told v1 v2 u1 u2 r n (inr (inl c)) =
+    spans-answer v1 v2 u1 u2 r n (inr (inl c)) =
         inr (inl (
           pointFromParametric v1 v2 (c .t1),
           ap (λ (z : LineLineIntr). lineLineOf z v1 v2 u1 u2) (c .is),
@@ -160,7 +149,7 @@ module _ (a b : ℤ) (P0 N0 P1 N1 D : ℕ) (e : a ≡ diff P0 N0) (f : b ≡ dif
         one (inl k) (l, m) = let x = more-low-is (more-lows .0 l) in omega arith
         one (inr (inl k)) (l, m) = let x = more-high-is (more-highs .0 m) in omega arith
         one (inr (inr k)) (l, m) = differ n k
-    spans-told v1 v2 u1 u2 r n (inr (inr c)) =
+    spans-answer v1 v2 u1 u2 r n (inr (inr c)) =
         inr (inr (
           pointFromParametric u1 u2 (c .t0),
           pointFromParametric u1 u2 (c .t1),
@@ -170,9 +159,9 @@ module _ (a b : ℤ) (P0 N0 P1 N1 D : ℕ) (e : a ≡ diff P0 N0) (f : b ≡ dif
 
 -- ---- a grid point beside a segment: one exactly if its place is from 0 to 1
 module _ (v1 v2 u1 u2 : Vector2) (r : LineLineIntr) (s t : Float) where
-  point-told : (m : ℤ) (k P N D : ℕ) → m ≡ diff P N → k ≡ D → PointOn r (TrueIntersect s t) P N D
+  point-answer : (m : ℤ) (k P N D : ℕ) → m ≡ diff P N → k ≡ D → PointOn r (TrueIntersect s t) P N D
       → ToldIf (Between m k) (lineLineOf r v1 v2 u1 u2)
-  point-told m k P N D e f h = go (h .answer)
+  point-answer m k P N D e f h = go (h .answer)
     where
       there : Between m k ↔ ((N ≤ P) × (P ≤ N + D))
       there = (
@@ -186,27 +175,50 @@ module _ (v1 v2 u1 u2 : Vector2) (r : LineLineIntr) (s t : Float) where
           inr (pointFromParametric v1 v2 s, ap (λ (z : LineLineIntr). lineLineOf z v1 v2 u1 u2) x, there .1 y)
       go (inr (x, y)) = inl (ap (λ (z : LineLineIntr). lineLineOf z v1 v2 u1 u2) x, λ z. y (there .0 z))
 
-  -- along one axis: a point at o from the start of a segment that goes d
-  beside-told : (d o : ℤ) (dp dn op on : ℕ) → d ≡ diff dp dn → o ≡ diff op on → (place : Float) (k : Ratio 21 place op on dp dn)
+  -- along x: p1 lies at o from the start of a segment that goes d
+  beside-told : (p1 p2 q1 q2 : Spot) → Same p1 p2 → cross (way q1 q2) (way q1 p1) ≡ pos 0
+      → (dp dn op on : ℕ) → q2 .x -ℤ q1 .x ≡ diff dp dn → p1 .x -ℤ q1 .x ≡ diff op on → (place : Float) (k : Ratio 21 place op on dp dn)
       → PointOn r (TrueIntersect s t) (k .P) (k .N) (gap dp dn)
-      → ToldIf (Between (turned d o) (natAbs d)) (lineLineOf r v1 v2 u1 u2)
-  beside-told d o dp dn op on e f place k =
-      point-told (turned d o) (natAbs d) (k .P) (k .N) (gap dp dn)
-      (place-at d o dp dn op on (k .P) (k .N) e f (k .place .some) (k .turned)) (size-gap d dp dn e)
+      → Told p1 p2 q1 q2 (lineLineOf r v1 v2 u1 u2)
+  beside-told p1 p2 q1 q2 still line dp dn op on e f place k h =
+      let d = q2 .x -ℤ q1 .x in
+      let o = p1 .x -ℤ q1 .x in
+      point-told p1 p2 q1 q2 (lineLineOf r v1 v2 u1 u2) still (not-zero d dp dn e (k .place .some)) line
+      (point-answer (turned d o) (natAbs d) (k .P) (k .N) (gap dp dn)
+      (place-at d o dp dn op on (k .P) (k .N) e f (k .place .some) (k .turned)) (size-gap d dp dn e) h)
 
--- along one axis: a segment from x to z, along one that goes d from 0
-along-told : (v1 v2 u1 u2 : Vector2) (r : LineLineIntr) (d x z : ℤ) (xp xn zp zn dp dn : ℕ)
-    → d ≡ diff dp dn → x ≡ diff xp xn → z ≡ diff zp zn → Spanned r xp xn zp zn dp dn → (turned d x ≡ turned d z → ⊥)
-    → ToldBySpans (turned d x) (turned d z) (natAbs d) (lineLineOf r v1 v2 u1 u2)
-along-told v1 v2 u1 u2 r d x z xp xn zp zn dp dn e f g s apart =
+  -- by x, or by y with the axes exchanged
+  at-told : (e : Float) (a b c : Vector2) (A : Vec 20 a) (B : Vec 20 b) (C : Vec 20 c) (p1 p2 q1 q2 : Spot)
+      → At 21 (vector2.sub b a) (vec-sub b a B A) (way q1 q2) → At 21 (vector2.sub c a) (vec-sub c a C A) (way q1 p1)
+      → Same p1 p2 → cross (way q1 q2) (way q1 p1) ≡ pos 0 → PointAt e a b c A B C r (TrueIntersect s t)
+      → Told p1 p2 q1 q2 (lineLineOf r v1 v2 u1 u2)
+  at-told e a b c A B C p1 p2 q1 q2 way-is off-is still line (inl (k, on)) =
+      beside-told p1 p2 q1 q2 still line _ _ _ _ (way-is .at-x) (off-is .at-x) _ k on
+  at-told e a b c A B C p1 p2 q1 q2 way-is off-is still line (inr (k, on)) =
+      told-flipped p1 p2 q1 q2 (lineLineOf r v1 v2 u1 u2)
+      (beside-told (flip p1) (flip p2) (flip q1) (flip q2) (still .1, still .0) (cross-flipped (way q1 q2) (way q1 p1) line)
+      _ _ _ _ (way-is .at-y) (off-is .at-y) _ k on)
+
+-- along x: a segment from p1 to p2, along one from q1 to q2
+along-told : (v1 v2 u1 u2 : Vector2) (r : LineLineIntr) (p1 p2 q1 q2 : Spot) → Collinear p1 p2 q1 q2 → ¬ Same p1 p2
+    → (xp xn zp zn dp dn : ℕ) → q2 .x -ℤ q1 .x ≡ diff dp dn → p1 .x -ℤ q1 .x ≡ diff xp xn → p2 .x -ℤ q1 .x ≡ diff zp zn
+    → Spanned r xp xn zp zn dp dn
+    → Told p1 p2 q1 q2 (lineLineOf r v1 v2 u1 u2)
+along-told v1 v2 u1 u2 r p1 p2 q1 q2 c long xp xn zp zn dp dn e f g s =
+    let d = q2 .x -ℤ q1 .x in
+    let x = p1 .x -ℤ q1 .x in
+    let z = p2 .x -ℤ q1 .x in
     let i = s .start in
     let j = s .stop in
     let k = s .ends in
-    subst (λ (k : ℕ). ToldBySpans (turned d x) (turned d z) k (lineLineOf r v1 v2 u1 u2)) (sym (size-gap d dp dn e))
-    (spans-told (turned d x) (turned d z) (i .P) (i .N) (j .P) (j .N) (gap dp dn)
+    let slant = not-zero d dp dn e (i .place .some) in
+    spans-told p1 p2 q1 q2 (lineLineOf r v1 v2 u1 u2) c long slant
+    (subst (λ (k : ℕ). ToldBySpans (turned d x) (turned d z) k (lineLineOf r v1 v2 u1 u2)) (sym (size-gap d dp dn e))
+    (spans-answer (turned d x) (turned d z) (i .P) (i .N) (j .P) (j .N) (gap dp dn)
     (place-at d x dp dn xp xn (i .P) (i .N) e f (i .place .some) (i .turned))
     (place-at d z dp dn zp zn (j .P) (j .N) e g (j .place .some) (j .turned))
-    (k .Pl) (k .Nl) (k .Ph) (k .Nh) (k .rises) (k .which) v1 v2 u1 u2 r apart (s .answer))
+    (k .Pl) (k .Nl) (k .Ph) (k .Nh) (k .rises) (k .which) v1 v2 u1 u2 r
+    (λ h. long (apart-on-axis p1 p2 q1 q2 (c .parallel) slant (turned-same d (p1 .x) (p2 .x) (q1 .x) h))) (s .answer)))
 
 module _ (e : Float) (num den : ℕ) (h : Eps e num den)
     (v1 v2 u1 u2 : Vector2) (A1 : Vec 20 v1) (A2 : Vec 20 v2) (B1 : Vec 20 u1) (B2 : Vec 20 u2)
@@ -250,47 +262,17 @@ module _ (e : Float) (num den : ℕ) (h : Eps e num den)
   turned-over : {x y : Spot} → Same x y → Same y x
   turned-over (x, y) = (sym x, sym y)
 
-  module _ (c : Collinear p1 p2 q1 q2) where
-    -- the first is a point
-    first-told : Same p1 p2 → (s t : Float) → PointAt e u1 u2 v1 B1 B2 A1 answer (TrueIntersect s t)
-        → Told p1 p2 q1 q2 (lineLineOf answer v1 v2 u1 u2)
-    first-told still s t (inl (k, on)) =
-        first-told-by-x p1 p2 q1 q2 (lineLineOf answer v1 v2 u1 u2) c still (not-zero _ _ _ (at-u .at-x) (k .place .some))
-        (beside-told v1 v2 u1 u2 answer s t (q2 .x -ℤ q1 .x) (p1 .x -ℤ q1 .x) _ _ _ _ (at-u .at-x) (at-w .at-x) _ k on)
-    first-told still s t (inr (k, on)) =
-        first-told-by-y p1 p2 q1 q2 (lineLineOf answer v1 v2 u1 u2) c still (not-zero _ _ _ (at-u .at-y) (k .place .some))
-        (beside-told v1 v2 u1 u2 answer s t (q2 .y -ℤ q1 .y) (p1 .y -ℤ q1 .y) _ _ _ _ (at-u .at-y) (at-w .at-y) _ k on)
-
-    -- the second is a point
-    second-told : Same q1 q2 → (s t : Float) → PointAt e v1 v2 u1 A1 A2 B1 answer (TrueIntersect s t)
-        → Told p1 p2 q1 q2 (lineLineOf answer v1 v2 u1 u2)
-    second-told still s t (inl (k, on)) =
-        second-told-by-x p1 p2 q1 q2 (lineLineOf answer v1 v2 u1 u2) c still (not-zero _ _ _ (at-v .at-x) (k .place .some))
-        (beside-told v1 v2 u1 u2 answer s t (p2 .x -ℤ p1 .x) (q1 .x -ℤ p1 .x) _ _ _ _ (at-v .at-x) (at-back .at-x) _ k on)
-    second-told still s t (inr (k, on)) =
-        second-told-by-y p1 p2 q1 q2 (lineLineOf answer v1 v2 u1 u2) c still (not-zero _ _ _ (at-v .at-y) (k .place .some))
-        (beside-told v1 v2 u1 u2 answer s t (p2 .y -ℤ p1 .y) (q1 .y -ℤ p1 .y) _ _ _ _ (at-v .at-y) (at-back .at-y) _ k on)
-
-    -- neither is
-    segments-told : ¬ Same p1 p2
-        → Spanned answer (H' .x .p) (H' .x .n) (vec-sub v2 u1 A2 B1 .x .p) (vec-sub v2 u1 A2 B1 .x .n) (G' .x .p) (G' .x .n)
-        ⊎ Spanned answer (H' .y .p) (H' .y .n) (vec-sub v2 u1 A2 B1 .y .p) (vec-sub v2 u1 A2 B1 .y .n) (G' .y .p) (G' .y .n)
-        → Told p1 p2 q1 q2 (lineLineOf answer v1 v2 u1 u2)
-    segments-told long (inl s) =
-        let d = q2 .x -ℤ q1 .x in
-        let slant = not-zero d _ _ (at-u .at-x) (s .start .place .some) in
-        spans-told-by-x p1 p2 q1 q2 (lineLineOf answer v1 v2 u1 u2) c long slant
-        (along-told v1 v2 u1 u2 answer d (p1 .x -ℤ q1 .x) (p2 .x -ℤ q1 .x) _ _ _ _ _ _ (at-u .at-x) (at-w .at-x) (at-w2 .at-x) s
-        (λ x. long (apart-on-axis p1 p2 q1 q2 (c .parallel) slant (turned-same d (p1 .x) (p2 .x) (q1 .x) x))))
-    segments-told long (inr s) =
-        let d = q2 .y -ℤ q1 .y in
-        let slant = not-zero d _ _ (at-u .at-y) (s .start .place .some) in
-        let f = collinear-flipped p1 p2 q1 q2 c in
-        spans-told-by-y p1 p2 q1 q2 (lineLineOf answer v1 v2 u1 u2) c long slant
-        (along-told v1 v2 u1 u2 answer d (p1 .y -ℤ q1 .y) (p2 .y -ℤ q1 .y) _ _ _ _ _ _ (at-u .at-y) (at-w .at-y) (at-w2 .at-y) s
-        (λ x.
-        let o = apart-on-axis (flip p1) (flip p2) (flip q1) (flip q2) (f .parallel) slant (turned-same d (p1 .y) (p2 .y) (q1 .y) x) in
-        long (o .1, o .0)))
+  -- neither is a point: by x, or by y with the axes exchanged
+  segments-told : Collinear p1 p2 q1 q2 → ¬ Same p1 p2
+      → Spanned answer (H' .x .p) (H' .x .n) (vec-sub v2 u1 A2 B1 .x .p) (vec-sub v2 u1 A2 B1 .x .n) (G' .x .p) (G' .x .n)
+      ⊎ Spanned answer (H' .y .p) (H' .y .n) (vec-sub v2 u1 A2 B1 .y .p) (vec-sub v2 u1 A2 B1 .y .n) (G' .y .p) (G' .y .n)
+      → Told p1 p2 q1 q2 (lineLineOf answer v1 v2 u1 u2)
+  segments-told c long (inl s) =
+      along-told v1 v2 u1 u2 answer p1 p2 q1 q2 c long _ _ _ _ _ _ (at-u .at-x) (at-w .at-x) (at-w2 .at-x) s
+  segments-told c long (inr s) =
+      told-flipped p1 p2 q1 q2 (lineLineOf answer v1 v2 u1 u2)
+      (along-told v1 v2 u1 u2 answer (flip p1) (flip p2) (flip q1) (flip q2) (collinear-flipped p1 p2 q1 q2 c) (λ h. long (h .1, h .0))
+      _ _ _ _ _ _ (at-u .at-y) (at-w .at-y) (at-w2 .at-y) s)
 
   -- all five ways
   level-told : perp v' u' F' G' .p ≡ perp v' u' F' G' .n → Told p1 p2 q1 q2 (lineLineOf answer v1 v2 u1 u2)
@@ -353,11 +335,12 @@ module _ (e : Float) (num den : ℕ) (h : Eps e num den)
               both-told p1 p2 q1 q2 (lineLineOf answer v1 v2 u1 u2) (same-v .0 i) (same-u .0 j)
               (both (level.points e num den h v1 v2 u1 u2 A1 A2 B1 B2 x y i j))
           go c (inl i) (inr j) =
-              first-told c (same-v .0 i) f0 (parametricFromPoint u1 u2 v1 e)
-              (level.first-point e num den h v1 v2 u1 u2 A1 A2 B1 B2 x y i j)
+              at-told v1 v2 u1 u2 answer f0 (parametricFromPoint u1 u2 v1 e) e u1 u2 v1 B1 B2 A1 p1 p2 q1 q2 at-u at-w
+              (same-v .0 i) (c .from-u) (level.first-point e num den h v1 v2 u1 u2 A1 A2 B1 B2 x y i j)
           go c (inr i) (inl j) =
-              second-told c (same-u .0 j) (parametricFromPoint v1 v2 u1 e) f0
-              (level.second-point e num den h v1 v2 u1 u2 A1 A2 B1 B2 x y i j)
+              told-swapped p1 p2 q1 q2 (lineLineOf answer v1 v2 u1 u2)
+              (at-told v1 v2 u1 u2 answer (parametricFromPoint v1 v2 u1 e) f0 e v1 v2 u1 A1 A2 B1 q1 q2 p1 p2 at-v at-back
+              (same-u .0 j) (line-of-v p1 p2 q1 q2 (c .from-v)) (level.second-point e num den h v1 v2 u1 u2 A1 A2 B1 B2 x y i j))
           go c (inr i) (inr j) =
               segments-told c (λ o. i (same-v .1 o)) (level.segments e num den h v1 v2 u1 u2 A1 A2 B1 B2 x y i j)
 

@@ -36,8 +36,6 @@ use Rattle.grid.specs.Plane.Spots.{
   level-on,
   spot-once,
   flip,
-  share-flipped,
-  share-more-flipped,
   share-reversed,
   share-more-reversed,
 }
@@ -376,15 +374,16 @@ meet-shared-more v1 v2 u1 u2 c slant long (lo, hi) =
         share-more-reversed v1 v2 u1 u2
         (ordered v2 v1 u1 u2 (reversed v1 v2 u1 u2 c) slant l' (least-below b a k l' (other m)) (most-above b a (pos 0) l' (other n)))
 
--- ---- both directions, by the axis that the kernel takes
+-- ---- both directions
 module _ (v1 v2 u1 u2 : Spot) (c : Collinear v1 v2 u1 u2) (slant : (u2 .x -ℤ u1 .x) ≡ pos 0 → ⊥) where
-  pub overlap-by-x : Share v1 v2 u1 u2 ↔ Meet (mark u1 u2 v1) (mark u1 u2 v2) (size u1 u2)
-  overlap-by-x = (shared-meet v1 v2 u1 u2, meet-shared v1 v2 u1 u2 c slant)
+  pub overlap : Share v1 v2 u1 u2 ↔ Meet (mark u1 u2 v1) (mark u1 u2 v2) (size u1 u2)
+  overlap = (shared-meet v1 v2 u1 u2, meet-shared v1 v2 u1 u2 c slant)
 
-  pub overlap-more-by-x : ¬ Same v1 v2 → ShareMore v1 v2 u1 u2 ↔ MeetMore (mark u1 u2 v1) (mark u1 u2 v2) (size u1 u2)
-  overlap-more-by-x long =
+  pub overlap-more : ¬ Same v1 v2 → ShareMore v1 v2 u1 u2 ↔ MeetMore (mark u1 u2 v1) (mark u1 u2 v2) (size u1 u2)
+  overlap-more long =
       (shared-more-meet v1 v2 u1 u2 (size-pos (u2 .x -ℤ u1 .x) slant), meet-shared-more v1 v2 u1 u2 c slant long)
 
+-- ---- along y: the same with the axes exchanged
 pub collinear-flipped : (v1 v2 u1 u2 : Spot) → Collinear v1 v2 u1 u2 → Collinear (flip v1) (flip v2) (flip u1) (flip u2)
 collinear-flipped v1 v2 u1 u2 c =
     record {
@@ -392,21 +391,3 @@ collinear-flipped v1 v2 u1 u2 c =
       from-u = cross-flipped (way u1 u2) (way u1 v1) (c .from-u);
       from-v = cross-flipped (way v1 v2) (way u1 v1) (c .from-v);
     }
-
-module _ (v1 v2 u1 u2 : Spot) (c : Collinear v1 v2 u1 u2) (slant : (u2 .y -ℤ u1 .y) ≡ pos 0 → ⊥) where
-  pub overlap-by-y : Share v1 v2 u1 u2
-      ↔ Meet (mark (flip u1) (flip u2) (flip v1)) (mark (flip u1) (flip u2) (flip v2)) (size (flip u1) (flip u2))
-  overlap-by-y =
-      let by-x = overlap-by-x (flip v1) (flip v2) (flip u1) (flip u2) (collinear-flipped v1 v2 u1 u2 c) slant in (
-        λ h. by-x .0 (share-flipped v1 v2 u1 u2 h),
-        λ h. share-flipped (flip v1) (flip v2) (flip u1) (flip u2) (by-x .1 h),
-      )
-
-  pub overlap-more-by-y : ¬ Same v1 v2 → ShareMore v1 v2 u1 u2
-      ↔ MeetMore (mark (flip u1) (flip u2) (flip v1)) (mark (flip u1) (flip u2) (flip v2)) (size (flip u1) (flip u2))
-  overlap-more-by-y long =
-      let by-x = overlap-more-by-x (flip v1) (flip v2) (flip u1) (flip u2) (collinear-flipped v1 v2 u1 u2 c) slant
-      (λ h. long (h .1, h .0)) in (
-        λ h. by-x .0 (share-more-flipped v1 v2 u1 u2 h),
-        λ h. share-more-flipped (flip v1) (flip v2) (flip u1) (flip u2) (by-x .1 h),
-      )

@@ -5,10 +5,11 @@ use mathlib.Core.Logic.{_↔_}
 use mathlib.Core.List.{[], _∷_}
 use Prim.Native.Nat.{ℕ, _<_}
 use lib.IntN.{ℤ, pos, _-ℤ_, _*ℤ_}
-use Rattle.grid.specs.Promise.{Spot, OnSegment, Parallel, Share, ShareMore}
+use Rattle.grid.specs.Promise.{Spot, Parallel, Share, ShareMore}
 use Rattle.grid.specs.Plane.Ring.{solve, combine, combine2, var, num, neg, _⊟_, _⊠_}
 use Rattle.grid.specs.Plane.Order.{cancel}
 use Rattle.grid.specs.Plane.Sides.{way, cross, across, first, second, parallel-across, place-v, place-u}
+use Rattle.grid.specs.Plane.Cross.{Between}
 use Rattle.grid.specs.Plane.Spots.{
   spot,
   start-on,
@@ -17,12 +18,11 @@ use Rattle.grid.specs.Plane.Spots.{
   only-spot,
   spot-lies,
   spot-once,
-  Level,
   level-on,
   on-level,
   flip,
-  share-flipped,
 }
+use Rattle.grid.specs.Plane.Spans.{size, mark}
 
 -- ---- on one line
 pub record Collinear (v1 v2 u1 u2 : Spot) : Type 0 where
@@ -48,58 +48,17 @@ share-collinear v1 v2 u1 u2 par (P, ((s, t, l, on-v), (s', t', l', on-u))) =
           (place-u v1 v2 u1 u2 P (pos s) (pos s') t t' on-v on-u) flat;
     }
 
--- ---- v has no length
+-- ---- v has no length, and lies on the line of u, which is not upright: they share v where its place along x is from 0 to 1
 module _ (v1 v2 u1 u2 : Spot) (still : Same v1 v2) where
-  pub first-point : Share v1 v2 u1 u2 ↔ OnSegment (spot v1) u1 u2
-  first-point = (
-    λ h. spot-lies (h .0) v1 u1 u2 (only-spot (h .0) v1 v2 still (h .1 .0)) (h .1 .1),
-    λ h. (spot v1, (start-on v1 v2, h)),
+  pub point-share : ((u2 .x -ℤ u1 .x) ≡ pos 0 → ⊥) → cross (way u1 u2) (way u1 v1) ≡ pos 0
+      → Share v1 v2 u1 u2 ↔ Between (mark u1 u2 v1) (size u1 u2)
+  point-share slant line = (
+    λ h. on-level u1 u2 v1 (spot-lies (h .0) v1 u1 u2 (only-spot (h .0) v1 v2 still (h .1 .0)) (h .1 .1)) .on-axis,
+    λ h. (spot v1, (start-on v1 v2, level-on u1 u2 v1 slant (record { on-line = line; on-axis = h }))),
   )
 
-  pub first-point-once : ¬ ShareMore v1 v2 u1 u2
-  first-point-once (P, Q, apart, (p, p'), (q, q')) =
-      spot-once P Q v1 (only-spot P v1 v2 still p) (only-spot Q v1 v2 still q) apart
-
-  -- by x where u is not upright, else by y
-  pub first-point-by-x : ((u2 .x -ℤ u1 .x) ≡ pos 0 → ⊥) → Share v1 v2 u1 u2 ↔ Level u1 u2 v1
-  first-point-by-x n = (
-    λ h. on-level u1 u2 v1 (first-point .0 h),
-    λ h. first-point .1 (level-on u1 u2 v1 n h),
-  )
-
-pub first-point-by-y : (v1 v2 u1 u2 : Spot) → Same v1 v2 → ((u2 .y -ℤ u1 .y) ≡ pos 0 → ⊥)
-    → Share v1 v2 u1 u2 ↔ Level (flip u1) (flip u2) (flip v1)
-first-point-by-y v1 v2 u1 u2 still n =
-    let by-x = first-point-by-x (flip v1) (flip v2) (flip u1) (flip u2) (still .1, still .0) n in (
-      λ h. by-x .0 (share-flipped v1 v2 u1 u2 h),
-      λ h. share-flipped (flip v1) (flip v2) (flip u1) (flip u2) (by-x .1 h),
-    )
-
--- ---- u has no length
-module _ (v1 v2 u1 u2 : Spot) (still : Same u1 u2) where
-  pub second-point : Share v1 v2 u1 u2 ↔ OnSegment (spot u1) v1 v2
-  second-point = (
-    λ h. spot-lies (h .0) u1 v1 v2 (only-spot (h .0) u1 u2 still (h .1 .1)) (h .1 .0),
-    λ h. (spot u1, (h, start-on u1 u2)),
-  )
-
-  pub second-point-once : ¬ ShareMore v1 v2 u1 u2
-  second-point-once (P, Q, apart, (p, p'), (q, q')) =
-      spot-once P Q u1 (only-spot P u1 u2 still p') (only-spot Q u1 u2 still q') apart
-
-  pub second-point-by-x : ((v2 .x -ℤ v1 .x) ≡ pos 0 → ⊥) → Share v1 v2 u1 u2 ↔ Level v1 v2 u1
-  second-point-by-x n = (
-    λ h. on-level v1 v2 u1 (second-point .0 h),
-    λ h. second-point .1 (level-on v1 v2 u1 n h),
-  )
-
-pub second-point-by-y : (v1 v2 u1 u2 : Spot) → Same u1 u2 → ((v2 .y -ℤ v1 .y) ≡ pos 0 → ⊥)
-    → Share v1 v2 u1 u2 ↔ Level (flip v1) (flip v2) (flip u1)
-second-point-by-y v1 v2 u1 u2 still n =
-    let by-x = second-point-by-x (flip v1) (flip v2) (flip u1) (flip u2) (still .1, still .0) n in (
-      λ h. by-x .0 (share-flipped v1 v2 u1 u2 h),
-      λ h. share-flipped (flip v1) (flip v2) (flip u1) (flip u2) (by-x .1 h),
-    )
+  pub point-once : ¬ ShareMore v1 v2 u1 u2
+  point-once (P, Q, apart, (p, p'), (q, q')) = spot-once P Q v1 (only-spot P v1 v2 still p) (only-spot Q v1 v2 still q) apart
 
 -- ---- neither has length: one and the same grid point
 pub both-points : (v1 v2 u1 u2 : Spot) → Same v1 v2 → Same u1 u2 → Share v1 v2 u1 u2 ↔ Same v1 u1

@@ -1,7 +1,7 @@
 -- Grid points on segments: an end lies on its segment, a segment's ends may change places, the axes may change places, a segment
 -- without length has one point, and a grid point on a segment's line lies on the segment exactly if it does on the x axis.
 use mathlib.Core.Path.{_≡_, refl, ap, subst}
-use mathlib.Core.Logic.{inl, inr}
+use mathlib.Core.Logic.{inl, inr, _↔_}
 use mathlib.Core.List.{[], _∷_}
 use Prim.Native.Nat.{ℕ, _+_, _-_, _<_}
 use native.Mathlib.Omega.{arith}
@@ -64,11 +64,17 @@ share-more-reversed v1 v2 u1 u2 (P, Q, apart, (p, p'), (q, q')) =
     (P, Q, apart, (reverse P v2 v1 p, p'), (reverse Q v2 v1 q, q'))
 
 -- ---- u and v change places
-pub share-swapped : (v1 v2 u1 u2 : Spot) → Share u1 u2 v1 v2 → Share v1 v2 u1 u2
-share-swapped v1 v2 u1 u2 (P, (p, q)) = (P, (q, p))
+pub share-swapped : (v1 v2 u1 u2 : Spot) → Share v1 v2 u1 u2 ↔ Share u1 u2 v1 v2
+share-swapped v1 v2 u1 u2 = (swap v1 v2 u1 u2, swap u1 u2 v1 v2)
+  where
+    swap : (a b c d : Spot) → Share a b c d → Share c d a b
+    swap a b c d (P, (p, q)) = (P, (q, p))
 
-pub share-more-swapped : (v1 v2 u1 u2 : Spot) → ShareMore u1 u2 v1 v2 → ShareMore v1 v2 u1 u2
-share-more-swapped v1 v2 u1 u2 (P, Q, apart, (p, p'), (q, q')) = (P, Q, apart, (p', p), (q', q))
+pub share-more-swapped : (v1 v2 u1 u2 : Spot) → ShareMore v1 v2 u1 u2 ↔ ShareMore u1 u2 v1 v2
+share-more-swapped v1 v2 u1 u2 = (swap v1 v2 u1 u2, swap u1 u2 v1 v2)
+  where
+    swap : (a b c d : Spot) → ShareMore a b c d → ShareMore c d a b
+    swap a b c d (P, Q, apart, (p, p'), (q, q')) = (P, Q, apart, (p', p), (q', q))
 
 -- ---- the axes change places
 abbrev pub flip : Spot → Spot
@@ -84,17 +90,23 @@ flip-apart : (P Q : Point) → Apart P Q → Apart (flip-point P) (flip-point Q)
 flip-apart P Q (inl h) = inr h
 flip-apart P Q (inr h) = inl h
 
-pub share-flipped : (v1 v2 u1 u2 : Spot) → Share v1 v2 u1 u2 → Share (flip v1) (flip v2) (flip u1) (flip u2)
-share-flipped v1 v2 u1 u2 (P, (p, q)) = (flip-point P, (flip-on P v1 v2 p, flip-on P u1 u2 q))
+pub share-flipped : (v1 v2 u1 u2 : Spot) → Share v1 v2 u1 u2 ↔ Share (flip v1) (flip v2) (flip u1) (flip u2)
+share-flipped v1 v2 u1 u2 = (turn v1 v2 u1 u2, turn (flip v1) (flip v2) (flip u1) (flip u2))
+  where
+    turn : (a b c d : Spot) → Share a b c d → Share (flip a) (flip b) (flip c) (flip d)
+    turn a b c d (P, (p, q)) = (flip-point P, (flip-on P a b p, flip-on P c d q))
 
-pub share-more-flipped : (v1 v2 u1 u2 : Spot) → ShareMore v1 v2 u1 u2 → ShareMore (flip v1) (flip v2) (flip u1) (flip u2)
-share-more-flipped v1 v2 u1 u2 (P, Q, apart, (p, p'), (q, q')) = (
-  flip-point P,
-  flip-point Q,
-  flip-apart P Q apart,
-  (flip-on P v1 v2 p, flip-on P u1 u2 p'),
-  (flip-on Q v1 v2 q, flip-on Q u1 u2 q'),
-)
+pub share-more-flipped : (v1 v2 u1 u2 : Spot) → ShareMore v1 v2 u1 u2 ↔ ShareMore (flip v1) (flip v2) (flip u1) (flip u2)
+share-more-flipped v1 v2 u1 u2 = (turn v1 v2 u1 u2, turn (flip v1) (flip v2) (flip u1) (flip u2))
+  where
+    turn : (a b c d : Spot) → ShareMore a b c d → ShareMore (flip a) (flip b) (flip c) (flip d)
+    turn a b c d (P, Q, apart, (p, p'), (q, q')) = (
+      flip-point P,
+      flip-point Q,
+      flip-apart P Q apart,
+      (flip-on P a b p, flip-on P c d p'),
+      (flip-on Q a b q, flip-on Q c d q'),
+    )
 
 -- ---- segments without length, and points that are grid points
 abbrev pub Same : Spot → Spot → Type 0
