@@ -13,8 +13,6 @@ use lib.Ieee.Fits.{eq→eqb}
 use lib.Ieee.{Float}
 use lib.Ieee.Bits.{is-true, is-false}
 use Rattle.float_laws.specs.Tests.{same-test}
-use Rattle.float_laws.specs.Roundings.{Sized}
-use Rattle.float_laws.specs.Binary64.{unit}
 use Rattle.floats.specs.Ops.{_⊖_, _⊗_, f0, f1}
 use Rattle.floats.specs.F64
 use Rattle.plane.specs.Vector2 as vector2
@@ -29,7 +27,7 @@ use Rattle.grid.specs.Floats.Length.{Long}
 use Rattle.grid.specs.Floats.Reach.{on-axis}
 use Rattle.grid.specs.Floats.Range.{before-end, beyond-end, after-start, before-start}
 use Rattle.grid.specs.Floats.Ratio.{Place, wider}
-use Rattle.grid.specs.Floats.Span.{Risen, from-zero, to-one}
+use Rattle.grid.specs.Floats.Span.{Part, Risen, from-zero, to-one}
 use Rattle.grid.specs.Floats.Shared.{shared-none, shared-some}
 
 -- ---- the three answers, by the lower end (Pl - Nl) / D and the upper one (Ph - Nh) / D
@@ -121,10 +119,10 @@ module _ (e : Float) (num den : ℕ) (h : Eps e num den)
       high : m1 ≤ D
       high = omega arith
 
-      X0 : Sized unit x0 false m0 D (2 ^ 0) (2 ^ 54)
+      X0 : Part D x0 m0
       X0 = from-zero D few (s .t0) (r .Pl) (r .Nl) (r .lower) lo
 
-      X1 : Sized unit x1 false m1 D (2 ^ 0) (2 ^ 54)
+      X1 : Part D x1 m1
       X1 = to-one D few (s .t1) (r .Ph) (r .Nh) (r .upper) hi
 
       go : (m0 ≡ m1) ⊎ (m0 < m1) → fuzzyEqZeroEps ((x1 ⊖ x0) ⊗ len) e ≡ eqb m0 m1

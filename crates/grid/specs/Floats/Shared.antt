@@ -13,7 +13,7 @@ use lib.Ieee.{Float, binary64, lt}
 use lib.Ieee.Bits.{is-true, is-false}
 use lib.Ieee.Digits.{back}
 use Rattle.float_laws.specs.Rounded.{Rounded, sub-over, mul-rounded}
-use Rattle.float_laws.specs.Roundings.{Near, Sized}
+use Rattle.float_laws.specs.Roundings.{Near}
 use Rattle.float_laws.specs.Whole.{most-whole, least-whole}
 use Rattle.float_laws.specs.Binary64.{unit, unit-pos, near64}
 use Rattle.floats.specs.Ops.{_⊖_, _⊗_}
@@ -25,6 +25,7 @@ use Rattle.plane.specs.Fuzzy.{fuzzyEqZeroEps}
 use Rattle.grid.specs.Floats.Zero.{Eps}
 use Rattle.grid.specs.Floats.Length.{Long}
 use Rattle.grid.specs.Floats.Range.{EpsUnits, eps-units}
+use Rattle.grid.specs.Floats.Span.{Part}
 
 -- ---- arithmetic. The parameters are s0 / L and s1 / L, their difference (dp - dn) / L, its product with the length (qp - qn) / L.
 module _ (D L R E s0 s1 dp dn qp qn : ℕ) (C : 0 < D) (P : 0 < L) where
@@ -77,7 +78,7 @@ module _ (D L R E s0 s1 dp dn qp qn : ℕ) (C : 0 < D) (P : 0 < L) where
 -- ---- on the floats
 module _ (e : Float) (num den : ℕ) (h : Eps e num den) (u : Vector2) (S : ℕ) (g : Long u S)
     (D : ℕ) (C : 0 < D) (few : D ≤ 2 ^ 21) (side : D * D ≤ S)
-    (x0 x1 : Float) (m0 m1 : ℕ) (X0 : Sized unit x0 false m0 D (2 ^ 0) (2 ^ 54)) (X1 : Sized unit x1 false m1 D (2 ^ 0) (2 ^ 54))
+    (x0 x1 : Float) (m0 m1 : ℕ) (X0 : Part D x0 m0) (X1 : Part D x1 m1)
     (low : m0 ≤ m1) (high : m1 ≤ D) where
   abbrev len : Float
   len = vector2.length u
@@ -86,7 +87,7 @@ module _ (e : Float) (num den : ℕ) (h : Eps e num den) (u : Vector2) (S : ℕ)
   eu = eps-units e num den h
 
   -- a parameter is at most 2
-  small : (m : ℕ) (x : Float) (X : Sized unit x false m D (2 ^ 0) (2 ^ 54)) → m ≤ D → X .count ≤ 2 * unit
+  small : (m : ℕ) (x : Float) (X : Part D x m) → m ≤ D → X .count ≤ 2 * unit
   small m x X l = le-of-mul-le-mul-right {m = X .count} {n = 2 * unit} {k = D} (go (X .count) unit (X .most)) C
     where
       go : (s L : ℕ) → 2 ^ 54 * (s * D) ≤ 2 ^ 54 * (m * L) + 1 * (D * L) → s * D ≤ 2 * L * D
