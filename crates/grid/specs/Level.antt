@@ -21,10 +21,10 @@ use Rattle.grid.specs.Plane.Whole.{diff, same}
 use Rattle.grid.specs.Plane.Order.{turned, turned-same}
 use Rattle.grid.specs.Plane.Sides.{way, cross, across, first, second, across-parallel}
 use Rattle.grid.specs.Plane.Cross.{Between}
-use Rattle.grid.specs.Plane.Points.{Collinear, line-of-v, cross-flipped}
+use Rattle.grid.specs.Plane.Points.{Collinear, swapped, flipped, cross-flipped}
 use Rattle.grid.specs.Plane.Spots.{Same, flip}
 use Rattle.grid.specs.Plane.Spans.{Meet, MeetMore}
-use Rattle.grid.specs.Plane.Overlap.{apart-on-axis, collinear-flipped}
+use Rattle.grid.specs.Plane.Overlap.{apart-on-axis}
 use Rattle.grid.specs.Plane.Parts.{between-parts, least, most, above-zero, below-size}
 use Rattle.grid.specs.Plane.Keeps.{
   Told,
@@ -271,7 +271,7 @@ module _ (e : Float) (num den : ℕ) (h : Eps e num den)
       along-told v1 v2 u1 u2 answer p1 p2 q1 q2 c long _ _ _ _ _ _ (at-u .at-x) (at-w .at-x) (at-w2 .at-x) s
   segments-told c long (inr s) =
       told-flipped p1 p2 q1 q2 (lineLineOf answer v1 v2 u1 u2)
-      (along-told v1 v2 u1 u2 answer (flip p1) (flip p2) (flip q1) (flip q2) (collinear-flipped p1 p2 q1 q2 c) (λ h. long (h .1, h .0))
+      (along-told v1 v2 u1 u2 answer (flip p1) (flip p2) (flip q1) (flip q2) (flipped p1 p2 q1 q2 c) (λ h. long (h .1, h .0))
       _ _ _ _ _ _ (at-u .at-y) (at-w .at-y) (at-w2 .at-y) s)
 
   -- all five ways
@@ -340,7 +340,7 @@ module _ (e : Float) (num den : ℕ) (h : Eps e num den)
           go c (inr i) (inl j) =
               told-swapped p1 p2 q1 q2 (lineLineOf answer v1 v2 u1 u2)
               (at-told v1 v2 u1 u2 answer (parametricFromPoint v1 v2 u1 e) f0 e v1 v2 u1 A1 A2 B1 q1 q2 p1 p2 at-v at-back
-              (same-u .0 j) (line-of-v p1 p2 q1 q2 (c .from-v)) (level.second-point e num den h v1 v2 u1 u2 A1 A2 B1 B2 x y i j))
+              (same-u .0 j) (swapped p1 p2 q1 q2 c .from-u) (level.second-point e num den h v1 v2 u1 u2 A1 A2 B1 B2 x y i j))
           go c (inr i) (inr j) =
               segments-told c (λ o. i (same-v .1 o)) (level.segments e num den h v1 v2 u1 u2 A1 A2 B1 B2 x y i j)
 

@@ -1,5 +1,5 @@
--- Parallel segments that share a point lie on one line; and where one of them has no length, or both, sharing is that one grid point
--- lies on the other. Then they never share more than that point.
+-- Parallel segments that share a point lie on one line, also where they change places, or the axes do. Where the first has no length,
+-- or neither has, sharing is that one grid point lies on the other. Then they never share more than that point.
 use mathlib.Core.Path.{_≡_, sym, _∙_}
 use mathlib.Core.Logic.{_↔_}
 use mathlib.Core.List.{[], _∷_}
@@ -8,7 +8,23 @@ use lib.IntN.{ℤ, pos, _-ℤ_, _*ℤ_}
 use Rattle.grid.specs.Promise.{Spot, Parallel, Share, ShareMore}
 use Rattle.grid.specs.Plane.Ring.{solve, combine, combine2, var, num, neg, _⊟_, _⊠_}
 use Rattle.grid.specs.Plane.Order.{cancel}
-use Rattle.grid.specs.Plane.Sides.{way, cross, across, first, second, parallel-across, place-v, place-u}
+use Rattle.grid.specs.Plane.Sides.{
+  way,
+  cross,
+  across,
+  first,
+  second,
+  parallel-across,
+  start-v,
+  end-v,
+  start-u,
+  end-u,
+  leg,
+  wedge,
+  corners,
+  place-v,
+  place-u,
+}
 use Rattle.grid.specs.Plane.Cross.{Between}
 use Rattle.grid.specs.Plane.Spots.{
   spot,
@@ -78,14 +94,33 @@ both-points v1 v2 u1 u2 sv su = (meet, λ e. (spot v1, (start-on v1 v2, spot-lie
           cancel (v1 .y) (u1 .y) (P .over) (P .positive) (sym (v .1) ∙ u .1),
         )
 
--- ---- the kernel's products say on which line a grid point lies
-pub line-of-v : (v1 v2 u1 u2 : Spot) → second v1 v2 u1 u2 ≡ pos 0 → cross (way v1 v2) (way v1 u1) ≡ pos 0
-line-of-v v1 v2 u1 u2 h =
-    let A = var 0 in let B = var 1 in let C = var 2 in let D = var 3 in let E = var 4 in let F = var 5 in
-    combine (v1 .x ∷ v1 .y ∷ v2 .x ∷ v2 .y ∷ u1 .x ∷ u1 .y ∷ [])
-    ((C ⊟ A) ⊠ (F ⊟ B) ⊟ (D ⊟ B) ⊠ (E ⊟ A)) (num 0) (neg (num 1)) ((C ⊟ A) ⊠ (B ⊟ F) ⊟ (D ⊟ B) ⊠ (A ⊟ E)) (num 0) h tt
+-- ---- u and v change places, and the axes do
+-- a product that is 0 is 0 with its factors exchanged, and with one of them turned round
+turned-cross : (p q : Spot) → cross p q ≡ pos 0 → cross q p ≡ pos 0
+turned-cross p q h =
+    combine (corners p q p q []) (wedge end-v start-v) (num 0) (neg (num 1)) (wedge start-v end-v) (num 0) h tt
+
+turned-way : (p a b : Spot) → cross p (way a b) ≡ pos 0 → cross p (way b a) ≡ pos 0
+turned-way p a b h =
+    combine (corners p p a b []) (wedge start-v (leg end-u start-u)) (num 0) (neg (num 1)) (wedge start-v (leg start-u end-u)) (num 0) h tt
+
+pub swapped : (v1 v2 u1 u2 : Spot) → Collinear v1 v2 u1 u2 → Collinear u1 u2 v1 v2
+swapped v1 v2 u1 u2 c =
+    record {
+      parallel = turned-cross (way v1 v2) (way u1 u2) (c .parallel);
+      from-u = turned-way (way v1 v2) u1 v1 (c .from-v);
+      from-v = turned-way (way u1 u2) u1 v1 (c .from-u);
+    }
 
 pub cross-flipped : (p q : Spot) → cross p q ≡ pos 0 → cross (flip p) (flip q) ≡ pos 0
 cross-flipped p q h =
-    let A = var 0 in let B = var 1 in let C = var 2 in let D = var 3 in
-    combine (p .x ∷ p .y ∷ q .x ∷ q .y ∷ []) (B ⊠ C ⊟ A ⊠ D) (num 0) (neg (num 1)) (A ⊠ D ⊟ B ⊠ C) (num 0) h tt
+    combine (corners p q p q []) (start-v .y ⊠ end-v .x ⊟ start-v .x ⊠ end-v .y) (num 0)
+    (neg (num 1)) (wedge start-v end-v) (num 0) h tt
+
+pub flipped : (v1 v2 u1 u2 : Spot) → Collinear v1 v2 u1 u2 → Collinear (flip v1) (flip v2) (flip u1) (flip u2)
+flipped v1 v2 u1 u2 c =
+    record {
+      parallel = cross-flipped (way v1 v2) (way u1 u2) (c .parallel);
+      from-u = cross-flipped (way u1 u2) (way u1 v1) (c .from-u);
+      from-v = cross-flipped (way v1 v2) (way u1 v1) (c .from-v);
+    }
