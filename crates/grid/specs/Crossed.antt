@@ -30,7 +30,7 @@ use Rattle.grid.specs.Floats.Ratio.{Ratio}
 use Rattle.grid.specs.Floats.Point.{Beside, point}
 use Rattle.grid.specs.Floats.Crossing as crossed
 use Rattle.grid.specs.Floats.Crossing.{Inside, Crossed, crossing-says}
-use Rattle.grid.specs.Joined.{At, way-at, cross-at, zero-at, size-gap, place-at, diff-is}
+use Rattle.grid.specs.Joined.{At, way-at, cross-at, zero-at, size-gap, place-at, is-diff}
 
 -- ---- naturals that are the same
 nearer : (j S S' D D' num den : ℕ) → S ≡ S' → D ≡ D' → j * j * S * (den * den) < 4 * (num * num * (D * D))
@@ -63,22 +63,15 @@ coordinate : (c : Float) (x w m : ℤ) (k a b wp wn p n D : ℕ) → x ≡ diff 
 coordinate c x w m k a b wp wn p n D e f g h r =
     subst (λ (z : ℕ). Within c (x *ℤ pos z +ℤ w *ℤ m) z) (sym h)
     (within-parts c (x *ℤ pos D +ℤ w *ℤ m) D (r .p) (r .n) unit (a * D + (wp * p + wn * n)) (b * D + (wp * n + wn * p))
-    (diff-is c (r .p) (r .n) unit (r .is)) unit-pos (is x w m e f g)
-    (turn (r .p) (r .n) unit (r .most)) (turn' (r .p) (r .n) unit (r .least)))
+    (is-diff c (r .p) (r .n) unit .1 (r .is)) unit-pos (is x w m e f g)
+    (turn _ _ unit (r .most)) (turn _ _ unit (r .least)))
   where
     is : (x w m : ℤ) → x ≡ diff a b → w ≡ diff wp wn → m ≡ diff p n
         → x *ℤ pos D +ℤ w *ℤ m ≡ diff (a * D + (wp * p + wn * n)) (b * D + (wp * n + wn * p))
     is x w m e f g = rw (e, f, g) (simp naturals (omega arith))
 
-    turn : (y z L : ℕ) → 2 ^ 30 * (y * D + (b * D + (wp * n + wn * p)) * L)
-        ≤ 2 ^ 30 * ((a * D + (wp * p + wn * n)) * L + z * D) + 1 * (D * L)
-        → 1073741824 * (y * D + (b * D + (wp * n + wn * p)) * L) ≤ 1073741824 * ((a * D + (wp * p + wn * n)) * L + z * D) + L * D
-    turn y z L h = omega arith
-
-    turn' : (y z L : ℕ) → 2 ^ 30 * ((a * D + (wp * p + wn * n)) * L + z * D)
-        ≤ 2 ^ 30 * (y * D + (b * D + (wp * n + wn * p)) * L) + 1 * (D * L)
-        → 1073741824 * ((a * D + (wp * p + wn * n)) * L + z * D) ≤ 1073741824 * (y * D + (b * D + (wp * n + wn * p)) * L) + L * D
-    turn' y z L h = omega arith
+    turn : (x y L : ℕ) → 2 ^ 30 * x ≤ 2 ^ 30 * y + 1 * (D * L) → 1073741824 * x ≤ 1073741824 * y + L * D
+    turn x y L h = omega arith
 
 module _ (e : Float) (num den : ℕ) (h : Eps e num den)
     (v1 v2 u1 u2 : Vector2) (A1 : Vec 20 v1) (A2 : Vec 20 v2) (B1 : Vec 20 u1) (B2 : Vec 20 u2)

@@ -24,20 +24,14 @@ use Rattle.grid.specs.Floats.Length.{gap, IsZero}
 use Rattle.grid.specs.Floats.Ratio.{Turned}
 
 -- ---- values
-pub is-diff : (x : Float) (p n c : ℕ) → Is x (diff p n) c → Diff x p n c
-is-diff nan p n c h = h
-is-diff (inf s) p n c h = h
-is-diff (fin false m e) p n c h = is-plus m p n c e .0 h
-is-diff (fin true m e) p n c h = is-minus m p n c e .0 h
-
-pub diff-is : (x : Float) (p n c : ℕ) → Diff x p n c → Is x (diff p n) c
-diff-is nan p n c h = h
-diff-is (inf s) p n c h = h
-diff-is (fin false m e) p n c h = is-plus m p n c e .1 h
-diff-is (fin true m e) p n c h = is-minus m p n c e .1 h
+pub is-diff : (x : Float) (p n c : ℕ) → Is x (diff p n) c ↔ Diff x p n c
+is-diff nan p n c = (λ h. h, λ h. h)
+is-diff (inf s) p n c = (λ h. h, λ h. h)
+is-diff (fin false m e) p n c = is-plus m p n c e
+is-diff (fin true m e) p n c = is-minus m p n c e
 
 whole-diff : (x : Float) (z : ℤ) (c : ℕ) → Is x z c → Diff x (gain z) (loss z) c
-whole-diff x z c h = is-diff x (gain z) (loss z) c (subst (λ (w : ℤ). Is x w c) (sym (whole z)) h)
+whole-diff x z c h = is-diff x (gain z) (loss z) c .0 (subst (λ (w : ℤ). Is x w c) (sym (whole z)) h)
 
 small : (x : Float) (z : ℤ) → Is x z 1 → natAbs z ≤ 1048576 → Small 20 x
 small x z h l =

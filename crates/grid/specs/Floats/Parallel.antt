@@ -151,19 +151,25 @@ pub record Spanned (r : LineLineIntr) (xp xn zp zn dp dn : ℕ) : Type 0 where
 
 module _ (e : Float) (num den : ℕ) (h : Eps e num den) (v1 u1 u2 w w2 u : Vector2)
     (W : Vec 21 w) (Z : Vec 21 w2) (A : Vec 21 u) (long-u : IsZero u A → ⊥) where
-  spanned-by : (a b : Float) (xp xn zp zn dp dn : ℕ) → Ratio 21 a xp xn dp dn → Ratio 21 b zp zn dp dn → gap dp dn ≤ 2 ^ 21
-      → gap dp dn * gap dp dn ≤ square u A → Spanned (overlap v1 u1 u2 u (rising a b) e) xp xn zp zn dp dn
-  spanned-by a b xp xn zp zn dp dn x z few side =
-      let r = risen (gap dp dn) few a b (x .P) (x .N) (z .P) (z .N) (x .place) (z .place) in
+  -- along an axis on which u has the side d, and its ends lie at x and z from u's start
+  spanned-by : (x z d : Float) (X : Small 21 x) (K : Small 21 z) (B : Small 21 d) → (B .p ≡ B .n → ⊥)
+      → gap (B .p) (B .n) * gap (B .p) (B .n) ≤ square u A
+      → Spanned (overlap v1 u1 u2 u (rising (x ⊘ d) (z ⊘ d)) e) (X .p) (X .n) (K .p) (K .n) (B .p) (B .n)
+  spanned-by x z d X K B wide side =
+      let D = gap (B .p) (B .n) in
+      let i = ratio 21 x d X B wide in
+      let j = ratio 21 z d K B wide in
+      let few = gap-few (B .p) (B .n) (B .p-le) (B .n-le) in
+      let r = risen D few (x ⊘ d) (z ⊘ d) (i .P) (i .N) (j .P) (j .N) (i .place) (j .place) in
       record {
-        from = a;
-        to = b;
-        start = x;
-        stop = z;
+        from = x ⊘ d;
+        to = z ⊘ d;
+        start = i;
+        stop = j;
         few = few;
         ends = r;
-        answer = overlap-says e num den h v1 u1 u2 u (square u A) (long u A long-u) (gap dp dn) (x .place .some) few side (rising a b)
-            (x .P) (x .N) (z .P) (z .N) r;
+        answer = overlap-says e num den h v1 u1 u2 u (square u A) (long u A long-u) D (i .place .some) few side
+            (rising (x ⊘ d) (z ⊘ d)) (i .P) (i .N) (j .P) (j .N) r;
       }
 
   -- along x where the second segment has a width, else along y
@@ -179,15 +185,9 @@ module _ (e : Float) (num den : ℕ) (h : Eps e num den) (v1 u1 u2 w w2 u : Vect
           (W .y .p) (W .y .n) (Z .y .p) (Z .y .n) (A .y .p) (A .y .n)
       go true q =
           let flat : A .x .p ≡ A .x .n = eqb→eq (A .x .p) (A .x .n) (subst T q tt) in
-          let tall : A .y .p ≡ A .y .n → ⊥ = λ y. long-u (flat, y) in
-          inr (spanned-by (w .y ⊘ u .y) (w2 .y ⊘ u .y) (W .y .p) (W .y .n) (Z .y .p) (Z .y .n) (A .y .p) (A .y .n)
-          (ratio 21 (w .y) (u .y) (W .y) (A .y) tall) (ratio 21 (w2 .y) (u .y) (Z .y) (A .y) tall)
-          (gap-few (A .y .p) (A .y .n) (A .y .p-le) (A .y .n-le)) (side-y _ _))
+          inr (spanned-by (w .y) (w2 .y) (u .y) (W .y) (Z .y) (A .y) (λ y. long-u (flat, y)) (side-y _ _))
       go false q =
-          let wide : A .x .p ≡ A .x .n → ⊥ = λ x. T-not false tt (subst T (sym q) (eq→eqb x)) in
-          inl (spanned-by (w .x ⊘ u .x) (w2 .x ⊘ u .x) (W .x .p) (W .x .n) (Z .x .p) (Z .x .n) (A .x .p) (A .x .n)
-          (ratio 21 (w .x) (u .x) (W .x) (A .x) wide) (ratio 21 (w2 .x) (u .x) (Z .x) (A .x) wide)
-          (gap-few (A .x .p) (A .x .n) (A .x .p-le) (A .x .n-le)) (side-x _ _))
+          inl (spanned-by (w .x) (w2 .x) (u .x) (W .x) (Z .x) (A .x) (λ x. T-not false tt (subst T (sym q) (eq→eqb x))) (side-x _ _))
 
 -- ---- the five ways
 decided : (p n q k : ℕ) → ((p ≡ n) × (q ≡ k)) ⊎ ((p ≡ n) × (q ≡ k) → ⊥)
