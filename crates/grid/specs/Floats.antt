@@ -4,6 +4,7 @@ pub mod Small
 pub mod Zero
 pub mod Length
 pub mod Ratio
+pub mod Bounds
 pub mod Reach
 pub mod Range
 pub mod Point

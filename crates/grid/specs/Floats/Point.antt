@@ -2,7 +2,7 @@
 -- parameter that is one rounding of (P - N) / D and lies less than two epsilons beyond the segment.
 -- The argument: the quotient is off by 2 ^ -53, times a difference of at most 2 ^ 21; the product by 2 ^ -32; the sum, which is at
 -- most 2 ^ 21 in size, by 2 ^ -33. Together that is five eighths of 2 ^ -30.
-use mathlib.Core.Path.{_≡_, ap}
+use mathlib.Core.Path.{_≡_, refl, ap}
 use Prim.Native.Nat.{ℕ, _+_, _-_, _*_, _^_, _≤_, _<_}
 use native.Mathlib.Nat.{mul-le-mul, mul-le-mul-right, le-of-mul-le-mul-right, zero-lt-suc}
 use native.Mathlib.Omega.{arith}
@@ -12,7 +12,6 @@ use lib.Ieee.{Float, binary64}
 use Rattle.float_laws.specs.Signed.{Diff, diff-at}
 use Rattle.float_laws.specs.Rounded.{Rounded, add-over, mul-rounded}
 use Rattle.float_laws.specs.Roundings.{Near}
-use Rattle.float_laws.specs.Whole.{most-whole, least-whole}
 use Rattle.float_laws.specs.Binary64.{unit, unit-pos, near64}
 use Rattle.floats.specs.Ops.{_⊕_, _⊖_, _⊗_}
 use Rattle.plane.specs.Vector2 as vector2
@@ -23,6 +22,7 @@ use Rattle.grid.specs.Floats.Zero.{Eps}
 use Rattle.grid.specs.Floats.Length.{gap, square, side-x, side-y}
 use Rattle.grid.specs.Floats.Reach.{Reaches, short, near-by}
 use Rattle.grid.specs.Floats.Ratio.{Place}
+use Rattle.grid.specs.Floats.Bounds.{bounded, near-at}
 
 -- ---- a product of differences: |p - n| ≤ A and |q - k| ≤ B give |(p - n) * (q - k)| ≤ A * B
 pub spread : (p n q k A B : ℕ) → p ≤ n + A → n ≤ p + A → q ≤ k + B → k ≤ q + B
@@ -127,15 +127,6 @@ sum-size a b c d P N D L tp tn qp qn C x y z =
     back-to h = omega arith
 
 -- ---- one coordinate
--- a common factor, cut
-cut : (x y X Y L : ℕ) → 0 < L → 2 ^ 54 * (x * (1 * L) + Y * L) ≤ 2 ^ 54 * (X * L + y * (1 * L)) + 2 ^ 22 * (1 * L * L)
-    → 2 ^ 54 * (x + Y) ≤ 2 ^ 54 * (X + y) + 2 ^ 22 * L
-cut x y X Y L Q h = le-of-mul-le-mul-right {m = 2 ^ 54 * (x + Y)} {n = 2 ^ 54 * (X + y) + 2 ^ 22 * L} {k = L} (omega arith) Q
-
-cut-sum : (x y X Y L : ℕ) → 0 < L → 2 ^ 54 * (x * L + Y * L) ≤ 2 ^ 54 * (X * L + y * L) + 2 ^ 21 * (L * L)
-    → 2 ^ 54 * (x + Y) ≤ 2 ^ 54 * (X + y) + 2 ^ 21 * L
-cut-sum x y X Y L Q h = le-of-mul-le-mul-right {m = 2 ^ 54 * (x + Y)} {n = 2 ^ 54 * (X + y) + 2 ^ 21 * L} {k = L} (omega arith) Q
-
 -- c is within 1 / 2 ^ 30 of x0 + dx * (P - N) / D, where x0 is a - b and dx is p - n
 abbrev pub Beside : Float → ℕ → ℕ → ℕ → ℕ → ℕ → ℕ → ℕ → Type 0
 Beside c a b p n P N D = Near unit c (a * D + (p * P + n * N)) (b * D + (p * N + n * P)) D 1 (2 ^ 30)
@@ -154,49 +145,36 @@ coordinate x0 dx t A B P N D r C u l hi lo =
     let T = near64 t P N D 1 r C u l (lit≤ tt) in
     let tp = T .p in
     let tn = T .n in
-    let t-up = most-whole binary64 t P N D r C tp tn L unit-pos (T .is) 2 0 (lit≤ tt) (lit≤ tt) (turn P N D u) in
-    let t-dn = least-whole binary64 t P N D r C tp tn L unit-pos (T .is) 0 2 (lit≤ tt) (lit≤ tt) (turn' P N D l) in
+    let t-size = bounded t P N D r C 2 (lit≤ tt) u l tp tn (T .is) in
     let off-t = spread c d (2 ^ 54 * (tp * D + N * L)) (2 ^ 54 * (P * L + tn * D)) (2 ^ 21) (2 ^ 1 * (D * L)) (wide c d (B .p-le))
     (wide d c (B .n-le)) (T .most) (T .least) in
     let off-t' = swapped c d (tp * D) (N * L) (P * L) (tn * D) (2 ^ 21 * (2 ^ 1 * (D * L))) (off-t .1) in
     let product = mul-rounded binary64 dx t c d tp tn 1 L (zero-lt-suc 0) unit-pos (B .is) (T .is) in
-    let p-size = spread c d tp tn (2 ^ 21) (2 * L) (wide c d (B .p-le)) (wide d c (B .n-le)) (plain tp tn L t-up)
-    (plain' tp tn L t-dn) in
+    let p-size = spread c d tp tn (2 ^ 21) (2 * L) (wide c d (B .p-le)) (wide d c (B .n-le)) (t-size .0) (t-size .1) in
     let Q = near64 (dx ⊗ t) _ _ (1 * L) 22 product (one-unit L unit-pos) (as-unit _ _ L (p-size .0)) (as-unit _ _ L (p-size .1))
     (lit≤ tt) in
-    let q-most = cut (Q .p) (Q .n) (c * tp + d * tn) (c * tn + d * tp) L unit-pos (Q .most) in
-    let q-least = cut' (Q .p) (Q .n) (c * tp + d * tn) (c * tn + d * tp) L unit-pos (Q .least) in
+    let q-near = near-at L (1 * L) (2 ^ 22) unit-pos refl (dx ⊗ t) (c * tp + d * tn) (c * tn + d * tp) Q in
     let q-is : Diff (dx ⊗ t) (Q .p) (Q .n) L = Q .is in
     let x-is : Diff x0 (a * L) (b * L) L = diff-at x0 a b 1 (a * L) (b * L) L (zero-lt-suc 0) (A .is) (over a b L) in
     let sum = add-over binary64 x0 (dx ⊗ t) (a * L) (b * L) (Q .p) (Q .n) L unit-pos x-is q-is in
-    let s-up = sum-size a b c d P N D L tp tn (Q .p) (Q .n) C (off-t .0) q-most hi in
-    let s-dn = sum-size b a c d N P D L tn tp (Q .n) (Q .p) C off-t' q-least lo in
+    let s-up = sum-size a b c d P N D L tp tn (Q .p) (Q .n) C (off-t .0) (q-near .0) hi in
+    let s-dn = sum-size b a c d N P D L tn tp (Q .n) (Q .p) C off-t' (q-near .1) lo in
     let Z = near64 (x0 ⊕ dx ⊗ t) _ _ L 21 sum unit-pos s-up s-dn (lit≤ tt) in
-    let z-most = cut-sum (Z .p) (Z .n) (a * L + Q .p) (b * L + Q .n) L unit-pos (Z .most) in
-    let z-least = cut-sum' (Z .p) (Z .n) (a * L + Q .p) (b * L + Q .n) L unit-pos (Z .least) in
+    let z-near = near-at L L (2 ^ 21) unit-pos (one L) (x0 ⊕ dx ⊗ t) (a * L + Q .p) (b * L + Q .n) Z in
     record {
       p = Z .p;
       n = Z .n;
       is = Z .is;
-      most = together a b c d P N D L tp tn (Q .p) (Q .n) (Z .p) (Z .n) (off-t .0) q-most z-most;
+      most = together a b c d P N D L tp tn (Q .p) (Q .n) (Z .p) (Z .n) (off-t .0) (q-near .0) (z-near .0);
       least = turned (Z .p * D) (Z .n * D) (a * D + (c * P + d * N)) (b * D + (c * N + d * P)) L (1 * (D * L))
-          (together b a c d N P D L tn tp (Q .n) (Q .p) (Z .n) (Z .p) off-t' q-least z-least);
+          (together b a c d N P D L tn tp (Q .n) (Q .p) (Z .n) (Z .p) off-t' (q-near .1) (z-near .1));
     }
   where
-    turn : (P N D : ℕ) → P ≤ N + 2 * D → P + 0 * D ≤ 2 * D + N
-    turn P N D x = omega arith
-
-    turn' : (P N D : ℕ) → N ≤ P + 2 * D → 0 * D + N ≤ P + 2 * D
-    turn' P N D x = omega arith
-
-    plain : (p n L : ℕ) → p + 0 * L ≤ 2 * L + n → p ≤ n + 2 * L
-    plain p n L x = omega arith
-
-    plain' : (p n L : ℕ) → 0 * L + n ≤ p + 2 * L → n ≤ p + 2 * L
-    plain' p n L x = omega arith
-
     wide : (c d : ℕ) → c ≤ 2 ^ 21 → c ≤ d + 2 ^ 21
     wide c d x = omega arith
+
+    one : (L : ℕ) → L ≡ 1 * L
+    one L = omega arith
 
     one-unit : (L : ℕ) → 0 < L → 0 < 1 * L
     one-unit L x = omega arith
@@ -211,15 +189,6 @@ coordinate x0 dx t A B P N D r C u l hi lo =
         ≤ c * (2 ^ 54 * (x + y)) + d * (2 ^ 54 * (z + w)) + B
         → c * (2 ^ 54 * (w + z)) + d * (2 ^ 54 * (y + x)) ≤ c * (2 ^ 54 * (y + x)) + d * (2 ^ 54 * (w + z)) + B
     swapped c d x y z w B h = omega arith
-
-    cut' : (x y X Y L : ℕ) → 0 < L → 2 ^ 54 * (X * L + y * (1 * L)) ≤ 2 ^ 54 * (x * (1 * L) + Y * L) + 2 ^ 22 * (1 * L * L)
-        → 2 ^ 54 * (y + X) ≤ 2 ^ 54 * (Y + x) + 2 ^ 22 * L
-    cut' x y X Y L Q h = le-of-mul-le-mul-right {m = 2 ^ 54 * (y + X)} {n = 2 ^ 54 * (Y + x) + 2 ^ 22 * L} {k = L} (omega arith) Q
-
-    cut-sum' : (x y X Y L : ℕ) → 0 < L → 2 ^ 54 * (X * L + y * L) ≤ 2 ^ 54 * (x * L + Y * L) + 2 ^ 21 * (L * L)
-        → 2 ^ 54 * (y + X) ≤ 2 ^ 54 * (Y + x) + 2 ^ 21 * L
-    cut-sum' x y X Y L Q h =
-        le-of-mul-le-mul-right {m = 2 ^ 54 * (y + X)} {n = 2 ^ 54 * (Y + x) + 2 ^ 21 * L} {k = L} (omega arith) Q
 
     turned : (x y X Y L B : ℕ) → 2 ^ 30 * (y + X * L) ≤ 2 ^ 30 * (Y * L + x) + B → 2 ^ 30 * (X * L + y) ≤ 2 ^ 30 * (x + Y * L) + B
     turned x y X Y L B h = omega arith

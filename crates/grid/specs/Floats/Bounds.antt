@@ -1,0 +1,61 @@
+-- Bounds in units, for all operations on the floats: a float is no larger than a whole number that its exact value does not pass; it
+-- is near its exact value, with the common unit cut; and a product with a length is no larger than the product of the bounds.
+use mathlib.Core.Path.{_≡_, ap}
+use Prim.Native.Nat.{ℕ, _+_, _*_, _^_, _≤_, _<_}
+use native.Mathlib.Nat.{mul-one, mul-le-mul-left, mul-le-mul-right, le-of-mul-le-mul-right}
+use native.Mathlib.Omega.{arith}
+use lib.Ieee.{Float, binary64}
+use Rattle.float_laws.specs.Signed.{Diff}
+use Rattle.float_laws.specs.Rounded.{Rounded}
+use Rattle.float_laws.specs.Roundings.{Near}
+use Rattle.float_laws.specs.Whole.{most-whole, least-whole}
+use Rattle.float_laws.specs.Binary64.{unit, unit-pos}
+
+-- ---- (P - N) / D at most k in size, and so the float t that is its rounding
+pub bounded : (t : Float) (P N D : ℕ) → Rounded binary64 t P N D → 0 < D → (k : ℕ) → k ≤ 2 ^ 53 → P ≤ N + k * D → N ≤ P + k * D
+    → (p n : ℕ) → Diff t p n unit
+    → (p ≤ n + k * unit) × (n ≤ p + k * unit)
+bounded t P N D r C k few u l p n d = (
+  plain p n unit (most-whole binary64 t P N D r C p n unit unit-pos d k 0 (omega arith) (omega arith) (omega arith)),
+  plain' p n unit (least-whole binary64 t P N D r C p n unit unit-pos d 0 k (omega arith) (omega arith) (omega arith)),
+)
+  where
+    plain : (p n L : ℕ) → p + 0 * L ≤ k * L + n → p ≤ n + k * L
+    plain p n L x = omega arith
+
+    plain' : (p n L : ℕ) → 0 * L + n ≤ p + k * L → n ≤ p + k * L
+    plain' p n L x = omega arith
+
+-- ---- a common unit, cut
+pub cut : (a b e L : ℕ) → 0 < L → 2 ^ 54 * (a * L) ≤ 2 ^ 54 * (b * L) + e * (L * L) → 2 ^ 54 * a ≤ 2 ^ 54 * b + e * L
+cut a b e L C h = le-of-mul-le-mul-right {m = 2 ^ 54 * a} {n = 2 ^ 54 * b + e * L} {k = L} (omega arith) C
+
+-- near (P - N) / D, where D is k units: from above, and from below
+pub near-over : (L k D e : ℕ) → 0 < L → D ≡ k * L → (r : Float) (P N : ℕ) (x : Near L r P N D e (2 ^ 54))
+    → (2 ^ 54 * (x .p * k + N) ≤ 2 ^ 54 * (P + x .n * k) + e * k * L) × (2 ^ 54 * (x .n * k + P) ≤ 2 ^ 54 * (N + x .p * k) + e * k * L)
+near-over L k D e C is r P N x =
+    (one-way (x .p) (x .n) P N (x .most), one-way (x .n) (x .p) N P (turned (x .p * D) (x .n * D) (P * L) (N * L) (e * (D * L)) (x .least)))
+  where
+    one-way : (p n P N : ℕ) → 2 ^ 54 * (p * D + N * L) ≤ 2 ^ 54 * (P * L + n * D) + e * (D * L)
+        → 2 ^ 54 * (p * k + N) ≤ 2 ^ 54 * (P + n * k) + e * k * L
+    one-way p n P N h =
+        let i : p * D ≡ p * (k * L) = ap (λ (z : ℕ). p * z) is in
+        let j : n * D ≡ n * (k * L) = ap (λ (z : ℕ). n * z) is in
+        let m : e * (D * L) ≡ e * (k * L * L) = ap (λ (z : ℕ). e * (z * L)) is in
+        cut (p * k + N) (P + n * k) (e * k) L C (omega arith)
+
+    turned : (p n P N B : ℕ) → 2 ^ 54 * (P + n) ≤ 2 ^ 54 * (p + N) + B → 2 ^ 54 * (n + P) ≤ 2 ^ 54 * (N + p) + B
+    turned p n P N B h = omega arith
+
+-- where D is one unit
+pub near-at : (L D e : ℕ) → 0 < L → D ≡ 1 * L → (r : Float) (P N : ℕ) (x : Near L r P N D e (2 ^ 54))
+    → (2 ^ 54 * (x .p + N) ≤ 2 ^ 54 * (P + x .n) + e * L) × (2 ^ 54 * (x .n + P) ≤ 2 ^ 54 * (N + x .p) + e * L)
+near-at L D e C is r P N x = simp mul-one at (near-over L 1 D e C is r P N x)
+
+-- ---- a number of at most k units by a length of at most 2 ^ 22
+pub by-length : (k p n L R : ℕ) → (p ≤ n + k * L) × (n ≤ p + k * L) → R ≤ 2 ^ 22 * L
+    → (p * R + n * 0 ≤ p * 0 + n * R + k * 2 ^ 22 * (L * L)) × (p * 0 + n * R ≤ p * R + n * 0 + k * 2 ^ 22 * (L * L))
+by-length k p n L R (u, l) most = (
+  omega (arith, mul-le-mul-right R u, mul-le-mul-left (k * L) most),
+  omega (arith, mul-le-mul-right R l, mul-le-mul-left (k * L) most),
+)
