@@ -2,14 +2,15 @@
 -- is near its exact value, with the common unit cut; and a product with a length is no larger than the product of the bounds.
 use mathlib.Core.Path.{_≡_, ap}
 use Prim.Native.Nat.{ℕ, _+_, _*_, _^_, _≤_, _<_}
-use native.Mathlib.Nat.{mul-one, mul-le-mul-left, mul-le-mul-right, le-of-mul-le-mul-right}
+use native.Mathlib.Nat.{mul-one, one-mul, mul-zero, add-zero, zero-add, mul-le-mul-left, mul-le-mul-right, le-of-mul-le-mul-right}
 use native.Mathlib.Omega.{arith}
 use lib.Ieee.{Float, binary64}
 use Rattle.float_laws.specs.Signed.{Diff}
-use Rattle.float_laws.specs.Rounded.{Rounded}
+use Rattle.float_laws.specs.Rounded.{Rounded, mul-rounded}
 use Rattle.float_laws.specs.Roundings.{Near}
 use Rattle.float_laws.specs.Whole.{most-whole, least-whole}
 use Rattle.float_laws.specs.Binary64.{unit, unit-pos}
+use Rattle.floats.specs.Ops.{_⊗_}
 
 -- ---- (P - N) / D at most k in size, and so the float t that is its rounding
 pub bounded : (t : Float) (P N D : ℕ) → Rounded binary64 t P N D → 0 < D → (k : ℕ) → k ≤ 2 ^ 53 → P ≤ N + k * D → N ≤ P + k * D
@@ -32,17 +33,18 @@ cut a b e L C h = le-of-mul-le-mul-right {m = 2 ^ 54 * a} {n = 2 ^ 54 * b + e * 
 
 -- near (P - N) / D, where D is k units: from above, and from below
 pub near-over : (L k D e : ℕ) → 0 < L → D ≡ k * L → (r : Float) (P N : ℕ) (x : Near L r P N D e (2 ^ 54))
-    → (2 ^ 54 * (x .p * k + N) ≤ 2 ^ 54 * (P + x .n * k) + e * k * L) × (2 ^ 54 * (x .n * k + P) ≤ 2 ^ 54 * (N + x .p * k) + e * k * L)
+    → (2 ^ 54 * (x .p * k + N) ≤ 2 ^ 54 * (P + x .n * k) + e * (k * L)) × (2 ^ 54 * (x .n * k + P) ≤ 2 ^ 54 * (N + x .p * k) + e * (k * L))
 near-over L k D e C is r P N x =
     (one-way (x .p) (x .n) P N (x .most), one-way (x .n) (x .p) N P (turned (x .p * D) (x .n * D) (P * L) (N * L) (e * (D * L)) (x .least)))
   where
     one-way : (p n P N : ℕ) → 2 ^ 54 * (p * D + N * L) ≤ 2 ^ 54 * (P * L + n * D) + e * (D * L)
-        → 2 ^ 54 * (p * k + N) ≤ 2 ^ 54 * (P + n * k) + e * k * L
+        → 2 ^ 54 * (p * k + N) ≤ 2 ^ 54 * (P + n * k) + e * (k * L)
     one-way p n P N h =
         let i : p * D ≡ p * (k * L) = ap (λ (z : ℕ). p * z) is in
         let j : n * D ≡ n * (k * L) = ap (λ (z : ℕ). n * z) is in
         let m : e * (D * L) ≡ e * (k * L * L) = ap (λ (z : ℕ). e * (z * L)) is in
-        cut (p * k + N) (P + n * k) (e * k) L C (omega arith)
+        let w = cut (p * k + N) (P + n * k) (e * k) L C (omega arith) in
+        omega arith
 
     turned : (p n P N B : ℕ) → 2 ^ 54 * (P + n) ≤ 2 ^ 54 * (p + N) + B → 2 ^ 54 * (n + P) ≤ 2 ^ 54 * (N + p) + B
     turned p n P N B h = omega arith
@@ -50,11 +52,20 @@ near-over L k D e C is r P N x =
 -- where D is one unit
 pub near-at : (L D e : ℕ) → 0 < L → D ≡ 1 * L → (r : Float) (P N : ℕ) (x : Near L r P N D e (2 ^ 54))
     → (2 ^ 54 * (x .p + N) ≤ 2 ^ 54 * (P + x .n) + e * L) × (2 ^ 54 * (x .n + P) ≤ 2 ^ 54 * (N + x .p) + e * L)
-near-at L D e C is r P N x = simp mul-one at (near-over L 1 D e C is r P N x)
+near-at L D e C is r P N x = simp (mul-one, one-mul) at (near-over L 1 D e C is r P N x)
 
--- ---- a number of at most k units by a length of at most 2 ^ 22
+pub one-unit : unit ≡ 1 * unit
+one-unit = omega arith
+
+-- ---- a number times a length
+pub times-length : (x len : Float) (p n R : ℕ) → Diff x p n unit → Diff len R 0 unit
+    → Rounded binary64 (x ⊗ len) (p * R) (n * R) (unit * unit)
+times-length x len p n R d l =
+    simp (mul-zero, add-zero, zero-add) at (mul-rounded binary64 x len p n R 0 unit unit unit-pos unit-pos d l)
+
+-- at most k units by at most 2 ^ 22
 pub by-length : (k p n L R : ℕ) → (p ≤ n + k * L) × (n ≤ p + k * L) → R ≤ 2 ^ 22 * L
-    → (p * R + n * 0 ≤ p * 0 + n * R + k * 2 ^ 22 * (L * L)) × (p * 0 + n * R ≤ p * R + n * 0 + k * 2 ^ 22 * (L * L))
+    → (p * R ≤ n * R + k * 2 ^ 22 * (L * L)) × (n * R ≤ p * R + k * 2 ^ 22 * (L * L))
 by-length k p n L R (u, l) most = (
   omega (arith, mul-le-mul-right R u, mul-le-mul-left (k * L) most),
   omega (arith, mul-le-mul-right R l, mul-le-mul-left (k * L) most),

@@ -22,7 +22,7 @@ use Rattle.grid.specs.Floats.Zero.{Eps}
 use Rattle.grid.specs.Floats.Length.{gap, square, side-x, side-y}
 use Rattle.grid.specs.Floats.Reach.{Reaches, short, near-by}
 use Rattle.grid.specs.Floats.Ratio.{Place}
-use Rattle.grid.specs.Floats.Bounds.{bounded, near-at}
+use Rattle.grid.specs.Floats.Bounds.{bounded, near-at, one-unit}
 
 -- ---- a product of differences: |p - n| ≤ A and |q - k| ≤ B give |(p - n) * (q - k)| ≤ A * B
 pub spread : (p n q k A B : ℕ) → p ≤ n + A → n ≤ p + A → q ≤ k + B → k ≤ q + B
@@ -151,7 +151,7 @@ coordinate x0 dx t A B P N D r C u l hi lo =
     let off-t' = swapped c d (tp * D) (N * L) (P * L) (tn * D) (2 ^ 21 * (2 ^ 1 * (D * L))) (off-t .1) in
     let product = mul-rounded binary64 dx t c d tp tn 1 L (zero-lt-suc 0) unit-pos (B .is) (T .is) in
     let p-size = spread c d tp tn (2 ^ 21) (2 * L) (wide c d (B .p-le)) (wide d c (B .n-le)) (t-size .0) (t-size .1) in
-    let Q = near64 (dx ⊗ t) _ _ (1 * L) 22 product (one-unit L unit-pos) (as-unit _ _ L (p-size .0)) (as-unit _ _ L (p-size .1))
+    let Q = near64 (dx ⊗ t) _ _ (1 * L) 22 product (some-unit L unit-pos) (as-unit _ _ L (p-size .0)) (as-unit _ _ L (p-size .1))
     (lit≤ tt) in
     let q-near = near-at L (1 * L) (2 ^ 22) unit-pos refl (dx ⊗ t) (c * tp + d * tn) (c * tn + d * tp) Q in
     let q-is : Diff (dx ⊗ t) (Q .p) (Q .n) L = Q .is in
@@ -160,7 +160,7 @@ coordinate x0 dx t A B P N D r C u l hi lo =
     let s-up = sum-size a b c d P N D L tp tn (Q .p) (Q .n) C (off-t .0) (q-near .0) hi in
     let s-dn = sum-size b a c d N P D L tn tp (Q .n) (Q .p) C off-t' (q-near .1) lo in
     let Z = near64 (x0 ⊕ dx ⊗ t) _ _ L 21 sum unit-pos s-up s-dn (lit≤ tt) in
-    let z-near = near-at L L (2 ^ 21) unit-pos (one L) (x0 ⊕ dx ⊗ t) (a * L + Q .p) (b * L + Q .n) Z in
+    let z-near = near-at L L (2 ^ 21) unit-pos one-unit (x0 ⊕ dx ⊗ t) (a * L + Q .p) (b * L + Q .n) Z in
     record {
       p = Z .p;
       n = Z .n;
@@ -173,11 +173,8 @@ coordinate x0 dx t A B P N D r C u l hi lo =
     wide : (c d : ℕ) → c ≤ 2 ^ 21 → c ≤ d + 2 ^ 21
     wide c d x = omega arith
 
-    one : (L : ℕ) → L ≡ 1 * L
-    one L = omega arith
-
-    one-unit : (L : ℕ) → 0 < L → 0 < 1 * L
-    one-unit L x = omega arith
+    some-unit : (L : ℕ) → 0 < L → 0 < 1 * L
+    some-unit L x = omega arith
 
     as-unit : (x y L : ℕ) → x ≤ y + 2 ^ 21 * (2 * L) → x ≤ y + 2 ^ 22 * (1 * L)
     as-unit x y L h = omega arith

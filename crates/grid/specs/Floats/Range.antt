@@ -4,7 +4,7 @@
 -- The argument for the second: what is not rounded across is exact. t * length is below the float length + epsilon only if the
 -- exact product of the two floats is; and the quotient t, the length and the sum are off by some 2 ^ -31 at most, epsilon being
 -- 2 ^ -10.
-use mathlib.Core.Path.{_≡_, sym, ap, subst}
+use mathlib.Core.Path.{_≡_, refl, sym, ap, subst}
 use Prim.Native.Nat.{ℕ, _+_, _-_, _*_, _^_, _≤_, _<_}
 use native.Mathlib.Nat.{
   mul-pos,
@@ -24,7 +24,7 @@ use lib.Ieee.Digits.{back}
 use lib.Ieee.Fits.{add-fits, neg-fits, and-i, and-l, and-r}
 use Rattle.float_laws.specs.Signed.{Diff, SizeOf, ups, downs, diff-same, diff-at, diff-finite, neg-diff}
 use Rattle.float_laws.specs.Order.{lt-over, le-over}
-use Rattle.float_laws.specs.Rounded.{Rounded, add-over, mul-rounded}
+use Rattle.float_laws.specs.Rounded.{Rounded, add-over}
 use Rattle.float_laws.specs.Roundings.{Near, Sized, rounded-le, rounded-ge, rounded-below, rounded-above}
 use Rattle.float_laws.specs.Whole.{most-whole, least-whole}
 use Rattle.float_laws.specs.Binary64.{unit, unit-pos, zero-is, units64, near64, sized64}
@@ -37,7 +37,7 @@ use Rattle.grid.specs.Floats.Zero.{Eps}
 use Rattle.grid.specs.Floats.Length.{Long}
 use Rattle.grid.specs.Floats.Reach.{Less, Beyond, Reaches}
 use Rattle.grid.specs.Floats.Ratio.{Place, at-most}
-use Rattle.grid.specs.Floats.Bounds.{bounded, cut, by-length}
+use Rattle.grid.specs.Floats.Bounds.{bounded, cut, near-over, times-length, by-length}
 
 -- ---- the epsilon in units
 pub record EpsUnits (e : Float) (num den : ℕ) : Type 0 where
@@ -140,10 +140,10 @@ module _ (e : Float) (num den : ℕ) (h : Eps e num den)
 
   -- t * length, and t * length + epsilon: one rounding each, both finite
   module _ (p n : ℕ) (d : Diff t p n unit) where
-    product : Rounded binary64 (t ⊗ len) (p * g .R + n * 0) (p * 0 + n * g .R) (unit * unit)
-    product = mul-rounded binary64 t len p n (g .R) 0 unit unit unit-pos unit-pos d (g .is)
+    product : Rounded binary64 (t ⊗ len) (p * g .R) (n * g .R) (unit * unit)
+    product = times-length t len p n (g .R) d (g .is)
 
-    m-near : Near unit (t ⊗ len) (p * g .R + n * 0) (p * 0 + n * g .R) (unit * unit) (2 ^ 66) (2 ^ 54)
+    m-near : Near unit (t ⊗ len) (p * g .R) (n * g .R) (unit * unit) (2 ^ 66) (2 ^ 54)
     m-near =
         let b = by-length (2 ^ 44) p n unit (g .R) (t-most p n d) (g .most) in
         near64 (t ⊗ len) _ _ (unit * unit) 66 product (mul-pos unit-pos unit-pos) (b .0) (b .1) (lit≤ tt)
@@ -193,7 +193,7 @@ module _ (e : Float) (num den : ℕ) (h : Eps e num den)
       turn : (P N D : ℕ) → P ≤ N + D → P + 0 * D ≤ 1 * D + N
       turn P N D x = omega arith
 
-      scaled : (p n R L : ℕ) → p + 0 * L ≤ 1 * L + n → (p * R + n * 0) * L + 0 * (L * L) ≤ R * (L * L) + (p * 0 + n * R) * L
+      scaled : (p n R L : ℕ) → p + 0 * L ≤ 1 * L + n → p * R * L + 0 * (L * L) ≤ R * (L * L) + n * R * L
       scaled p n R L x = omega (arith, mul-le-mul-right (R * L) x)
 
       less : (p n R W E L : ℕ) → 0 < L → p + 0 ≤ R + n → 2 ^ 54 * (R + E) ≤ 2 ^ 54 * W + 2 ^ 23 * L → L ≤ 1024 * E → p + 0 < W + n
@@ -248,7 +248,7 @@ module _ (e : Float) (num den : ℕ) (h : Eps e num den)
           (w-size .count) 0 unit unit-pos w-fits (w-size .is) x))
           w-most
         where
-          plain : (T R W L : ℕ) → (T * R + 0 * 0) * L + 0 * (L * L) < W * (L * L) + (T * 0 + 0 * R) * L → T * R < W * L
+          plain : (T R W L : ℕ) → T * R * L + 0 * (L * L) < W * (L * L) + 0 * R * L → T * R < W * L
           plain T R W L y = lt-of-mul-lt-mul-right L {m = T * R} {n = W * L} (omega arith)
 
           together : (T R W E L : ℕ) → 0 < L → T * R < W * L → 2 ^ 54 * W ≤ 2 ^ 54 * (R + E) + 2 ^ 23 * L
@@ -265,29 +265,21 @@ module _ (e : Float) (num den : ℕ) (h : Eps e num den)
     sum-near =
         let m = m-near p n d in
         let b = by-length (2 ^ 44) p n unit (g .R) (t-most p n d) (g .most) in
-        let Q = mul-pos unit-pos unit-pos in
+        let k = near-over unit unit (unit * unit) (2 ^ 66) unit-pos refl (t ⊗ len) (p * g .R) (n * g .R) m in
         near64 (t ⊗ len ⊕ e) _ _ unit 68 sum unit-pos
-        (over (m .p) (m .n) (p * g .R + n * 0) (p * 0 + n * g .R) unit (unit * unit) (eu .E) Q (m .most) (b .0) (eu .most))
-        (under (m .p) (m .n) (p * g .R + n * 0) (p * 0 + n * g .R) unit (unit * unit) (eu .E) Q (m .least) (b .1))
+        (more (m .p) (m .n) unit (eu .E) (whole (m .p) (m .n) (p * g .R) (n * g .R) unit unit-pos (k .0) (b .0)) (eu .most))
+        (less (m .p) (m .n) unit (eu .E) (whole (m .n) (m .p) (n * g .R) (p * g .R) unit unit-pos (k .1) (b .1)))
         (lit≤ tt)
       where
-        over : (x y X Y L c E : ℕ) → 0 < c → 2 ^ 54 * (x * c + Y * L) ≤ 2 ^ 54 * (X * L + y * c) + 2 ^ 66 * (c * L)
-            → X ≤ Y + 2 ^ 66 * c → 2 * E ≤ L
-            → x + E ≤ y + 0 + 2 ^ 68 * L
-        over x y X Y L c E Q k z b =
-            let w = mul-le-mul-right L z in
-            let m : x * c ≤ (y + 2 ^ 67 * L) * c = omega arith in
-            let o = le-of-mul-le-mul-right m Q in
-            omega arith
+        whole : (x y X Y L : ℕ) → 0 < L → 2 ^ 54 * (x * L + Y) ≤ 2 ^ 54 * (X + y * L) + 2 ^ 66 * (L * L) → X ≤ Y + 2 ^ 66 * (L * L)
+            → x ≤ y + 2 ^ 67 * L
+        whole x y X Y L Q k z = le-of-mul-le-mul-right {m = x} {n = y + 2 ^ 67 * L} {k = L} (omega arith) Q
 
-        under : (x y X Y L c E : ℕ) → 0 < c → 2 ^ 54 * (X * L + y * c) ≤ 2 ^ 54 * (x * c + Y * L) + 2 ^ 66 * (c * L)
-            → Y ≤ X + 2 ^ 66 * c
-            → y + 0 ≤ x + E + 2 ^ 68 * L
-        under x y X Y L c E Q k z =
-            let w = mul-le-mul-right L z in
-            let m : y * c ≤ (x + 2 ^ 67 * L) * c = omega arith in
-            let o = le-of-mul-le-mul-right m Q in
-            omega arith
+        more : (x y L E : ℕ) → x ≤ y + 2 ^ 67 * L → 2 * E ≤ L → x + E ≤ y + 0 + 2 ^ 68 * L
+        more x y L E k b = omega arith
+
+        less : (x y L E : ℕ) → y ≤ x + 2 ^ 67 * L → y + 0 ≤ x + E + 2 ^ 68 * L
+        less x y L E k = omega arith
 
   -- the exact parameter is at least 0
   pub after-start : N ≤ P → T (fuzzyGtEps (t ⊗ len) f0 e)
@@ -311,7 +303,7 @@ module _ (e : Float) (num den : ℕ) (h : Eps e num den)
       turn : (P N D : ℕ) → N ≤ P → 0 * D + N ≤ P + 0 * D
       turn P N D x = omega arith
 
-      scaled : (p n R L : ℕ) → 0 * L + n ≤ p + 0 * L → 0 * (L * L) + (p * 0 + n * R) * L ≤ (p * R + n * 0) * L + 0 * (L * L)
+      scaled : (p n R L : ℕ) → 0 * L + n ≤ p + 0 * L → 0 * (L * L) + n * R * L ≤ p * R * L + 0 * (L * L)
       scaled p n R L x = omega (arith, mul-le-mul-right (R * L) x)
 
       added : (p n E L : ℕ) → 0 + n ≤ p + 0 → E * L + (n + 0) * L ≤ (p + E) * L + 0 * L
@@ -340,7 +332,7 @@ module _ (e : Float) (num den : ℕ) (h : Eps e num den)
           summed : (p n E L : ℕ) → 0 * L + (n + 0) * L < (p + E) * L + 0 * L → 0 + n < p + E
           summed p n E L y = lt-of-mul-lt-mul-right L {m = 0 + n} {n = p + E} (omega arith)
 
-          plain : (T R E L : ℕ) → 0 * (L * L) + (0 * 0 + T * R) * L < (0 * R + T * 0) * L + E * (L * L)
+          plain : (T R E L : ℕ) → 0 * (L * L) + T * R * L < 0 * R * L + E * (L * L)
               → 2 ^ 54 * (T * R) < 2 ^ 54 * ((0 * R + E) * L) + 2 ^ 23 * (L * L)
           plain T R E L y = let z : T * R < E * L = lt-of-mul-lt-mul-right L {m = T * R} {n = E * L} (omega arith) in omega arith
 
