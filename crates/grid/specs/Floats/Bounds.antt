@@ -16,16 +16,10 @@ use Rattle.floats.specs.Ops.{_⊗_}
 pub bounded : (t : Float) (P N D : ℕ) → Rounded binary64 t P N D → 0 < D → (k : ℕ) → k ≤ 2 ^ 53 → P ≤ N + k * D → N ≤ P + k * D
     → (p n : ℕ) → Diff t p n unit
     → (p ≤ n + k * unit) × (n ≤ p + k * unit)
-bounded t P N D r C k few u l p n d = (
-  plain p n unit (most-whole binary64 t P N D r C p n unit unit-pos d k 0 (omega arith) (omega arith) (omega arith)),
-  plain' p n unit (least-whole binary64 t P N D r C p n unit unit-pos d 0 k (omega arith) (omega arith) (omega arith)),
-)
-  where
-    plain : (p n L : ℕ) → p + 0 * L ≤ k * L + n → p ≤ n + k * L
-    plain p n L x = omega arith
-
-    plain' : (p n L : ℕ) → 0 * L + n ≤ p + k * L → n ≤ p + k * L
-    plain' p n L x = omega arith
+bounded t P N D r C k few u l p n d =
+    let up = most-whole binary64 t P N D r C p n unit unit-pos d k 0 (omega arith) (omega arith) (omega arith) in
+    let dn = least-whole binary64 t P N D r C p n unit unit-pos d 0 k (omega arith) (omega arith) (omega arith) in
+    (omega arith, omega arith)
 
 -- ---- a common unit, cut
 pub cut : (a b e L : ℕ) → 0 < L → 2 ^ 54 * (a * L) ≤ 2 ^ 54 * (b * L) + e * (L * L) → 2 ^ 54 * a ≤ 2 ^ 54 * b + e * L
