@@ -13,3 +13,4 @@ pub mod Span
 pub mod Shared
 pub mod Overlap
 pub mod Parallel
+pub mod Ways

@@ -1,27 +1,25 @@
--- Parallel grid segments: the kernel's answer keeps the promise. What the kernel's floats say in naturals (Floats/Parallel) is said of
--- what the segments share (Plane/Points, Plane/Overlap).
+-- Parallel grid segments: what the kernel's floats say in naturals (Floats/Parallel) is said of what the segments share (Plane/Points,
+-- Plane/Overlap).
 use mathlib.Core.Path.{_≡_, sym, ap, _∙_, subst}
 use mathlib.Core.Logic.{_⊎_, inl, inr, _↔_}
 use Prim.Native.Nat.{ℕ, _+_, _≤_, _<_}
-use native.Mathlib.Decide.{ℕ-discrete}
 use native.Mathlib.Omega.{arith}
 use lib.IntN.{ℤ, pos, natAbs, _-ℤ_}
 use lib.Signed.{_≤ℤ_, _<ℤ_}
 use lib.Ieee.{Float}
-use Rattle.floats.specs.Ops.{f0}
 use Rattle.plane.specs.Vector2 as vector2
 use Rattle.plane.specs.declared.vector2.Vector2.{Vector2}
-use Rattle.plane.specs.BaseMath.{parametricFromPoint, pointFromParametric}
+use Rattle.plane.specs.BaseMath.{pointFromParametric}
 use Rattle.crossing.specs.LineLine.{parallel}
 use Rattle.crossing.specs.PlineSeg.{lineLineOf}
 use Rattle.crossing.specs.declared.line_line_intersect.LineLineIntr.{LineLineIntr}
 use Rattle.crossing.specs.declared.line_line_intersect.LineLineIntr.the-variants.{TrueIntersect, NoIntersect}
-use Rattle.grid.specs.Promise.{Spot, Kept}
+use Rattle.grid.specs.Promise.{Spot}
 use Rattle.grid.specs.Plane.Whole.{diff, same}
 use Rattle.grid.specs.Plane.Order.{turned, turned-same}
-use Rattle.grid.specs.Plane.Sides.{way, cross, across, first, second, across-parallel}
+use Rattle.grid.specs.Plane.Sides.{way, cross}
 use Rattle.grid.specs.Plane.Cross.{Between}
-use Rattle.grid.specs.Plane.Points.{Collinear, swapped, flipped, cross-flipped}
+use Rattle.grid.specs.Plane.Points.{Collinear, cross-flipped}
 use Rattle.grid.specs.Plane.Spots.{Same, flip}
 use Rattle.grid.specs.Plane.Spans.{Meet, MeetMore}
 use Rattle.grid.specs.Plane.Overlap.{apart-on-axis}
@@ -30,24 +28,17 @@ use Rattle.grid.specs.Plane.Keeps.{
   Told,
   ToldIf,
   ToldBySpans,
-  told-swapped,
   told-flipped,
-  parallel-kept,
-  apart-told,
-  both-told,
   point-told,
   spans-told,
 }
-use Rattle.grid.specs.Floats.Small.{Vec, vec-sub, perp}
-use Rattle.grid.specs.Floats.Zero.{Eps}
-use Rattle.grid.specs.Floats.Length.{gap, IsZero}
+use Rattle.grid.specs.Floats.Small.{Vec, vec-sub}
+use Rattle.grid.specs.Floats.Length.{gap}
 use Rattle.grid.specs.Floats.Ratio.{Ratio}
 use Rattle.grid.specs.Floats.Span.{Which}
 use Rattle.grid.specs.Floats.Overlap.{Overlapped}
-use Rattle.grid.specs.Floats.Parallel as level
-use Rattle.grid.specs.Floats.Parallel.{PointOn, PointAt, Spanned, point-or-not}
-use Rattle.grid.specs.Joined.{At, way-at, zero-at, point-at, size-gap, place-at}
-use Rattle.grid.specs.Crossed.{across-is, first-is, second-is}
+use Rattle.grid.specs.Floats.Parallel.{PointOn, PointAt, Spanned}
+use Rattle.grid.specs.Joined.{At, zero-at, size-gap, place-at}
 
 -- ---- a divisor with a size is not 0
 not-zero : (z : ℤ) (p n : ℕ) → z ≡ diff p n → 0 < gap p n → z ≡ pos 0 → ⊥
@@ -188,7 +179,7 @@ module _ (v1 v2 u1 u2 : Vector2) (r : LineLineIntr) (s t : Float) where
       (place-at d o dp dn op on (k .P) (k .N) e f (k .place .some) (k .turned)) (size-gap d dp dn e) h)
 
   -- by x, or by y with the axes exchanged
-  at-told : (e : Float) (a b c : Vector2) (A : Vec 20 a) (B : Vec 20 b) (C : Vec 20 c) (p1 p2 q1 q2 : Spot)
+  pub at-told : (e : Float) (a b c : Vector2) (A : Vec 20 a) (B : Vec 20 b) (C : Vec 20 c) (p1 p2 q1 q2 : Spot)
       → At 21 (vector2.sub b a) (vec-sub b a B A) (way q1 q2) → At 21 (vector2.sub c a) (vec-sub c a C A) (way q1 p1)
       → Same p1 p2 → cross (way q1 q2) (way q1 p1) ≡ pos 0 → PointAt e a b c A B C r (TrueIntersect s t)
       → Told p1 p2 q1 q2 (lineLineOf r v1 v2 u1 u2)
@@ -200,7 +191,7 @@ module _ (v1 v2 u1 u2 : Vector2) (r : LineLineIntr) (s t : Float) where
       _ _ _ _ (way-is .at-y) (off-is .at-y) _ k on)
 
 -- along x: a segment from p1 to p2, along one from q1 to q2
-along-told : (v1 v2 u1 u2 : Vector2) (r : LineLineIntr) (p1 p2 q1 q2 : Spot) → Collinear p1 p2 q1 q2 → ¬ Same p1 p2
+pub along-told : (v1 v2 u1 u2 : Vector2) (r : LineLineIntr) (p1 p2 q1 q2 : Spot) → Collinear p1 p2 q1 q2 → ¬ Same p1 p2
     → (xp xn zp zn dp dn : ℕ) → q2 .x -ℤ q1 .x ≡ diff dp dn → p1 .x -ℤ q1 .x ≡ diff xp xn → p2 .x -ℤ q1 .x ≡ diff zp zn
     → Spanned r xp xn zp zn dp dn
     → Told p1 p2 q1 q2 (lineLineOf r v1 v2 u1 u2)
@@ -219,141 +210,3 @@ along-told v1 v2 u1 u2 r p1 p2 q1 q2 c long xp xn zp zn dp dn e f g s =
     (place-at d z dp dn zp zn (j .P) (j .N) e g (j .place .some) (j .turned))
     (k .Pl) (k .Nl) (k .Ph) (k .Nh) (k .rises) (k .which) v1 v2 u1 u2 r
     (λ h. long (apart-on-axis p1 p2 q1 q2 (c .parallel) slant (turned-same d (p1 .x) (p2 .x) (q1 .x) h))) (s .answer)))
-
-module _ (e : Float) (num den : ℕ) (h : Eps e num den)
-    (v1 v2 u1 u2 : Vector2) (A1 : Vec 20 v1) (A2 : Vec 20 v2) (B1 : Vec 20 u1) (B2 : Vec 20 u2)
-    (p1 p2 q1 q2 : Spot) (a1 : At 20 v1 A1 p1) (a2 : At 20 v2 A2 p2) (b1 : At 20 u1 B1 q1) (b2 : At 20 u2 B2 q2) where
-  abbrev v' : Vector2
-  v' = vector2.sub v2 v1
-
-  abbrev u' : Vector2
-  u' = vector2.sub u2 u1
-
-  abbrev w' : Vector2
-  w' = vector2.sub v1 u1
-
-  abbrev F' : Vec 21 v'
-  F' = vec-sub v2 v1 A2 A1
-
-  abbrev G' : Vec 21 u'
-  G' = vec-sub u2 u1 B2 B1
-
-  abbrev H' : Vec 21 w'
-  H' = vec-sub v1 u1 A1 B1
-
-  abbrev answer : LineLineIntr
-  answer = parallel v1 v2 u1 u2 v' u' w' e
-
-  at-v : At 21 v' F' (way p1 p2)
-  at-v = way-at v1 v2 A1 A2 p1 p2 a1 a2
-
-  at-u : At 21 u' G' (way q1 q2)
-  at-u = way-at u1 u2 B1 B2 q1 q2 b1 b2
-
-  at-w : At 21 w' H' (way q1 p1)
-  at-w = way-at u1 v1 B1 A1 q1 p1 b1 a1
-
-  at-w2 : At 21 (vector2.sub v2 u1) (vec-sub v2 u1 A2 B1) (way q1 p2)
-  at-w2 = way-at u1 v2 B1 A2 q1 p2 b1 a2
-
-  at-back : At 21 (vector2.sub u1 v1) (vec-sub u1 v1 B1 A1) (way p1 q1)
-  at-back = way-at v1 u1 A1 B1 p1 q1 a1 b1
-
-  turned-over : {x y : Spot} → Same x y → Same y x
-  turned-over (x, y) = (sym x, sym y)
-
-  -- neither is a point: by x, or by y with the axes exchanged
-  segments-told : Collinear p1 p2 q1 q2 → ¬ Same p1 p2
-      → Spanned answer (H' .x .p) (H' .x .n) (vec-sub v2 u1 A2 B1 .x .p) (vec-sub v2 u1 A2 B1 .x .n) (G' .x .p) (G' .x .n)
-      ⊎ Spanned answer (H' .y .p) (H' .y .n) (vec-sub v2 u1 A2 B1 .y .p) (vec-sub v2 u1 A2 B1 .y .n) (G' .y .p) (G' .y .n)
-      → Told p1 p2 q1 q2 (lineLineOf answer v1 v2 u1 u2)
-  segments-told c long (inl s) =
-      along-told v1 v2 u1 u2 answer p1 p2 q1 q2 c long _ _ _ _ _ _ (at-u .at-x) (at-w .at-x) (at-w2 .at-x) s
-  segments-told c long (inr s) =
-      told-flipped p1 p2 q1 q2 (lineLineOf answer v1 v2 u1 u2)
-      (along-told v1 v2 u1 u2 answer (flip p1) (flip p2) (flip q1) (flip q2) (flipped p1 p2 q1 q2 c) (λ h. long (h .1, h .0))
-      _ _ _ _ _ _ (at-u .at-y) (at-w .at-y) (at-w2 .at-y) s)
-
-  -- all five ways
-  level-told : perp v' u' F' G' .p ≡ perp v' u' F' G' .n → Told p1 p2 q1 q2 (lineLineOf answer v1 v2 u1 u2)
-  level-told flat = ways (ℕ-discrete (perp v' w' F' H' .p) (perp v' w' F' H' .n)) (ℕ-discrete (perp u' w' G' H' .p) (perp u' w' G' H' .n))
-    where
-      par : across p1 p2 q1 q2 ≡ pos 0
-      par =
-          zero-at (across p1 p2 q1 q2) (perp v' u' F' G' .p) (perp v' u' F' G' .n)
-          (across-is e num den h v1 v2 u1 u2 A1 A2 B1 B2 p1 p2 q1 q2 a1 a2 b1 b2) .1 flat
-
-      zero-u : (first p1 p2 q1 q2 ≡ pos 0) ↔ (perp u' w' G' H' .p ≡ perp u' w' G' H' .n)
-      zero-u =
-          zero-at (first p1 p2 q1 q2) (perp u' w' G' H' .p) (perp u' w' G' H' .n)
-          (first-is e num den h v1 v2 u1 u2 A1 A2 B1 B2 p1 p2 q1 q2 a1 a2 b1 b2)
-
-      zero-v : (second p1 p2 q1 q2 ≡ pos 0) ↔ (perp v' w' F' H' .p ≡ perp v' w' F' H' .n)
-      zero-v =
-          zero-at (second p1 p2 q1 q2) (perp v' w' F' H' .p) (perp v' w' F' H' .n)
-          (second-is e num den h v1 v2 u1 u2 A1 A2 B1 B2 p1 p2 q1 q2 a1 a2 b1 b2)
-
-      no-line : (perp v' w' F' H' .p ≡ perp v' w' F' H' .n → ⊥) ⊎ (perp u' w' G' H' .p ≡ perp u' w' G' H' .n → ⊥)
-          → ¬ Collinear p1 p2 q1 q2
-      no-line (inl n) c = n (zero-v .0 (c .from-v))
-      no-line (inr n) c = n (zero-u .0 (c .from-u))
-
-      aside : (perp v' w' F' H' .p ≡ perp v' w' F' H' .n → ⊥) ⊎ (perp u' w' G' H' .p ≡ perp u' w' G' H' .n → ⊥)
-          → Told p1 p2 q1 q2 (lineLineOf answer v1 v2 u1 u2)
-      aside n =
-          apart-told p1 p2 q1 q2 (lineLineOf answer v1 v2 u1 u2) (across-parallel p1 p2 q1 q2 par) (no-line n)
-          (ap (λ (z : LineLineIntr). lineLineOf z v1 v2 u1 u2) (level.beside e num den h v1 v2 u1 u2 A1 A2 B1 B2 n))
-
-      on-line : perp v' w' F' H' .p ≡ perp v' w' F' H' .n → perp u' w' G' H' .p ≡ perp u' w' G' H' .n
-          → IsZero v' F' ⊎ (IsZero v' F' → ⊥)
-          → IsZero u' G' ⊎ (IsZero u' G' → ⊥)
-          → Told p1 p2 q1 q2 (lineLineOf answer v1 v2 u1 u2)
-      on-line x y i j =
-          go (record { parallel = par; from-u = zero-u .1 y; from-v = zero-v .1 x }) i j
-        where
-          same-v : IsZero v' F' ↔ Same p1 p2
-          same-v = point-at v1 v2 A1 A2 p1 p2 a1 a2
-
-          same-u : IsZero u' G' ↔ Same q1 q2
-          same-u = point-at u1 u2 B1 B2 q1 q2 b1 b2
-
-          same-w : IsZero w' H' ↔ Same q1 p1
-          same-w = point-at u1 v1 B1 A1 q1 p1 b1 a1
-
-          both : ((answer ≡ TrueIntersect f0 f0) × IsZero w' H') ⊎ ((answer ≡ NoIntersect) × (IsZero w' H' → ⊥))
-              → ToldIf (Same p1 q1) (lineLineOf answer v1 v2 u1 u2)
-          both (inl (k, z)) =
-              inr (pointFromParametric v1 v2 f0, ap (λ (z : LineLineIntr). lineLineOf z v1 v2 u1 u2) k, turned-over (same-w .0 z))
-          both (inr (k, z)) =
-              inl (ap (λ (z : LineLineIntr). lineLineOf z v1 v2 u1 u2) k, λ o. z (same-w .1 (turned-over o)))
-
-          go : Collinear p1 p2 q1 q2
-              → IsZero v' F' ⊎ (IsZero v' F' → ⊥)
-              → IsZero u' G' ⊎ (IsZero u' G' → ⊥)
-              → Told p1 p2 q1 q2 (lineLineOf answer v1 v2 u1 u2)
-          go c (inl i) (inl j) =
-              both-told p1 p2 q1 q2 (lineLineOf answer v1 v2 u1 u2) (same-v .0 i) (same-u .0 j)
-              (both (level.points e num den h v1 v2 u1 u2 A1 A2 B1 B2 x y i j))
-          go c (inl i) (inr j) =
-              at-told v1 v2 u1 u2 answer f0 (parametricFromPoint u1 u2 v1 e) e u1 u2 v1 B1 B2 A1 p1 p2 q1 q2 at-u at-w
-              (same-v .0 i) (c .from-u) (level.first-point e num den h v1 v2 u1 u2 A1 A2 B1 B2 x y i j)
-          go c (inr i) (inl j) =
-              told-swapped p1 p2 q1 q2 (lineLineOf answer v1 v2 u1 u2)
-              (at-told v1 v2 u1 u2 answer (parametricFromPoint v1 v2 u1 e) f0 e v1 v2 u1 A1 A2 B1 q1 q2 p1 p2 at-v at-back
-              (same-u .0 j) (swapped p1 p2 q1 q2 c .from-u) (level.second-point e num den h v1 v2 u1 u2 A1 A2 B1 B2 x y i j))
-          go c (inr i) (inr j) =
-              segments-told c (λ o. i (same-v .1 o)) (level.segments e num den h v1 v2 u1 u2 A1 A2 B1 B2 x y i j)
-
-      ways : Dec (perp v' w' F' H' .p ≡ perp v' w' F' H' .n) → Dec (perp u' w' G' H' .p ≡ perp u' w' G' H' .n)
-          → Told p1 p2 q1 q2 (lineLineOf answer v1 v2 u1 u2)
-      ways (no n) d = aside (inl n)
-      ways (yes x) (no n) = aside (inr n)
-      ways (yes x) (yes y) = on-line x y (point-or-not v' F') (point-or-not u' G')
-
-  pub level-kept : perp v' u' F' G' .p ≡ perp v' u' F' G' .n → Kept p1 p2 q1 q2 num den (lineLineOf answer v1 v2 u1 u2)
-  level-kept flat =
-      parallel-kept p1 p2 q1 q2 num den (lineLineOf answer v1 v2 u1 u2)
-      (across-parallel p1 p2 q1 q2
-      (zero-at (across p1 p2 q1 q2) (perp v' u' F' G' .p) (perp v' u' F' G' .n)
-      (across-is e num den h v1 v2 u1 u2 A1 A2 B1 B2 p1 p2 q1 q2 a1 a2 b1 b2) .1 flat))
-      (level-told flat)

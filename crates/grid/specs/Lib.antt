@@ -5,4 +5,5 @@ pub mod Accepted
 pub mod Joined
 pub mod Crossed
 pub mod Level
+pub mod Kernel
 pub mod Proved

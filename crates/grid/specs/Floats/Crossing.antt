@@ -1,24 +1,20 @@
 -- The line kernel on grid segments that are not parallel, in whole numbers: it answers TrueIntersect or FalseIntersect with two
 -- parameters, each one rounding of an exact quotient over the perp dot; TrueIntersect if both exact parameters lie from 0 to 1, and
 -- only if both lie less than two epsilons beyond their segment.
-use mathlib.Core.Path.{_≡_, refl, ap, _∙_}
+use mathlib.Core.Path.{_≡_, refl, ap}
 use mathlib.Core.Logic.{_⊎_, inl, inr}
 use Prim.Native.Nat.{ℕ, _+_, _*_, _≤_}
 use native.Mathlib.Omega.{arith}
 use mathlib.Core.Bool.{Bool, true, false, not, cond, _||_, false≢true}
-use lib.Dec.{eqb, eqb→eq, not-T}
 use lib.Ieee.{Float}
-use lib.Ieee.Bits.{is-true, is-false}
-use lib.Ieee.Fits.{eq→eqb}
 use Rattle.floats.specs.Ops.{_⊘_}
 use Rattle.plane.specs.Vector2 as vector2
 use Rattle.plane.specs.declared.vector2.Vector2.{Vector2}
-use Rattle.plane.specs.Fuzzy.{fuzzyEqZeroEps}
-use Rattle.crossing.specs.LineLine.{lineLine, crossing, parallel, within}
+use Rattle.crossing.specs.LineLine.{crossing, within}
 use Rattle.crossing.specs.declared.line_line_intersect.LineLineIntr.{LineLineIntr}
 use Rattle.crossing.specs.declared.line_line_intersect.LineLineIntr.the-variants.{TrueIntersect, FalseIntersect}
-use Rattle.grid.specs.Floats.Small.{Small, Vec, vec-sub, perp}
-use Rattle.grid.specs.Floats.Zero.{Eps, near-zero}
+use Rattle.grid.specs.Floats.Small.{Vec, perp}
+use Rattle.grid.specs.Floats.Zero.{Eps}
 use Rattle.grid.specs.Floats.Length.{gap, square, IsZero, Long, long}
 use Rattle.grid.specs.Floats.Reach.{Reaches}
 use Rattle.grid.specs.Floats.Range.{within-yes, within-says}
@@ -101,33 +97,3 @@ module _ (e : Float) (num den : ℕ) (h : Eps e num den) (v u w : Vector2) (A : 
       sure true true x y = refl
       sure true false x y = absurd (false≢true y)
       sure false b x y = absurd (false≢true x)
-
--- ---- which way the kernel goes: by the perp dot of the two segments, exactly
-module _ (e : Float) (num den : ℕ) (h : Eps e num den) (v1 v2 u1 u2 : Vector2) (A1 : Vec 20 v1) (A2 : Vec 20 v2) (B1 : Vec 20 u1)
-    (B2 : Vec 20 u2) where
-  abbrev v : Vector2
-  v = vector2.sub v2 v1
-
-  abbrev u : Vector2
-  u = vector2.sub u2 u1
-
-  abbrev w : Vector2
-  w = vector2.sub v1 u1
-
-  abbrev turn : Small 44 (vector2.perpDot v u)
-  turn = perp v u (vec-sub v2 v1 A2 A1) (vec-sub u2 u1 B2 B1)
-
-  zero-turn : fuzzyEqZeroEps (vector2.perpDot v u) e ≡ eqb (turn .p) (turn .n)
-  zero-turn = near-zero e num den h 44 (vector2.perpDot v u) turn
-
-  pub goes-crossing : (turn .p ≡ turn .n → ⊥) → lineLine v1 v2 u1 u2 e ≡ crossing v u w (vector2.perpDot v u) e
-  unfolding lineLine
-  goes-crossing x =
-      ap (λ (z : Bool). cond (not z) (crossing v u w (vector2.perpDot v u) e) (parallel v1 v2 u1 u2 v u w e))
-      (zero-turn ∙ is-false (eqb (turn .p) (turn .n)) (not-T (eqb (turn .p) (turn .n)) (λ t. x (eqb→eq (turn .p) (turn .n) t))))
-
-  pub goes-parallel : turn .p ≡ turn .n → lineLine v1 v2 u1 u2 e ≡ parallel v1 v2 u1 u2 v u w e
-  unfolding lineLine
-  goes-parallel x =
-      ap (λ (z : Bool). cond (not z) (crossing v u w (vector2.perpDot v u) e) (parallel v1 v2 u1 u2 v u w e))
-      (zero-turn ∙ is-true (eqb (turn .p) (turn .n)) (eq→eqb x))
