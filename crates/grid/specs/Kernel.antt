@@ -3,6 +3,7 @@
 use mathlib.Core.Path.{_≡_, sym, ap, subst}
 use mathlib.Core.Logic.{_⊎_, inl, inr, _↔_}
 use Prim.Native.Nat.{ℕ}
+use native.Mathlib.Decide.{ℕ-discrete}
 use native.Mathlib.Omega.{arith}
 use lib.IntN.{ℤ, pos, _-ℤ_}
 use lib.Ieee.{Float}
@@ -12,6 +13,7 @@ use Rattle.plane.specs.declared.vector2.Vector2.{Vector2}
 use Rattle.plane.specs.BaseMath.{pointFromParametric, parametricFromPoint}
 use Rattle.crossing.specs.LineLine.{crossing, parallel}
 use Rattle.crossing.specs.PlineSeg.{lineLineOf}
+use Rattle.arcs.specs.declared.pline_seg_intr.PlineSegIntr.{PlineSegIntr}
 use Rattle.crossing.specs.declared.line_line_intersect.LineLineIntr.{LineLineIntr}
 use Rattle.crossing.specs.declared.line_line_intersect.LineLineIntr.the-variants.{TrueIntersect, FalseIntersect, NoIntersect}
 use Rattle.grid.specs.Promise.{Spot, Parallel, Kept}
@@ -19,6 +21,8 @@ use Rattle.grid.specs.Plane.Whole.{diff}
 use Rattle.grid.specs.Plane.Sides.{way, across, first, second, parallel-across, across-parallel}
 use Rattle.grid.specs.Plane.Cross.{base, steps-v, steps-u, meeting, meeting-v, meeting-u}
 use Rattle.grid.specs.Plane.Beyond.{long}
+use Rattle.grid.specs.Plane.Spots.{Same, flip}
+use Rattle.grid.specs.Plane.Points.{Collinear, swapped, flipped}
 use Rattle.grid.specs.Plane.Keeps.{
   slanted-none,
   slanted-one,
@@ -38,14 +42,10 @@ use Rattle.grid.specs.Floats.Ratio.{Ratio}
 use Rattle.grid.specs.Floats.Point.{point}
 use Rattle.grid.specs.Floats.Crossing as crossed
 use Rattle.grid.specs.Floats.Crossing.{Inside, Crossed, crossing-says}
-use Rattle.grid.specs.Joined.{At, way-at, cross-at, zero-at, size-gap, place-at, point-at}
-use native.Mathlib.Decide.{ℕ-discrete}
-use Rattle.grid.specs.Plane.Order.{turned}
-use Rattle.grid.specs.Plane.Points.{Collinear, swapped, flipped}
-use Rattle.grid.specs.Plane.Spots.{Same, flip}
 use Rattle.grid.specs.Floats.Parallel.{Spanned}
-use Rattle.grid.specs.Floats.Ways as ways
+use Rattle.grid.specs.Floats.Ways as kernel
 use Rattle.grid.specs.Floats.Ways.{point-or-not}
+use Rattle.grid.specs.Joined.{At, way-at, cross-at, zero-at, size-gap, place-at, point-at}
 use Rattle.grid.specs.Crossed.{square-long, reach, coordinate, inside}
 use Rattle.grid.specs.Level.{at-told, along-told}
 
@@ -88,15 +88,40 @@ module _ (e : Float) (num den : ℕ) (h : Eps e num den)
   second-is : second p1 p2 q1 q2 ≡ diff (perp v w F H .p) (perp v w F H .n)
   second-is = cross-at v w F H (way p1 p2) (way q1 p1) v-at w-at
 
-  module _ (apart : perp v u F G .p ≡ perp v u F G .n → ⊥) where
-    slant : ¬ Parallel p1 p2 q1 q2
-    slant par =
-        apart (zero-at (across p1 p2 q1 q2) (perp v u F G .p) (perp v u F G .n) across-is .0 (parallel-across p1 p2 q1 q2 par))
+  -- what the kernel tests: the two are parallel, and each lies on the other's line
+  abbrev Level : Type 0
+  Level = perp v u F G .p ≡ perp v u F G .n
 
-    R1 : Ratio 44 (vector2.perpDot u w ⊘ vector2.perpDot v u) (perp u w G H .p) (perp u w G H .n) (perp v u F G .p) (perp v u F G .n)
+  abbrev OnU : Type 0
+  OnU = perp u w G H .p ≡ perp u w G H .n
+
+  abbrev OnV : Type 0
+  OnV = perp v w F H .p ≡ perp v w F H .n
+
+  level-is : (across p1 p2 q1 q2 ≡ pos 0) ↔ Level
+  level-is = zero-at (across p1 p2 q1 q2) (perp v u F G .p) (perp v u F G .n) across-is
+
+  on-u-is : (first p1 p2 q1 q2 ≡ pos 0) ↔ OnU
+  on-u-is = zero-at (first p1 p2 q1 q2) (perp u w G H .p) (perp u w G H .n) first-is
+
+  on-v-is : (second p1 p2 q1 q2 ≡ pos 0) ↔ OnV
+  on-v-is = zero-at (second p1 p2 q1 q2) (perp v w F H .p) (perp v w F H .n) second-is
+
+  -- ---- lines that cross
+  abbrev t1 : Float
+  t1 = vector2.perpDot u w ⊘ vector2.perpDot v u
+
+  abbrev t2 : Float
+  t2 = vector2.perpDot v w ⊘ vector2.perpDot v u
+
+  module _ (apart : Level → ⊥) where
+    slant : ¬ Parallel p1 p2 q1 q2
+    slant par = apart (level-is .0 (parallel-across p1 p2 q1 q2 par))
+
+    R1 : Ratio 44 t1 (perp u w G H .p) (perp u w G H .n) (perp v u F G .p) (perp v u F G .n)
     R1 = crossed.first e num den h v u w F G H apart
 
-    R2 : Ratio 44 (vector2.perpDot v w ⊘ vector2.perpDot v u) (perp v w F H .p) (perp v w F H .n) (perp v u F G .p) (perp v u F G .n)
+    R2 : Ratio 44 t2 (perp v w F H .p) (perp v w F H .n) (perp v u F G .p) (perp v u F G .n)
     R2 = crossed.second e num den h v u w F G H apart
 
     abbrev D : ℕ
@@ -115,21 +140,13 @@ module _ (e : Float) (num den : ℕ) (h : Eps e num den)
         place-at (across p1 p2 q1 q2) (second p1 p2 q1 q2) (perp v u F G .p) (perp v u F G .n) (perp v w F H .p) (perp v w F H .n)
         (R2 .P) (R2 .N) across-is second-is (R2 .place .some) (R2 .turned)
 
-    says : Crossed (crossing v u w (vector2.perpDot v u) e) (square v F) (square u G) num den
-        (R1 .P) (R1 .N) D (R2 .P) (R2 .N) D
-        (vector2.perpDot u w ⊘ vector2.perpDot v u) (vector2.perpDot v w ⊘ vector2.perpDot v u)
+    says : Crossed (crossing v u w (vector2.perpDot v u) e) (square v F) (square u G) num den (R1 .P) (R1 .N) D (R2 .P) (R2 .N) D t1 t2
     unfolding R1 R2
     says = crossing-says e num den h v u w F G H apart
 
     pub crossed-kept : Kept p1 p2 q1 q2 num den (lineLineOf (crossing v u w (vector2.perpDot v u) e) v1 v2 u1 u2)
     crossed-kept = go (crossing v u w (vector2.perpDot v u) e) (says .answer) (says .inside)
       where
-        t1 : Float
-        t1 = vector2.perpDot u w ⊘ vector2.perpDot v u
-
-        t2 : Float
-        t2 = vector2.perpDot v w ⊘ vector2.perpDot v u
-
         not-both : (r : LineLineIntr) → r ≡ FalseIntersect t1 t2 → r ≡ TrueIntersect t1 t2 → ⊥
         not-both r x y = let z : _≡_ {A = ℕ} 0 1 = cc in omega arith
 
@@ -165,6 +182,9 @@ module _ (e : Float) (num den : ℕ) (h : Eps e num den)
   abbrev answer : LineLineIntr
   answer = parallel v1 v2 u1 u2 v u w e
 
+  abbrev said : PlineSegIntr
+  said = lineLineOf answer v1 v2 u1 u2
+
   w2-at : At 21 (vector2.sub v2 u1) (vec-sub v2 u1 A2 B1) (way q1 p2)
   w2-at = way-at u1 v2 B1 A2 q1 p2 b1 a2
 
@@ -178,50 +198,38 @@ module _ (e : Float) (num den : ℕ) (h : Eps e num den)
   segments-told : Collinear p1 p2 q1 q2 → ¬ Same p1 p2
       → Spanned answer (H .x .p) (H .x .n) (vec-sub v2 u1 A2 B1 .x .p) (vec-sub v2 u1 A2 B1 .x .n) (G .x .p) (G .x .n)
       ⊎ Spanned answer (H .y .p) (H .y .n) (vec-sub v2 u1 A2 B1 .y .p) (vec-sub v2 u1 A2 B1 .y .n) (G .y .p) (G .y .n)
-      → Told p1 p2 q1 q2 (lineLineOf answer v1 v2 u1 u2)
+      → Told p1 p2 q1 q2 said
   segments-told c long (inl s) =
       along-told v1 v2 u1 u2 answer p1 p2 q1 q2 c long _ _ _ _ _ _ (u-at .at-x) (w-at .at-x) (w2-at .at-x) s
   segments-told c long (inr s) =
-      told-flipped p1 p2 q1 q2 (lineLineOf answer v1 v2 u1 u2)
+      told-flipped p1 p2 q1 q2 said
       (along-told v1 v2 u1 u2 answer (flip p1) (flip p2) (flip q1) (flip q2) (flipped p1 p2 q1 q2 c) (λ h. long (h .1, h .0))
       _ _ _ _ _ _ (u-at .at-y) (w-at .at-y) (w2-at .at-y) s)
 
+  par : Level → Parallel p1 p2 q1 q2
+  par flat = across-parallel p1 p2 q1 q2 (level-is .1 flat)
+
   -- all five ways
-  level-told : perp v u F G .p ≡ perp v u F G .n → Told p1 p2 q1 q2 (lineLineOf answer v1 v2 u1 u2)
+  level-told : Level → Told p1 p2 q1 q2 said
   level-told flat = ways (ℕ-discrete (perp v w F H .p) (perp v w F H .n)) (ℕ-discrete (perp u w G H .p) (perp u w G H .n))
     where
-      par : across p1 p2 q1 q2 ≡ pos 0
-      par =
-          zero-at (across p1 p2 q1 q2) (perp v u F G .p) (perp v u F G .n)
-          across-is .1 flat
-
-      zero-u : (first p1 p2 q1 q2 ≡ pos 0) ↔ (perp u w G H .p ≡ perp u w G H .n)
-      zero-u =
-          zero-at (first p1 p2 q1 q2) (perp u w G H .p) (perp u w G H .n)
-          first-is
-
-      zero-v : (second p1 p2 q1 q2 ≡ pos 0) ↔ (perp v w F H .p ≡ perp v w F H .n)
-      zero-v =
-          zero-at (second p1 p2 q1 q2) (perp v w F H .p) (perp v w F H .n)
-          second-is
-
-      no-line : (perp v w F H .p ≡ perp v w F H .n → ⊥) ⊎ (perp u w G H .p ≡ perp u w G H .n → ⊥)
+      no-line : (OnV → ⊥) ⊎ (OnU → ⊥)
           → ¬ Collinear p1 p2 q1 q2
-      no-line (inl n) c = n (zero-v .0 (c .from-v))
-      no-line (inr n) c = n (zero-u .0 (c .from-u))
+      no-line (inl n) c = n (on-v-is .0 (c .from-v))
+      no-line (inr n) c = n (on-u-is .0 (c .from-u))
 
-      aside : (perp v w F H .p ≡ perp v w F H .n → ⊥) ⊎ (perp u w G H .p ≡ perp u w G H .n → ⊥)
-          → Told p1 p2 q1 q2 (lineLineOf answer v1 v2 u1 u2)
+      aside : (OnV → ⊥) ⊎ (OnU → ⊥)
+          → Told p1 p2 q1 q2 said
       aside n =
-          apart-told p1 p2 q1 q2 (lineLineOf answer v1 v2 u1 u2) (across-parallel p1 p2 q1 q2 par) (no-line n)
-          (ap (λ (z : LineLineIntr). lineLineOf z v1 v2 u1 u2) (ways.beside e num den h v1 v2 u1 u2 A1 A2 B1 B2 n))
+          apart-told p1 p2 q1 q2 said (par flat) (no-line n)
+          (ap (λ (z : LineLineIntr). lineLineOf z v1 v2 u1 u2) (kernel.beside e num den h v1 v2 u1 u2 A1 A2 B1 B2 n))
 
-      on-line : perp v w F H .p ≡ perp v w F H .n → perp u w G H .p ≡ perp u w G H .n
+      on-line : OnV → OnU
           → IsZero v F ⊎ (IsZero v F → ⊥)
           → IsZero u G ⊎ (IsZero u G → ⊥)
-          → Told p1 p2 q1 q2 (lineLineOf answer v1 v2 u1 u2)
+          → Told p1 p2 q1 q2 said
       on-line x y i j =
-          go (record { parallel = par; from-u = zero-u .1 y; from-v = zero-v .1 x }) i j
+          go (record { parallel = level-is .1 flat; from-u = on-u-is .1 y; from-v = on-v-is .1 x }) i j
         where
           same-v : IsZero v F ↔ Same p1 p2
           same-v = point-at v1 v2 A1 A2 p1 p2 a1 a2
@@ -233,7 +241,7 @@ module _ (e : Float) (num den : ℕ) (h : Eps e num den)
           same-w = point-at u1 v1 B1 A1 q1 p1 b1 a1
 
           both : ((answer ≡ TrueIntersect f0 f0) × IsZero w H) ⊎ ((answer ≡ NoIntersect) × (IsZero w H → ⊥))
-              → ToldIf (Same p1 q1) (lineLineOf answer v1 v2 u1 u2)
+              → ToldIf (Same p1 q1) said
           both (inl (k, z)) =
               inr (pointFromParametric v1 v2 f0, ap (λ (z : LineLineIntr). lineLineOf z v1 v2 u1 u2) k, turned-over (same-w .0 z))
           both (inr (k, z)) =
@@ -242,30 +250,25 @@ module _ (e : Float) (num den : ℕ) (h : Eps e num den)
           go : Collinear p1 p2 q1 q2
               → IsZero v F ⊎ (IsZero v F → ⊥)
               → IsZero u G ⊎ (IsZero u G → ⊥)
-              → Told p1 p2 q1 q2 (lineLineOf answer v1 v2 u1 u2)
+              → Told p1 p2 q1 q2 said
           go c (inl i) (inl j) =
-              both-told p1 p2 q1 q2 (lineLineOf answer v1 v2 u1 u2) (same-v .0 i) (same-u .0 j)
-              (both (ways.points e num den h v1 v2 u1 u2 A1 A2 B1 B2 x y i j))
+              both-told p1 p2 q1 q2 said (same-v .0 i) (same-u .0 j)
+              (both (kernel.points e num den h v1 v2 u1 u2 A1 A2 B1 B2 x y i j))
           go c (inl i) (inr j) =
               at-told v1 v2 u1 u2 answer f0 (parametricFromPoint u1 u2 v1 e) e u1 u2 v1 B1 B2 A1 p1 p2 q1 q2 u-at w-at
-              (same-v .0 i) (c .from-u) (ways.first-point e num den h v1 v2 u1 u2 A1 A2 B1 B2 x y i j)
+              (same-v .0 i) (c .from-u) (kernel.first-point e num den h v1 v2 u1 u2 A1 A2 B1 B2 x y i j)
           go c (inr i) (inl j) =
-              told-swapped p1 p2 q1 q2 (lineLineOf answer v1 v2 u1 u2)
+              told-swapped p1 p2 q1 q2 said
               (at-told v1 v2 u1 u2 answer (parametricFromPoint v1 v2 u1 e) f0 e v1 v2 u1 A1 A2 B1 q1 q2 p1 p2 v-at back-at
-              (same-u .0 j) (swapped p1 p2 q1 q2 c .from-u) (ways.second-point e num den h v1 v2 u1 u2 A1 A2 B1 B2 x y i j))
+              (same-u .0 j) (swapped p1 p2 q1 q2 c .from-u) (kernel.second-point e num den h v1 v2 u1 u2 A1 A2 B1 B2 x y i j))
           go c (inr i) (inr j) =
-              segments-told c (λ o. i (same-v .1 o)) (ways.segments e num den h v1 v2 u1 u2 A1 A2 B1 B2 x y i j)
+              segments-told c (λ o. i (same-v .1 o)) (kernel.segments e num den h v1 v2 u1 u2 A1 A2 B1 B2 x y i j)
 
-      ways : Dec (perp v w F H .p ≡ perp v w F H .n) → Dec (perp u w G H .p ≡ perp u w G H .n)
-          → Told p1 p2 q1 q2 (lineLineOf answer v1 v2 u1 u2)
+      ways : Dec OnV → Dec OnU
+          → Told p1 p2 q1 q2 said
       ways (no n) d = aside (inl n)
       ways (yes x) (no n) = aside (inr n)
       ways (yes x) (yes y) = on-line x y (point-or-not v F) (point-or-not u G)
 
-  pub level-kept : perp v u F G .p ≡ perp v u F G .n → Kept p1 p2 q1 q2 num den (lineLineOf answer v1 v2 u1 u2)
-  level-kept flat =
-      parallel-kept p1 p2 q1 q2 num den (lineLineOf answer v1 v2 u1 u2)
-      (across-parallel p1 p2 q1 q2
-      (zero-at (across p1 p2 q1 q2) (perp v u F G .p) (perp v u F G .n)
-      across-is .1 flat))
-      (level-told flat)
+  pub level-kept : Level → Kept p1 p2 q1 q2 num den said
+  level-kept flat = parallel-kept p1 p2 q1 q2 num den said (par flat) (level-told flat)
