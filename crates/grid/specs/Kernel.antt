@@ -1,5 +1,5 @@
--- The line kernel's answer on grid segments keeps the promise: on lines that cross by the meeting (Crossed), on parallel ones by what the
--- segments share (Level). v is the way from v1 to v2, u that from u1 to u2 and w that from u1 to v1; F, G and H are their numbers.
+-- The line kernel's answer on grid segments keeps the promise: on lines that cross by the meeting (Crossed), on parallel ones by what
+-- they share (Level). v is the way from v1 to v2, u that from u1 to u2 and w that from u1 to v1; F, G and H are their numbers.
 use mathlib.Core.Path.{_≡_, sym, ap, subst}
 use mathlib.Core.Logic.{_⊎_, inl, inr, _↔_}
 use Prim.Native.Nat.{ℕ}
@@ -20,7 +20,6 @@ use Rattle.grid.specs.Promise.{Spot, Parallel, Kept}
 use Rattle.grid.specs.Plane.Whole.{diff}
 use Rattle.grid.specs.Plane.Sides.{way, across, first, second, parallel-across, across-parallel}
 use Rattle.grid.specs.Plane.Cross.{base, steps-v, steps-u, meeting, meeting-v, meeting-u}
-use Rattle.grid.specs.Plane.Beyond.{long}
 use Rattle.grid.specs.Plane.Spots.{Same, flip}
 use Rattle.grid.specs.Plane.Points.{Collinear, swapped, flipped}
 use Rattle.grid.specs.Plane.Keeps.{
@@ -213,21 +212,16 @@ module _ (e : Float) (num den : ℕ) (h : Eps e num den)
   level-told : Level → Told p1 p2 q1 q2 said
   level-told flat = ways (ℕ-discrete (perp v w F H .p) (perp v w F H .n)) (ℕ-discrete (perp u w G H .p) (perp u w G H .n))
     where
-      no-line : (OnV → ⊥) ⊎ (OnU → ⊥)
-          → ¬ Collinear p1 p2 q1 q2
+      no-line : (OnV → ⊥) ⊎ (OnU → ⊥) → ¬ Collinear p1 p2 q1 q2
       no-line (inl n) c = n (on-v-is .0 (c .from-v))
       no-line (inr n) c = n (on-u-is .0 (c .from-u))
 
-      aside : (OnV → ⊥) ⊎ (OnU → ⊥)
-          → Told p1 p2 q1 q2 said
+      aside : (OnV → ⊥) ⊎ (OnU → ⊥) → Told p1 p2 q1 q2 said
       aside n =
           apart-told p1 p2 q1 q2 said (par flat) (no-line n)
           (ap (λ (z : LineLineIntr). lineLineOf z v1 v2 u1 u2) (kernel.beside e num den h v1 v2 u1 u2 A1 A2 B1 B2 n))
 
-      on-line : OnV → OnU
-          → IsZero v F ⊎ (IsZero v F → ⊥)
-          → IsZero u G ⊎ (IsZero u G → ⊥)
-          → Told p1 p2 q1 q2 said
+      on-line : OnV → OnU → IsZero v F ⊎ (IsZero v F → ⊥) → IsZero u G ⊎ (IsZero u G → ⊥) → Told p1 p2 q1 q2 said
       on-line x y i j =
           go (record { parallel = level-is .1 flat; from-u = on-u-is .1 y; from-v = on-v-is .1 x }) i j
         where
@@ -247,10 +241,7 @@ module _ (e : Float) (num den : ℕ) (h : Eps e num den)
           both (inr (k, z)) =
               inl (ap (λ (z : LineLineIntr). lineLineOf z v1 v2 u1 u2) k, λ o. z (same-w .1 (turned-over o)))
 
-          go : Collinear p1 p2 q1 q2
-              → IsZero v F ⊎ (IsZero v F → ⊥)
-              → IsZero u G ⊎ (IsZero u G → ⊥)
-              → Told p1 p2 q1 q2 said
+          go : Collinear p1 p2 q1 q2 → IsZero v F ⊎ (IsZero v F → ⊥) → IsZero u G ⊎ (IsZero u G → ⊥) → Told p1 p2 q1 q2 said
           go c (inl i) (inl j) =
               both-told p1 p2 q1 q2 said (same-v .0 i) (same-u .0 j)
               (both (kernel.points e num den h v1 v2 u1 u2 A1 A2 B1 B2 x y i j))
@@ -264,8 +255,7 @@ module _ (e : Float) (num den : ℕ) (h : Eps e num den)
           go c (inr i) (inr j) =
               segments-told c (λ o. i (same-v .1 o)) (kernel.segments e num den h v1 v2 u1 u2 A1 A2 B1 B2 x y i j)
 
-      ways : Dec OnV → Dec OnU
-          → Told p1 p2 q1 q2 said
+      ways : Dec OnV → Dec OnU → Told p1 p2 q1 q2 said
       ways (no n) d = aside (inl n)
       ways (yes x) (no n) = aside (inr n)
       ways (yes x) (yes y) = on-line x y (point-or-not v F) (point-or-not u G)
