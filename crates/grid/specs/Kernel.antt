@@ -5,7 +5,7 @@ use mathlib.Core.Logic.{_⊎_, inl, inr, _↔_}
 use Prim.Native.Nat.{ℕ}
 use native.Mathlib.Decide.{ℕ-discrete}
 use native.Mathlib.Omega.{arith}
-use lib.IntN.{ℤ, pos, _-ℤ_}
+use lib.IntN.{pos, _-ℤ_}
 use lib.Ieee.{Float}
 use Rattle.floats.specs.Ops.{_⊘_, f0}
 use Rattle.plane.specs.Vector2 as vector2

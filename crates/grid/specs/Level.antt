@@ -10,7 +10,6 @@ use lib.Ieee.{Float}
 use Rattle.plane.specs.Vector2 as vector2
 use Rattle.plane.specs.declared.vector2.Vector2.{Vector2}
 use Rattle.plane.specs.BaseMath.{pointFromParametric}
-use Rattle.crossing.specs.LineLine.{parallel}
 use Rattle.crossing.specs.PlineSeg.{lineLineOf}
 use Rattle.crossing.specs.declared.line_line_intersect.LineLineIntr.{LineLineIntr}
 use Rattle.crossing.specs.declared.line_line_intersect.LineLineIntr.the-variants.{TrueIntersect, NoIntersect}
