@@ -1,4 +1,5 @@
--- Grid segments that are not parallel: what the kernel's floats say in naturals (Floats/Crossing) is said of the meeting (Plane/Cross).
+-- Grid segments that are not parallel: what the kernel's floats say in naturals (Floats/Crossing) is said of the meeting
+-- (Plane/Cross).
 use mathlib.Core.Path.{_≡_, sym, ap, _∙_, subst}
 use Prim.Native.Nat.{ℕ, _+_, _*_, _^_, _≤_, _<_}
 use native.Mathlib.Omega.{arith}

@@ -1,5 +1,5 @@
--- The line kernel's answer on grid segments keeps the promise: on lines that cross by the meeting (Crossed), on parallel ones by what
--- they share (Level). v is the way from v1 to v2, u that from u1 to u2 and w that from u1 to v1; F, G and H are their numbers.
+-- The line kernel's answer on grid segments keeps the promise: on lines that cross by the meeting (Crossed), on parallel ones by
+-- what they share (Level). v is the way from v1 to v2, u that from u1 to u2 and w that from u1 to v1; F, G and H are their numbers.
 use mathlib.Core.Path.{_≡_, sym, ap, subst}
 use mathlib.Core.Logic.{_⊎_, inl, inr, _↔_}
 use Prim.Native.Nat.{ℕ}
@@ -139,7 +139,8 @@ module _ (e : Float) (num den : ℕ) (h : Eps e num den)
         place-at (across p1 p2 q1 q2) (second p1 p2 q1 q2) (perp v u F G .p) (perp v u F G .n) (perp v w F H .p) (perp v w F H .n)
         (R2 .P) (R2 .N) across-is second-is (R2 .place .some) (R2 .turned)
 
-    says : Crossed (crossing v u w (vector2.perpDot v u) e) (square v F) (square u G) num den (R1 .P) (R1 .N) D (R2 .P) (R2 .N) D t1 t2
+    says : Crossed (crossing v u w (vector2.perpDot v u) e) (square v F) (square u G) num den
+        (R1 .P) (R1 .N) D (R2 .P) (R2 .N) D t1 t2
     unfolding R1 R2
     says = crossing-says e num den h v u w F G H apart
 

@@ -1,5 +1,5 @@
--- Parallel grid segments: what the kernel's floats say in naturals (Floats/Parallel) is said of what the segments share (Plane/Points,
--- Plane/Overlap).
+-- Parallel grid segments: what the kernel's floats say in naturals (Floats/Parallel) is said of what the segments share
+-- (Plane/Points, Plane/Overlap).
 use mathlib.Core.Path.{_≡_, sym, ap, _∙_, subst}
 use mathlib.Core.Logic.{_⊎_, inl, inr, _↔_}
 use Prim.Native.Nat.{ℕ, _+_, _≤_, _<_}
@@ -167,7 +167,8 @@ module _ (v1 v2 u1 u2 : Vector2) (r : LineLineIntr) (s t : Float) where
 
   -- along x: p1 lies at o from the start of a segment that goes d
   beside-told : (p1 p2 q1 q2 : Spot) → Same p1 p2 → cross (way q1 q2) (way q1 p1) ≡ pos 0
-      → (dp dn op on : ℕ) → q2 .x -ℤ q1 .x ≡ diff dp dn → p1 .x -ℤ q1 .x ≡ diff op on → (place : Float) (k : Ratio 21 place op on dp dn)
+      → (dp dn op on : ℕ) → q2 .x -ℤ q1 .x ≡ diff dp dn → p1 .x -ℤ q1 .x ≡ diff op on
+      → (place : Float) (k : Ratio 21 place op on dp dn)
       → PointOn r (TrueIntersect s t) (k .P) (k .N) (gap dp dn)
       → Told p1 p2 q1 q2 (lineLineOf r v1 v2 u1 u2)
   beside-told p1 p2 q1 q2 still line dp dn op on e f place k h =

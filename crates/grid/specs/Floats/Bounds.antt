@@ -1,5 +1,5 @@
--- Bounds in units, for all operations on the floats: a float is no larger than a whole number that its exact value does not pass; it
--- is near its exact value, with the common unit cut; and a product with a length is no larger than the product of the bounds.
+-- Bounds in units: a float is no larger than a whole number that its exact value does not pass; it is near its exact value, with the
+-- common unit cut; and a product with a length is no larger than the product of the bounds.
 use mathlib.Core.Path.{_≡_, ap}
 use Prim.Native.Nat.{ℕ, _+_, _*_, _^_, _≤_, _<_}
 use native.Mathlib.Nat.{mul-one, one-mul, mul-zero, add-zero, zero-add, mul-le-mul-left, mul-le-mul-right, le-of-mul-le-mul-right}
@@ -27,9 +27,12 @@ cut a b e L C h = le-of-mul-le-mul-right {m = 2 ^ 54 * a} {n = 2 ^ 54 * b + e * 
 
 -- near (P - N) / D, where D is k units: from above, and from below
 pub near-over : (L k D e : ℕ) → 0 < L → D ≡ k * L → (r : Float) (P N : ℕ) (x : Near L r P N D e (2 ^ 54))
-    → (2 ^ 54 * (x .p * k + N) ≤ 2 ^ 54 * (P + x .n * k) + e * (k * L)) × (2 ^ 54 * (x .n * k + P) ≤ 2 ^ 54 * (N + x .p * k) + e * (k * L))
-near-over L k D e C is r P N x =
-    (one-way (x .p) (x .n) P N (x .most), one-way (x .n) (x .p) N P (turned (x .p * D) (x .n * D) (P * L) (N * L) (e * (D * L)) (x .least)))
+    → (2 ^ 54 * (x .p * k + N) ≤ 2 ^ 54 * (P + x .n * k) + e * (k * L))
+    × (2 ^ 54 * (x .n * k + P) ≤ 2 ^ 54 * (N + x .p * k) + e * (k * L))
+near-over L k D e C is r P N x = (
+  one-way (x .p) (x .n) P N (x .most),
+  one-way (x .n) (x .p) N P (turned (x .p * D) (x .n * D) (P * L) (N * L) (e * (D * L)) (x .least)),
+)
   where
     one-way : (p n P N : ℕ) → 2 ^ 54 * (p * D + N * L) ≤ 2 ^ 54 * (P * L + n * D) + e * (D * L)
         → 2 ^ 54 * (p * k + N) ≤ 2 ^ 54 * (P + n * k) + e * (k * L)

@@ -29,7 +29,8 @@ no-point v u A B h (e, f) = h (plain (A .x .p) (A .x .n) (A .y .p) (A .y .n) (B 
         omega (arith, ap (λ (z : ℕ). z * q) e, ap (λ (z : ℕ). z * k) e, ap (λ (z : ℕ). z * p) f, ap (λ (z : ℕ). z * n) f)
 
 -- the perp dot of u and v is that of v and u, turned
-turned-perp : (v u : Vector2) (A : Vec 21 v) (B : Vec 21 u) → perp u v B A .p ≡ perp u v B A .n → perp v u A B .p ≡ perp v u A B .n
+turned-perp : (v u : Vector2) (A : Vec 21 v) (B : Vec 21 u) → perp u v B A .p ≡ perp u v B A .n
+    → perp v u A B .p ≡ perp v u A B .n
 turned-perp v u A B = plain (A .x .p) (A .x .n) (A .y .p) (A .y .n) (B .x .p) (B .x .n) (B .y .p) (B .y .n)
   where
     plain : (a b c d p n q k : ℕ) → p * c + n * d + (q * b + k * a) ≡ p * d + n * c + (q * a + k * b)

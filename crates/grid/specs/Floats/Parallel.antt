@@ -1,5 +1,5 @@
--- Parallel grid segments, in whole numbers: where a point lies along a segment and whether the range test finds it there, and how two
--- segments on one line overlap.
+-- Parallel grid segments, in whole numbers: where a point lies along a segment and whether the range test finds it there, and how
+-- two segments on one line overlap.
 use mathlib.Core.Path.{_≡_, refl, sym, subst}
 use mathlib.Core.Logic.{_⊎_, inl, inr, _↔_}
 use Prim.Native.Nat.{ℕ, zero, suc, _+_, _*_, _^_, _≤_, _<_}
@@ -60,7 +60,8 @@ module _ (e : Float) (a b c : Vector2) (A : Vec 20 a) (B : Vec 20 b) (C : Vec 20
   longer : T (lt (F64.abs (b .x ⊖ a .x)) (F64.abs (b .y ⊖ a .y))) ↔ (gap (U .x .p) (U .x .n) + 0 < gap (U .y .p) (U .y .n) + 0)
   unfolding vector2.sub
   longer =
-      lt-over (F64.abs (b .x ⊖ a .x)) (F64.abs (b .y ⊖ a .y)) (gap (U .x .p) (U .x .n)) 0 (gap (U .y .p) (U .y .n)) 0 1 (zero-lt-suc 0)
+      lt-over (F64.abs (b .x ⊖ a .x)) (F64.abs (b .y ⊖ a .y)) (gap (U .x .p) (U .x .n)) 0 (gap (U .y .p) (U .y .n)) 0 1
+      (zero-lt-suc 0)
       (abs-gap 21 (b .x ⊖ a .x) (U .x)) (abs-gap 21 (b .y ⊖ a .y) (U .y))
 
   pub along : (IsZero (vector2.sub b a) U → ⊥) → ByAxis (parametricFromPoint a b c e)
@@ -69,7 +70,11 @@ module _ (e : Float) (a b c : Vector2) (A : Vec 20 a) (B : Vec 20 b) (C : Vec 20
     where
       by-x : (gap (U .x .p) (U .x .n) + 0 < gap (U .y .p) (U .y .n) + 0 → ⊥) → U .x .p ≡ U .x .n → ⊥
       by-x k x =
-          h (x, level (U .y .p) (U .y .n) (flat (gap (U .x .p) (U .x .n)) (gap (U .y .p) (U .y .n)) (none (U .x .p) (U .x .n) x) k))
+          h (
+            x,
+            level (U .y .p) (U .y .n) (flat (gap (U .x .p) (U .x .n)) (gap (U .y .p) (U .y .n))
+                (none (U .x .p) (U .x .n) x) k),
+          )
         where
           none : (p n : ℕ) → p ≡ n → gap p n ≡ 0
           none p n e = omega arith
@@ -186,4 +191,5 @@ module _ (e : Float) (num den : ℕ) (h : Eps e num den) (v1 u1 u2 w w2 u : Vect
           let flat : A .x .p ≡ A .x .n = eqb→eq (A .x .p) (A .x .n) (subst T q tt) in
           inr (spanned-by (w .y) (w2 .y) (u .y) (W .y) (Z .y) (A .y) (λ y. long-u (flat, y)) (side-y _ _))
       go false q =
-          inl (spanned-by (w .x) (w2 .x) (u .x) (W .x) (Z .x) (A .x) (λ x. T-not false tt (subst T (sym q) (eq→eqb x))) (side-x _ _))
+          inl (spanned-by (w .x) (w2 .x) (u .x) (W .x) (Z .x) (A .x) (λ x. T-not false tt (subst T (sym q) (eq→eqb x)))
+          (side-x _ _))

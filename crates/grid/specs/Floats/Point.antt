@@ -211,7 +211,8 @@ inside a b a1 b1 P N D s r am bm cm dm e f =
     (omega arith, omega arith)
 
 -- before the start by s / D of a side g
-past-start : (a b a1 b1 P N D s g : ℕ) → a ≤ 2 ^ 20 → b ≤ 2 ^ 20 → N ≡ P + s → a1 + b ≤ b1 + a + g → b1 + a ≤ a1 + b + g → g * s < D
+past-start : (a b a1 b1 P N D s g : ℕ) → a ≤ 2 ^ 20 → b ≤ 2 ^ 20 → N ≡ P + s → a1 + b ≤ b1 + a + g → b1 + a ≤ a1 + b + g
+    → g * s < D
     → OfSize a b a1 b1 P N D
 past-start a b a1 b1 P N D s g am bm e u l f =
     let e1 : (a1 + b) * N ≡ (a1 + b) * (P + s) = ap (λ (z : ℕ). (a1 + b) * z) e in
@@ -223,7 +224,8 @@ past-start a b a1 b1 P N D s g am bm e u l f =
     (omega arith, omega arith)
 
 -- beyond the end: before the start of the segment that goes back
-past-end : (a b a1 b1 P N D s g : ℕ) → a1 ≤ 2 ^ 20 → b1 ≤ 2 ^ 20 → P ≡ N + D + s → a1 + b ≤ b1 + a + g → b1 + a ≤ a1 + b + g → g * s < D
+past-end : (a b a1 b1 P N D s g : ℕ) → a1 ≤ 2 ^ 20 → b1 ≤ 2 ^ 20 → P ≡ N + D + s → a1 + b ≤ b1 + a + g → b1 + a ≤ a1 + b + g
+    → g * s < D
     → OfSize a b a1 b1 P N D
 past-end a b a1 b1 P N D s g am bm e u l f =
     let back = past-start a1 b1 a b (N + D) P D s g am bm e (omega arith) (omega arith) f in
@@ -242,7 +244,8 @@ module _ (e : Float) (num den : ℕ) (h : Eps e num den) (S P N D : ℕ) (C : 0 
   of-size a b a1 b1 g am bm cm dm u l q =
       go (leb N P) (leb P (N + D)) (leb→le N P) (nleb→lt N P) (leb→le P (N + D)) (nleb→lt P (N + D))
     where
-      go : (x y : Bool) → (T x → N ≤ P) → (T (not x) → P < N) → (T y → P ≤ N + D) → (T (not y) → N + D < P) → OfSize a b a1 b1 P N D
+      go : (x y : Bool) → (T x → N ≤ P) → (T (not x) → P < N) → (T y → P ≤ N + D) → (T (not y) → N + D < P)
+          → OfSize a b a1 b1 P N D
       go true true x1 x2 y1 y2 =
           let v = x1 tt in
           let w = y1 tt in

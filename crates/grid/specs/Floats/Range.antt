@@ -199,8 +199,8 @@ module _ (e : Float) (num den : ℕ) (h : Eps e num den)
       less : (p n R W E L : ℕ) → 0 < L → p + 0 ≤ R + n → 2 ^ 54 * (R + E) ≤ 2 ^ 54 * W + 2 ^ 23 * L → L ≤ 1024 * E → p + 0 < W + n
       less p n R W E L Q x y z = omega arith
 
-  -- t is A / D in size, which is a / D more than b, and its product with the length is not above b lengths and epsilon: then a / D is
-  -- less than two epsilons
+  -- t is A / D in size, which is a / D more than b, and its product with the length is below b lengths and epsilon, but for a
+  -- rounding: then a / D of the length is less than two epsilons
   in-reach : (s : Bool) (A a b : ℕ) → SizeOf s A P N → A ≡ a + b * D → b ≤ 1
       → ((T : ℕ) → Diff t (ups s T) (downs s T) unit
       → 2 ^ 54 * (T * g .R) < 2 ^ 54 * ((b * g .R + eu .E) * unit) + 2 ^ 23 * (unit * unit))
@@ -233,7 +233,8 @@ module _ (e : Float) (num den : ℕ) (h : Eps e num den)
           (g .most) (eu .least) (g .near) (eu .same)
       go false lo hi =
           let k = sized64 t P N D s A 44 r C size (up s size) (lit≤ tt) in
-          absurd (never (k .count) (g .R) (eu .E) unit unit-pos (hi tt) (k .least) (under (k .count) (k .is)) long-enough (eu .most))
+          absurd (never (k .count) (g .R) (eu .E) unit unit-pos (hi tt) (k .least) (under (k .count) (k .is)) long-enough
+          (eu .most))
 
   -- where it is a / D more than 1, the point lies less than two epsilons beyond the end
   pub beyond-end : T (fuzzyLtEps (t ⊗ len) len e) → Beyond S num den D (N + D) P
@@ -271,7 +272,8 @@ module _ (e : Float) (num den : ℕ) (h : Eps e num den)
         (less (m .p) (m .n) unit (eu .E) (whole (m .n) (m .p) (n * g .R) (p * g .R) unit unit-pos (k .1) (b .1)))
         (lit≤ tt)
       where
-        whole : (x y X Y L : ℕ) → 0 < L → 2 ^ 54 * (x * L + Y) ≤ 2 ^ 54 * (X + y * L) + 2 ^ 66 * (L * L) → X ≤ Y + 2 ^ 66 * (L * L)
+        whole : (x y X Y L : ℕ) → 0 < L → 2 ^ 54 * (x * L + Y) ≤ 2 ^ 54 * (X + y * L) + 2 ^ 66 * (L * L)
+            → X ≤ Y + 2 ^ 66 * (L * L)
             → x ≤ y + 2 ^ 67 * L
         whole x y X Y L Q k z = le-of-mul-le-mul-right {m = x} {n = y + 2 ^ 67 * L} {k = L} (omega arith) Q
 

@@ -41,7 +41,8 @@ pub record Ratio (i : ℕ) (t : Float) (xp xn dp dn : ℕ) : Type 0 where
   pub place : Place i t P N (gap dp dn)
   pub turned : Turned P N xp xn dp dn
 
-pub ratio : (i : ℕ) (x d : Float) (A : Small i x) (B : Small i d) → (B .p ≡ B .n → ⊥) → Ratio i (x ⊘ d) (A .p) (A .n) (B .p) (B .n)
+pub ratio : (i : ℕ) (x d : Float) (A : Small i x) (B : Small i d) → (B .p ≡ B .n → ⊥)
+    → Ratio i (x ⊘ d) (A .p) (A .n) (B .p) (B .n)
 ratio i x d A B h = go (leb (B .p) (B .n)) (leb→le (B .p) (B .n)) (nleb→lt (B .p) (B .n))
   where
     over : (P N D : ℕ) → Rounded binary64 (x ⊘ d) P N D → 0 < D → gap (B .p) (B .n) ≡ D → P ≤ 2 ^ i → N ≤ 2 ^ i

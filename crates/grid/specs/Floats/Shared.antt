@@ -137,7 +137,8 @@ module _ (e : Float) (num den : ℕ) (h : Eps e num den) (u : Vector2) (S : ℕ)
       let dn = same-near D unit 0 0 0 0 0 0 0 0 C unit-pos (X1 .count) (X0 .count) m1 (to m0 m1 unit (X0 .count) q (X0 .most))
       (X1 .least) in
       is-true _ (near-test .1 (
-        nothing D unit (g .R) (eu .E) (X0 .count) (X1 .count) (d-near .p) (d-near .n) (q-near .p) (q-near .n) C unit-pos up (d-is .0)
+        nothing D unit (g .R) (eu .E) (X0 .count) (X1 .count) (d-near .p) (d-near .n) (q-near .p) (q-near .n) C unit-pos up
+            (d-is .0)
             (q-is .0) (g .most) (eu .least),
         nothing D unit (g .R) (eu .E) (X1 .count) (X0 .count) (d-near .n) (d-near .p) (q-near .n) (q-near .p) C unit-pos dn
             (d-is .1) (q-is .1) (g .most) (eu .least),

@@ -39,11 +39,13 @@ not-less p q h = le-of-suc-le-suc (lt-of-not-le h)
 module _ (D : ℕ) (few : D ≤ 2 ^ 21) where
   place-near : (t : Float) (P N : ℕ) → Place 21 t P N D → Near unit t P N D (2 ^ 21) (2 ^ 54)
   place-near t P N a =
-      near64 t P N D 21 (a .rounded) (a .some) (at-most (2 ^ 21) P N D (a .P-le) (a .some)) (at-most (2 ^ 21) N P D (a .N-le) (a .some))
+      near64 t P N D 21 (a .rounded) (a .some) (at-most (2 ^ 21) P N D (a .P-le) (a .some))
+      (at-most (2 ^ 21) N P D (a .N-le) (a .some))
       (lit≤ tt)
 
   -- ---- the order of the exact values is that of the floats
-  near-lt : (s t : Float) (P N Q K : ℕ) → Near unit s P N D (2 ^ 21) (2 ^ 54) → Near unit t Q K D (2 ^ 21) (2 ^ 54) → P + K < Q + N
+  near-lt : (s t : Float) (P N Q K : ℕ) → Near unit s P N D (2 ^ 21) (2 ^ 54) → Near unit t Q K D (2 ^ 21) (2 ^ 54)
+      → P + K < Q + N
       → T (lt s t)
   near-lt s t P N Q K x y l =
       lt-over s t (x .p) (x .n) (y .p) (y .n) unit unit-pos (x .is) (y .is) .1
@@ -150,7 +152,8 @@ module _ (D : ℕ) (few : D ≤ 2 ^ 21) where
       out : P ≤ N → (T (lt f0 t) → ⊥) × Part D f0 (P - N)
       out w =
           let none : 0 ≡ P - N = omega arith in
-          let most = most-whole binary64 t P N D (a .rounded) (a .some) (x .p) (x .n) unit unit-pos (x .is) 0 0 (lit≤ tt) (lit≤ tt)
+          let most = most-whole binary64 t P N D (a .rounded) (a .some) (x .p) (x .n) unit unit-pos (x .is) 0 0 (lit≤ tt)
+          (lit≤ tt)
           (omega arith) in (
             λ y. never (x .p) (x .n) unit most (lt-over f0 t 0 0 (x .p) (x .n) unit unit-pos zero-is (x .is) .0 y),
             subst (Part D f0) none (zero .1),
@@ -173,7 +176,8 @@ module _ (D : ℕ) (few : D ≤ 2 ^ 21) where
       out : N + D ≤ P → (T (lt t f1) → ⊥) × Part D f1 (min (P - N) D)
       out w =
           let whole : D ≡ min (P - N) D = omega arith in
-          let least = least-whole binary64 t P N D (a .rounded) (a .some) (x .p) (x .n) unit unit-pos (x .is) 1 0 (lit≤ tt) (lit≤ tt)
+          let least = least-whole binary64 t P N D (a .rounded) (a .some) (x .p) (x .n) unit unit-pos (x .is) 1 0 (lit≤ tt)
+          (lit≤ tt)
           (omega arith) in (
             λ y. never (x .p) (x .n) unit least (lt-over t f1 (x .p) (x .n) unit 0 unit unit-pos (x .is) one-is .0 y),
             subst (Part D f1) whole (one .1),

@@ -1,6 +1,6 @@
--- Which way the line kernel goes on grid segments, in whole numbers: to the crossing where the perp dot is not zero; else one of five
--- ways, each with its answer and under the exact condition under which the kernel goes that way. v runs from v1 to v2, u from u1 to u2,
--- w from u1 to v1 and w2 from u1 to v2.
+-- Which way the line kernel goes on grid segments, in whole numbers: to the crossing where the perp dot is not zero; else one of
+-- five ways, each with its answer and under the exact condition under which the kernel goes that way. v runs from v1 to v2, u from
+-- u1 to u2, w from u1 to v1 and w2 from u1 to v2.
 use mathlib.Core.Path.{_≡_, refl, sym, ap, _∙_, subst}
 use mathlib.Core.Logic.{_⊎_, inl, inr}
 use Prim.Native.Nat.{ℕ, _+_}

@@ -49,7 +49,8 @@ from-end c a b o m h =
 
 module _ (P : Point) (a b : Spot) (m : ℤ) (num den : ℕ) (h : Placed P a b m) where
   -- c is an end of it, and n / over of the way leads from c to P
-  close : (c : Spot) (n : ℤ) → P .x -ℤ c .x *ℤ pos (P .over) ≡ (b .x -ℤ a .x) *ℤ n → P .y -ℤ c .y *ℤ pos (P .over) ≡ (b .y -ℤ a .y) *ℤ n
+  close : (c : Spot) (n : ℤ) → P .x -ℤ c .x *ℤ pos (P .over) ≡ (b .x -ℤ a .x) *ℤ n
+      → P .y -ℤ c .y *ℤ pos (P .over) ≡ (b .y -ℤ a .y) *ℤ n
       → long a b * (natAbs n * natAbs n) * (den * den) < 2 * num * P .over * (2 * num * P .over)
       → Close P c num den
   close c n at-x at-y l =
@@ -69,7 +70,9 @@ module _ (P : Point) (a b : Spot) (m : ℤ) (num den : ℕ) (h : Placed P a b m)
 
       go : (m <ℤ pos 0) ⊎ (pos 0 ≤ℤ m) → (pos (P .over) <ℤ m) ⊎ (m ≤ℤ pos (P .over)) → Reached P a b num den
       go (inl l) k =
-          inr (inl (close a m (from-start (P .x) (a .x) (b .x) o m (h .at-x)) (from-start (P .y) (a .y) (b .y) o m (h .at-y)) (before l)))
+          inr (inl (close a m (from-start (P .x) (a .x) (b .x) o m (h .at-x)) (from-start (P .y) (a .y) (b .y) o m (h .at-y))
+          (before l)))
       go (inr l) (inl k) =
-          inr (inr (close b (m -ℤ o) (from-end (P .x) (a .x) (b .x) o m (h .at-x)) (from-end (P .y) (a .y) (b .y) o m (h .at-y)) (past k)))
+          inr (inr (close b (m -ℤ o) (from-end (P .x) (a .x) (b .x) o m (h .at-x)) (from-end (P .y) (a .y) (b .y) o m (h .at-y))
+          (past k)))
       go (inr l) (inr k) = inl (placed-segment P a b m h (l, k))

@@ -1,5 +1,6 @@
--- Two segments on one line, measured on u along the x axis, for a u that is not upright (else the axes change places): they share a
--- point exactly if the spans meet, and more than one exactly if the spans meet in more than one. What they share is found at their ends.
+-- Two segments on one line, measured on u along the x axis, for a u that is not upright (else the axes change places): they share
+-- a point exactly if the spans meet, and more than one exactly if the spans meet in more than one. What they share is found at
+-- their ends.
 use mathlib.Core.Path.{_≡_, refl, sym, ap, subst}
 use mathlib.Core.Logic.{_⊎_, inl, inr, _↔_}
 use mathlib.Core.List.{[], _∷_}

@@ -1,5 +1,5 @@
--- Parallel segments that share a point lie on one line, also where they change places, or the axes do. Where the first has no length,
--- or neither has, sharing is that one grid point lies on the other. Then they never share more than that point.
+-- Parallel segments that share a point lie on one line, also where they change places, or the axes do. Where the first has no
+-- length, or neither has, sharing is that one grid point lies on the other. Then they never share more than that point.
 use mathlib.Core.Path.{_≡_, sym, _∙_}
 use mathlib.Core.Logic.{_↔_}
 use mathlib.Core.List.{[], _∷_}
@@ -102,7 +102,8 @@ turned-cross p q h =
 
 turned-way : (p a b : Spot) → cross p (way a b) ≡ pos 0 → cross p (way b a) ≡ pos 0
 turned-way p a b h =
-    combine (corners p p a b []) (wedge start-v (leg end-u start-u)) (num 0) (neg (num 1)) (wedge start-v (leg start-u end-u)) (num 0) h tt
+    combine (corners p p a b []) (wedge start-v (leg end-u start-u)) (num 0) (neg (num 1)) (wedge start-v (leg start-u end-u))
+    (num 0) h tt
 
 pub swapped : (v1 v2 u1 u2 : Spot) → Collinear v1 v2 u1 u2 → Collinear u1 u2 v1 v2
 swapped v1 v2 u1 u2 c =

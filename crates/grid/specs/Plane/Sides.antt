@@ -112,5 +112,6 @@ pub place-u : (v1 v2 u1 u2 : Spot) (P : Point) (s s' : ℤ) (t t' : ℕ) → Alo
 place-u v1 v2 u1 u2 P s s' t t' on-v on-u =
     combine (corners v1 v2 u1 u2 (s' ∷ pos t' ∷ []))
     (var 8 ⊠ wedge (leg start-v end-v) (leg start-u end-u)) (wedge (leg start-v end-v) (leg start-u start-v) ⊠ var 9)
-    (neg (num 1)) (var 8 ⊠ wedge (leg start-u end-u) (leg start-v end-v)) (wedge (leg start-v end-v) (leg start-v start-u) ⊠ var 9)
+    (neg (num 1)) (var 8 ⊠ wedge (leg start-u end-u) (leg start-v end-v))
+    (wedge (leg start-v end-v) (leg start-v start-u) ⊠ var 9)
     (place-v u1 u2 v1 v2 P s' s t' t on-u on-v) tt

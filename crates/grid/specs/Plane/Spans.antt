@@ -126,7 +126,8 @@ seen-back u1 u2 P a b k h =
       some = h .some;
       within = omega arith;
       on-u = along-back P u1 u2 (h .s') (h .t' - h .s') (h .t') rest (h .on-u);
-      place = back a b (pos k) (pos (h .r)) (pos (h .s)) (pos (h .s')) (pos (h .t' - h .s')) (pos (h .t')) (h .place) (ap pos rest);
+      place = back a b (pos k) (pos (h .r)) (pos (h .s)) (pos (h .s')) (pos (h .t' - h .s')) (pos (h .t')) (h .place)
+          (ap pos rest);
     }
   where
     back : (a b k r s s' q t' : ℤ) → (a *ℤ r +ℤ b *ℤ s) *ℤ t' ≡ k *ℤ (s' *ℤ (s +ℤ r)) → t' ≡ s' +ℤ q
