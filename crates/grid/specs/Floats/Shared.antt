@@ -28,52 +28,53 @@ use Rattle.grid.specs.Floats.Bounds.{bounded, near-over, near-at, one-un
 use Rattle.grid.specs.Floats.Span.{Part}
 
 -- ---- arithmetic. The parameters are s0 / L and s1 / L, their difference (dp - dn) / L, its product with the length (qp - qn) / L.
-module _ (D L R E s0 s1 dp dn qp qn : ℕ) (C : 0 < D) (P : 0 < L) where
-  -- both near the same m / D
-  same-near : (s0 s1 m : ℕ) → 2 ^ 54 * (s1 * D) ≤ 2 ^ 54 * (m * L) + 1 * (D * L)
-      → 2 ^ 54 * (m * L) ≤ 2 ^ 54 * (s0 * D) + 1 * (D * L)
-      → 2 ^ 54 * s1 ≤ 2 ^ 54 * s0 + 2 * L
-  same-near s0 s1 m x y = le-of-mul-le-mul-right {m = 2 ^ 54 * s1} {n = 2 ^ 54 * s0 + 2 * L} {k = D} (omega arith) C
+-- both near the same m / D
+same-near : (D L s0 s1 m : ℕ) → 0 < D → 2 ^ 54 * (s1 * D) ≤ 2 ^ 54 * (m * L) + 1 * (D * L)
+    → 2 ^ 54 * (m * L) ≤ 2 ^ 54 * (s0 * D) + 1 * (D * L)
+    → 2 ^ 54 * s1 ≤ 2 ^ 54 * s0 + 2 * L
+same-near D L s0 s1 m C x y = le-of-mul-le-mul-right {m = 2 ^ 54 * s1} {n = 2 ^ 54 * s0 + 2 * L} {k = D} (omega arith) C
 
-  nothing : 2 ^ 54 * s1 ≤ 2 ^ 54 * s0 + 2 * L → 2 ^ 54 * (dp + s0) ≤ 2 ^ 54 * (s1 + dn) + 2 * L
-      → 2 ^ 54 * (qp * L + dn * R) ≤ 2 ^ 54 * (dp * R + qn * L) + 2 ^ 23 * (L * L)
-      → R ≤ 2 ^ 22 * L → L ≤ 1024 * E → qp * L + 0 * L < E * L + qn * L
-  nothing x y z most least =
-      let d : 2 ^ 54 * dp ≤ 2 ^ 54 * dn + 4 * L = omega arith in
-      let a = mul-le-mul-right R d in
-      let b = mul-le-mul-right L most in
-      let c = mul-le-mul-right L least in
-      let o : 0 < L * L = mul-pos P P in
-      omega arith
+nothing : (L R E s0 s1 dp dn qp qn : ℕ) → 0 < L
+    → 2 ^ 54 * s1 ≤ 2 ^ 54 * s0 + 2 * L → 2 ^ 54 * (dp + s0) ≤ 2 ^ 54 * (s1 + dn) + 2 * L
+    → 2 ^ 54 * (qp * L + dn * R) ≤ 2 ^ 54 * (dp * R + qn * L) + 2 ^ 23 * (L * L)
+    → R ≤ 2 ^ 22 * L → L ≤ 1024 * E → qp * L + 0 * L < E * L + qn * L
+nothing L R E s0 s1 dp dn qp qn P x y z most least =
+    let d : 2 ^ 54 * dp ≤ 2 ^ 54 * dn + 4 * L = omega arith in
+    let a = mul-le-mul-right R d in
+    let b = mul-le-mul-right L most in
+    let c = mul-le-mul-right L least in
+    let o : 0 < L * L = mul-pos P P in
+    omega arith
 
-  -- m0 below m1
-  some-part : (m0 m1 : ℕ) → m0 < m1 → D ≤ 2 ^ 21
-      → 2 ^ 54 * (m1 * L) ≤ 2 ^ 54 * (s1 * D) + 1 * (D * L) → 2 ^ 54 * (s0 * D) ≤ 2 ^ 54 * (m0 * L) + 1 * (D * L)
-      → 2 ^ 54 * (dn + s1) ≤ 2 ^ 54 * (s0 + dp) + 2 * L
-      → 2 ^ 54 * (dn * D) + 2 ^ 54 * L ≤ 2 ^ 54 * (dp * D) + 2 ^ 23 * L
-  some-part m0 m1 l w x y z =
-      let a = mul-le-mul-right L l in
-      let b = mul-le-mul-right D z in
-      let c = mul-le-mul-right L w in
-      omega arith
+-- m0 below m1
+some-part : (D L s0 s1 dp dn m0 m1 : ℕ) → m0 < m1 → D ≤ 2 ^ 21
+    → 2 ^ 54 * (m1 * L) ≤ 2 ^ 54 * (s1 * D) + 1 * (D * L) → 2 ^ 54 * (s0 * D) ≤ 2 ^ 54 * (m0 * L) + 1 * (D * L)
+    → 2 ^ 54 * (dn + s1) ≤ 2 ^ 54 * (s0 + dp) + 2 * L
+    → 2 ^ 54 * (dn * D) + 2 ^ 54 * L ≤ 2 ^ 54 * (dp * D) + 2 ^ 23 * L
+some-part D L s0 s1 dp dn m0 m1 l w x y z =
+    let a = mul-le-mul-right L l in
+    let b = mul-le-mul-right D z in
+    let c = mul-le-mul-right L w in
+    omega arith
 
-  something : 2 ^ 54 * (dn * D) + 2 ^ 54 * L ≤ 2 ^ 54 * (dp * D) + 2 ^ 23 * L
-      → 2 ^ 54 * (qn * L + dp * R) ≤ 2 ^ 54 * (dn * R + qp * L) + 2 ^ 23 * (L * L)
-      → D * L ≤ R → 2 * E ≤ L → E * L + qn * L ≤ qp * L + 0 * L
-  something x y long small =
-      let wide : dn * D ≤ dp * D = omega arith in
-      let l : dn ≤ dp = le-of-mul-le-mul-right wide C in
-      go (dp - dn) (back dp dn l)
-    where
-      go : (d : ℕ) → d + dn ≡ dp → E * L + qn * L ≤ qp * L + 0 * L
-      go d e =
-          let a : (d + dn) * D ≡ dp * D = ap (λ (z : ℕ). z * D) e in
-          let b : (d + dn) * R ≡ dp * R = ap (λ (z : ℕ). z * R) e in
-          let f : 2 ^ 54 * L ≤ 2 ^ 54 * (d * D) + 2 ^ 23 * L = omega arith in
-          let g = mul-le-mul-right L f in
-          let m = mul-le-mul-left d long in
-          let n = mul-le-mul-right L small in
-          omega arith
+something : (D L R E dp dn qp qn : ℕ) → 0 < D
+    → 2 ^ 54 * (dn * D) + 2 ^ 54 * L ≤ 2 ^ 54 * (dp * D) + 2 ^ 23 * L
+    → 2 ^ 54 * (qn * L + dp * R) ≤ 2 ^ 54 * (dn * R + qp * L) + 2 ^ 23 * (L * L)
+    → D * L ≤ R → 2 * E ≤ L → E * L + qn * L ≤ qp * L + 0 * L
+something D L R E dp dn qp qn C x y long small =
+    let wide : dn * D ≤ dp * D = omega arith in
+    let l : dn ≤ dp = le-of-mul-le-mul-right wide C in
+    go (dp - dn) (back dp dn l)
+  where
+    go : (d : ℕ) → d + dn ≡ dp → E * L + qn * L ≤ qp * L + 0 * L
+    go d e =
+        let a : (d + dn) * D ≡ dp * D = ap (λ (z : ℕ). z * D) e in
+        let b : (d + dn) * R ≡ dp * R = ap (λ (z : ℕ). z * R) e in
+        let f : 2 ^ 54 * L ≤ 2 ^ 54 * (d * D) + 2 ^ 23 * L = omega arith in
+        let g = mul-le-mul-right L f in
+        let m = mul-le-mul-left d long in
+        let n = mul-le-mul-right L small in
+        omega arith
 
 -- ---- on the floats
 module _ (e : Float) (num den : ℕ) (h : Eps e num den) (u : Vector2) (S : ℕ) (g : Long u S)
@@ -132,32 +133,24 @@ module _ (e : Float) (num den : ℕ) (h : Eps e num den) (u : Vector2) (S : ℕ)
   pub shared-none : m0 ≡ m1 → fuzzyEqZeroEps ((x1 ⊖ x0) ⊗ len) e ≡ true
   unfolding fuzzyEqZeroEps
   shared-none q =
-      let up = same-near D unit 0 0 0 0 0 0 0 0 C unit-pos (X0 .count) (X1 .count) m1 (X1 .most)
-      (from m0 m1 unit (X0 .count) q (X0 .least)) in
-      let dn = same-near D unit 0 0 0 0 0 0 0 0 C unit-pos (X1 .count) (X0 .count) m1 (to m0 m1 unit (X0 .count) q (X0 .most))
-      (X1 .least) in
+      let s0 = X0 .count in
+      let s1 = X1 .count in
+      let x0-is = subst (λ (z : ℕ).
+      (2 ^ 54 * (s0 * D) ≤ 2 ^ 54 * (z * unit) + 1 * (D * unit)) × (2 ^ 54 * (z * unit) ≤ 2 ^ 54 * (s0 * D) + 1 * (D * unit)))
+      q (X0 .most, X0 .least) in
       is-true _ (near-test .1 (
-        nothing D unit (g .R) (eu .E) (X0 .count) (X1 .count) (d-near .p) (d-near .n) (q-near .p) (q-near .n) C unit-pos up
-            (d-is .0)
-            (q-is .0) (g .most) (eu .least),
-        nothing D unit (g .R) (eu .E) (X1 .count) (X0 .count) (d-near .n) (d-near .p) (q-near .n) (q-near .p) C unit-pos dn
-            (d-is .1) (q-is .1) (g .most) (eu .least),
+        nothing unit (g .R) (eu .E) s0 s1 (d-near .p) (d-near .n) (q-near .p) (q-near .n) unit-pos
+            (same-near D unit s0 s1 m1 C (X1 .most) (x0-is .1)) (d-is .0) (q-is .0) (g .most) (eu .least),
+        nothing unit (g .R) (eu .E) s1 s0 (d-near .n) (d-near .p) (q-near .n) (q-near .p) unit-pos
+            (same-near D unit s1 s0 m1 C (x0-is .0) (X1 .least)) (d-is .1) (q-is .1) (g .most) (eu .least),
       ))
-    where
-      from : (m0 m1 L s : ℕ) → m0 ≡ m1 → 2 ^ 54 * (m0 * L) ≤ 2 ^ 54 * (s * D) + 2 ^ 0 * (D * L)
-          → 2 ^ 54 * (m1 * L) ≤ 2 ^ 54 * (s * D) + 1 * (D * L)
-      from m0 m1 L s q x = subst (λ (z : ℕ). 2 ^ 54 * (z * L) ≤ 2 ^ 54 * (s * D) + 1 * (D * L)) q x
-
-      to : (m0 m1 L s : ℕ) → m0 ≡ m1 → 2 ^ 54 * (s * D) ≤ 2 ^ 54 * (m0 * L) + 2 ^ 0 * (D * L)
-          → 2 ^ 54 * (s * D) ≤ 2 ^ 54 * (m1 * L) + 1 * (D * L)
-      to m0 m1 L s q x = subst (λ (z : ℕ). 2 ^ 54 * (s * D) ≤ 2 ^ 54 * (z * L) + 1 * (D * L)) q x
 
   pub shared-some : m0 < m1 → fuzzyEqZeroEps ((x1 ⊖ x0) ⊗ len) e ≡ false
   unfolding fuzzyEqZeroEps
   shared-some l =
-      let part = some-part D unit 0 0 (X0 .count) (X1 .count) (d-near .p) (d-near .n) 0 0 C unit-pos m0 m1 l few (X1 .least)
+      let part = some-part D unit (X0 .count) (X1 .count) (d-near .p) (d-near .n) m0 m1 l few (X1 .least)
       (X0 .most) (d-is .1) in
-      let over = something D unit (g .R) (eu .E) 0 0 (d-near .p) (d-near .n) (q-near .p) (q-near .n) C unit-pos part (q-is .1)
+      let over = something D unit (g .R) (eu .E) (d-near .p) (d-near .n) (q-near .p) (q-near .n) C part (q-is .1)
       (g .least D (wide D few) side) (eu .most) in
       is-false _ (not-T (lt (F64.abs ((x1 ⊖ x0) ⊗ len)) e)
       (λ t. clash (q-near .p * unit) (q-near .n * unit) (eu .E * unit) (0 * unit) (near-test .0 t .0) over))
