@@ -62,8 +62,7 @@ spread p n q k A B a b c d =
         (omega arith, omega arith)
 
 -- ---- arithmetic. t is (tp - tn) / L, the product (qp - qn) / L, the sum (cp - cn) / L; x0 is a - b and x1 - x0 is c - d. The
--- three
--- errors, multiplied out and added up.
+-- three errors, multiplied out and added up.
 parts : (m1 m2 m3 m4 n1 n2 n3 n4 q1 q2 k1 k2 a1 b1 w : ℕ)
     → 2 ^ 54 * (m1 + n1 + n2 + m2) ≤ 2 ^ 54 * (n3 + m3 + m4 + n4) + 2 ^ 22 * w
     → 2 ^ 54 * (q1 + m3 + m4) ≤ 2 ^ 54 * (m1 + m2 + q2) + 2 ^ 22 * w

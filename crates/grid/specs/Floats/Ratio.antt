@@ -45,27 +45,20 @@ pub ratio : (i : ℕ) (x d : Float) (A : Small i x) (B : Small i d) → (B .p �
     → Ratio i (x ⊘ d) (A .p) (A .n) (B .p) (B .n)
 ratio i x d A B h = go (leb (B .p) (B .n)) (leb→le (B .p) (B .n)) (nleb→lt (B .p) (B .n))
   where
+    -- over the divisor's size
     over : (P N D : ℕ) → Rounded binary64 (x ⊘ d) P N D → 0 < D → gap (B .p) (B .n) ≡ D → P ≤ 2 ^ i → N ≤ 2 ^ i
-        → Place i (x ⊘ d) P N (gap (B .p) (B .n))
-    over P N D r s e u l =
-        subst (Place i (x ⊘ d) P N) (sym e) (record { rounded = r; some = s; P-le = u; N-le = l })
+        → Turned P N (A .p) (A .n) (B .p) (B .n)
+        → Ratio i (x ⊘ d) (A .p) (A .n) (B .p) (B .n)
+    over P N D r s e u l t =
+        let at : Place i (x ⊘ d) P N D = record { rounded = r; some = s; P-le = u; N-le = l } in
+        record { P = P; N = N; place = subst (Place i (x ⊘ d) P N) (sym e) at; turned = t }
 
     go : (b : Bool) → (T b → B .p ≤ B .n) → (T (not b) → B .n < B .p) → Ratio i (x ⊘ d) (A .p) (A .n) (B .p) (B .n)
     go true under above =
         let l : B .p < B .n = lt-of-le-ne (under tt) h in
-        let r = div-below binary64 x d (A .p) (A .n) (B .p) (B .n) (A .is) (B .is) l in
-        record {
-          P = A .n;
-          N = A .p;
-          place = over (A .n) (A .p) (B .n - B .p) r (omega arith) (omega arith) (A .n-le) (A .p-le);
-          turned = inr (under tt, refl, refl);
-        }
+        over (A .n) (A .p) (B .n - B .p) (div-below binary64 x d (A .p) (A .n) (B .p) (B .n) (A .is) (B .is) l)
+        (omega arith) (omega arith) (A .n-le) (A .p-le) (inr (under tt, refl, refl))
     go false under above =
         let l : B .n < B .p = above tt in
-        let r = div-above binary64 x d (A .p) (A .n) (B .p) (B .n) (A .is) (B .is) l in
-        record {
-          P = A .p;
-          N = A .n;
-          place = over (A .p) (A .n) (B .p - B .n) r (omega arith) (omega arith) (A .p-le) (A .n-le);
-          turned = inl (le-of-lt l, refl, refl);
-        }
+        over (A .p) (A .n) (B .p - B .n) (div-above binary64 x d (A .p) (A .n) (B .p) (B .n) (A .is) (B .is) l)
+        (omega arith) (omega arith) (A .p-le) (A .n-le) (inl (le-of-lt l, refl, refl))
