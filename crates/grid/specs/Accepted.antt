@@ -17,8 +17,10 @@ use Rattle.plane.specs.Fuzzy.{fuzzyEqZeroEps, fuzzyEpsilon}
 use Rattle.plane.specs.PlineVertex as vertex
 use Rattle.plane.specs.PlineVertex.{bulgeIsZero}
 use Rattle.plane.specs.declared.pline_vertex.PlineVertex.{PlineVertex}
+use Rattle.checks.specs.declared.fault.Place.{Place}
 use Rattle.checks.specs.declared.fault.Checked.{Checked}
 use Rattle.checks.specs.declared.fault.Checked.the-variants.{Fine}
+use Rattle.checks.specs.Each
 use Rattle.checks.specs.Arc.{arcChord}
 use Rattle.checks.specs.Edges.{powers}
 use Rattle.checks.specs.FirstFault.{AllFine, none, one, first-fine}
@@ -142,6 +144,13 @@ bulge-within v t = below-near-zero (v .bulge) (subst (λ (x : Float). T (F64.abs
 fine : (c : Checked) (cs : List Checked) → c ≡ Fine → AllFine cs → AllFine (c ∷ cs)
 fine c cs e h = subst (λ (d : Checked). AllFine (d ∷ cs)) (sym e) (one h)
 
+-- a vertex on the grid
+on-grid : (v : PlineVertex) (p : Spot) (f g : Place) (cs : List Checked) → On v p → AllFine cs
+    → AllFine (Each.coordinate (v .x) f ∷ Each.coordinate (v .y) g ∷ cs)
+on-grid v p f g cs (x, x-le, y, y-le) h =
+    fine _ _ (coordinate-fine (v .x) f .1 (coordinate-within (v .x) (p .x) x x-le))
+    (fine _ cs (coordinate-fine (v .y) g .1 (coordinate-within (v .y) (p .y) y y-le)) h)
+
 no-arc : (a b : PlineVertex) (owner index : ℕ) → T (bulgeIsZero a) → arcChord a b owner index ≡ Fine
 unfolding arcChord
 no-arc a b owner index t = go (bulgeIsZero a) _ t
@@ -154,22 +163,18 @@ module _ (v1 v2 u1 u2 : PlineVertex) (p1 p2 q1 q2 : Spot) (e : Float) (num den :
   pub accepted : On v1 p1 → On v2 p2 → On u1 q1 → On u2 q2 → T (bulgeIsZero v1) → T (bulgeIsZero u1) → Epsilon e num den
       → plineSegIntr v1 v2 u1 u2 e ≡ Met (plineSeg v1 v2 u1 u2 e)
   unfolding plineSegIntr look
-  accepted (a, a', b, b') (c, c', d, d') (f, f', g, g') (h, h', i, i') line-v line-u eps =
+  accepted at-v1 at-v2 at-u1 at-u2 line-v line-u eps =
       ap (λ (z : Checked). settle Refused Met z (plineSeg v1 v2 u1 u2 e))
       (first-fine (checks v1 v2 u1 u2 e) .1
       (fine _ _ (epsilon-fine e _ .1 (epsilon-between e num den eps))
-      (fine _ _ (coordinate-fine (v1 .x) _ .1 (coordinate-within (v1 .x) (p1 .x) a a'))
-      (fine _ _ (coordinate-fine (v1 .y) _ .1 (coordinate-within (v1 .y) (p1 .y) b b'))
+      (on-grid v1 p1 _ _ _ at-v1
       (fine _ _ (bulge-fine (v1 .bulge) _ .1 (bulge-within v1 line-v))
-      (fine _ _ (coordinate-fine (v2 .x) _ .1 (coordinate-within (v2 .x) (p2 .x) c c'))
-      (fine _ _ (coordinate-fine (v2 .y) _ .1 (coordinate-within (v2 .y) (p2 .y) d d'))
-      (fine _ _ (coordinate-fine (u1 .x) _ .1 (coordinate-within (u1 .x) (q1 .x) f f'))
-      (fine _ _ (coordinate-fine (u1 .y) _ .1 (coordinate-within (u1 .y) (q1 .y) g g'))
+      (on-grid v2 p2 _ _ _ at-v2
+      (on-grid u1 q1 _ _ _ at-u1
       (fine _ _ (bulge-fine (u1 .bulge) _ .1 (bulge-within u1 line-u))
-      (fine _ _ (coordinate-fine (u2 .x) _ .1 (coordinate-within (u2 .x) (q2 .x) h h'))
-      (fine _ _ (coordinate-fine (u2 .y) _ .1 (coordinate-within (u2 .y) (q2 .y) i i'))
+      (on-grid u2 q2 _ _ _ at-u2
       (fine _ _ (no-arc v1 v2 0 0 line-v)
-      (fine _ _ (no-arc u1 u2 1 0 line-u) none))))))))))))))
+      (fine _ _ (no-arc u1 u2 1 0 line-u) none))))))))))
 
 -- ---- the pair call on two lines is the kernel
 pub two-lines : (v1 v2 u1 u2 : PlineVertex) (e : Float) → T (bulgeIsZero v1) → T (bulgeIsZero u1)

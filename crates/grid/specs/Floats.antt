@@ -3,12 +3,14 @@
 pub mod Small
 pub mod Zero
 pub mod Length
+pub mod Ratio
+pub mod Bounds
 pub mod Reach
 pub mod Range
 pub mod Point
-pub mod Ratio
 pub mod Crossing
 pub mod Span
 pub mod Shared
 pub mod Overlap
 pub mod Parallel
+pub mod Ways

@@ -1,7 +1,7 @@
 -- Floats of the grid and whole numbers: what stands at a grid point as a difference of naturals (Floats/*) is that point's whole numbers
 -- (Plane/*), its ways and products too.
 use mathlib.Core.Path.{_≡_, sym, ap, _∙_, subst}
-use mathlib.Core.Logic.{_⊎_, inl, inr, _↔_}
+use mathlib.Core.Logic.{inl, inr, _↔_}
 use mathlib.Core.Bool.{true, false}
 use Prim.Native.Nat.{ℕ, _+_, _-_, _*_, _≤_, _<_}
 use native.Mathlib.Omega.{arith}
@@ -17,27 +17,21 @@ use Rattle.grid.specs.Plane.Whole.{diff, parts, whole, naturals, gain, l
 use Rattle.grid.specs.Plane.Order.{turned}
 use Rattle.grid.specs.Plane.Sides.{way, cross}
 use Rattle.grid.specs.Plane.Spots.{Same}
-use Rattle.grid.specs.Plane.Parts.{is-plus, is-minus, gain-loss, quotient}
+use Rattle.grid.specs.Plane.Parts.{is-plus, is-minus, gain-loss, turned-up, turned-down}
 use Rattle.grid.specs.Floats.Small.{Small, Vec, vec-sub, perp}
 use Rattle.grid.specs.Floats.Zero.{Eps}
-use Rattle.grid.specs.Floats.Length.{gap}
-use Rattle.grid.specs.Floats.Parallel.{IsZero}
+use Rattle.grid.specs.Floats.Length.{gap, IsZero}
+use Rattle.grid.specs.Floats.Ratio.{Turned}
 
 -- ---- values
-pub is-diff : (x : Float) (p n c : ℕ) → Is x (diff p n) c → Diff x p n c
-is-diff nan p n c h = h
-is-diff (inf s) p n c h = h
-is-diff (fin false m e) p n c h = is-plus m p n c e .0 h
-is-diff (fin true m e) p n c h = is-minus m p n c e .0 h
-
-pub diff-is : (x : Float) (p n c : ℕ) → Diff x p n c → Is x (diff p n) c
-diff-is nan p n c h = h
-diff-is (inf s) p n c h = h
-diff-is (fin false m e) p n c h = is-plus m p n c e .1 h
-diff-is (fin true m e) p n c h = is-minus m p n c e .1 h
+pub is-diff : (x : Float) (p n c : ℕ) → Is x (diff p n) c ↔ Diff x p n c
+is-diff nan p n c = (λ h. h, λ h. h)
+is-diff (inf s) p n c = (λ h. h, λ h. h)
+is-diff (fin false m e) p n c = is-plus m p n c e
+is-diff (fin true m e) p n c = is-minus m p n c e
 
 whole-diff : (x : Float) (z : ℤ) (c : ℕ) → Is x z c → Diff x (gain z) (loss z) c
-whole-diff x z c h = is-diff x (gain z) (loss z) c (subst (λ (w : ℤ). Is x w c) (sym (whole z)) h)
+whole-diff x z c h = is-diff x (gain z) (loss z) c .0 (subst (λ (w : ℤ). Is x w c) (sym (whole z)) h)
 
 small : (x : Float) (z : ℤ) → Is x z 1 → natAbs z ≤ 1048576 → Small 20 x
 small x z h l =
@@ -110,10 +104,11 @@ size-gap z p n e = ap natAbs e ∙ go (diff p n) (parts p n)
     go (negsuc k) h = omega arith
 
 -- a place x / d along an axis
-pub place-at : (d x : ℤ) (dp dn xp xn P N : ℕ) → d ≡ diff dp dn → x ≡ diff xp xn → 0 < gap dp dn
-    → ((dn ≤ dp) × (P ≡ xp) × (N ≡ xn)) ⊎ ((dp ≤ dn) × (P ≡ xn) × (N ≡ xp))
+pub place-at : (d x : ℤ) (dp dn xp xn P N : ℕ) → d ≡ diff dp dn → x ≡ diff xp xn → 0 < gap dp dn → Turned P N xp xn dp dn
     → turned d x ≡ diff P N
-place-at d x dp dn xp xn P N e f H (inl (l, h, k)) =
-    quotient d x dp dn xp xn P N (gap dp dn) e f H (inl (omega arith, h, k)) .1
-place-at d x dp dn xp xn P N e f H (inr (l, h, k)) =
-    quotient d x dp dn xp xn P N (gap dp dn) e f H (inr (omega arith, h, k)) .1
+place-at d x dp dn xp xn P N e f H t =
+    ap (λ (z : ℤ). turned z x) e ∙ ap (λ (z : ℤ). turned (diff dp dn) z) f ∙ go t
+  where
+    go : Turned P N xp xn dp dn → turned (diff dp dn) (diff xp xn) ≡ diff P N
+    go (inl (l, h, k)) = rw (h, k) (turned-up dp dn xp xn l)
+    go (inr (l, h, k)) = rw (h, k) (turned-down dp dn xp xn (omega arith))

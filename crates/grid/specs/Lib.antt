@@ -6,4 +6,5 @@ pub mod Accepted
 pub mod Joined
 pub mod Crossed
 pub mod Level
+pub mod Kernel
 pub mod Proved

@@ -6,8 +6,8 @@ pub mod Sides
 pub mod Cross
 pub mod Beyond
 pub mod Spots
-pub mod Points
 pub mod Spans
+pub mod Points
 pub mod Overlap
 pub mod Parts
 pub mod Keeps

@@ -28,11 +28,10 @@ use Rattle.listings.specs.Complete.{complete}
 use Rattle.grid.specs.Promise.{Spot, On, Epsilon, Kept, Promise, ListingPromise}
 use Rattle.grid.specs.Accepted.{accepted, two-lines}
 use Rattle.grid.specs.Joined.{At, vec, vec-at, eps}
-use Rattle.grid.specs.Crossed.{crossed-kept}
-use Rattle.grid.specs.Level.{level-kept}
+use Rattle.grid.specs.Kernel.{crossed-kept, level-kept}
 use Rattle.grid.specs.Floats.Small.{Vec, vec-sub, perp}
 use Rattle.grid.specs.Floats.Zero.{Eps}
-use Rattle.grid.specs.Floats.Crossing.{goes-crossing, goes-parallel}
+use Rattle.grid.specs.Floats.Ways.{goes-crossing, goes-parallel}
 
 -- the kernel, by whether the lines are parallel
 module _ (e : Float) (num den : ℕ) (h : Eps e num den)

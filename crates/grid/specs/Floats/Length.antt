@@ -1,7 +1,7 @@
 -- The length of a grid vector that is no point: the correctly rounded root of its exact self dot S. It is at least every whole
 -- number whose square is at most S, at most 2 ^ 22, and its square is at least half of S.
-use mathlib.Core.Path.{_≡_, sym, ap, subst}
-use Prim.Native.Nat.{ℕ, _+_, _-_, _*_, _^_, _≤_, _<_}
+use mathlib.Core.Path.{_≡_, refl, sym, ap, subst}
+use Prim.Native.Nat.{ℕ, zero, suc, _+_, _-_, _*_, _^_, _≤_, _<_}
 use native.Mathlib.Nat.{zero-lt-suc, mul-le-mul-left, mul-le-mul-right, le-of-mul-le-mul-left}
 use native.Mathlib.Omega.{arith}
 use mathlib.Core.Bool.{Bool, true, false, not}
@@ -27,7 +27,7 @@ gap p n = (p - n) + (n - p)
 pub level : (p n : ℕ) → gap p n ≡ 0 → p ≡ n
 level p n e = omega arith
 
-pub gap-square : (p n : ℕ) → gap p n * gap p n + (p * n + n * p) ≡ p * p + n * n
+gap-square : (p n : ℕ) → gap p n * gap p n + (p * n + n * p) ≡ p * p + n * n
 gap-square p n = go (leb n p) (leb→le n p) (nleb→lt n p)
   where
     square : (p n d g : ℕ) → p ≡ n + d → g ≡ d → g * g + (p * n + n * p) ≡ p * p + n * n
@@ -41,18 +41,35 @@ gap-square p n = go (leb n p) (leb→le n p) (nleb→lt n p)
     go true over under = let l = over tt in square p n (p - n) (gap p n) (omega arith) (omega arith)
     go false over under = let l = under tt in let w = square n p (n - p) (gap p n) (omega arith) (omega arith) in omega arith
 
-pub squares-are : (v : Vector2) (A : Vec 21 v) (S : ℕ) → S + dots v v A A .n ≡ dots v v A A .p
-    → S ≡ gap (A .x .p) (A .x .n) * gap (A .x .p) (A .x .n) + gap (A .y .p) (A .y .n) * gap (A .y .p) (A .y .n)
-squares-are v A S e =
-    plain S (A .x .p) (A .x .n) (A .y .p) (A .y .n) (gap (A .x .p) (A .x .n)) (gap (A .y .p) (A .y .n)) e
-    (gap-square (A .x .p) (A .x .n)) (gap-square (A .y .p) (A .y .n))
-  where
-    plain : (S p n q k g h : ℕ) → S + (p * n + n * p + (q * k + k * q)) ≡ p * p + n * n + (q * q + k * k)
-        → g * g + (p * n + n * p) ≡ p * p + n * n → h * h + (q * k + k * q) ≡ q * q + k * k → S ≡ g * g + h * h
-    plain S p n q k g h e x y = omega arith
+abbrev pub square : (v : Vector2) → Vec 21 v → ℕ
+square v A = gap (A .x .p) (A .x .n) * gap (A .x .p) (A .x .n) + gap (A .y .p) (A .y .n) * gap (A .y .p) (A .y .n)
 
+square-is : (v : Vector2) (A : Vec 21 v) → square v A + dots v v A A .n ≡ dots v v A A .p
+square-is v A = omega (arith, gap-square (A .x .p) (A .x .n), gap-square (A .y .p) (A .y .n))
+
+-- no side is longer than the vector
+pub side-x : (x y : ℕ) → x * x ≤ x * x + y * y
+side-x x y = omega arith
+
+pub side-y : (x y : ℕ) → y * y ≤ x * x + y * y
+side-y x y = omega arith
+
+-- a vector that is a point, and one that is not
+abbrev pub IsZero : (v : Vector2) → Vec 21 v → Type 0
+IsZero v A = (A .x .p ≡ A .x .n) × (A .y .p ≡ A .y .n)
+
+pub some-square : (v : Vector2) (A : Vec 21 v) → (IsZero v A → ⊥) → 0 < square v A
+some-square v A h = go (gap (A .x .p) (A .x .n)) (gap (A .y .p) (A .y .n)) (λ x y. h (level _ _ x, level _ _ y))
+  where
+    go : (x y : ℕ) → (x ≡ 0 → y ≡ 0 → ⊥) → 0 < x * x + y * y
+    go zero zero k = absurd (k refl refl)
+    go zero (suc y) k = omega arith
+    go (suc x) y k = omega arith
+
+-- ---- the length
 pub record Long (v : Vector2) (S : ℕ) : Type 0 where
   pub R : ℕ
+  pub some : 0 < S
   pub fit : T (fits binary64 (vector2.length v))
   pub is : Diff (vector2.length v) R 0 unit
   pub most : R ≤ 2 ^ 22 * unit
@@ -84,9 +101,9 @@ long-at x S l r = (
   half (2 ^ 53 * 2 ^ 53) ((2 ^ 53 + 1) * (2 ^ 53 + 1)) (S * (unit * unit)) (r .R * r .R) (lit< tt) (lit≤ tt) (r .above),
 )
 
-pub long : (v : Vector2) (A : Vec 21 v) (S : ℕ) → S + dots v v A A .n ≡ dots v v A A .p → 0 < S → Long v S
+root-long : (v : Vector2) (A : Vec 21 v) (S : ℕ) → S + dots v v A A .n ≡ dots v v A A .p → 0 < S → Long v S
 unfolding vector2.length F64.sqrt
-long v A S e P =
+root-long v A S e P =
     let x = vector2.dot v v in
     let B = dots v v A A in
     let t : T (fits binary64 x) = add-fits binary64 (v .x ⊗ v .x) (v .y ⊗ v .y) in
@@ -98,9 +115,13 @@ long v A S e P =
     let k = long-at x S l r in
     record {
       R = r .R;
+      some = P;
       fit = rootOf-fits binary64 x t;
       is = own-diff (F64.rootOf binary64 x) false (r .R) unit (r .value);
       most = k .0;
       least = k .1;
       near = k .2;
     }
+
+pub long : (v : Vector2) (A : Vec 21 v) → (IsZero v A → ⊥) → Long v (square v A)
+long v A h = root-long v A (square v A) (square-is v A) (some-square v A h)

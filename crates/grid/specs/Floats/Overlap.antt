@@ -13,8 +13,6 @@ use lib.Ieee.Fits.{eq→eqb}
 use lib.Ieee.{Float}
 use lib.Ieee.Bits.{is-true, is-false}
 use Rattle.float_laws.specs.Tests.{same-test}
-use Rattle.float_laws.specs.Roundings.{Sized}
-use Rattle.float_laws.specs.Binary64.{unit}
 use Rattle.floats.specs.Ops.{_⊖_, _⊗_, f0, f1}
 use Rattle.floats.specs.F64
 use Rattle.plane.specs.Vector2 as vector2
@@ -28,7 +26,8 @@ use Rattle.grid.specs.Floats.Zero.{Eps}
 use Rattle.grid.specs.Floats.Length.{Long}
 use Rattle.grid.specs.Floats.Reach.{on-axis}
 use Rattle.grid.specs.Floats.Range.{before-end, beyond-end, after-start, before-start}
-use Rattle.grid.specs.Floats.Span.{Place, Risen, from-zero, to-one}
+use Rattle.grid.specs.Floats.Ratio.{Place, wider}
+use Rattle.grid.specs.Floats.Span.{Part, Risen, from-zero, to-one}
 use Rattle.grid.specs.Floats.Shared.{shared-none, shared-some}
 
 -- ---- the three answers, by the lower end (Pl - Nl) / D and the upper one (Ph - Nh) / D
@@ -74,31 +73,28 @@ more-points Pl Nl Ph Nh D pos a b c q =
     (omega arith, omega arith, omega arith)
 
 module _ (e : Float) (num den : ℕ) (h : Eps e num den)
-    (v1 u1 u2 u : Vector2) (S : ℕ) (some : 0 < S) (g : Long u S)
+    (v1 u1 u2 u : Vector2) (S : ℕ) (g : Long u S)
     (D : ℕ) (C : 0 < D) (few : D ≤ 2 ^ 21) (side : D * D ≤ S) where
   abbrev len : Float
   len = vector2.length u
 
-  wide : (P N : ℕ) → P ≤ 2 ^ 21 → P ≤ N + 2 ^ 44 * D
-  wide P N l = omega arith
-
   -- ---- the two range tests are exact
-  pub end-test : (t : Float) (P N : ℕ) → Place t P N D → fuzzyLtEps (t ⊗ len) len e ≡ leb P (N + D)
+  pub end-test : (t : Float) (P N : ℕ) → Place 21 t P N D → fuzzyLtEps (t ⊗ len) len e ≡ leb P (N + D)
   end-test t P N a =
       same-test (fuzzyLtEps (t ⊗ len) len e) (leb P (N + D))
-      (λ x. le→leb P (N + D) (on-axis e num den h S D side (N + D) P
-      (beyond-end e num den h u S some g t P N D (a .rounded) C (wide P N (a .P-le)) (wide N P (a .N-le)) x)))
-      (λ x. before-end e num den h u S some g t P N D (a .rounded) C (wide P N (a .P-le)) (wide N P (a .N-le)) (leb→le P (N + D) x))
+      (λ x. le→leb P (N + D) (on-axis e num den h S D (a .some) side (N + D) P
+      (beyond-end e num den h u S g t P N D (wider a) x)))
+      (λ x. before-end e num den h u S g t P N D (wider a) (leb→le P (N + D) x))
 
-  pub start-test : (t : Float) (P N : ℕ) → Place t P N D → fuzzyGtEps (t ⊗ len) f0 e ≡ leb N P
+  pub start-test : (t : Float) (P N : ℕ) → Place 21 t P N D → fuzzyGtEps (t ⊗ len) f0 e ≡ leb N P
   start-test t P N a =
       same-test (fuzzyGtEps (t ⊗ len) f0 e) (leb N P)
-      (λ x. le→leb N P (on-axis e num den h S D side P N
-      (before-start e num den h u S some g t P N D (a .rounded) C (wide P N (a .P-le)) (wide N P (a .N-le)) x)))
-      (λ x. after-start e num den h u S some g t P N D (a .rounded) C (wide P N (a .P-le)) (wide N P (a .N-le)) (leb→le N P x))
+      (λ x. le→leb N P (on-axis e num den h S D (a .some) side P N
+      (before-start e num den h u S g t P N D (wider a) x)))
+      (λ x. after-start e num den h u S g t P N D (wider a) (leb→le N P x))
 
   -- ---- the test for a single point is exact, where the two pass
-  pub single-test : (s : Span) (P0 N0 P1 N1 : ℕ) (r : Risen D C few s P0 N0 P1 N1) → r .Pl ≤ r .Nl + D → r .Nh ≤ r .Ph
+  pub single-test : (s : Span) (P0 N0 P1 N1 : ℕ) (r : Risen D few s P0 N0 P1 N1) → r .Pl ≤ r .Nl + D → r .Nh ≤ r .Ph
       → fuzzyEqZeroEps ((F64.min (s .t1) f1 ⊖ F64.max (s .t0) f0) ⊗ len) e ≡ eqb (r .Pl - r .Nl) (min (r .Ph - r .Nh) D)
   single-test s P0 N0 P1 N1 r lo hi = go (eq-or-lt-of-le low)
     where
@@ -123,11 +119,11 @@ module _ (e : Float) (num den : ℕ) (h : Eps e num den)
       high : m1 ≤ D
       high = omega arith
 
-      X0 : Sized unit x0 false m0 D (2 ^ 0) (2 ^ 54)
-      X0 = from-zero D C few (s .t0) (r .Pl) (r .Nl) (r .lower) lo
+      X0 : Part D x0 m0
+      X0 = from-zero D few (s .t0) (r .Pl) (r .Nl) (r .lower) lo
 
-      X1 : Sized unit x1 false m1 D (2 ^ 0) (2 ^ 54)
-      X1 = to-one D C few (s .t1) (r .Ph) (r .Nh) (r .upper) hi
+      X1 : Part D x1 m1
+      X1 = to-one D few (s .t1) (r .Ph) (r .Nh) (r .upper) hi
 
       go : (m0 ≡ m1) ⊎ (m0 < m1) → fuzzyEqZeroEps ((x1 ⊖ x0) ⊗ len) e ≡ eqb m0 m1
       go (inl q) = shared-none e num den h u S g D C few side x0 x1 m0 m1 X0 X1 low high q ∙ sym (is-true (eqb m0 m1) (eq→eqb q))
@@ -136,7 +132,7 @@ module _ (e : Float) (num den : ℕ) (h : Eps e num den)
           ∙ sym (is-false (eqb m0 m1) (not-T (eqb m0 m1) (λ t. lt-irrefl m1 (subst (λ (z : ℕ). z < m1) (eqb→eq m0 m1 t) l))))
 
   -- ---- the answer
-  pub overlap-says : (s : Span) (P0 N0 P1 N1 : ℕ) (r : Risen D C few s P0 N0 P1 N1)
+  pub overlap-says : (s : Span) (P0 N0 P1 N1 : ℕ) (r : Risen D few s P0 N0 P1 N1)
       → Overlapped (overlap v1 u1 u2 u s e) (r .Pl) (r .Nl) (r .Ph) (r .Nh) D
   unfolding overlap
   overlap-says s P0 N0 P1 N1 r =

@@ -4,7 +4,7 @@
 -- The argument for the second: what is not rounded across is exact. t * length is below the float length + epsilon only if the
 -- exact product of the two floats is; and the quotient t, the length and the sum are off by some 2 ^ -31 at most, epsilon being
 -- 2 ^ -10.
-use mathlib.Core.Path.{_≡_, sym, ap, subst}
+use mathlib.Core.Path.{_≡_, refl, sym, ap, subst}
 use Prim.Native.Nat.{ℕ, _+_, _-_, _*_, _^_, _≤_, _<_}
 use native.Mathlib.Nat.{
   mul-pos,
@@ -22,9 +22,9 @@ use lib.Ieee.{Float, binary64, fits, neg}
 use lib.Ieee.Bits.{is-true, ofBits-fits}
 use lib.Ieee.Digits.{back}
 use lib.Ieee.Fits.{add-fits, neg-fits, and-i, and-l, and-r}
-use Rattle.float_laws.specs.Signed.{Diff, diff-same, diff-at, diff-finite, neg-diff}
+use Rattle.float_laws.specs.Signed.{Diff, SizeOf, ups, downs, diff-same, diff-at, diff-finite, neg-diff}
 use Rattle.float_laws.specs.Order.{lt-over, le-over}
-use Rattle.float_laws.specs.Rounded.{Rounded, add-over, mul-rounded}
+use Rattle.float_laws.specs.Rounded.{Rounded, add-over}
 use Rattle.float_laws.specs.Roundings.{Near, Sized, rounded-le, rounded-ge, rounded-below, rounded-above}
 use Rattle.float_laws.specs.Whole.{most-whole, least-whole}
 use Rattle.float_laws.specs.Binary64.{unit, unit-pos, zero-is, units64, near64, sized64}
@@ -35,7 +35,9 @@ use Rattle.plane.specs.Fuzzy.{fuzzyInRangeEps, fuzzyGtEps, fuzzyLtEps}
 use Rattle.crossing.specs.LineLine.{within}
 use Rattle.grid.specs.Floats.Zero.{Eps}
 use Rattle.grid.specs.Floats.Length.{Long}
-use Rattle.grid.specs.Floats.Reach.{Reaches}
+use Rattle.grid.specs.Floats.Reach.{Less, Beyond, Reaches}
+use Rattle.grid.specs.Floats.Ratio.{Place, at-most}
+use Rattle.grid.specs.Floats.Bounds.{bounded, cut, near-over, times-length, by-length}
 
 -- ---- the epsilon in units
 pub record EpsUnits (e : Float) (num den : ℕ) : Type 0 where
@@ -94,7 +96,7 @@ squares a R E D S L h k =
     omega arith
 
 by-epsilon : (a S L E D num den : ℕ) → 0 < L → 0 < den → E * den ≡ num * L → a * a * (S * (L * L)) < 4 * (E * E * (D * D))
-    → a * a * S * (den * den) < 4 * (num * num * (D * D))
+    → Less S num den D a
 by-epsilon a S L E D num den P Q e h =
     let w = mul-lt-mul-of-pos-right h (mul-pos Q Q) in
     let z : E * den * (E * den) * (D * D) ≡ num * L * (num * L) * (D * D) = ap (λ (x : ℕ). x * x * (D * D)) e in
@@ -104,26 +106,25 @@ beyond : (A D a b L R E T S num den : ℕ) → 0 < D → 0 < L → 0 < den → A
     → 2 ^ 54 * (A * L) ≤ 2 ^ 54 * (T * D) + 2 ^ 1 * (D * L)
     → 2 ^ 54 * (T * R) < 2 ^ 54 * ((b * R + E) * L) + 2 ^ 23 * (L * L)
     → R ≤ 2 ^ 22 * L → L ≤ 1024 * E → S * (L * L) ≤ 2 * (R * R) → E * den ≡ num * L
-    → a * a * S * (den * den) < 4 * (num * num * (D * D))
+    → Less S num den D a
 beyond A D a b L R E T S num den P Q Z e h k most least near same =
     by-epsilon a S L E D num den Q Z same (squares a R E D S L (far A D a b L R E T P e h k most least) near)
 
--- a bound of one unit less
-cut : (A W L : ℕ) → 0 < L → 2 ^ 54 * (A * L) ≤ 2 ^ 54 * (W * L) + 2 ^ 23 * (L * L) → 2 ^ 54 * A ≤ 2 ^ 54 * W + 2 ^ 23 * L
-cut A W L Q x = le-of-mul-le-mul-right {m = 2 ^ 54 * A} {n = 2 ^ 54 * W + 2 ^ 23 * L} {k = L} (omega arith) Q
-
--- a product of at most 2 ^ 44 and 2 ^ 22
-size : (p n L R : ℕ) → p ≤ n + 2 ^ 44 * L → R ≤ 2 ^ 22 * L → p * R + n * 0 ≤ p * 0 + n * R + 2 ^ 66 * (L * L)
-size p n L R x y = omega (arith, mul-le-mul-right R x, mul-le-mul-left L y)
-
-size' : (p n L R : ℕ) → n ≤ p + 2 ^ 44 * L → R ≤ 2 ^ 22 * L → p * 0 + n * R ≤ p * R + n * 0 + 2 ^ 66 * (L * L)
-size' p n L R x y = omega (arith, mul-le-mul-right R x, mul-le-mul-left L y)
-
 -- ---- the test on the floats
 module _ (e : Float) (num den : ℕ) (h : Eps e num den)
-    (v : Vector2) (S : ℕ) (some : 0 < S) (g : Long v S)
-    (t : Float) (P N D : ℕ) (r : Rounded binary64 t P N D) (C : 0 < D)
-    (u : P ≤ N + 2 ^ 44 * D) (l : N ≤ P + 2 ^ 44 * D) where
+    (v : Vector2) (S : ℕ) (g : Long v S) (t : Float) (P N D : ℕ) (at : Place 44 t P N D) where
+  abbrev r : Rounded binary64 t P N D
+  r = at .rounded
+
+  abbrev C : 0 < D
+  C = at .some
+
+  u : P ≤ N + 2 ^ 44 * D
+  u = at-most (2 ^ 44) P N D (at .P-le) C
+
+  l : N ≤ P + 2 ^ 44 * D
+  l = at-most (2 ^ 44) N P D (at .N-le) C
+
   abbrev len : Float
   len = vector2.length v
 
@@ -135,33 +136,17 @@ module _ (e : Float) (num den : ℕ) (h : Eps e num den)
   t-near = near64 t P N D 44 r C u l (lit≤ tt)
 
   t-most : (p n : ℕ) → Diff t p n unit → (p ≤ n + 2 ^ 44 * unit) × (n ≤ p + 2 ^ 44 * unit)
-  t-most p n d =
-      let up = most-whole binary64 t P N D r C p n unit unit-pos d (2 ^ 44) 0 (lit≤ tt) (lit≤ tt) (turn P N D u) in
-      let dn = least-whole binary64 t P N D r C p n unit unit-pos d 0 (2 ^ 44) (lit≤ tt) (lit≤ tt) (turn' P N D l) in
-      (plain p n unit up, plain' p n unit dn)
-    where
-      turn : (P N D : ℕ) → P ≤ N + 2 ^ 44 * D → P + 0 * D ≤ 2 ^ 44 * D + N
-      turn P N D x = omega arith
-
-      turn' : (P N D : ℕ) → N ≤ P + 2 ^ 44 * D → 0 * D + N ≤ P + 2 ^ 44 * D
-      turn' P N D x = omega arith
-
-      plain : (p n L : ℕ) → p + 0 * L ≤ 2 ^ 44 * L + n → p ≤ n + 2 ^ 44 * L
-      plain p n L x = omega arith
-
-      plain' : (p n L : ℕ) → 0 * L + n ≤ p + 2 ^ 44 * L → n ≤ p + 2 ^ 44 * L
-      plain' p n L x = omega arith
+  t-most = bounded t P N D r C (2 ^ 44) (lit≤ tt) u l
 
   -- t * length, and t * length + epsilon: one rounding each, both finite
   module _ (p n : ℕ) (d : Diff t p n unit) where
-    product : Rounded binary64 (t ⊗ len) (p * g .R + n * 0) (p * 0 + n * g .R) (unit * unit)
-    product = mul-rounded binary64 t len p n (g .R) 0 unit unit unit-pos unit-pos d (g .is)
+    product : Rounded binary64 (t ⊗ len) (p * g .R) (n * g .R) (unit * unit)
+    product = times-length t len p n (g .R) d (g .is)
 
-    m-near : Near unit (t ⊗ len) (p * g .R + n * 0) (p * 0 + n * g .R) (unit * unit) (2 ^ 66) (2 ^ 54)
+    m-near : Near unit (t ⊗ len) (p * g .R) (n * g .R) (unit * unit) (2 ^ 66) (2 ^ 54)
     m-near =
-        let b = t-most p n d in
-        near64 (t ⊗ len) _ _ (unit * unit) 66 product (mul-pos unit-pos unit-pos)
-        (size p n unit (g .R) (b .0) (g .most)) (size' p n unit (g .R) (b .1) (g .most)) (lit≤ tt)
+        let b = by-length (2 ^ 44) p n unit (g .R) (t-most p n d) (g .most) in
+        near64 (t ⊗ len) _ _ (unit * unit) 66 product (mul-pos unit-pos unit-pos) (b .0) (b .1) (lit≤ tt)
 
   -- length + epsilon, in units: the sum, off by at most 2 ^ -31
   w-size : Sized unit (len ⊕ e) false (g .R + eu .E) unit (2 ^ 23) (2 ^ 54)
@@ -174,17 +159,17 @@ module _ (e : Float) (num den : ℕ) (h : Eps e num den)
       size R E L x y = omega arith
 
   w-least : 2 ^ 54 * (g .R + eu .E) ≤ 2 ^ 54 * w-size .count + 2 ^ 23 * unit
-  w-least = cut (g .R + eu .E) (w-size .count) unit unit-pos (w-size .least)
+  w-least = cut (g .R + eu .E) (w-size .count) (2 ^ 23) unit unit-pos (w-size .least)
 
   w-most : 2 ^ 54 * w-size .count ≤ 2 ^ 54 * (g .R + eu .E) + 2 ^ 23 * unit
-  w-most = cut (w-size .count) (g .R + eu .E) unit unit-pos (w-size .most)
+  w-most = cut (w-size .count) (g .R + eu .E) (2 ^ 23) unit unit-pos (w-size .most)
 
   w-fits : T (fits binary64 (len ⊕ e))
   w-fits = add-fits binary64 len e
 
   -- the length is at least 1
   long-enough : unit ≤ g .R
-  long-enough = plain unit (g .R) (g .least 1 (lit≤ tt) some)
+  long-enough = plain unit (g .R) (g .least 1 (lit≤ tt) (g .some))
     where
       plain : (L R : ℕ) → 1 * L ≤ R → L ≤ R
       plain L R x = omega arith
@@ -208,69 +193,68 @@ module _ (e : Float) (num den : ℕ) (h : Eps e num den)
       turn : (P N D : ℕ) → P ≤ N + D → P + 0 * D ≤ 1 * D + N
       turn P N D x = omega arith
 
-      scaled : (p n R L : ℕ) → p + 0 * L ≤ 1 * L + n → (p * R + n * 0) * L + 0 * (L * L) ≤ R * (L * L) + (p * 0 + n * R) * L
+      scaled : (p n R L : ℕ) → p + 0 * L ≤ 1 * L + n → p * R * L + 0 * (L * L) ≤ R * (L * L) + n * R * L
       scaled p n R L x = omega (arith, mul-le-mul-right (R * L) x)
 
       less : (p n R W E L : ℕ) → 0 < L → p + 0 ≤ R + n → 2 ^ 54 * (R + E) ≤ 2 ^ 54 * W + 2 ^ 23 * L → L ≤ 1024 * E → p + 0 < W + n
       less p n R W E L Q x y z = omega arith
 
-  -- where it is a / D more than 1, the point lies less than two epsilons beyond the end
-  pub beyond-end : T (fuzzyLtEps (t ⊗ len) len e) → (a : ℕ) → a + (N + D) ≡ P → a * a * S * (den * den) < 4 * (num * num * (D * D))
-  beyond-end x a q = go (leb (a + D) (2 * D)) (leb→le (a + D) (2 * D)) (nleb→lt (a + D) (2 * D))
+  -- t is A / D in size, which is a / D more than b, and its product with the length is below b lengths and epsilon, but for a
+  -- rounding: then a / D of the length is less than two epsilons
+  in-reach : (s : Bool) (A a b : ℕ) → SizeOf s A P N → A ≡ a + b * D → b ≤ 1
+      → ((T : ℕ) → Diff t (ups s T) (downs s T) unit
+      → 2 ^ 54 * (T * g .R) < 2 ^ 54 * ((b * g .R + eu .E) * unit) + 2 ^ 23 * (unit * unit))
+      → Less S num den D a
+  in-reach s A a b size e few under = go (leb A (2 * D)) (leb→le A (2 * D)) (nleb→lt A (2 * D))
     where
-      -- the exact product of the floats t and length is below the float length + epsilon
-      under : (T : ℕ) → Diff t T 0 unit → T * g .R < w-size .count * unit
-      under T d =
-          plain T (g .R) (w-size .count) unit
-          (rounded-below binary64 (t ⊗ len) _ _ (unit * unit) (product T 0 d) (mul-pos unit-pos unit-pos) (len ⊕ e)
-          (w-size .count) 0 unit unit-pos w-fits (w-size .is) x)
-        where
-          plain : (T R W L : ℕ) → (T * R + 0 * 0) * L + 0 * (L * L) < W * (L * L) + (T * 0 + 0 * R) * L → T * R < W * L
-          plain T R W L y = lt-of-mul-lt-mul-right L {m = T * R} {n = W * L} (omega arith)
-
-      size : (a D N P : ℕ) → a + (N + D) ≡ P → a + D + N ≡ P
-      size a D N P e = omega arith
+      up : (s : Bool) → SizeOf s A P N → A ≤ 2 ^ 44 * D
+      up true q = omega (arith, l)
+      up false q = omega (arith, u)
 
       -- a parameter above 2 is too far
-      large : 2 * D < a + D → a * a * S * (den * den) < 4 * (num * num * (D * D))
-      large y =
-          let s = sized64 t P N D false (a + D) 44 r C (size a D N P q) (up a D N P q u) (lit≤ tt) in
-          let two = least-whole binary64 t P N D r C (s .count) 0 unit unit-pos (s .is) 2 0 (lit≤ tt) (lit≤ tt)
-          (more a D N P q y) in
-          absurd (never (s .count) (g .R) (w-size .count) (eu .E) unit unit-pos two (under (s .count) (s .is)) w-most long-enough
+      never : (T R E L : ℕ) → 0 < L → 2 * D < A → 2 ^ 54 * (A * L) ≤ 2 ^ 54 * (T * D) + 2 ^ 44 * (D * L)
+          → 2 ^ 54 * (T * R) < 2 ^ 54 * ((b * R + E) * L) + 2 ^ 23 * (L * L)
+          → L ≤ R → 2 * E ≤ L → ⊥
+      never T R E L Q two h k long small =
+          let once : b * R ≤ 1 * R = mul-le-mul-right R few in
+          let x = mul-le-mul-right L once in
+          let y : 2 ^ 54 * (T * R) < 2 ^ 54 * ((R + E) * L) + 2 ^ 23 * (L * L) = omega arith in
+          let z = mul-lt-mul-of-pos-right y C in
+          let w = mul-le-mul-right R h in
+          let far = mul-le-mul-right (L * R) two in
+          let i = mul-le-mul-right (L * D) long in
+          let j = mul-le-mul-right (L * D) small in
+          omega arith
+
+      go : (b : Bool) → (T b → A ≤ 2 * D) → (T (not b) → 2 * D < A) → Less S num den D a
+      go true lo hi =
+          let k = sized64 t P N D s A 1 r C size (lo tt) (lit≤ tt) in
+          beyond A D a b unit (g .R) (eu .E) (k .count) S num den C unit-pos (h .some) e (k .least) (under (k .count) (k .is))
+          (g .most) (eu .least) (g .near) (eu .same)
+      go false lo hi =
+          let k = sized64 t P N D s A 44 r C size (up s size) (lit≤ tt) in
+          absurd (never (k .count) (g .R) (eu .E) unit unit-pos (hi tt) (k .least) (under (k .count) (k .is)) long-enough
           (eu .most))
+
+  -- where it is a / D more than 1, the point lies less than two epsilons beyond the end
+  pub beyond-end : T (fuzzyLtEps (t ⊗ len) len e) → Beyond S num den D (N + D) P
+  beyond-end x a q = in-reach false (a + D) a 1 (omega arith) (omega arith) (omega arith) under
+    where
+      -- the exact product of the floats t and length is below the float length + epsilon
+      under : (T : ℕ) → Diff t T 0 unit → 2 ^ 54 * (T * g .R) < 2 ^ 54 * ((1 * g .R + eu .E) * unit) + 2 ^ 23 * (unit * unit)
+      under T d =
+          together T (g .R) (w-size .count) (eu .E) unit unit-pos
+          (plain T (g .R) (w-size .count) unit
+          (rounded-below binary64 (t ⊗ len) _ _ (unit * unit) (product T 0 d) (mul-pos unit-pos unit-pos) (len ⊕ e)
+          (w-size .count) 0 unit unit-pos w-fits (w-size .is) x))
+          w-most
         where
-          up : (a D N P : ℕ) → a + (N + D) ≡ P → P ≤ N + 2 ^ 44 * D → a + D ≤ 2 ^ 44 * D
-          up a D N P e x = omega arith
-
-          more : (a D N P : ℕ) → a + (N + D) ≡ P → 2 * D < a + D → 2 * D + N ≤ P + 0 * D
-          more a D N P e x = omega arith
-
-          never : (T R W E L : ℕ) → 0 < L → 2 * L + 0 ≤ T + 0 * L → T * R < W * L → 2 ^ 54 * W ≤ 2 ^ 54 * (R + E) + 2 ^ 23 * L
-              → L ≤ R → 2 * E ≤ L → ⊥
-          never T R W E L Q two h w long small =
-              let x = mul-le-mul-right R two in
-              let y : 2 * R * L < W * L = omega arith in
-              let z : 2 * R < W = lt-of-mul-lt-mul-right L y in
-              omega arith
-
-      near : a + D ≤ 2 * D → a * a * S * (den * den) < 4 * (num * num * (D * D))
-      near y =
-          let s = sized64 t P N D false (a + D) 1 r C (size a D N P q) y (lit≤ tt) in
-          beyond (a + D) D a 1 unit (g .R) (eu .E) (s .count) S num den C unit-pos (h .some) (one a D) (s .least)
-          (together (s .count) (g .R) (w-size .count) (eu .E) unit unit-pos (under (s .count) (s .is)) w-most) (g .most)
-          (eu .least) (g .near) (eu .same)
-        where
-          one : (a D : ℕ) → a + D ≡ a + 1 * D
-          one a D = omega arith
+          plain : (T R W L : ℕ) → T * R * L + 0 * (L * L) < W * (L * L) + 0 * R * L → T * R < W * L
+          plain T R W L y = lt-of-mul-lt-mul-right L {m = T * R} {n = W * L} (omega arith)
 
           together : (T R W E L : ℕ) → 0 < L → T * R < W * L → 2 ^ 54 * W ≤ 2 ^ 54 * (R + E) + 2 ^ 23 * L
               → 2 ^ 54 * (T * R) < 2 ^ 54 * ((1 * R + E) * L) + 2 ^ 23 * (L * L)
           together T R W E L Q x y = omega (arith, mul-le-mul-right L y)
-
-      go : (b : Bool) → (T b → a + D ≤ 2 * D) → (T (not b) → 2 * D < a + D) → a * a * S * (den * den) < 4 * (num * num * (D * D))
-      go true lo hi = near (lo tt)
-      go false lo hi = large (hi tt)
 
   -- ---- not before the start
   -- t * length + epsilon: finite too
@@ -281,32 +265,23 @@ module _ (e : Float) (num den : ℕ) (h : Eps e num den)
     sum-near : Near unit (t ⊗ len ⊕ e) (m-near p n d .p + eu .E) (m-near p n d .n + 0) unit (2 ^ 68) (2 ^ 54)
     sum-near =
         let m = m-near p n d in
-        let b = t-most p n d in
-        let Q = mul-pos unit-pos unit-pos in
+        let b = by-length (2 ^ 44) p n unit (g .R) (t-most p n d) (g .most) in
+        let k = near-over unit unit (unit * unit) (2 ^ 66) unit-pos refl (t ⊗ len) (p * g .R) (n * g .R) m in
         near64 (t ⊗ len ⊕ e) _ _ unit 68 sum unit-pos
-        (over (m .p) (m .n) (p * g .R + n * 0) (p * 0 + n * g .R) unit (unit * unit) (eu .E) Q (m .most)
-        (size p n unit (g .R) (b .0) (g .most)) (eu .most))
-        (under (m .p) (m .n) (p * g .R + n * 0) (p * 0 + n * g .R) unit (unit * unit) (eu .E) Q (m .least)
-        (size' p n unit (g .R) (b .1) (g .most)))
+        (more (m .p) (m .n) unit (eu .E) (whole (m .p) (m .n) (p * g .R) (n * g .R) unit unit-pos (k .0) (b .0)) (eu .most))
+        (less (m .p) (m .n) unit (eu .E) (whole (m .n) (m .p) (n * g .R) (p * g .R) unit unit-pos (k .1) (b .1)))
         (lit≤ tt)
       where
-        over : (x y X Y L c E : ℕ) → 0 < c → 2 ^ 54 * (x * c + Y * L) ≤ 2 ^ 54 * (X * L + y * c) + 2 ^ 66 * (c * L)
-            → X ≤ Y + 2 ^ 66 * c → 2 * E ≤ L
-            → x + E ≤ y + 0 + 2 ^ 68 * L
-        over x y X Y L c E Q k z b =
-            let w = mul-le-mul-right L z in
-            let m : x * c ≤ (y + 2 ^ 67 * L) * c = omega arith in
-            let o = le-of-mul-le-mul-right m Q in
-            omega arith
+        whole : (x y X Y L : ℕ) → 0 < L → 2 ^ 54 * (x * L + Y) ≤ 2 ^ 54 * (X + y * L) + 2 ^ 66 * (L * L)
+            → X ≤ Y + 2 ^ 66 * (L * L)
+            → x ≤ y + 2 ^ 67 * L
+        whole x y X Y L Q k z = le-of-mul-le-mul-right {m = x} {n = y + 2 ^ 67 * L} {k = L} (omega arith) Q
 
-        under : (x y X Y L c E : ℕ) → 0 < c → 2 ^ 54 * (X * L + y * c) ≤ 2 ^ 54 * (x * c + Y * L) + 2 ^ 66 * (c * L)
-            → Y ≤ X + 2 ^ 66 * c
-            → y + 0 ≤ x + E + 2 ^ 68 * L
-        under x y X Y L c E Q k z =
-            let w = mul-le-mul-right L z in
-            let m : y * c ≤ (x + 2 ^ 67 * L) * c = omega arith in
-            let o = le-of-mul-le-mul-right m Q in
-            omega arith
+        more : (x y L E : ℕ) → x ≤ y + 2 ^ 67 * L → 2 * E ≤ L → x + E ≤ y + 0 + 2 ^ 68 * L
+        more x y L E k b = omega arith
+
+        less : (x y L E : ℕ) → y ≤ x + 2 ^ 67 * L → y + 0 ≤ x + E + 2 ^ 68 * L
+        less x y L E k = omega arith
 
   -- the exact parameter is at least 0
   pub after-start : N ≤ P → T (fuzzyGtEps (t ⊗ len) f0 e)
@@ -330,7 +305,7 @@ module _ (e : Float) (num den : ℕ) (h : Eps e num den)
       turn : (P N D : ℕ) → N ≤ P → 0 * D + N ≤ P + 0 * D
       turn P N D x = omega arith
 
-      scaled : (p n R L : ℕ) → 0 * L + n ≤ p + 0 * L → 0 * (L * L) + (p * 0 + n * R) * L ≤ (p * R + n * 0) * L + 0 * (L * L)
+      scaled : (p n R L : ℕ) → 0 * L + n ≤ p + 0 * L → 0 * (L * L) + n * R * L ≤ p * R * L + 0 * (L * L)
       scaled p n R L x = omega (arith, mul-le-mul-right (R * L) x)
 
       added : (p n E L : ℕ) → 0 + n ≤ p + 0 → E * L + (n + 0) * L ≤ (p + E) * L + 0 * L
@@ -340,11 +315,11 @@ module _ (e : Float) (num den : ℕ) (h : Eps e num den)
       less p n E L Q x y = omega arith
 
   -- where it is a / D below 0, the point lies less than two epsilons before the start
-  pub before-start : T (fuzzyGtEps (t ⊗ len) f0 e) → (a : ℕ) → a + P ≡ N → a * a * S * (den * den) < 4 * (num * num * (D * D))
-  before-start x a q = go (leb a (2 * D)) (leb→le a (2 * D)) (nleb→lt a (2 * D))
+  pub before-start : T (fuzzyGtEps (t ⊗ len) f0 e) → Beyond S num den D P N
+  before-start x a q = in-reach true a a 0 q (omega arith) (omega arith) under
     where
       -- the exact product of the floats -t and length is below epsilon
-      under : (T : ℕ) → Diff t 0 T unit → T * g .R < eu .E * unit
+      under : (T : ℕ) → Diff t 0 T unit → 2 ^ 54 * (T * g .R) < 2 ^ 54 * ((0 * g .R + eu .E) * unit) + 2 ^ 23 * (unit * unit)
       under T d =
           let m = m-near 0 T d in
           let minus = neg-diff e (eu .E) 0 unit (eu .is) in
@@ -359,43 +334,9 @@ module _ (e : Float) (num den : ℕ) (h : Eps e num den)
           summed : (p n E L : ℕ) → 0 * L + (n + 0) * L < (p + E) * L + 0 * L → 0 + n < p + E
           summed p n E L y = lt-of-mul-lt-mul-right L {m = 0 + n} {n = p + E} (omega arith)
 
-          plain : (T R E L : ℕ) → 0 * (L * L) + (0 * 0 + T * R) * L < (0 * R + T * 0) * L + E * (L * L) → T * R < E * L
-          plain T R E L y = lt-of-mul-lt-mul-right L {m = T * R} {n = E * L} (omega arith)
-
-      large : 2 * D < a → a * a * S * (den * den) < 4 * (num * num * (D * D))
-      large y =
-          let s = sized64 t P N D true a 44 r C q (up a D N P q l) (lit≤ tt) in
-          let two = most-whole binary64 t P N D r C 0 (s .count) unit unit-pos (s .is) 0 2 (lit≤ tt) (lit≤ tt) (more a D N P q y) in
-          absurd (never (s .count) (g .R) (eu .E) unit unit-pos two (under (s .count) (s .is)) long-enough (eu .most))
-        where
-          up : (a D N P : ℕ) → a + P ≡ N → N ≤ P + 2 ^ 44 * D → a ≤ 2 ^ 44 * D
-          up a D N P e x = omega arith
-
-          more : (a D N P : ℕ) → a + P ≡ N → 2 * D < a → P + 2 * D ≤ 0 * D + N
-          more a D N P e x = omega arith
-
-          never : (T R E L : ℕ) → 0 < L → 0 + 2 * L ≤ 0 * L + T → T * R < E * L → L ≤ R → 2 * E ≤ L → ⊥
-          never T R E L Q two h long small =
-              let x = mul-le-mul-right R two in
-              let y : 2 * R * L < E * L = omega arith in
-              let z : 2 * R < E = lt-of-mul-lt-mul-right L y in
-              omega arith
-
-      near : a ≤ 2 * D → a * a * S * (den * den) < 4 * (num * num * (D * D))
-      near y =
-          let s = sized64 t P N D true a 1 r C q y (lit≤ tt) in
-          beyond a D a 0 unit (g .R) (eu .E) (s .count) S num den C unit-pos (h .some) (one a D) (s .least)
-          (together (s .count) (g .R) (eu .E) unit unit-pos (under (s .count) (s .is))) (g .most) (eu .least) (g .near) (eu .same)
-        where
-          one : (a D : ℕ) → a ≡ a + 0 * D
-          one a D = omega arith
-
-          together : (T R E L : ℕ) → 0 < L → T * R < E * L → 2 ^ 54 * (T * R) < 2 ^ 54 * ((0 * R + E) * L) + 2 ^ 23 * (L * L)
-          together T R E L Q x = omega arith
-
-      go : (b : Bool) → (T b → a ≤ 2 * D) → (T (not b) → 2 * D < a) → a * a * S * (den * den) < 4 * (num * num * (D * D))
-      go true lo hi = near (lo tt)
-      go false lo hi = large (hi tt)
+          plain : (T R E L : ℕ) → 0 * (L * L) + T * R * L < 0 * R * L + E * (L * L)
+              → 2 ^ 54 * (T * R) < 2 ^ 54 * ((0 * R + E) * L) + 2 ^ 23 * (L * L)
+          plain T R E L y = let z : T * R < E * L = lt-of-mul-lt-mul-right L {m = T * R} {n = E * L} (omega arith) in omega arith
 
   -- ---- both
   pub within-yes : N ≤ P → P ≤ N + D → within t v e ≡ true

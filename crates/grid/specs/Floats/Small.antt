@@ -27,46 +27,34 @@ sum-le i a b h k = omega (arith, pow-succ' 2 i)
 pub exact : (i a b : ℕ) → suc i ≤ 53 → a ≤ 2 ^ suc i → a ≤ b + 2 ^ 53
 exact i a b h k = let w : 2 ^ suc i ≤ 2 ^ 53 = pow-mono h in omega arith
 
+-- a number that is exact where its parts are at most 2 ^ 53 apart: one part is a + c, the other b + d
+abbrev exactly : (i : ℕ) (r : Float) (a b c d : ℕ) → suc i ≤ 53 → a ≤ 2 ^ i → b ≤ 2 ^ i → c ≤ 2 ^ i → d ≤ 2 ^ i
+    → (a + c ≤ b + d + 2 ^ 53 → b + d ≤ a + c + 2 ^ 53 → Diff r (a + c) (b + d) 1)
+    → Small (suc i) r
+exactly i r a b c d h al bl cl dl is =
+    let u = sum-le i a c al cl in
+    let l = sum-le i b d bl dl in
+    record { p = a + c; n = b + d; is = is (exact i _ _ h u) (exact i _ _ h l); p-le = u; n-le = l }
+
 abbrev pub small-add : (i : ℕ) (x y : Float) → suc i ≤ 53 → Small i x → Small i y → Small (suc i) (x ⊕ y)
 small-add i x y h A B =
-    let u = sum-le i (A .p) (B .p) (A .p-le) (B .p-le) in
-    let l = sum-le i (A .n) (B .n) (A .n-le) (B .n-le) in
-    record {
-      p = A .p + B .p;
-      n = A .n + B .n;
-      is = add-whole binary64 x y (A .p) (A .n) (B .p) (B .n) (A .is) (B .is) (exact i _ _ h u) (exact i _ _ h l);
-      p-le = u;
-      n-le = l;
-    }
+    exactly i (x ⊕ y) (A .p) (A .n) (B .p) (B .n) h (A .p-le) (A .n-le) (B .p-le) (B .n-le)
+    (add-whole binary64 x y (A .p) (A .n) (B .p) (B .n) (A .is) (B .is))
 
 abbrev pub small-sub : (i : ℕ) (x y : Float) → suc i ≤ 53 → Small i x → Small i y → Small (suc i) (x ⊖ y)
 small-sub i x y h A B =
-    let u = sum-le i (A .p) (B .n) (A .p-le) (B .n-le) in
-    let l = sum-le i (A .n) (B .p) (A .n-le) (B .p-le) in
-    record {
-      p = A .p + B .n;
-      n = A .n + B .p;
-      is = sub-whole binary64 x y (A .p) (A .n) (B .p) (B .n) (A .is) (B .is) (exact i _ _ h u) (exact i _ _ h l);
-      p-le = u;
-      n-le = l;
-    }
+    exactly i (x ⊖ y) (A .p) (A .n) (B .n) (B .p) h (A .p-le) (A .n-le) (B .n-le) (B .p-le)
+    (sub-whole binary64 x y (A .p) (A .n) (B .p) (B .n) (A .is) (B .is))
 
 pub product-le : (i a b : ℕ) → a ≤ 2 ^ i → b ≤ 2 ^ i → a * b ≤ 2 ^ (i + i)
 product-le i a b h k = le-trans (mul-le-mul h k) (le-of-eq (sym (pow-add 2 i i)))
 
 abbrev pub small-mul : (i : ℕ) (x y : Float) → suc (i + i) ≤ 53 → Small i x → Small i y → Small (suc (i + i)) (x ⊗ y)
 small-mul i x y h A B =
-    let u = sum-le (i + i) (A .p * B .p) (A .n * B .n) (product-le i (A .p) (B .p) (A .p-le) (B .p-le))
-    (product-le i (A .n) (B .n) (A .n-le) (B .n-le)) in
-    let l = sum-le (i + i) (A .p * B .n) (A .n * B .p) (product-le i (A .p) (B .n) (A .p-le) (B .n-le))
-    (product-le i (A .n) (B .p) (A .n-le) (B .p-le)) in
-    record {
-      p = A .p * B .p + A .n * B .n;
-      n = A .p * B .n + A .n * B .p;
-      is = mul-whole binary64 x y (A .p) (A .n) (B .p) (B .n) (A .is) (B .is) (exact (i + i) _ _ h u) (exact (i + i) _ _ h l);
-      p-le = u;
-      n-le = l;
-    }
+    exactly (i + i) (x ⊗ y) (A .p * B .p) (A .p * B .n) (A .n * B .n) (A .n * B .p) h
+    (product-le i (A .p) (B .p) (A .p-le) (B .p-le)) (product-le i (A .p) (B .n) (A .p-le) (B .n-le))
+    (product-le i (A .n) (B .n) (A .n-le) (B .n-le)) (product-le i (A .n) (B .p) (A .n-le) (B .p-le))
+    (mul-whole binary64 x y (A .p) (A .n) (B .p) (B .n) (A .is) (B .is))
 
 -- ---- vectors
 pub record Vec (i : ℕ) (v : Vector2) : Type 0 where
@@ -83,14 +71,9 @@ module _ (a b : Vector2) (A : Vec 20 a) (B : Vec 20 b) where
   sub-y = small-sub 20 (a .y) (b .y) (omega arith) (A .y) (B .y) .is
 
 -- along an axis
-abbrev pub side : {c d u : Float} (A : Small 20 c) (B : Small 20 d) → Diff u (A .p + B .n) (A .n + B .p) 1 → Small 21 u
-side A B e = record {
-  p = A .p + B .n;
-  n = A .n + B .p;
-  is = e;
-  p-le = sum-le 20 (A .p) (B .n) (A .p-le) (B .n-le);
-  n-le = sum-le 20 (A .n) (B .p) (A .n-le) (B .p-le);
-}
+abbrev side : {c d u : Float} (A : Small 20 c) (B : Small 20 d) → Diff u (A .p + B .n) (A .n + B .p) 1 → Small 21 u
+side {u} A B e =
+    exactly 20 u (A .p) (A .n) (B .n) (B .p) (omega arith) (A .p-le) (A .n-le) (B .n-le) (B .p-le) (λ l m. e)
 
 -- from the grid point b to the grid point a
 abbrev pub vec-sub : (a b : Vector2) → Vec 20 a → Vec 20 b → Vec 21 (vector2.sub a b)

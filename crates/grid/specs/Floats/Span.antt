@@ -6,12 +6,10 @@ use Prim.Native.Nat.{ℕ, _+_, _-_, _*_, _^_, _≤_, _<_, min}
 use native.Mathlib.Nat.{mul-le-mul-right, lt-of-mul-lt-mul-right, lt-of-not-le, le-of-suc-le-suc}
 use native.Mathlib.Omega.{arith}
 use mathlib.Core.Bool.{Bool, true, false, not, cond}
-use lib.Dec.{T, leb, leb→le, nleb→lt, not-T, T-not, lit≤}
+use lib.Dec.{T, leb, leb→le, nleb→lt, T-not, lit≤}
 use lib.Ieee.{Float, binary64, ofBits, lt}
-use lib.Ieee.Bits.{is-true, is-false}
 use Rattle.float_laws.specs.Signed.{Diff}
 use Rattle.float_laws.specs.Order.{lt-over}
-use Rattle.float_laws.specs.Rounded.{Rounded}
 use Rattle.float_laws.specs.Roundings.{Near, Sized}
 use Rattle.float_laws.specs.Whole.{most-whole, least-whole}
 use Rattle.float_laws.specs.Binary64.{unit, unit-pos, zero-is, near64, sized64}
@@ -20,16 +18,15 @@ use Rattle.floats.specs.F64
 use Rattle.floats.specs.Laws.Leaves.{min-is, max-is}
 use Rattle.crossing.specs.LineLine.{rising}
 use Rattle.crossing.specs.declared.line_line.Span.{Span}
-
--- t is one rounding of (P - N) / D, both at most 2 ^ 21
-pub record Place (t : Float) (P N D : ℕ) : Type 0 where
-  pub rounded : Rounded binary64 t P N D
-  pub P-le : P ≤ 2 ^ 21
-  pub N-le : N ≤ 2 ^ 21
+use Rattle.grid.specs.Floats.Ratio.{Place, at-most}
 
 one-is : Diff f1 unit 0 unit
 unfolding ofBits
 one-is = omega arith
+
+-- the float x is m / D, off by at most 2 ^ -54
+abbrev pub Part : ℕ → Float → ℕ → Type 0
+Part D x m = Sized unit x false m D (2 ^ 0) (2 ^ 54)
 
 -- of two parameters the one is the lower and the other the upper
 abbrev pub Which : ℕ → ℕ → ℕ → ℕ → ℕ → ℕ → ℕ → ℕ → Type 0
@@ -39,18 +36,18 @@ Which P0 N0 P1 N1 Pl Nl Ph Nh =
 not-less : (p q : ℕ) → (q < p → ⊥) → p ≤ q
 not-less p q h = le-of-suc-le-suc (lt-of-not-le h)
 
-module _ (D : ℕ) (C : 0 < D) (few : D ≤ 2 ^ 21) where
-  at-most : (P N : ℕ) → P ≤ 2 ^ 21 → P ≤ N + 2 ^ 21 * D
-  at-most P N l = omega arith
-
-  place-near : (t : Float) (P N : ℕ) → Place t P N D → Near unit t P N D (2 ^ 21) (2 ^ 54)
-  place-near t P N a = near64 t P N D 21 (a .rounded) C (at-most P N (a .P-le)) (at-most N P (a .N-le)) (lit≤ tt)
+module _ (D : ℕ) (few : D ≤ 2 ^ 21) where
+  place-near : (t : Float) (P N : ℕ) → Place 21 t P N D → Near unit t P N D (2 ^ 21) (2 ^ 54)
+  place-near t P N a =
+      near64 t P N D 21 (a .rounded) (a .some) (at-most (2 ^ 21) P N D (a .P-le) (a .some))
+      (at-most (2 ^ 21) N P D (a .N-le) (a .some))
+      (lit≤ tt)
 
   -- ---- the order of the exact values is that of the floats
-  pub places-lt : (s t : Float) (P N Q K : ℕ) → Place s P N D → Place t Q K D → P + K < Q + N → T (lt s t)
-  places-lt s t P N Q K a b l =
-      let x = place-near s P N a in
-      let y = place-near t Q K b in
+  near-lt : (s t : Float) (P N Q K : ℕ) → Near unit s P N D (2 ^ 21) (2 ^ 54) → Near unit t Q K D (2 ^ 21) (2 ^ 54)
+      → P + K < Q + N
+      → T (lt s t)
+  near-lt s t P N Q K x y l =
       lt-over s t (x .p) (x .n) (y .p) (y .n) unit unit-pos (x .is) (y .is) .1
       (lt-of-mul-lt-mul-right D {m = x .p + y .n} {n = y .p + x .n}
       (go (x .p) (x .n) (y .p) (y .n) unit unit-pos (x .most) (y .least)))
@@ -64,7 +61,10 @@ module _ (D : ℕ) (C : 0 < D) (few : D ≤ 2 ^ 21) where
           let w = mul-le-mul-right L few in
           omega arith
 
-  no-both : (s t : Float) (P N Q K : ℕ) → Place s P N D → Place t Q K D → T (lt s t) → T (lt t s) → ⊥
+  pub places-lt : (s t : Float) (P N Q K : ℕ) → Place 21 s P N D → Place 21 t Q K D → P + K < Q + N → T (lt s t)
+  places-lt s t P N Q K a b = near-lt s t P N Q K (place-near s P N a) (place-near t Q K b)
+
+  no-both : (s t : Float) (P N Q K : ℕ) → Place 21 s P N D → Place 21 t Q K D → T (lt s t) → T (lt t s) → ⊥
   no-both s t P N Q K a b l m =
       let x = place-near s P N a in
       let y = place-near t Q K b in
@@ -81,12 +81,12 @@ module _ (D : ℕ) (C : 0 < D) (few : D ≤ 2 ^ 21) where
     pub Nl : ℕ
     pub Ph : ℕ
     pub Nh : ℕ
-    pub lower : Place (s .t0) Pl Nl D
-    pub upper : Place (s .t1) Ph Nh D
+    pub lower : Place 21 (s .t0) Pl Nl D
+    pub upper : Place 21 (s .t1) Ph Nh D
     pub rises : Pl + Nh ≤ Ph + Nl
     pub which : Which P0 N0 P1 N1 Pl Nl Ph Nh
 
-  pub risen : (a b : Float) (P0 N0 P1 N1 : ℕ) → Place a P0 N0 D → Place b P1 N1 D → Risen (rising a b) P0 N0 P1 N1
+  pub risen : (a b : Float) (P0 N0 P1 N1 : ℕ) → Place 21 a P0 N0 D → Place 21 b P1 N1 D → Risen (rising a b) P0 N0 P1 N1
   unfolding rising
   risen a b P0 N0 P1 N1 x y = go (lt b a) (λ t. up t) (λ t. dn t)
     where
@@ -97,114 +97,91 @@ module _ (D : ℕ) (C : 0 < D) (few : D ≤ 2 ^ 21) where
       dn : T (not (lt b a)) → P0 + N1 ≤ P1 + N0
       dn t = not-less (P0 + N1) (P1 + N0) (λ k. T-not (lt b a) t (places-lt b a P1 N1 P0 N0 y x k))
 
+      -- the lower, and the upper
+      placed : (c d : Float) (P N Q K : ℕ) → Place 21 c P N D → Place 21 d Q K D → P + K ≤ Q + N → Which P0 N0 P1 N1 P N Q K
+          → Risen (record { t0 = c; t1 = d }) P0 N0 P1 N1
+      placed c d P N Q K i j l w = record { Pl = P; Nl = N; Ph = Q; Nh = K; lower = i; upper = j; rises = l; which = w }
+
       go : (c : Bool) → (T c → P1 + N0 ≤ P0 + N1) → (T (not c) → P0 + N1 ≤ P1 + N0)
           → Risen (cond c (record { t0 = b; t1 = a }) (record { t0 = a; t1 = b })) P0 N0 P1 N1
-      go true u d = record {
-        Pl = P1;
-        Nl = N1;
-        Ph = P0;
-        Nh = N0;
-        lower = y;
-        upper = x;
-        rises = u tt;
-        which = inr (refl, refl, refl, refl);
-      }
-      go false u d = record {
-        Pl = P0;
-        Nl = N0;
-        Ph = P1;
-        Nh = N1;
-        lower = x;
-        upper = y;
-        rises = d tt;
-        which = inl (refl, refl, refl, refl);
-      }
+      go true u d = placed b a P1 N1 P0 N0 y x (u tt) (inr (refl, refl, refl, refl))
+      go false u d = placed a b P0 N0 P1 N1 x y (d tt) (inl (refl, refl, refl, refl))
 
   -- ---- cut off at 0 and at 1
-  zero-sized : Sized unit f0 false 0 D (2 ^ 0) (2 ^ 54)
-  zero-sized = record { count = 0; is = zero-is; most = omega arith; least = omega arith }
+  -- a float that is k units, and so A / D exactly
+  exactly : (c : Float) (A k : ℕ) → Diff c k 0 unit → k * D ≡ A * unit → Near unit c A 0 D (2 ^ 21) (2 ^ 54) × Part D c A
+  exactly c A k is e = (
+    record { p = k; n = 0; is = is; most = omega arith; least = omega arith },
+    record { count = k; is = is; most = omega arith; least = omega arith },
+  )
 
-  one-sized : Sized unit f1 false D D (2 ^ 0) (2 ^ 54)
-  one-sized = record { count = unit; is = one-is; most = omega arith; least = omega arith }
+  zero : Near unit f0 0 0 D (2 ^ 21) (2 ^ 54) × Part D f0 0
+  zero = exactly f0 0 0 zero-is (omega arith)
 
-  exact : (t : Float) (P N : ℕ) → Place t P N D → N ≤ P → P ≤ N + D → Sized unit t false (P - N) D (2 ^ 0) (2 ^ 54)
-  exact t P N a l m = sized64 t P N D false (P - N) 0 (a .rounded) C (omega arith) (omega arith) (lit≤ tt)
+  one : Near unit f1 D 0 D (2 ^ 21) (2 ^ 54) × Part D f1 D
+  one = exactly f1 D unit one-is (omega arith)
 
-  -- by what the test is known to say
-  pick : (u v : Float) (A : ℕ) (b c : Bool) → b ≡ c → Sized unit (cond c u v) false A D (2 ^ 0) (2 ^ 54)
-      → Sized unit (cond b u v) false A D (2 ^ 0) (2 ^ 54)
-  pick u v A b c e y = subst (λ (z : Bool). Sized unit (cond z u v) false A D (2 ^ 0) (2 ^ 54)) (sym e) y
+  -- from 0 to 1
+  inside : (t : Float) (P N A : ℕ) → Place 21 t P N D → A + N ≡ P → A ≤ D → Part D t A
+  inside t P N A a e l = sized64 t P N D false A 0 (a .rounded) (a .some) e (omega arith) (lit≤ tt)
 
-  pub from-zero : (t : Float) (P N : ℕ) → Place t P N D → P ≤ N + D → Sized unit (F64.max t f0) false (P - N) D (2 ^ 0) (2 ^ 54)
+  -- t, or c where the test says no: where p is at most q it says no, and else yes
+  cut-off : (t c : Float) (test : Bool) (A p q : ℕ) → (p ≤ q → (T test → ⊥) × Part D c A) → (q < p → T test × Part D t A)
+      → Part D (cond test t c) A
+  cut-off t c test A p q out in-range = go test (leb p q) (leb→le p q) (nleb→lt p q) out in-range
+    where
+      go : (test b : Bool) → (T b → p ≤ q) → (T (not b) → q < p) → (p ≤ q → (T test → ⊥) × Part D c A)
+          → (q < p → T test × Part D t A)
+          → Part D (cond test t c) A
+      go true true lo hi x y = absurd (x (lo tt) .0 tt)
+      go true false lo hi x y = y (hi tt) .1
+      go false true lo hi x y = x (lo tt) .1
+      go false false lo hi x y = absurd (y (hi tt) .0)
+
+  pub from-zero : (t : Float) (P N : ℕ) → Place 21 t P N D → P ≤ N + D → Part D (F64.max t f0) (P - N)
   from-zero t P N a l =
-      subst (λ (z : Float). Sized unit z false (P - N) D (2 ^ 0) (2 ^ 54))
-      (sym (max-is t f0 (x .p) (x .n) unit 0 0 unit (x .is) zero-is))
-      (go (leb P N) (leb→le P N) (nleb→lt P N))
+      subst (λ (z : Float). Part D z (P - N)) (sym (max-is t f0 (x .p) (x .n) unit 0 0 unit (x .is) zero-is))
+      (cut-off t f0 (lt f0 t) (P - N) P N out in-range)
     where
       x : Near unit t P N D (2 ^ 21) (2 ^ 54)
       x = place-near t P N a
 
-      go : (c : Bool) → (T c → P ≤ N) → (T (not c) → N < P) → Sized unit (cond (lt f0 t) t f0) false (P - N) D (2 ^ 0) (2 ^ 54)
-      go true lo hi =
-          let w = lo tt in
+      never : (p n L : ℕ) → p + 0 * L ≤ 0 * L + n → 0 + n < p + 0 → ⊥
+      never p n L y z = omega arith
+
+      out : P ≤ N → (T (lt f0 t) → ⊥) × Part D f0 (P - N)
+      out w =
           let none : 0 ≡ P - N = omega arith in
-          let most = most-whole binary64 t P N D (a .rounded) C (x .p) (x .n) unit unit-pos (x .is) 0 0 (lit≤ tt) (lit≤ tt)
-          (omega arith) in
-          let below = is-false (lt f0 t) (not-T (lt f0 t)
-          (λ y. never (x .p) (x .n) unit most (lt-over f0 t 0 0 (x .p) (x .n) unit unit-pos zero-is (x .is) .0 y))) in
-          pick t f0 (P - N) (lt f0 t) false below (subst (λ (z : ℕ). Sized unit f0 false z D (2 ^ 0) (2 ^ 54)) none zero-sized)
-        where
-          never : (p n L : ℕ) → p + 0 * L ≤ 0 * L + n → 0 + n < p + 0 → ⊥
-          never p n L y z = omega arith
-      go false lo hi =
-          let w = hi tt in
-          let k = exact t P N a (omega arith) l in
-          let above = is-true (lt f0 t) (lt-over f0 t 0 0 (k .count) 0 unit unit-pos zero-is (k .is) .1
-          (some (k .count) unit (P - N) unit-pos (omega arith) (k .least))) in
-          pick t f0 (P - N) (lt f0 t) true above k
-        where
-          some : (c L A : ℕ) → 0 < L → 0 < A → 2 ^ 54 * (A * L) ≤ 2 ^ 54 * (c * D) + 2 ^ 0 * (D * L) → 0 + 0 < c + 0
-          some c L A O P y =
-              let m = mul-le-mul-right L P in
-              let v = mul-le-mul-right L few in
-              let z : 0 * D < c * D = omega arith in
-              let q : 0 < c = lt-of-mul-lt-mul-right D z in
-              omega arith
+          let most = most-whole binary64 t P N D (a .rounded) (a .some) (x .p) (x .n) unit unit-pos (x .is) 0 0 (lit≤ tt)
+          (lit≤ tt)
+          (omega arith) in (
+            λ y. never (x .p) (x .n) unit most (lt-over f0 t 0 0 (x .p) (x .n) unit unit-pos zero-is (x .is) .0 y),
+            subst (Part D f0) none (zero .1),
+          )
 
-  pub to-one : (t : Float) (P N : ℕ) → Place t P N D → N ≤ P → Sized unit (F64.min t f1) false (min (P - N) D) D (2 ^ 0) (2 ^ 54)
+      in-range : N < P → T (lt f0 t) × Part D t (P - N)
+      in-range w = (near-lt f0 t 0 0 P N (zero .0) x (omega arith), inside t P N (P - N) a (omega arith) (omega arith))
+
+  pub to-one : (t : Float) (P N : ℕ) → Place 21 t P N D → N ≤ P → Part D (F64.min t f1) (min (P - N) D)
   to-one t P N a l =
-      subst (λ (z : Float). Sized unit z false (min (P - N) D) D (2 ^ 0) (2 ^ 54))
-      (sym (min-is t f1 (x .p) (x .n) unit unit 0 unit (x .is) one-is))
-      (go (leb (N + D) P) (leb→le (N + D) P) (nleb→lt (N + D) P))
+      subst (λ (z : Float). Part D z (min (P - N) D)) (sym (min-is t f1 (x .p) (x .n) unit unit 0 unit (x .is) one-is))
+      (cut-off t f1 (lt t f1) (min (P - N) D) (N + D) P out in-range)
     where
       x : Near unit t P N D (2 ^ 21) (2 ^ 54)
       x = place-near t P N a
 
-      go : (c : Bool) → (T c → N + D ≤ P) → (T (not c) → P < N + D)
-          → Sized unit (cond (lt t f1) t f1) false (min (P - N) D) D (2 ^ 0) (2 ^ 54)
-      go true lo hi =
-          let w = lo tt in
+      never : (p n L : ℕ) → 1 * L + n ≤ p + 0 * L → p + 0 < L + n → ⊥
+      never p n L y z = omega arith
+
+      out : N + D ≤ P → (T (lt t f1) → ⊥) × Part D f1 (min (P - N) D)
+      out w =
           let whole : D ≡ min (P - N) D = omega arith in
-          let least = least-whole binary64 t P N D (a .rounded) C (x .p) (x .n) unit unit-pos (x .is) 1 0 (lit≤ tt) (lit≤ tt)
-          (omega arith) in
-          let above = is-false (lt t f1) (not-T (lt t f1)
-          (λ y. never (x .p) (x .n) unit least (lt-over t f1 (x .p) (x .n) unit 0 unit unit-pos (x .is) one-is .0 y))) in
-          pick t f1 (min (P - N) D) (lt t f1) false above (subst (λ (z : ℕ). Sized unit f1 false z D (2 ^ 0) (2 ^ 54)) whole one-sized)
-        where
-          never : (p n L : ℕ) → 1 * L + n ≤ p + 0 * L → p + 0 < L + n → ⊥
-          never p n L y z = omega arith
-      go false lo hi =
-          let w = hi tt in
-          let k = exact t P N a l (omega arith) in
-          let cut : P - N ≡ min (P - N) D = omega arith in
-          let below = is-true (lt t f1) (lt-over t f1 (k .count) 0 unit 0 unit unit-pos (k .is) one-is .1
-          (less (k .count) unit (P - N) unit-pos (omega arith) (k .most))) in
-          pick t f1 (min (P - N) D) (lt t f1) true below (subst (λ (z : ℕ). Sized unit t false z D (2 ^ 0) (2 ^ 54)) cut k)
-        where
-          less : (c L A : ℕ) → 0 < L → A < D → 2 ^ 54 * (c * D) ≤ 2 ^ 54 * (A * L) + 2 ^ 0 * (D * L) → c + 0 < L + 0
-          less c L A O P y =
-              let m = mul-le-mul-right L P in
-              let v = mul-le-mul-right L few in
-              let z : c * D < L * D = omega arith in
-              let q : c < L = lt-of-mul-lt-mul-right D z in
-              omega arith
+          let least = least-whole binary64 t P N D (a .rounded) (a .some) (x .p) (x .n) unit unit-pos (x .is) 1 0 (lit≤ tt)
+          (lit≤ tt)
+          (omega arith) in (
+            λ y. never (x .p) (x .n) unit least (lt-over t f1 (x .p) (x .n) unit 0 unit unit-pos (x .is) one-is .0 y),
+            subst (Part D f1) whole (one .1),
+          )
+
+      in-range : P < N + D → T (lt t f1) × Part D t (min (P - N) D)
+      in-range w = (near-lt t f1 P N D 0 x (one .0) (omega arith), inside t P N (min (P - N) D) a (omega arith) (omega arith))

@@ -48,21 +48,15 @@ from-end c a b o m h =
     combine (c ∷ a ∷ b ∷ o ∷ m ∷ []) (C ⊟ B ⊠ O) ((B ⊟ A) ⊠ (M ⊟ O)) (num 1) C (A ⊠ O ⊞ (B ⊟ A) ⊠ M) h tt
 
 module _ (P : Point) (a b : Spot) (m : ℤ) (num den : ℕ) (h : Placed P a b m) where
-  pub close-start : long a b * (natAbs m * natAbs m) * (den * den) < 2 * num * P .over * (2 * num * P .over) → Close P a num den
-  close-start l =
+  -- c is an end of it, and n / over of the way leads from c to P
+  close : (c : Spot) (n : ℤ) → P .x -ℤ c .x *ℤ pos (P .over) ≡ (b .x -ℤ a .x) *ℤ n
+      → P .y -ℤ c .y *ℤ pos (P .over) ≡ (b .y -ℤ a .y) *ℤ n
+      → long a b * (natAbs n * natAbs n) * (den * den) < 2 * num * P .over * (2 * num * P .over)
+      → Close P c num den
+  close c n at-x at-y l =
       let o = pos (P .over) in
-      let is = squares (b .x -ℤ a .x) (b .y -ℤ a .y) m (P .x -ℤ a .x *ℤ o) (P .y -ℤ a .y *ℤ o)
-      (from-start (P .x) (a .x) (b .x) o m (h .at-x)) (from-start (P .y) (a .y) (b .y) o m (h .at-y)) in
-      subst (λ (z : ℤ). (z *ℤ pos (den * den)) <ℤ pos (2 * num * P .over * (2 * num * P .over))) (sym is) (below _ _ l)
-
-  pub close-end : long a b * (natAbs (m -ℤ pos (P .over)) * natAbs (m -ℤ pos (P .over))) * (den * den)
-      < 2 * num * P .over * (2 * num * P .over)
-      → Close P b num den
-  close-end l =
-      let o = pos (P .over) in
-      let is = squares (b .x -ℤ a .x) (b .y -ℤ a .y) (m -ℤ o) (P .x -ℤ b .x *ℤ o) (P .y -ℤ b .y *ℤ o)
-      (from-end (P .x) (a .x) (b .x) o m (h .at-x)) (from-end (P .y) (a .y) (b .y) o m (h .at-y)) in
-      subst (λ (z : ℤ). (z *ℤ pos (den * den)) <ℤ pos (2 * num * P .over * (2 * num * P .over))) (sym is) (below _ _ l)
+      subst (λ (z : ℤ). (z *ℤ pos (den * den)) <ℤ pos (2 * num * P .over * (2 * num * P .over)))
+      (sym (squares (b .x -ℤ a .x) (b .y -ℤ a .y) n (P .x -ℤ c .x *ℤ o) (P .y -ℤ c .y *ℤ o) at-x at-y)) (below _ _ l)
 
   -- on the segment, or before its start, or past its end: then the distance from that end is to be shown
   pub reached : (m <ℤ pos 0 → long a b * (natAbs m * natAbs m) * (den * den) < 2 * num * P .over * (2 * num * P .over))
@@ -71,7 +65,14 @@ module _ (P : Point) (a b : Spot) (m : ℤ) (num den : ℕ) (h : Placed P a b m)
       → Reached P a b num den
   reached before past = go (lt-or-le m (pos 0)) (lt-or-le (pos (P .over)) m)
     where
+      o : ℤ
+      o = pos (P .over)
+
       go : (m <ℤ pos 0) ⊎ (pos 0 ≤ℤ m) → (pos (P .over) <ℤ m) ⊎ (m ≤ℤ pos (P .over)) → Reached P a b num den
-      go (inl l) k = inr (inl (close-start (before l)))
-      go (inr l) (inl k) = inr (inr (close-end (past k)))
+      go (inl l) k =
+          inr (inl (close a m (from-start (P .x) (a .x) (b .x) o m (h .at-x)) (from-start (P .y) (a .y) (b .y) o m (h .at-y))
+          (before l)))
+      go (inr l) (inl k) =
+          inr (inr (close b (m -ℤ o) (from-end (P .x) (a .x) (b .x) o m (h .at-x)) (from-end (P .y) (a .y) (b .y) o m (h .at-y))
+          (past k)))
       go (inr l) (inr k) = inl (placed-segment P a b m h (l, k))

@@ -139,12 +139,6 @@ module _ (v1 v2 u1 u2 : Spot) (slant : ¬ Parallel v1 v2 u1 u2) where
     (steps-u v1 v2 u1 u2, base v1 v2 u1 u2, placed-along meeting u1 u2 _ meeting-u),
   )
 
-  pub meeting-on-v : Between (steps-v v1 v2 u1 u2) (base v1 v2 u1 u2) → OnSegment meeting v1 v2
-  meeting-on-v = placed-segment meeting v1 v2 (steps-v v1 v2 u1 u2) meeting-v
-
-  pub meeting-on-u : Between (steps-u v1 v2 u1 u2) (base v1 v2 u1 u2) → OnSegment meeting u1 u2
-  meeting-on-u = placed-segment meeting u1 u2 (steps-u v1 v2 u1 u2) meeting-u
-
   -- ---- they share a point exactly if both places are from 0 to 1
   pub shared-between : Share v1 v2 u1 u2
       → Between (steps-v v1 v2 u1 u2) (base v1 v2 u1 u2) × Between (steps-u v1 v2 u1 u2) (base v1 v2 u1 u2)
@@ -158,7 +152,8 @@ module _ (v1 v2 u1 u2 : Spot) (slant : ¬ Parallel v1 v2 u1 u2) where
 
   pub between-shared : Between (steps-v v1 v2 u1 u2) (base v1 v2 u1 u2) → Between (steps-u v1 v2 u1 u2) (base v1 v2 u1 u2)
       → Share v1 v2 u1 u2
-  between-shared h k = (meeting, (meeting-on-v h, meeting-on-u k))
+  between-shared h k =
+      (meeting, (placed-segment meeting v1 v2 _ meeting-v h, placed-segment meeting u1 u2 _ meeting-u k))
 
   -- ---- the lines cross in no other point
   pub crossing-is : (P : Point) → Crossing v1 v2 u1 u2 P

@@ -20,22 +20,10 @@ use Rattle.grid.specs.Plane.Cross.{
   share-once,
 }
 use Rattle.grid.specs.Plane.Sides.{way, cross}
-use Rattle.grid.specs.Plane.Points.{
-  Collinear,
-  share-collinear,
-  both-points,
-  first-point-by-x,
-  first-point-by-y,
-  first-point-once,
-  second-point-by-x,
-  second-point-by-y,
-  second-point-once,
-  line-of-v,
-  cross-flipped,
-}
-use Rattle.grid.specs.Plane.Spots.{Same, Level, flip}
+use Rattle.grid.specs.Plane.Points.{Collinear, share-collinear, both-points, point-share, point-once}
+use Rattle.grid.specs.Plane.Spots.{Same, flip, share-swapped, share-more-swapped, share-flipped, share-more-flipped}
 use Rattle.grid.specs.Plane.Spans.{Meet, MeetMore, size, mark}
-use Rattle.grid.specs.Plane.Overlap.{overlap-by-x, overlap-more-by-x, overlap-by-y, overlap-more-by-y}
+use Rattle.grid.specs.Plane.Overlap.{overlap, overlap-more}
 
 -- ---- answers are told apart
 none-or-one : (r : PlineSegIntr) (p q o : Vector2) → (r ≡ NoIntersect) ⊎ (r ≡ OneIntersect o) → r ≡ OverlappingLines p q → ⊥
@@ -87,11 +75,27 @@ module _ (v1 v2 u1 u2 : Spot) (slant : ¬ Parallel v1 v2 u1 u2) (num den : ℕ) 
       }
 
 -- ---- parallel lines: none where nothing is shared, one where one point is, lines where more are
+abbrev pub Tells : Type 0 → Type 0 → PlineSegIntr → Type 0
+Tells A B r =
+    ((r ≡ NoIntersect) × (¬ A))
+    ⊎ ((p : Vector2) × (r ≡ OneIntersect p) × A × (¬ B))
+    ⊎ ((p : Vector2) × (q : Vector2) × (r ≡ OverlappingLines p q) × B)
+
 abbrev pub Told : Spot → Spot → Spot → Spot → PlineSegIntr → Type 0
-Told v1 v2 u1 u2 r =
-    ((r ≡ NoIntersect) × (¬ Share v1 v2 u1 u2))
-    ⊎ ((p : Vector2) × (r ≡ OneIntersect p) × Share v1 v2 u1 u2 × (¬ ShareMore v1 v2 u1 u2))
-    ⊎ ((p : Vector2) × (q : Vector2) × (r ≡ OverlappingLines p q) × ShareMore v1 v2 u1 u2)
+Told v1 v2 u1 u2 r = Tells (Share v1 v2 u1 u2) (ShareMore v1 v2 u1 u2) r
+
+-- the same of what says the same
+told-of : {A B C D : Type 0} (r : PlineSegIntr) → A ↔ C → B ↔ D → Tells C D r → Tells A B r
+told-of r some more (inl (e, n)) = inl (e, λ s. n (some .0 s))
+told-of r some more (inr (inl (p, e, m, n))) = inr (inl (p, e, some .1 m, λ s. n (more .0 s)))
+told-of r some more (inr (inr (p, q, e, m))) = inr (inr (p, q, e, more .1 m))
+
+-- so u and v may change places, and the axes may
+pub told-swapped : (v1 v2 u1 u2 : Spot) (r : PlineSegIntr) → Told u1 u2 v1 v2 r → Told v1 v2 u1 u2 r
+told-swapped v1 v2 u1 u2 r = told-of r (share-swapped v1 v2 u1 u2) (share-more-swapped v1 v2 u1 u2)
+
+pub told-flipped : (v1 v2 u1 u2 : Spot) (r : PlineSegIntr) → Told (flip v1) (flip v2) (flip u1) (flip u2) r → Told v1 v2 u1 u2 r
+told-flipped v1 v2 u1 u2 r = told-of r (share-flipped v1 v2 u1 u2) (share-more-flipped v1 v2 u1 u2)
 
 share-of-more : (v1 v2 u1 u2 : Spot) → ShareMore v1 v2 u1 u2 → Share v1 v2 u1 u2
 share-of-more v1 v2 u1 u2 s = (s .0, s .3)
@@ -128,87 +132,29 @@ pub apart-told : (v1 v2 u1 u2 : Spot) (r : PlineSegIntr) → Parallel v1 v2 u1 u
     → Told v1 v2 u1 u2 r
 apart-told v1 v2 u1 u2 r par n e = inl (e, λ s. n (share-collinear v1 v2 u1 u2 par s))
 
--- ---- on one line, both with length: by the spans along x, or along y
+-- ---- on one line, both with length: by the spans along x
 abbrev pub ToldBySpans : ℤ → ℤ → ℕ → PlineSegIntr → Type 0
-ToldBySpans a b k r =
-    ((r ≡ NoIntersect) × (¬ Meet a b k))
-    ⊎ ((p : Vector2) × (r ≡ OneIntersect p) × Meet a b k × (¬ MeetMore a b k))
-    ⊎ ((p : Vector2) × (q : Vector2) × (r ≡ OverlappingLines p q) × MeetMore a b k)
+ToldBySpans a b k r = Tells (Meet a b k) (MeetMore a b k) r
 
-module _ (v1 v2 u1 u2 : Spot) (a b : ℤ) (k : ℕ) (r : PlineSegIntr)
-    (meets : Share v1 v2 u1 u2 ↔ Meet a b k)
-    (more : ShareMore v1 v2 u1 u2 ↔ MeetMore a b k) where
-  told-of : ToldBySpans a b k r → Told v1 v2 u1 u2 r
-  told-of (inl (e, n)) = inl (e, λ s. n (meets .0 s))
-  told-of (inr (inl (p, e, m, n))) = inr (inl (p, e, meets .1 m, λ s. n (more .0 s)))
-  told-of (inr (inr (p, q, e, m))) = inr (inr (p, q, e, more .1 m))
-
-pub spans-told-by-x : (v1 v2 u1 u2 : Spot) (r : PlineSegIntr) → Collinear v1 v2 u1 u2 → ¬ Same v1 v2
-    → ((u2 .x -ℤ u1 .x) ≡ pos 0 → ⊥)
+pub spans-told : (v1 v2 u1 u2 : Spot) (r : PlineSegIntr) → Collinear v1 v2 u1 u2 → ¬ Same v1 v2 → ((u2 .x -ℤ u1 .x) ≡ pos 0 → ⊥)
     → ToldBySpans (mark u1 u2 v1) (mark u1 u2 v2) (size u1 u2) r
     → Told v1 v2 u1 u2 r
-spans-told-by-x v1 v2 u1 u2 r c long slant =
-    told-of v1 v2 u1 u2 (mark u1 u2 v1) (mark u1 u2 v2) (size u1 u2) r
-    (overlap-by-x v1 v2 u1 u2 c slant) (overlap-more-by-x v1 v2 u1 u2 c slant long)
-
-pub spans-told-by-y : (v1 v2 u1 u2 : Spot) (r : PlineSegIntr) → Collinear v1 v2 u1 u2 → ¬ Same v1 v2
-    → ((u2 .y -ℤ u1 .y) ≡ pos 0 → ⊥)
-    → ToldBySpans (mark (flip u1) (flip u2) (flip v1)) (mark (flip u1) (flip u2) (flip v2)) (size (flip u1) (flip u2)) r
-    → Told v1 v2 u1 u2 r
-spans-told-by-y v1 v2 u1 u2 r c long slant =
-    told-of v1 v2 u1 u2 (mark (flip u1) (flip u2) (flip v1)) (mark (flip u1) (flip u2) (flip v2)) (size (flip u1) (flip u2)) r
-    (overlap-by-y v1 v2 u1 u2 c slant) (overlap-more-by-y v1 v2 u1 u2 c slant long)
+spans-told v1 v2 u1 u2 r c long slant = told-of r (overlap v1 v2 u1 u2 c slant) (overlap-more v1 v2 u1 u2 c slant long)
 
 -- ---- on one line, one without length or both: one exactly if the point lies on the other
 abbrev pub ToldIf : Type 0 → PlineSegIntr → Type 0
 ToldIf A r = ((r ≡ NoIntersect) × (¬ A)) ⊎ ((p : Vector2) × (r ≡ OneIntersect p) × A)
 
-pub told-if : (v1 v2 u1 u2 : Spot) (A : Type 0) (r : PlineSegIntr) → Share v1 v2 u1 u2 ↔ A → ¬ ShareMore v1 v2 u1 u2 → ToldIf A r
-    → Told v1 v2 u1 u2 r
-told-if v1 v2 u1 u2 A r meets once (inl (e, n)) = inl (e, λ s. n (meets .0 s))
-told-if v1 v2 u1 u2 A r meets once (inr (p, e, h)) = inr (inl (p, e, meets .1 h, once))
+told-if : {A B C : Type 0} (r : PlineSegIntr) → A ↔ C → ¬ B → ToldIf C r → Tells A B r
+told-if r some once (inl (e, n)) = inl (e, λ s. n (some .0 s))
+told-if r some once (inr (p, e, h)) = inr (inl (p, e, some .1 h, once))
 
 pub both-told : (v1 v2 u1 u2 : Spot) (r : PlineSegIntr) → Same v1 v2 → Same u1 u2 → ToldIf (Same v1 u1) r → Told v1 v2 u1 u2 r
-both-told v1 v2 u1 u2 r sv su =
-    told-if v1 v2 u1 u2 (Same v1 u1) r (both-points v1 v2 u1 u2 sv su) (first-point-once v1 v2 u1 u2 sv)
+both-told v1 v2 u1 u2 r sv su = told-if r (both-points v1 v2 u1 u2 sv su) (point-once v1 v2 u1 u2 sv)
 
--- a grid point on a line, by its place along x alone
-level-between : (a b p : Spot) → cross (way a b) (way a p) ≡ pos 0 → Level a b p ↔ Between (mark a b p) (size a b)
-level-between a b p l = (λ h. h .on-axis, λ h. record { on-line = l; on-axis = h })
-
-both-ways : {A B C : Type 0} → A ↔ B → B ↔ C → A ↔ C
-both-ways f g = (λ h. g .0 (f .0 h), λ h. f .1 (g .1 h))
-
-module _ (v1 v2 u1 u2 : Spot) (r : PlineSegIntr) (c : Collinear v1 v2 u1 u2) where
-  pub first-told-by-x : Same v1 v2 → ((u2 .x -ℤ u1 .x) ≡ pos 0 → ⊥) → ToldIf (Between (mark u1 u2 v1) (size u1 u2)) r
-      → Told v1 v2 u1 u2 r
-  first-told-by-x still slant =
-      told-if v1 v2 u1 u2 (Between (mark u1 u2 v1) (size u1 u2)) r
-      (both-ways (first-point-by-x v1 v2 u1 u2 still slant) (level-between u1 u2 v1 (c .from-u)))
-      (first-point-once v1 v2 u1 u2 still)
-
-  pub first-told-by-y : Same v1 v2 → ((u2 .y -ℤ u1 .y) ≡ pos 0 → ⊥)
-      → ToldIf (Between (mark (flip u1) (flip u2) (flip v1)) (size (flip u1) (flip u2))) r
-      → Told v1 v2 u1 u2 r
-  first-told-by-y still slant =
-      told-if v1 v2 u1 u2 (Between (mark (flip u1) (flip u2) (flip v1)) (size (flip u1) (flip u2))) r
-      (both-ways (first-point-by-y v1 v2 u1 u2 still slant)
-      (level-between (flip u1) (flip u2) (flip v1) (cross-flipped (way u1 u2) (way u1 v1) (c .from-u))))
-      (first-point-once v1 v2 u1 u2 still)
-
-  pub second-told-by-x : Same u1 u2 → ((v2 .x -ℤ v1 .x) ≡ pos 0 → ⊥) → ToldIf (Between (mark v1 v2 u1) (size v1 v2)) r
-      → Told v1 v2 u1 u2 r
-  second-told-by-x still slant =
-      told-if v1 v2 u1 u2 (Between (mark v1 v2 u1) (size v1 v2)) r
-      (both-ways (second-point-by-x v1 v2 u1 u2 still slant) (level-between v1 v2 u1 (line-of-v v1 v2 u1 u2 (c .from-v))))
-      (second-point-once v1 v2 u1 u2 still)
-
-  pub second-told-by-y : Same u1 u2 → ((v2 .y -ℤ v1 .y) ≡ pos 0 → ⊥)
-      → ToldIf (Between (mark (flip v1) (flip v2) (flip u1)) (size (flip v1) (flip v2))) r
-      → Told v1 v2 u1 u2 r
-  second-told-by-y still slant =
-      told-if v1 v2 u1 u2 (Between (mark (flip v1) (flip v2) (flip u1)) (size (flip v1) (flip v2))) r
-      (both-ways (second-point-by-y v1 v2 u1 u2 still slant)
-      (level-between (flip v1) (flip v2) (flip u1)
-      (cross-flipped (way v1 v2) (way v1 u1) (line-of-v v1 v2 u1 u2 (c .from-v)))))
-      (second-point-once v1 v2 u1 u2 still)
+-- the first, by its place along x
+pub point-told : (v1 v2 u1 u2 : Spot) (r : PlineSegIntr) → Same v1 v2 → ((u2 .x -ℤ u1 .x) ≡ pos 0 → ⊥)
+    → cross (way u1 u2) (way u1 v1) ≡ pos 0
+    → ToldIf (Between (mark u1 u2 v1) (size u1 u2)) r
+    → Told v1 v2 u1 u2 r
+point-told v1 v2 u1 u2 r still slant line = told-if r (point-share v1 v2 u1 u2 still slant line) (point-once v1 v2 u1 u2 still)

@@ -3,7 +3,7 @@ use mathlib.Core.Path.{_≡_, refl, sym, ap, _∙_}
 use mathlib.Core.Logic.{_↔_, _⊎_, inl, inr}
 use mathlib.Core.Bool.{Bool, true, false, not}
 use Prim.Native.Nat.{ℕ, zero, suc, _+_, _*_, _≤_, _<_}
-use native.Mathlib.Nat.{eq-of-mul-eq-mul-right, le-of-mul-le-mul-right, mul-le-mul-right}
+use native.Mathlib.Nat.{eq-of-mul-eq-mul-right, le-of-mul-le-mul-right}
 use native.Mathlib.Omega.{arith}
 use lib.Dec.{T}
 use lib.IntN.{ℤ, pos, negsuc, negℤ, natAbs, _-ℤ_, _*ℤ_}
@@ -23,16 +23,7 @@ cancel-le a b t h = rw (← whole a, ← whole b) (simp naturals (go (gain a) (l
     go : (p n q m : ℕ) → p * t + n * 0 + (q * 0 + m * t) ≤ q * t + m * 0 + (p * 0 + n * t) → p + m ≤ q + n
     go p n q m e = let f : (p + m) * t ≤ (q + n) * t = omega arith in le-of-mul-le-mul-right f h
 
-pub times-le : (a b : ℤ) (t : ℕ) → a ≤ℤ b → (a *ℤ pos t) ≤ℤ (b *ℤ pos t)
-times-le a b t = rw (← whole a, ← whole b) (simp naturals (go (gain a) (loss a) (gain b) (loss b)))
-  where
-    go : (p n q m : ℕ) → p + m ≤ q + n → p * t + n * 0 + (q * 0 + m * t) ≤ q * t + m * 0 + (p * 0 + n * t)
-    go p n q m e = let f : (p + m) * t ≤ (q + n) * t = mul-le-mul-right t e in omega arith
-
 -- ---- order
-pub le-trans : (a b c : ℤ) → a ≤ℤ b → b ≤ℤ c → a ≤ℤ c
-le-trans a b c = rw (← whole a, ← whole b, ← whole c) (simp naturals (omega arith))
-
 pub le-antisym : (a b : ℤ) → a ≤ℤ b → b ≤ℤ a → a ≡ b
 le-antisym a b = rw (← whole a, ← whole b) (simp naturals (omega arith))
 
@@ -42,6 +33,16 @@ lt-or-le a b = go (ltZ a b) (λ t. ltZ-yes t) (λ t. ltZ-no t)
     go : (c : Bool) → (T c → a <ℤ b) → (T (not c) → b ≤ℤ a) → (a <ℤ b) ⊎ (b ≤ℤ a)
     go true below up = inl (below tt)
     go false below up = inr (up tt)
+
+-- of two pairs of ways the first holds in one, if the second does not in both
+pub either : {A B C D : Type 0} → A ⊎ B → C ⊎ D → (B → D → ⊥) → A ⊎ C
+either (inl a) m n = inl a
+either (inr b) (inl c) n = inr c
+either (inr b) (inr d) n = absurd (n b d)
+
+pub other : {A B : Type 0} → A ⊎ B → B ⊎ A
+other (inl a) = inr a
+other (inr b) = inl b
 
 -- naturals keep their order
 pub pos-le : (m n : ℕ) → (pos m ≤ℤ pos n) ↔ (m ≤ n)
@@ -112,12 +113,6 @@ inside d z h = go (sign d) h
     go (inl k) (inr h) = put z d (k .turn z) (k .size) (up d z (k .least) h)
     go (inr k) (inl h) = put (negℤ z) (negℤ d) (k .turn z) (k .size) (down d z (k .most) h)
     go (inr k) (inr h) = put (negℤ z) (negℤ d) (k .turn z) (k .size) (over d z h)
-
--- a whole number that is not above 0 is a natural with a minus
-pub natural-below : (a : ℤ) → a ≤ℤ pos 0 → (n : ℕ) × (a ≡ negℤ (pos n))
-natural-below (pos zero) h = (0, refl)
-natural-below (pos (suc n)) h = let k : suc n ≤ 0 = pos-le (suc n) 0 .0 h in absurd (omega arith)
-natural-below (negsuc n) h = (suc n, refl)
 
 -- a factor that is not 0 goes
 pub cancel-any : (a b d : ℤ) → (d ≡ pos 0 → ⊥) → a *ℤ d ≡ b *ℤ d → a ≡ b

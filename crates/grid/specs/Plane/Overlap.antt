@@ -1,13 +1,14 @@
--- Two segments on one line, measured on u along the x axis, or along the y axis where u is upright: they share a point exactly if the
--- spans meet, and more than one exactly if the spans meet in more than one. What they share is found at their ends.
-use mathlib.Core.Path.{_≡_, sym, ap, _∙_, subst}
+-- Two segments on one line, measured on u along the x axis, for a u that is not upright (else the axes change places): they share
+-- a point exactly if the spans meet, and more than one exactly if the spans meet in more than one. What they share is found at
+-- their ends.
+use mathlib.Core.Path.{_≡_, refl, sym, ap, subst}
 use mathlib.Core.Logic.{_⊎_, inl, inr, _↔_}
 use mathlib.Core.List.{[], _∷_}
 use Prim.Native.Nat.{ℕ, _<_}
 use native.Mathlib.Omega.{arith}
-use lib.IntN.{ℤ, pos, negℤ, natAbs, _-ℤ_, _*ℤ_}
+use lib.IntN.{ℤ, pos, negsuc, negℤ, natAbs, _-ℤ_, _*ℤ_}
 use lib.Signed.{_≤ℤ_, _<ℤ_, clashℤ, ≤ℤ-refl, <ℤ-≤ℤ-trans}
-use Rattle.grid.specs.Promise.{Spot, Shared, Share, ShareMore}
+use Rattle.grid.specs.Promise.{Spot, OnSegment, Shared, Share, ShareMore}
 use Rattle.grid.specs.Plane.Whole.{whole, naturals}
 use Rattle.grid.specs.Plane.Ring.{solve, combine, combine2, equal-of-sub, var, num, neg, _⊟_, _⊠_}
 use Rattle.grid.specs.Plane.Order.{
@@ -23,10 +24,12 @@ use Rattle.grid.specs.Plane.Order.{
   inside,
   size-pos,
   lt-or-le,
+  either,
+  other,
 }
-use Rattle.grid.specs.Plane.Sides.{way, cross, across}
+use Rattle.grid.specs.Plane.Sides.{way, cross, across, start-v, end-v, start-u, end-u, leg, wedge, corners}
 use Rattle.grid.specs.Plane.Cross.{Between}
-use Rattle.grid.specs.Plane.Points.{Collinear, line-of-v, cross-flipped}
+use Rattle.grid.specs.Plane.Points.{Collinear, swapped}
 use Rattle.grid.specs.Plane.Spots.{
   spot,
   one-pos,
@@ -35,9 +38,6 @@ use Rattle.grid.specs.Plane.Spots.{
   Same,
   level-on,
   spot-once,
-  flip,
-  share-flipped,
-  share-more-flipped,
   share-reversed,
   share-more-reversed,
 }
@@ -46,6 +46,7 @@ use Rattle.grid.specs.Plane.Spans.{
   MeetMore,
   size,
   mark,
+  Seen,
   seen,
   not-past,
   not-before,
@@ -64,8 +65,10 @@ shared-meet v1 v2 u1 u2 (P, (p, q)) =
 pub shared-more-meet : (v1 v2 u1 u2 : Spot) → 0 < size u1 u2 → ShareMore v1 v2 u1 u2
     → MeetMore (mark u1 u2 v1) (mark u1 u2 v2) (size u1 u2)
 shared-more-meet v1 v2 u1 u2 K (P, Q, apart, (p, p'), (q, q')) = (
-  past (lt-or-le a (pos k)) (lt-or-le b (pos k)),
-  before (lt-or-le (pos 0) a) (lt-or-le (pos 0) b),
+  either (lt-or-le a (pos k)) (lt-or-le b (pos k))
+      (λ l m. spot-once P Q u2 (past-end u1 u2 P a b k at-P K l m) (past-end u1 u2 Q a b k at-Q K l m) apart),
+  either (lt-or-le (pos 0) a) (lt-or-le (pos 0) b)
+      (λ l m. spot-once P Q u1 (before-start u1 u2 P a b k at-P K l m) (before-start u1 u2 Q a b k at-Q K l m) apart),
 )
   where
     a : ℤ
@@ -77,89 +80,59 @@ shared-more-meet v1 v2 u1 u2 K (P, Q, apart, (p, p'), (q, q')) = (
     k : ℕ
     k = size u1 u2
 
-    past : (a <ℤ pos k) ⊎ (pos k ≤ℤ a) → (b <ℤ pos k) ⊎ (pos k ≤ℤ b) → (a <ℤ pos k) ⊎ (b <ℤ pos k)
-    past (inl l) m = inl l
-    past (inr l) (inl m) = inr m
-    past (inr l) (inr m) =
-        absurd (spot-once P Q u2
-        (past-end u1 u2 P a b k (seen v1 v2 u1 u2 P p p') K l m)
-        (past-end u1 u2 Q a b k (seen v1 v2 u1 u2 Q q q') K l m) apart)
+    at-P : Seen u1 u2 P a b k
+    at-P = seen v1 v2 u1 u2 P p p'
 
-    before : (pos 0 <ℤ a) ⊎ (a ≤ℤ pos 0) → (pos 0 <ℤ b) ⊎ (b ≤ℤ pos 0) → (pos 0 <ℤ a) ⊎ (pos 0 <ℤ b)
-    before (inl l) m = inl l
-    before (inr l) (inl m) = inr m
-    before (inr l) (inr m) =
-        absurd (spot-once P Q u1
-        (before-start u1 u2 P a b k (seen v1 v2 u1 u2 P p p') K l m)
-        (before-start u1 u2 Q a b k (seen v1 v2 u1 u2 Q q q') K l m) apart)
+    at-Q : Seen u1 u2 Q a b k
+    at-Q = seen v1 v2 u1 u2 Q q q'
 
 -- ---- the ends of each lie on the other's line
 second-on-u : (v1 v2 u1 u2 : Spot) → Collinear v1 v2 u1 u2 → cross (way u1 u2) (way u1 v2) ≡ pos 0
 second-on-u v1 v2 u1 u2 c =
-    let X = var 0 in let Y = var 1 in let X2 = var 2 in let Y2 = var 3 in
-    let A = var 4 in let B = var 5 in let A2 = var 6 in let B2 = var 7 in
-    combine2 (v1 .x ∷ v1 .y ∷ v2 .x ∷ v2 .y ∷ u1 .x ∷ u1 .y ∷ u2 .x ∷ u2 .y ∷ [])
-    ((A2 ⊟ A) ⊠ (Y2 ⊟ B) ⊟ (B2 ⊟ B) ⊠ (X2 ⊟ A)) (num 0)
-    (num 1) ((A2 ⊟ A) ⊠ (Y ⊟ B) ⊟ (B2 ⊟ B) ⊠ (X ⊟ A)) (num 0)
-    (neg (num 1)) ((X2 ⊟ X) ⊠ (B2 ⊟ B) ⊟ (Y2 ⊟ Y) ⊠ (A2 ⊟ A)) (num 0) (c .from-u) (c .parallel) tt
+    combine2 (corners v1 v2 u1 u2 []) (wedge (leg start-u end-u) (leg start-u end-v)) (num 0)
+    (num 1) (wedge (leg start-u end-u) (leg start-u start-v)) (num 0)
+    (neg (num 1)) (wedge (leg start-v end-v) (leg start-u end-u)) (num 0) (c .from-u) (c .parallel) tt
 
-second-on-v : (v1 v2 u1 u2 : Spot) → Collinear v1 v2 u1 u2 → cross (way v1 v2) (way v1 u2) ≡ pos 0
-second-on-v v1 v2 u1 u2 c =
-    let X = var 0 in let Y = var 1 in let X2 = var 2 in let Y2 = var 3 in
-    let A = var 4 in let B = var 5 in let A2 = var 6 in let B2 = var 7 in
-    combine2 (v1 .x ∷ v1 .y ∷ v2 .x ∷ v2 .y ∷ u1 .x ∷ u1 .y ∷ u2 .x ∷ u2 .y ∷ [])
-    ((X2 ⊟ X) ⊠ (B2 ⊟ Y) ⊟ (Y2 ⊟ Y) ⊠ (A2 ⊟ X)) (num 0)
-    (neg (num 1)) ((X2 ⊟ X) ⊠ (Y ⊟ B) ⊟ (Y2 ⊟ Y) ⊠ (X ⊟ A)) (num 0)
-    (num 1) ((X2 ⊟ X) ⊠ (B2 ⊟ B) ⊟ (Y2 ⊟ Y) ⊠ (A2 ⊟ A)) (num 0) (c .from-v) (c .parallel) tt
-
--- ---- an end of u inside v, on the x axis
--- v begins before u's start, and does not end before it
-start-inside : (x x2 a a2 : ℤ) → turned (a2 -ℤ a) (x -ℤ a) <ℤ pos 0 → pos 0 ≤ℤ turned (a2 -ℤ a) (x2 -ℤ a)
-    → Between (turned (x2 -ℤ x) (a -ℤ x)) (natAbs (x2 -ℤ x))
-start-inside x x2 a a2 h k = inside (x2 -ℤ x) (a -ℤ x) (go (sign (a2 -ℤ a)))
+-- ---- places of u's ends
+mark-start : (u1 u2 : Spot) → mark u1 u2 u1 ≡ pos 0
+mark-start u1 u2 = go (u2 .x -ℤ u1 .x) (u1 .x)
   where
-    up : (x x2 a : ℤ) → (x -ℤ a) <ℤ pos 0 → pos 0 ≤ℤ (x2 -ℤ a) → (pos 0 ≤ℤ (a -ℤ x)) × ((a -ℤ x) ≤ℤ (x2 -ℤ x))
-    up x x2 a = rw (← whole x, ← whole x2, ← whole a) (simp naturals (omega arith))
+    go : (d a : ℤ) → turned d (a -ℤ a) ≡ pos 0
+    go (pos k) a = solve (a ∷ []) (var 0 ⊟ var 0) (num 0) tt
+    go (negsuc k) a = solve (a ∷ []) (neg (var 0 ⊟ var 0)) (num 0) tt
 
-    down : (x x2 a : ℤ) → negℤ (x -ℤ a) <ℤ pos 0 → pos 0 ≤ℤ negℤ (x2 -ℤ a) → ((x2 -ℤ x) ≤ℤ (a -ℤ x)) × ((a -ℤ x) ≤ℤ pos 0)
-    down x x2 a = rw (← whole x, ← whole x2, ← whole a) (simp naturals (omega arith))
-
-    go : Plain (a2 -ℤ a) ⊎ Minus (a2 -ℤ a)
-        → ((pos 0 ≤ℤ (a -ℤ x)) × ((a -ℤ x) ≤ℤ (x2 -ℤ x))) ⊎ (((x2 -ℤ x) ≤ℤ (a -ℤ x)) × ((a -ℤ x) ≤ℤ pos 0))
-    go (inl e) =
-        inl (up x x2 a (subst (λ (z : ℤ). z <ℤ pos 0) (e .turn (x -ℤ a)) h) (subst (λ (z : ℤ). pos 0 ≤ℤ z) (e .turn (x2 -ℤ a)) k))
-    go (inr e) =
-        inr (down x x2 a (subst (λ (z : ℤ). z <ℤ pos 0) (e .turn (x -ℤ a)) h) (subst (λ (z : ℤ). pos 0 ≤ℤ z) (e .turn (x2 -ℤ a)) k))
-
--- v begins before u's end, and does not end before it
-end-inside : (x x2 a a2 : ℤ) → turned (a2 -ℤ a) (x -ℤ a) <ℤ pos (natAbs (a2 -ℤ a))
-    → pos (natAbs (a2 -ℤ a)) ≤ℤ turned (a2 -ℤ a) (x2 -ℤ a)
-    → Between (turned (x2 -ℤ x) (a2 -ℤ x)) (natAbs (x2 -ℤ x))
-end-inside x x2 a a2 h k = inside (x2 -ℤ x) (a2 -ℤ x) (go (sign (a2 -ℤ a)))
+mark-end : (u1 u2 : Spot) → mark u1 u2 u2 ≡ pos (size u1 u2)
+mark-end u1 u2 = go (u2 .x -ℤ u1 .x)
   where
-    up : (x x2 a a2 : ℤ) → (x -ℤ a) <ℤ (a2 -ℤ a) → (a2 -ℤ a) ≤ℤ (x2 -ℤ a) → (pos 0 ≤ℤ (a2 -ℤ x)) × ((a2 -ℤ x) ≤ℤ (x2 -ℤ x))
-    up x x2 a a2 = rw (← whole x, ← whole x2, ← whole a, ← whole a2) (simp naturals (omega arith))
+    go : (d : ℤ) → turned d d ≡ pos (natAbs d)
+    go (pos k) = refl
+    go (negsuc k) = refl
 
-    down : (x x2 a a2 : ℤ) → negℤ (x -ℤ a) <ℤ negℤ (a2 -ℤ a) → negℤ (a2 -ℤ a) ≤ℤ negℤ (x2 -ℤ a)
-        → ((x2 -ℤ x) ≤ℤ (a2 -ℤ x)) × ((a2 -ℤ x) ≤ℤ pos 0)
-    down x x2 a a2 = rw (← whole x, ← whole x2, ← whole a, ← whole a2) (simp naturals (omega arith))
+-- p lies after v's start on the axis, and not after its end
+between-ends : (v1 v2 u1 u2 p : Spot) → mark u1 u2 v1 <ℤ mark u1 u2 p → mark u1 u2 p ≤ℤ mark u1 u2 v2
+    → Between (mark v1 v2 p) (size v1 v2)
+between-ends v1 v2 u1 u2 p h k = inside (v2 .x -ℤ v1 .x) (p .x -ℤ v1 .x) (go (sign (u2 .x -ℤ u1 .x)))
+  where
+    up : (x x2 a b : ℤ) → (x -ℤ a) <ℤ (b -ℤ a) → (b -ℤ a) ≤ℤ (x2 -ℤ a) → (pos 0 ≤ℤ (b -ℤ x)) × ((b -ℤ x) ≤ℤ (x2 -ℤ x))
+    up x x2 a b = rw (← whole x, ← whole x2, ← whole a, ← whole b) (simp naturals (omega arith))
 
-    first-at : (z d : ℤ) → turned (a2 -ℤ a) (x -ℤ a) ≡ z → pos (natAbs (a2 -ℤ a)) ≡ d → z <ℤ d
-    first-at z d e f = subst (λ (w : ℤ). z <ℤ w) f (subst (λ (w : ℤ). w <ℤ pos (natAbs (a2 -ℤ a))) e h)
+    down : (x x2 a b : ℤ) → negℤ (x -ℤ a) <ℤ negℤ (b -ℤ a) → negℤ (b -ℤ a) ≤ℤ negℤ (x2 -ℤ a)
+        → ((x2 -ℤ x) ≤ℤ (b -ℤ x)) × ((b -ℤ x) ≤ℤ pos 0)
+    down x x2 a b = rw (← whole x, ← whole x2, ← whole a, ← whole b) (simp naturals (omega arith))
 
-    last-at : (z d : ℤ) → turned (a2 -ℤ a) (x2 -ℤ a) ≡ z → pos (natAbs (a2 -ℤ a)) ≡ d → d ≤ℤ z
-    last-at z d e f = subst (λ (w : ℤ). w ≤ℤ z) f (subst (λ (w : ℤ). pos (natAbs (a2 -ℤ a)) ≤ℤ w) e k)
+    after : (m n : ℤ) → mark u1 u2 v1 ≡ m → mark u1 u2 p ≡ n → m <ℤ n
+    after m n e f = rw (← e, ← f) h
 
-    go : Plain (a2 -ℤ a) ⊎ Minus (a2 -ℤ a)
-        → ((pos 0 ≤ℤ (a2 -ℤ x)) × ((a2 -ℤ x) ≤ℤ (x2 -ℤ x))) ⊎ (((x2 -ℤ x) ≤ℤ (a2 -ℤ x)) × ((a2 -ℤ x) ≤ℤ pos 0))
+    not-after : (m n : ℤ) → mark u1 u2 p ≡ m → mark u1 u2 v2 ≡ n → m ≤ℤ n
+    not-after m n e f = rw (← e, ← f) k
+
+    go : Plain (u2 .x -ℤ u1 .x) ⊎ Minus (u2 .x -ℤ u1 .x)
+        → ((pos 0 ≤ℤ (p .x -ℤ v1 .x)) × ((p .x -ℤ v1 .x) ≤ℤ (v2 .x -ℤ v1 .x)))
+        ⊎ (((v2 .x -ℤ v1 .x) ≤ℤ (p .x -ℤ v1 .x)) × ((p .x -ℤ v1 .x) ≤ℤ pos 0))
     go (inl e) =
-        inl (up x x2 a a2
-        (first-at (x -ℤ a) (a2 -ℤ a) (e .turn (x -ℤ a)) (e .size))
-        (last-at (x2 -ℤ a) (a2 -ℤ a) (e .turn (x2 -ℤ a)) (e .size)))
+        inl (up (v1 .x) (v2 .x) (u1 .x) (p .x) (after _ _ (e .turn _) (e .turn _)) (not-after _ _ (e .turn _) (e .turn _)))
     go (inr e) =
-        inr (down x x2 a a2
-        (first-at (negℤ (x -ℤ a)) (negℤ (a2 -ℤ a)) (e .turn (x -ℤ a)) (e .size))
-        (last-at (negℤ (x2 -ℤ a)) (negℤ (a2 -ℤ a)) (e .turn (x2 -ℤ a)) (e .size)))
+        inr (down (v1 .x) (v2 .x) (u1 .x) (p .x) (after _ _ (e .turn _) (e .turn _)) (not-after _ _ (e .turn _) (e .turn _)))
 
 -- ---- spans that meet say what is shared
 -- before 0, from 0 to k, or past k
@@ -209,34 +182,32 @@ module _ (v1 v2 u1 u2 : Spot) (c : Collinear v1 v2 u1 u2) (slant : (u2 .x -ℤ u
   last-end h =
       (end-on v1 v2, level-on u1 u2 v2 slant (record { on-line = second-on-u v1 v2 u1 u2 c; on-axis = h }))
 
-  -- an end of u on v
+  -- a point of u on v
+  inner : (p : Spot) → OnSegment (spot p) u1 u2 → cross (way v1 v2) (way v1 p) ≡ pos 0
+      → mark u1 u2 v1 <ℤ mark u1 u2 p
+      → mark u1 u2 p ≤ℤ mark u1 u2 v2
+      → Shared v1 v2 u1 u2 (spot p)
+  inner p on line l h =
+      let long = marks-differ u1 u2 v1 v2 (lt-le (mark u1 u2 v1) (mark u1 u2 p) (mark u1 u2 v2) l h) in
+      (level-on v1 v2 p (not-zero (v1 .x) (v2 .x) long) (record { on-line = line; on-axis = between-ends v1 v2 u1 u2 p l h }), on)
+
   u-start : mark u1 u2 v1 <ℤ pos 0 → pos 0 ≤ℤ mark u1 u2 v2 → Shared v1 v2 u1 u2 (spot u1)
-  u-start l h = (
-    level-on v1 v2 u1 (not-zero (v1 .x) (v2 .x) (marks-differ u1 u2 v1 v2 (lt-le (mark u1 u2 v1) (pos 0) (mark u1 u2 v2) l h)))
-        (record { on-line = line-of-v v1 v2 u1 u2 (c .from-v); on-axis = start-inside (v1 .x) (v2 .x) (u1 .x) (u2 .x) l h }),
-    start-on u1 u2,
-  )
+  u-start l h =
+      inner u1 (start-on u1 u2) (swapped v1 v2 u1 u2 c .from-u) (rw (mark-start u1 u2) l) (rw (mark-start u1 u2) h)
 
   u-end : mark u1 u2 v1 <ℤ pos (size u1 u2) → pos (size u1 u2) ≤ℤ mark u1 u2 v2 → Shared v1 v2 u1 u2 (spot u2)
-  u-end l h = (
-    level-on v1 v2 u2
-        (not-zero (v1 .x) (v2 .x) (marks-differ u1 u2 v1 v2 (lt-le (mark u1 u2 v1) (pos (size u1 u2)) (mark u1 u2 v2) l h)))
-        (record { on-line = second-on-v v1 v2 u1 u2 c; on-axis = end-inside (v1 .x) (v2 .x) (u1 .x) (u2 .x) l h }),
-    end-on u1 u2,
-  )
+  u-end l h =
+      inner u2 (end-on u1 u2) (second-on-u u1 u2 v1 v2 (swapped v1 v2 u1 u2 c)) (rw (mark-end u1 u2) l) (rw (mark-end u1 u2) h)
 
 -- the same with v's ends in the other order
 reversed : (v1 v2 u1 u2 : Spot) → Collinear v1 v2 u1 u2 → Collinear v2 v1 u1 u2
 reversed v1 v2 u1 u2 c =
-    let X = var 0 in let Y = var 1 in let X2 = var 2 in let Y2 = var 3 in
-    let A = var 4 in let B = var 5 in let A2 = var 6 in let B2 = var 7 in
-    let all = v1 .x ∷ v1 .y ∷ v2 .x ∷ v2 .y ∷ u1 .x ∷ u1 .y ∷ u2 .x ∷ u2 .y ∷ [] in
     record {
-      parallel = combine all ((X ⊟ X2) ⊠ (B2 ⊟ B) ⊟ (Y ⊟ Y2) ⊠ (A2 ⊟ A)) (num 0)
-          (neg (num 1)) ((X2 ⊟ X) ⊠ (B2 ⊟ B) ⊟ (Y2 ⊟ Y) ⊠ (A2 ⊟ A)) (num 0) (c .parallel) tt;
+      parallel = combine (corners v1 v2 u1 u2 []) (wedge (leg end-v start-v) (leg start-u end-u)) (num 0)
+          (neg (num 1)) (wedge (leg start-v end-v) (leg start-u end-u)) (num 0) (c .parallel) tt;
       from-u = second-on-u v1 v2 u1 u2 c;
-      from-v = combine all ((X ⊟ X2) ⊠ (Y2 ⊟ B) ⊟ (Y ⊟ Y2) ⊠ (X2 ⊟ A)) (num 0)
-          (neg (num 1)) ((X2 ⊟ X) ⊠ (Y ⊟ B) ⊟ (Y2 ⊟ Y) ⊠ (X ⊟ A)) (num 0) (c .from-v) tt;
+      from-v = combine (corners v1 v2 u1 u2 []) (wedge (leg end-v start-v) (leg start-u end-v)) (num 0)
+          (neg (num 1)) (wedge (leg start-v end-v) (leg start-u start-v)) (num 0) (c .from-v) tt;
     }
 
 pub meet-shared : (v1 v2 u1 u2 : Spot) → Collinear v1 v2 u1 u2 → ((u2 .x -ℤ u1 .x) ≡ pos 0 → ⊥)
@@ -269,26 +240,6 @@ meet-shared v1 v2 u1 u2 c slant (lo, hi) =
 -- ---- and in more than one
 pos-lt : (k : ℕ) → 0 < k → pos 0 <ℤ pos k
 pos-lt k h = simp naturals (omega arith)
-
-mark-start : (u1 u2 : Spot) → mark u1 u2 u1 ≡ pos 0
-mark-start u1 u2 = go (sign (u2 .x -ℤ u1 .x))
-  where
-    none : (a : ℤ) → a -ℤ a ≡ pos 0
-    none a = solve (a ∷ []) (var 0 ⊟ var 0) (num 0) tt
-
-    minus-none : (a : ℤ) → negℤ (a -ℤ a) ≡ pos 0
-    minus-none a = solve (a ∷ []) (neg (var 0 ⊟ var 0)) (num 0) tt
-
-    go : Plain (u2 .x -ℤ u1 .x) ⊎ Minus (u2 .x -ℤ u1 .x) → mark u1 u2 u1 ≡ pos 0
-    go (inl e) = e .turn (u1 .x -ℤ u1 .x) ∙ none (u1 .x)
-    go (inr e) = e .turn (u1 .x -ℤ u1 .x) ∙ minus-none (u1 .x)
-
-mark-end : (u1 u2 : Spot) → mark u1 u2 u2 ≡ pos (size u1 u2)
-mark-end u1 u2 = go (sign (u2 .x -ℤ u1 .x))
-  where
-    go : Plain (u2 .x -ℤ u1 .x) ⊎ Minus (u2 .x -ℤ u1 .x) → mark u1 u2 u2 ≡ pos (size u1 u2)
-    go (inl e) = e .turn (u2 .x -ℤ u1 .x) ∙ sym (e .size)
-    go (inr e) = e .turn (u2 .x -ℤ u1 .x) ∙ sym (e .size)
 
 -- two shared grid points in this order on the axis are two
 two-shared : (v1 v2 u1 u2 p q : Spot) → Shared v1 v2 u1 u2 (spot p) → Shared v1 v2 u1 u2 (spot q)
@@ -330,12 +281,9 @@ module _ (v1 v2 u1 u2 : Spot) (c : Collinear v1 v2 u1 u2) (slant : (u2 .x -ℤ u
 -- v has length, so its ends differ on u's axis
 pub apart-on-axis : (v1 v2 u1 u2 : Spot) → across v1 v2 u1 u2 ≡ pos 0 → ((u2 .x -ℤ u1 .x) ≡ pos 0 → ⊥) → v1 .x ≡ v2 .x → Same v1 v2
 apart-on-axis v1 v2 u1 u2 flat slant e =
-    let X = var 0 in let Y = var 1 in let X2 = var 2 in let Y2 = var 3 in
-    let A = var 4 in let B = var 5 in let A2 = var 6 in let B2 = var 7 in
     let none : (v1 .y -ℤ v2 .y) *ℤ (u2 .x -ℤ u1 .x) ≡ pos 0 *ℤ (u2 .x -ℤ u1 .x)
-    = combine2 (v1 .x ∷ v1 .y ∷ v2 .x ∷ v2 .y ∷ u1 .x ∷ u1 .y ∷ u2 .x ∷ u2 .y ∷ [])
-    ((Y ⊟ Y2) ⊠ (A2 ⊟ A)) (num 0 ⊠ (A2 ⊟ A))
-    (num 1) ((X2 ⊟ X) ⊠ (B2 ⊟ B) ⊟ (Y2 ⊟ Y) ⊠ (A2 ⊟ A)) (num 0) (B2 ⊟ B) X X2 flat e tt in
+    = combine2 (corners v1 v2 u1 u2 []) (leg end-v start-v .y ⊠ leg start-u end-u .x) (num 0 ⊠ leg start-u end-u .x)
+    (num 1) (wedge (leg start-v end-v) (leg start-u end-u)) (num 0) (leg start-u end-u .y) (start-v .x) (end-v .x) flat e tt in
     (e, equal-of-sub (v1 .y) (v2 .y) (cancel-any (v1 .y -ℤ v2 .y) (pos 0) (u2 .x -ℤ u1 .x) slant none))
 
 -- one of two that is below k, or above 0
@@ -346,10 +294,6 @@ least-below a b k l (inr m) = lt-trans a b k l m
 most-above : (a b k : ℤ) → a <ℤ b → (k <ℤ a) ⊎ (k <ℤ b) → k <ℤ b
 most-above a b k l (inl m) = lt-trans k a b m l
 most-above a b k l (inr m) = m
-
-other : {A B : Type 0} → A ⊎ B → B ⊎ A
-other (inl h) = inr h
-other (inr h) = inl h
 
 pub meet-shared-more : (v1 v2 u1 u2 : Spot) → Collinear v1 v2 u1 u2 → ((u2 .x -ℤ u1 .x) ≡ pos 0 → ⊥) → ¬ Same v1 v2
     → MeetMore (mark u1 u2 v1) (mark u1 u2 v2) (size u1 u2)
@@ -376,37 +320,11 @@ meet-shared-more v1 v2 u1 u2 c slant long (lo, hi) =
         share-more-reversed v1 v2 u1 u2
         (ordered v2 v1 u1 u2 (reversed v1 v2 u1 u2 c) slant l' (least-below b a k l' (other m)) (most-above b a (pos 0) l' (other n)))
 
--- ---- both directions, by the axis that the kernel takes
+-- ---- both directions
 module _ (v1 v2 u1 u2 : Spot) (c : Collinear v1 v2 u1 u2) (slant : (u2 .x -ℤ u1 .x) ≡ pos 0 → ⊥) where
-  pub overlap-by-x : Share v1 v2 u1 u2 ↔ Meet (mark u1 u2 v1) (mark u1 u2 v2) (size u1 u2)
-  overlap-by-x = (shared-meet v1 v2 u1 u2, meet-shared v1 v2 u1 u2 c slant)
+  pub overlap : Share v1 v2 u1 u2 ↔ Meet (mark u1 u2 v1) (mark u1 u2 v2) (size u1 u2)
+  overlap = (shared-meet v1 v2 u1 u2, meet-shared v1 v2 u1 u2 c slant)
 
-  pub overlap-more-by-x : ¬ Same v1 v2 → ShareMore v1 v2 u1 u2 ↔ MeetMore (mark u1 u2 v1) (mark u1 u2 v2) (size u1 u2)
-  overlap-more-by-x long =
+  pub overlap-more : ¬ Same v1 v2 → ShareMore v1 v2 u1 u2 ↔ MeetMore (mark u1 u2 v1) (mark u1 u2 v2) (size u1 u2)
+  overlap-more long =
       (shared-more-meet v1 v2 u1 u2 (size-pos (u2 .x -ℤ u1 .x) slant), meet-shared-more v1 v2 u1 u2 c slant long)
-
-pub collinear-flipped : (v1 v2 u1 u2 : Spot) → Collinear v1 v2 u1 u2 → Collinear (flip v1) (flip v2) (flip u1) (flip u2)
-collinear-flipped v1 v2 u1 u2 c =
-    record {
-      parallel = cross-flipped (way v1 v2) (way u1 u2) (c .parallel);
-      from-u = cross-flipped (way u1 u2) (way u1 v1) (c .from-u);
-      from-v = cross-flipped (way v1 v2) (way u1 v1) (c .from-v);
-    }
-
-module _ (v1 v2 u1 u2 : Spot) (c : Collinear v1 v2 u1 u2) (slant : (u2 .y -ℤ u1 .y) ≡ pos 0 → ⊥) where
-  pub overlap-by-y : Share v1 v2 u1 u2
-      ↔ Meet (mark (flip u1) (flip u2) (flip v1)) (mark (flip u1) (flip u2) (flip v2)) (size (flip u1) (flip u2))
-  overlap-by-y =
-      let by-x = overlap-by-x (flip v1) (flip v2) (flip u1) (flip u2) (collinear-flipped v1 v2 u1 u2 c) slant in (
-        λ h. by-x .0 (share-flipped v1 v2 u1 u2 h),
-        λ h. share-flipped (flip v1) (flip v2) (flip u1) (flip u2) (by-x .1 h),
-      )
-
-  pub overlap-more-by-y : ¬ Same v1 v2 → ShareMore v1 v2 u1 u2
-      ↔ MeetMore (mark (flip u1) (flip u2) (flip v1)) (mark (flip u1) (flip u2) (flip v2)) (size (flip u1) (flip u2))
-  overlap-more-by-y long =
-      let by-x = overlap-more-by-x (flip v1) (flip v2) (flip u1) (flip u2) (collinear-flipped v1 v2 u1 u2 c) slant
-      (λ h. long (h .1, h .0)) in (
-        λ h. by-x .0 (share-more-flipped v1 v2 u1 u2 h),
-        λ h. share-more-flipped (flip v1) (flip v2) (flip u1) (flip u2) (by-x .1 h),
-      )

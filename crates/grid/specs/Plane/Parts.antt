@@ -1,12 +1,10 @@
 -- The same in naturals, for floats whose values are differences p - n: signs and sizes of differences, places from 0 to 1, distances
 -- beyond an end and from the meeting, and a float's value.
-use mathlib.Core.Path.{_≡_, refl, sym, ap, _∙_, subst}
-use mathlib.Core.Logic.{_⊎_, inl, inr, _↔_}
-use mathlib.Core.Bool.{Bool, true, false, not}
-use Prim.Native.Nat.{ℕ, zero, suc, _+_, _-_, _*_, _≤_, _<_}
-use native.Mathlib.Nat.{mul-le-mul, mul-le-mul-right}
+use mathlib.Core.Path.{_≡_, refl, sym, subst}
+use mathlib.Core.Logic.{_↔_}
+use mathlib.Core.Bool.{true, false}
+use Prim.Native.Nat.{ℕ, suc, _+_, _*_, _≤_, _<_}
 use native.Mathlib.Omega.{arith}
-use lib.Dec.{T, ltb, ltb→lt, nltb→le}
 use lib.IntN.{ℤ, pos, negsuc, negℤ, natAbs, _-ℤ_, _*ℤ_}
 use lib.Signed.{_≤ℤ_, _<ℤ_}
 use lib.Ieee.{Float, fin, up, down}
@@ -20,20 +18,6 @@ use Rattle.grid.specs.Plane.Beyond.{long, reached}
 pub gain-loss : (z : ℤ) → gain z + loss z ≡ natAbs z
 gain-loss (pos k) = omega arith
 gain-loss (negsuc k) = omega arith
-
-pub size-up : (p n d : ℕ) → p ≡ n + d → natAbs (diff p n) ≡ d
-size-up p n d h = go (diff p n) (parts p n)
-  where
-    go : (z : ℤ) → p + loss z ≡ n + gain z → natAbs z ≡ d
-    go (pos k) e = omega arith
-    go (negsuc k) e = absurd (omega arith)
-
-pub size-down : (p n d : ℕ) → n ≡ p + d → natAbs (diff p n) ≡ d
-size-down p n d h = go (diff p n) (parts p n)
-  where
-    go : (z : ℤ) → p + loss z ≡ n + gain z → natAbs z ≡ d
-    go (pos k) e = omega arith
-    go (negsuc k) e = omega arith
 
 -- (a - b) / (p - n), where p is above n and where it is below
 pub turned-up : (p n a b : ℕ) → n ≤ p → turned (diff p n) (diff a b) ≡ diff a b
@@ -149,66 +133,3 @@ is-plus m p n c e = simp naturals (λ h. omega arith, λ h. omega arith)
 
 pub is-minus : (m p n c : ℕ) (e : ℤ) → Is (fin true m e) (diff p n) c ↔ (m * up e * c + p * down e ≡ n * down e)
 is-minus m p n c e = simp naturals (λ h. omega arith, λ h. omega arith)
-
--- ---- on the grid nothing is near and not there: a whole number of steps past an end that is less than twice epsilon, is none
-pub no-step : (j long k num den : ℕ) → j * j * long * (den * den) < 4 * (num * num * (k * k)) → k * k ≤ long → 2 * num ≤ den → j ≡ 0
-no-step zero long k num den h l m = refl
-no-step (suc i) long k num den h l m =
-    let eps : 2 * num * (2 * num) ≤ den * den = mul-le-mul m m in
-    let far : 2 * num * (2 * num) * (k * k) ≤ den * den * long = mul-le-mul eps l in
-    let one : 1 * (long * (den * den)) ≤ suc i * suc i * (long * (den * den)) = mul-le-mul-right (long * (den * den)) (omega arith) in
-    absurd (omega arith)
-
-pub size-le-long : (a b : Spot) → natAbs (b .x -ℤ a .x) * natAbs (b .x -ℤ a .x) ≤ long a b
-size-le-long a b = omega arith
-
-lt-or-ge : (a b : ℕ) → (a < b) ⊎ (b ≤ a)
-lt-or-ge a b = go (ltb a b) (ltb→lt a b) (nltb→le a b)
-  where
-    go : (c : Bool) → (T c → a < b) → (T (not c) → b ≤ a) → (a < b) ⊎ (b ≤ a)
-    go true l g = inl (l tt)
-    go false l g = inr (g tt)
-
--- so what passes a range test is from 0 to 1
-pub passed-between : (p n k l num den : ℕ)
-    → ((j : ℕ) → j + p ≡ n → j * j * l * (den * den) < 4 * (num * num * (k * k)))
-    → ((j : ℕ) → j + (n + k) ≡ p → j * j * l * (den * den) < 4 * (num * num * (k * k)))
-    → k * k ≤ l
-    → 2 * num ≤ den
-    → Between (diff p n) k
-passed-between p n k l num den before past s m = between-parts p n k .1 (low (lt-or-ge p n), high (lt-or-ge (n + k) p))
-  where
-    low : (p < n) ⊎ (n ≤ p) → n ≤ p
-    low (inr h) = h
-    low (inl h) =
-        let e : n - p + p ≡ n = omega arith in
-        let z : n - p ≡ 0 = no-step (n - p) l k num den (before (n - p) e) s m in
-        omega arith
-
-    high : (n + k < p) ⊎ (p ≤ n + k) → p ≤ n + k
-    high (inr h) = h
-    high (inl h) =
-        let e : p - (n + k) + (n + k) ≡ p = omega arith in
-        let z : p - (n + k) ≡ 0 = no-step (p - (n + k)) l k num den (past (p - (n + k)) e) s m in
-        omega arith
-
--- ---- a quotient x / d of differences, as (P - N) / D with D above 0
-pub quotient : (d x : ℤ) (dp dn xp xn P N D : ℕ) → d ≡ diff dp dn → x ≡ diff xp xn → 0 < D
-    → ((dn + D ≡ dp) × (P ≡ xp) × (N ≡ xn)) ⊎ ((dp + D ≡ dn) × (P ≡ xn) × (N ≡ xp))
-    → (natAbs d ≡ D) × (turned d x ≡ diff P N)
-quotient d x dp dn xp xn P N D e f H (inl (s, p, n)) = (
-  ap natAbs e ∙ size-up dp dn D (sym s),
-  ap (λ (z : ℤ). turned z x) e
-      ∙ ap (λ (z : ℤ). turned (diff dp dn) z) f
-      ∙ turned-up dp dn xp xn (omega arith)
-      ∙ ap (λ (z : ℕ). diff z xn) (sym p)
-      ∙ ap (λ (z : ℕ). diff P z) (sym n),
-)
-quotient d x dp dn xp xn P N D e f H (inr (s, p, n)) = (
-  ap natAbs e ∙ size-down dp dn D (sym s),
-  ap (λ (z : ℤ). turned z x) e
-      ∙ ap (λ (z : ℤ). turned (diff dp dn) z) f
-      ∙ turned-down dp dn xp xn (omega arith)
-      ∙ ap (λ (z : ℕ). diff z xp) (sym p)
-      ∙ ap (λ (z : ℕ). diff P z) (sym n),
-)

@@ -1,14 +1,31 @@
--- Parallel segments that share a point lie on one line; and where one of them has no length, or both, sharing is that one grid point
--- lies on the other. Then they never share more than that point.
+-- Parallel segments that share a point lie on one line, also where they change places, or the axes do. Where the first has no
+-- length, or neither has, sharing is that one grid point lies on the other. Then they never share more than that point.
 use mathlib.Core.Path.{_≡_, sym, _∙_}
 use mathlib.Core.Logic.{_↔_}
 use mathlib.Core.List.{[], _∷_}
 use Prim.Native.Nat.{ℕ, _<_}
 use lib.IntN.{ℤ, pos, _-ℤ_, _*ℤ_}
-use Rattle.grid.specs.Promise.{Spot, OnSegment, Parallel, Share, ShareMore}
+use Rattle.grid.specs.Promise.{Spot, Parallel, Share, ShareMore}
 use Rattle.grid.specs.Plane.Ring.{solve, combine, combine2, var, num, neg, _⊟_, _⊠_}
 use Rattle.grid.specs.Plane.Order.{cancel}
-use Rattle.grid.specs.Plane.Sides.{way, cross, across, first, second, parallel-across, place-v, place-u}
+use Rattle.grid.specs.Plane.Sides.{
+  way,
+  cross,
+  across,
+  first,
+  second,
+  parallel-across,
+  start-v,
+  end-v,
+  start-u,
+  end-u,
+  leg,
+  wedge,
+  corners,
+  place-v,
+  place-u,
+}
+use Rattle.grid.specs.Plane.Cross.{Between}
 use Rattle.grid.specs.Plane.Spots.{
   spot,
   start-on,
@@ -17,12 +34,11 @@ use Rattle.grid.specs.Plane.Spots.{
   only-spot,
   spot-lies,
   spot-once,
-  Level,
   level-on,
   on-level,
   flip,
-  share-flipped,
 }
+use Rattle.grid.specs.Plane.Spans.{size, mark}
 
 -- ---- on one line
 pub record Collinear (v1 v2 u1 u2 : Spot) : Type 0 where
@@ -48,58 +64,17 @@ share-collinear v1 v2 u1 u2 par (P, ((s, t, l, on-v), (s', t', l', on-u))) =
           (place-u v1 v2 u1 u2 P (pos s) (pos s') t t' on-v on-u) flat;
     }
 
--- ---- v has no length
+-- ---- v has no length, and lies on the line of u, which is not upright: they share v where its place along x is from 0 to 1
 module _ (v1 v2 u1 u2 : Spot) (still : Same v1 v2) where
-  pub first-point : Share v1 v2 u1 u2 ↔ OnSegment (spot v1) u1 u2
-  first-point = (
-    λ h. spot-lies (h .0) v1 u1 u2 (only-spot (h .0) v1 v2 still (h .1 .0)) (h .1 .1),
-    λ h. (spot v1, (start-on v1 v2, h)),
+  pub point-share : ((u2 .x -ℤ u1 .x) ≡ pos 0 → ⊥) → cross (way u1 u2) (way u1 v1) ≡ pos 0
+      → Share v1 v2 u1 u2 ↔ Between (mark u1 u2 v1) (size u1 u2)
+  point-share slant line = (
+    λ h. on-level u1 u2 v1 (spot-lies (h .0) v1 u1 u2 (only-spot (h .0) v1 v2 still (h .1 .0)) (h .1 .1)) .on-axis,
+    λ h. (spot v1, (start-on v1 v2, level-on u1 u2 v1 slant (record { on-line = line; on-axis = h }))),
   )
 
-  pub first-point-once : ¬ ShareMore v1 v2 u1 u2
-  first-point-once (P, Q, apart, (p, p'), (q, q')) =
-      spot-once P Q v1 (only-spot P v1 v2 still p) (only-spot Q v1 v2 still q) apart
-
-  -- by x where u is not upright, else by y
-  pub first-point-by-x : ((u2 .x -ℤ u1 .x) ≡ pos 0 → ⊥) → Share v1 v2 u1 u2 ↔ Level u1 u2 v1
-  first-point-by-x n = (
-    λ h. on-level u1 u2 v1 (first-point .0 h),
-    λ h. first-point .1 (level-on u1 u2 v1 n h),
-  )
-
-pub first-point-by-y : (v1 v2 u1 u2 : Spot) → Same v1 v2 → ((u2 .y -ℤ u1 .y) ≡ pos 0 → ⊥)
-    → Share v1 v2 u1 u2 ↔ Level (flip u1) (flip u2) (flip v1)
-first-point-by-y v1 v2 u1 u2 still n =
-    let by-x = first-point-by-x (flip v1) (flip v2) (flip u1) (flip u2) (still .1, still .0) n in (
-      λ h. by-x .0 (share-flipped v1 v2 u1 u2 h),
-      λ h. share-flipped (flip v1) (flip v2) (flip u1) (flip u2) (by-x .1 h),
-    )
-
--- ---- u has no length
-module _ (v1 v2 u1 u2 : Spot) (still : Same u1 u2) where
-  pub second-point : Share v1 v2 u1 u2 ↔ OnSegment (spot u1) v1 v2
-  second-point = (
-    λ h. spot-lies (h .0) u1 v1 v2 (only-spot (h .0) u1 u2 still (h .1 .1)) (h .1 .0),
-    λ h. (spot u1, (h, start-on u1 u2)),
-  )
-
-  pub second-point-once : ¬ ShareMore v1 v2 u1 u2
-  second-point-once (P, Q, apart, (p, p'), (q, q')) =
-      spot-once P Q u1 (only-spot P u1 u2 still p') (only-spot Q u1 u2 still q') apart
-
-  pub second-point-by-x : ((v2 .x -ℤ v1 .x) ≡ pos 0 → ⊥) → Share v1 v2 u1 u2 ↔ Level v1 v2 u1
-  second-point-by-x n = (
-    λ h. on-level v1 v2 u1 (second-point .0 h),
-    λ h. second-point .1 (level-on v1 v2 u1 n h),
-  )
-
-pub second-point-by-y : (v1 v2 u1 u2 : Spot) → Same u1 u2 → ((v2 .y -ℤ v1 .y) ≡ pos 0 → ⊥)
-    → Share v1 v2 u1 u2 ↔ Level (flip v1) (flip v2) (flip u1)
-second-point-by-y v1 v2 u1 u2 still n =
-    let by-x = second-point-by-x (flip v1) (flip v2) (flip u1) (flip u2) (still .1, still .0) n in (
-      λ h. by-x .0 (share-flipped v1 v2 u1 u2 h),
-      λ h. share-flipped (flip v1) (flip v2) (flip u1) (flip u2) (by-x .1 h),
-    )
+  pub point-once : ¬ ShareMore v1 v2 u1 u2
+  point-once (P, Q, apart, (p, p'), (q, q')) = spot-once P Q v1 (only-spot P v1 v2 still p) (only-spot Q v1 v2 still q) apart
 
 -- ---- neither has length: one and the same grid point
 pub both-points : (v1 v2 u1 u2 : Spot) → Same v1 v2 → Same u1 u2 → Share v1 v2 u1 u2 ↔ Same v1 u1
@@ -119,14 +94,34 @@ both-points v1 v2 u1 u2 sv su = (meet, λ e. (spot v1, (start-on v1 v2, spot-lie
           cancel (v1 .y) (u1 .y) (P .over) (P .positive) (sym (v .1) ∙ u .1),
         )
 
--- ---- the kernel's products say on which line a grid point lies
-pub line-of-v : (v1 v2 u1 u2 : Spot) → second v1 v2 u1 u2 ≡ pos 0 → cross (way v1 v2) (way v1 u1) ≡ pos 0
-line-of-v v1 v2 u1 u2 h =
-    let A = var 0 in let B = var 1 in let C = var 2 in let D = var 3 in let E = var 4 in let F = var 5 in
-    combine (v1 .x ∷ v1 .y ∷ v2 .x ∷ v2 .y ∷ u1 .x ∷ u1 .y ∷ [])
-    ((C ⊟ A) ⊠ (F ⊟ B) ⊟ (D ⊟ B) ⊠ (E ⊟ A)) (num 0) (neg (num 1)) ((C ⊟ A) ⊠ (B ⊟ F) ⊟ (D ⊟ B) ⊠ (A ⊟ E)) (num 0) h tt
+-- ---- u and v change places, and the axes do
+-- a product that is 0 is 0 with its factors exchanged, and with one of them turned round
+turned-cross : (p q : Spot) → cross p q ≡ pos 0 → cross q p ≡ pos 0
+turned-cross p q h =
+    combine (corners p q p q []) (wedge end-v start-v) (num 0) (neg (num 1)) (wedge start-v end-v) (num 0) h tt
+
+turned-way : (p a b : Spot) → cross p (way a b) ≡ pos 0 → cross p (way b a) ≡ pos 0
+turned-way p a b h =
+    combine (corners p p a b []) (wedge start-v (leg end-u start-u)) (num 0) (neg (num 1)) (wedge start-v (leg start-u end-u))
+    (num 0) h tt
+
+pub swapped : (v1 v2 u1 u2 : Spot) → Collinear v1 v2 u1 u2 → Collinear u1 u2 v1 v2
+swapped v1 v2 u1 u2 c =
+    record {
+      parallel = turned-cross (way v1 v2) (way u1 u2) (c .parallel);
+      from-u = turned-way (way v1 v2) u1 v1 (c .from-v);
+      from-v = turned-way (way u1 u2) u1 v1 (c .from-u);
+    }
 
 pub cross-flipped : (p q : Spot) → cross p q ≡ pos 0 → cross (flip p) (flip q) ≡ pos 0
 cross-flipped p q h =
-    let A = var 0 in let B = var 1 in let C = var 2 in let D = var 3 in
-    combine (p .x ∷ p .y ∷ q .x ∷ q .y ∷ []) (B ⊠ C ⊟ A ⊠ D) (num 0) (neg (num 1)) (A ⊠ D ⊟ B ⊠ C) (num 0) h tt
+    combine (corners p q p q []) (start-v .y ⊠ end-v .x ⊟ start-v .x ⊠ end-v .y) (num 0)
+    (neg (num 1)) (wedge start-v end-v) (num 0) h tt
+
+pub flipped : (v1 v2 u1 u2 : Spot) → Collinear v1 v2 u1 u2 → Collinear (flip v1) (flip v2) (flip u1) (flip u2)
+flipped v1 v2 u1 u2 c =
+    record {
+      parallel = cross-flipped (way v1 v2) (way u1 u2) (c .parallel);
+      from-u = cross-flipped (way u1 u2) (way u1 v1) (c .from-u);
+      from-v = cross-flipped (way v1 v2) (way u1 v1) (c .from-v);
+    }

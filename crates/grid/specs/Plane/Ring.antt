@@ -20,9 +20,6 @@ swap-mul a b c = rw (← whole a, ← whole b, ← whole c) (simp naturals (omeg
 one-mul : (a : ℤ) → pos 1 *ℤ a ≡ a
 one-mul a = rw (← whole a) (simp naturals (omega arith))
 
-mul-one : (a : ℤ) → a *ℤ pos 1 ≡ a
-mul-one a = rw (← whole a) (simp naturals (omega arith))
-
 zero-add : (a : ℤ) → pos 0 +ℤ a ≡ a
 zero-add a = rw (← whole a) (simp naturals (omega arith))
 

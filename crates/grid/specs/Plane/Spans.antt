@@ -1,6 +1,6 @@
 -- Two segments on one line, measured on u along the x axis: u goes from 0 to size, v from start to stop. They share a point exactly if
 -- these spans meet, and more than one exactly if they meet in more than one.
-use mathlib.Core.Path.{_≡_, refl, sym, ap, _∙_}
+use mathlib.Core.Path.{_≡_, refl, sym, ap, _∙_, subst}
 use mathlib.Core.Logic.{_⊎_, inl, inr}
 use mathlib.Core.List.{[], _∷_}
 use Prim.Native.Nat.{ℕ, suc, _+_, _-_, _*_, _≤_, _<_}
@@ -10,10 +10,11 @@ use lib.Dec.{ltb→lt, leb→le}
 use lib.IntN.{ℤ, pos, negsuc, negℤ, natAbs, _+ℤ_, _-ℤ_, _*ℤ_}
 use lib.Signed.{_≤ℤ_, _<ℤ_}
 use Rattle.grid.specs.Promise.{Spot, Point, Along, OnSegment}
+use Rattle.grid.specs.Plane.Whole.{whole, naturals}
 use Rattle.grid.specs.Plane.Ring.{combine, combine2, var, num, neg, _⊞_, _⊟_, _⊠_}
-use Rattle.grid.specs.Plane.Order.{cancel, natural-below, turned, lt-or-le}
+use Rattle.grid.specs.Plane.Order.{turned, lt-or-le, either, other}
 use Rattle.grid.specs.Plane.Sides.{same-x}
-use Rattle.grid.specs.Plane.Spots.{IsSpot}
+use Rattle.grid.specs.Plane.Spots.{IsSpot, along-back, is-end}
 
 -- ---- spans: from a to b, in either order, against 0 to k
 abbrev pub Meet : ℤ → ℤ → ℕ → Type 0
@@ -66,22 +67,6 @@ none-past a b k r s s' t' e ka kb l T' H =
     let some : 0 < (s + r) * t' = mul-pos H T' in
     omega arith
 
--- both ends of v at 0 or before: then the point is u's start
-all-before : (a b k r s s' t' : ℕ) → (a * r + b * s) * t' + k * (s' * (s + r)) ≡ 0 → 0 < k → 0 < s + r → s' ≤ 0
-all-before a b k r s s' t' e K H =
-    let none : s' * (k * (s + r)) ≤ 0 * (k * (s + r)) = omega arith in
-    le-of-mul-le-mul-right none (mul-pos K H)
-
--- both before 0: there is none
-none-before : (a b k r s s' t' : ℕ) → (a * r + b * s) * t' + k * (s' * (s + r)) ≡ 0 → 0 < a → 0 < b → 0 < t' → 0 < s + r → ⊥
-none-before a b k r s s' t' e A B T' H =
-    let p : 1 * r ≤ a * r = mul-le-mul-right r A in
-    let q : 1 * s ≤ b * s = mul-le-mul-right s B in
-    let both : s + r ≤ a * r + b * s = omega arith in
-    let times : (s + r) * t' ≤ (a * r + b * s) * t' = mul-le-mul-right t' both in
-    let some : 0 < (s + r) * t' = mul-pos H T' in
-    omega arith
-
 -- ---- signs and naturals
 above : (k : ℕ) (a : ℤ) → pos k <ℤ a → (n : ℕ) × (a ≡ pos n) × (k < n)
 above k (pos n) h = (n, refl, ltb→lt k n (h .lt))
@@ -90,25 +75,6 @@ above k (negsuc n) h = absurd (h .lt)
 from : (k : ℕ) (a : ℤ) → pos k ≤ℤ a → (n : ℕ) × (a ≡ pos n) × (k ≤ n)
 from k (pos n) h = (n, refl, leb→le k n (h .le))
 from k (negsuc n) h = absurd (h .le)
-
-before : (a : ℤ) → a <ℤ pos 0 → (n : ℕ) × (a ≡ negℤ (pos n)) × (0 < n)
-before (pos n) h = let l : n < 0 = ltb→lt n 0 (h .lt) in absurd (omega arith)
-before (negsuc n) h = (suc n, refl, omega arith)
-
--- ---- s / t of the way at either end
-at-end : (c a b s : ℤ) (q t : ℕ) → 0 < t → c *ℤ pos t ≡ pos q *ℤ (a *ℤ pos t +ℤ (b -ℤ a) *ℤ s) → s ≡ pos t → c ≡ b *ℤ pos q
-at-end c a b s q t H h e =
-    let C = var 0 in let A = var 1 in let B = var 2 in let S = var 3 in let Q = var 4 in let T' = var 5 in
-    cancel c (b *ℤ pos q) t H
-    (combine2 (c ∷ a ∷ b ∷ s ∷ pos q ∷ pos t ∷ []) (C ⊠ T') (B ⊠ Q ⊠ T')
-    (num 1) (C ⊠ T') (Q ⊠ (A ⊠ T' ⊞ (B ⊟ A) ⊠ S)) (Q ⊠ (B ⊟ A)) S T' h e tt)
-
-at-start : (c a b s : ℤ) (q t : ℕ) → 0 < t → c *ℤ pos t ≡ pos q *ℤ (a *ℤ pos t +ℤ (b -ℤ a) *ℤ s) → s ≡ pos 0 → c ≡ a *ℤ pos q
-at-start c a b s q t H h e =
-    let C = var 0 in let A = var 1 in let B = var 2 in let S = var 3 in let Q = var 4 in let T' = var 5 in
-    cancel c (a *ℤ pos q) t H
-    (combine2 (c ∷ a ∷ b ∷ s ∷ pos q ∷ pos t ∷ []) (C ⊠ T') (A ⊠ Q ⊠ T')
-    (num 1) (C ⊠ T') (Q ⊠ (A ⊠ T' ⊞ (B ⊟ A) ⊠ S)) (Q ⊠ (B ⊟ A)) S (num 0) h e tt)
 
 -- ---- places on u: a grid point p, as a multiple of u's way along x
 abbrev pub size : Spot → Spot → ℕ
@@ -147,8 +113,33 @@ seen v1 v2 u1 u2 P (s, t, l, on-v) (s', t', l', on-u) =
       place = turn ∙ ap (λ (z : ℕ). pos (size u1 u2) *ℤ (pos s' *ℤ pos z)) rest;
     }
 
+-- u from its other end
+seen-back : (u1 u2 : Spot) (P : Point) (a b : ℤ) (k : ℕ) → Seen u1 u2 P a b k → Seen u2 u1 P (pos k -ℤ a) (pos k -ℤ b) k
+seen-back u1 u2 P a b k h =
+    let w = h .within in
+    let rest : h .t' ≡ h .s' + (h .t' - h .s') = omega arith in
+    record {
+      s = h .s;
+      r = h .r;
+      s' = h .t' - h .s';
+      t' = h .t';
+      some = h .some;
+      within = omega arith;
+      on-u = along-back P u1 u2 (h .s') (h .t' - h .s') (h .t') rest (h .on-u);
+      place = back a b (pos k) (pos (h .r)) (pos (h .s)) (pos (h .s')) (pos (h .t' - h .s')) (pos (h .t')) (h .place)
+          (ap pos rest);
+    }
+  where
+    back : (a b k r s s' q t' : ℤ) → (a *ℤ r +ℤ b *ℤ s) *ℤ t' ≡ k *ℤ (s' *ℤ (s +ℤ r)) → t' ≡ s' +ℤ q
+        → ((k -ℤ a) *ℤ r +ℤ (k -ℤ b) *ℤ s) *ℤ t' ≡ k *ℤ (q *ℤ (s +ℤ r))
+    back a b k r s s' q t' h e =
+        let A = var 0 in let B = var 1 in let K = var 2 in let R = var 3 in
+        let S = var 4 in let S' = var 5 in let Q = var 6 in let T' = var 7 in
+        combine2 (a ∷ b ∷ k ∷ r ∷ s ∷ s' ∷ q ∷ t' ∷ []) (((K ⊟ A) ⊠ R ⊞ (K ⊟ B) ⊠ S) ⊠ T') (K ⊠ (Q ⊠ (S ⊞ R)))
+        (neg (num 1)) ((A ⊠ R ⊞ B ⊠ S) ⊠ T') (K ⊠ (S' ⊠ (S ⊞ R))) (K ⊠ (R ⊞ S)) T' (S' ⊞ Q) h e tt
+
 module _ (u1 u2 : Spot) (P : Point) (a b : ℤ) (k : ℕ) (h : Seen u1 u2 P a b k) where
-  -- the place in naturals, by the signs of a and b
+  -- the place in naturals
   up-place : (m n : ℕ) → a ≡ pos m → b ≡ pos n → (m * h .r + n * h .s) * h .t' ≡ k * (h .s' * (h .s + h .r))
   up-place m n e f =
       ap natAbs
@@ -156,63 +147,42 @@ module _ (u1 u2 : Spot) (P : Point) (a b : ℤ) (k : ℕ) (h : Seen u1 u2 P a b 
       ∙ ap (λ (z : ℤ). (a *ℤ pos (h .r) +ℤ z *ℤ pos (h .s)) *ℤ pos (h .t')) (sym f)
       ∙ h .place)
 
-  down-place : (m n : ℕ) → a ≡ negℤ (pos m) → b ≡ negℤ (pos n) → (m * h .r + n * h .s) * h .t' + k * (h .s' * (h .s + h .r)) ≡ 0
-  down-place m n e f =
-      ap natAbs
-      (go (pos m) (pos n) (pos (h .r)) (pos (h .s)) (pos (h .t')) (pos k *ℤ (pos (h .s') *ℤ pos (h .s + h .r)))
-      (ap (λ (z : ℤ). (z *ℤ pos (h .r) +ℤ negℤ (pos n) *ℤ pos (h .s)) *ℤ pos (h .t')) (sym e)
-      ∙ ap (λ (z : ℤ). (a *ℤ pos (h .r) +ℤ z *ℤ pos (h .s)) *ℤ pos (h .t')) (sym f)
-      ∙ h .place))
-    where
-      go : (m n r s t' c : ℤ) → (negℤ m *ℤ r +ℤ negℤ n *ℤ s) *ℤ t' ≡ c → (m *ℤ r +ℤ n *ℤ s) *ℤ t' +ℤ c ≡ pos 0
-      go m n r s t' c h =
-          let M = var 0 in let N = var 1 in let R = var 2 in let S = var 3 in let T' = var 4 in let C = var 5 in
-          combine (m ∷ n ∷ r ∷ s ∷ t' ∷ c ∷ []) ((M ⊠ R ⊞ N ⊠ S) ⊠ T' ⊞ C) (num 0)
-          (neg (num 1)) ((neg M ⊠ R ⊞ neg N ⊠ S) ⊠ T') C h tt
-
   -- the spans meet
   pub not-past : (a ≤ℤ pos k) ⊎ (b ≤ℤ pos k)
-  not-past = go (lt-or-le (pos k) a) (lt-or-le (pos k) b)
+  not-past = either (other (lt-or-le (pos k) a)) (other (lt-or-le (pos k) b)) both
     where
-      go : (pos k <ℤ a) ⊎ (a ≤ℤ pos k) → (pos k <ℤ b) ⊎ (b ≤ℤ pos k) → (a ≤ℤ pos k) ⊎ (b ≤ℤ pos k)
-      go (inr l) m = inl l
-      go (inl l) (inr m) = inr m
-      go (inl l) (inl m) =
+      both : pos k <ℤ a → pos k <ℤ b → ⊥
+      both l m =
           let x = above k a l in
           let y = above k b m in
-          absurd (none-past (x .0) (y .0) k (h .r) (h .s) (h .s') (h .t') (up-place (x .0) (y .0) (x .1) (y .1)) (x .2) (y .2)
-          (h .within) (h .on-u .some) (h .some))
+          none-past (x .0) (y .0) k (h .r) (h .s) (h .s') (h .t') (up-place (x .0) (y .0) (x .1) (y .1)) (x .2) (y .2)
+          (h .within) (h .on-u .some) (h .some)
 
-  pub not-before : (pos 0 ≤ℤ a) ⊎ (pos 0 ≤ℤ b)
-  not-before = go (lt-or-le a (pos 0)) (lt-or-le b (pos 0))
-    where
-      go : (a <ℤ pos 0) ⊎ (pos 0 ≤ℤ a) → (b <ℤ pos 0) ⊎ (pos 0 ≤ℤ b) → (pos 0 ≤ℤ a) ⊎ (pos 0 ≤ℤ b)
-      go (inr l) m = inl l
-      go (inl l) (inr m) = inr m
-      go (inl l) (inl m) =
-          let x = before a l in
-          let y = before b m in
-          absurd (none-before (x .0) (y .0) k (h .r) (h .s) (h .s') (h .t') (down-place (x .0) (y .0) (x .1) (y .1)) (x .2) (y .2)
-          (h .on-u .some) (h .some))
-
-  -- where they meet in an end of u at most, the point is that end
+  -- where they meet in u's end at most, the point is that end
   pub past-end : 0 < k → pos k ≤ℤ a → pos k ≤ℤ b → IsSpot P u2
   past-end K l m =
       let x = from k a l in
       let y = from k b m in
       let all = all-past (x .0) (y .0) k (h .r) (h .s) (h .s') (h .t') (up-place (x .0) (y .0) (x .1) (y .1)) (x .2) (y .2) K (h .some) in
       let w = h .within in
-      let same : h .s' ≡ h .t' = omega arith in (
-        at-end (P .x) (u1 .x) (u2 .x) (pos (h .s')) (P .over) (h .t') (h .on-u .some) (h .on-u .at-x) (ap pos same),
-        at-end (P .y) (u1 .y) (u2 .y) (pos (h .s')) (P .over) (h .t') (h .on-u .some) (h .on-u .at-y) (ap pos same),
-      )
+      let same : h .s' ≡ h .t' = omega arith in
+      is-end P u1 u2 (h .t') (subst (λ (z : ℕ). Along P u1 u2 (pos z) (h .t')) same (h .on-u))
+
+-- the same at u's start, which is its end from the other side
+module _ (u1 u2 : Spot) (P : Point) (a b : ℤ) (k : ℕ) (h : Seen u1 u2 P a b k) where
+  pub not-before : (pos 0 ≤ℤ a) ⊎ (pos 0 ≤ℤ b)
+  not-before = go (not-past u2 u1 P (pos k -ℤ a) (pos k -ℤ b) k (seen-back u1 u2 P a b k h))
+    where
+      least : (a k : ℤ) → (k -ℤ a) ≤ℤ k → pos 0 ≤ℤ a
+      least a k = rw (← whole a, ← whole k) (simp naturals (omega arith))
+
+      go : ((pos k -ℤ a) ≤ℤ pos k) ⊎ ((pos k -ℤ b) ≤ℤ pos k) → (pos 0 ≤ℤ a) ⊎ (pos 0 ≤ℤ b)
+      go (inl l) = inl (least a (pos k) l)
+      go (inr l) = inr (least b (pos k) l)
 
   pub before-start : 0 < k → a ≤ℤ pos 0 → b ≤ℤ pos 0 → IsSpot P u1
   before-start K l m =
-      let x = natural-below a l in
-      let y = natural-below b m in
-      let all = all-before (x .0) (y .0) k (h .r) (h .s) (h .s') (h .t') (down-place (x .0) (y .0) (x .1) (y .1)) K (h .some) in
-      let none : h .s' ≡ 0 = omega arith in (
-        at-start (P .x) (u1 .x) (u2 .x) (pos (h .s')) (P .over) (h .t') (h .on-u .some) (h .on-u .at-x) (ap pos none),
-        at-start (P .y) (u1 .y) (u2 .y) (pos (h .s')) (P .over) (h .t') (h .on-u .some) (h .on-u .at-y) (ap pos none),
-      )
+      past-end u2 u1 P (pos k -ℤ a) (pos k -ℤ b) k (seen-back u1 u2 P a b k h) K (most a (pos k) l) (most b (pos k) m)
+    where
+      most : (a k : ℤ) → a ≤ℤ pos 0 → k ≤ℤ (k -ℤ a)
+      most a k = rw (← whole a, ← whole k) (simp naturals (omega arith))

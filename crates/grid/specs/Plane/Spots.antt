@@ -1,7 +1,7 @@
 -- Grid points on segments: an end lies on its segment, a segment's ends may change places, the axes may change places, a segment
 -- without length has one point, and a grid point on a segment's line lies on the segment exactly if it does on the x axis.
 use mathlib.Core.Path.{_≡_, refl, ap, subst}
-use mathlib.Core.Logic.{inl, inr}
+use mathlib.Core.Logic.{inl, inr, _↔_}
 use mathlib.Core.List.{[], _∷_}
 use Prim.Native.Nat.{ℕ, _+_, _-_, _<_}
 use native.Mathlib.Omega.{arith}
@@ -45,16 +45,15 @@ other-way c a b q t s r h e =
     combine2 (c ∷ a ∷ b ∷ q ∷ t ∷ s ∷ r ∷ []) (C ⊠ T') (Q ⊠ (B ⊠ T' ⊞ (A ⊟ B) ⊠ R))
     (num 1) (C ⊠ T') (Q ⊠ (A ⊠ T' ⊞ (B ⊟ A) ⊠ S)) (neg (Q ⊠ (B ⊟ A))) T' (S ⊞ R) h e tt
 
-pub reverse : (P : Point) (a b : Spot) → OnSegment P a b → OnSegment P b a
-reverse P a b (s, t, l, h) =
-    let whole : t ≡ s + (t - s) = omega arith in
-    let parts : pos t ≡ pos s +ℤ pos (t - s) = ap pos whole in
+pub along-back : (P : Point) (a b : Spot) (s r t : ℕ) → t ≡ s + r → Along P a b (pos s) t → Along P b a (pos r) t
+along-back P a b s r t e h =
     let turn : (c x y : ℤ) → c *ℤ pos t ≡ pos (P .over) *ℤ (x *ℤ pos t +ℤ (y -ℤ x) *ℤ pos s)
-    → c *ℤ pos t ≡ pos (P .over) *ℤ (y *ℤ pos t +ℤ (x -ℤ y) *ℤ pos (t - s))
-    = λ c x y k. other-way c x y (pos (P .over)) (pos t) (pos s) (pos (t - s)) k parts in
-    let along : Along P b a (pos (t - s)) t
-    = record { some = h .some; at-x = turn (P .x) (a .x) (b .x) (h .at-x); at-y = turn (P .y) (a .y) (b .y) (h .at-y) } in
-    (t - s, t, omega arith, along)
+    → c *ℤ pos t ≡ pos (P .over) *ℤ (y *ℤ pos t +ℤ (x -ℤ y) *ℤ pos r)
+    = λ c x y k. other-way c x y (pos (P .over)) (pos t) (pos s) (pos r) k (ap pos e) in
+    record { some = h .some; at-x = turn (P .x) (a .x) (b .x) (h .at-x); at-y = turn (P .y) (a .y) (b .y) (h .at-y) }
+
+pub reverse : (P : Point) (a b : Spot) → OnSegment P a b → OnSegment P b a
+reverse P a b (s, t, l, h) = (t - s, t, omega arith, along-back P a b s (t - s) t (omega arith) h)
 
 pub share-reversed : (v1 v2 u1 u2 : Spot) → Share v2 v1 u1 u2 → Share v1 v2 u1 u2
 share-reversed v1 v2 u1 u2 (P, (p, q)) = (P, (reverse P v2 v1 p, q))
@@ -64,11 +63,17 @@ share-more-reversed v1 v2 u1 u2 (P, Q, apart, (p, p'), (q, q')) =
     (P, Q, apart, (reverse P v2 v1 p, p'), (reverse Q v2 v1 q, q'))
 
 -- ---- u and v change places
-pub share-swapped : (v1 v2 u1 u2 : Spot) → Share u1 u2 v1 v2 → Share v1 v2 u1 u2
-share-swapped v1 v2 u1 u2 (P, (p, q)) = (P, (q, p))
+pub share-swapped : (v1 v2 u1 u2 : Spot) → Share v1 v2 u1 u2 ↔ Share u1 u2 v1 v2
+share-swapped v1 v2 u1 u2 = (swap v1 v2 u1 u2, swap u1 u2 v1 v2)
+  where
+    swap : (a b c d : Spot) → Share a b c d → Share c d a b
+    swap a b c d (P, (p, q)) = (P, (q, p))
 
-pub share-more-swapped : (v1 v2 u1 u2 : Spot) → ShareMore u1 u2 v1 v2 → ShareMore v1 v2 u1 u2
-share-more-swapped v1 v2 u1 u2 (P, Q, apart, (p, p'), (q, q')) = (P, Q, apart, (p', p), (q', q))
+pub share-more-swapped : (v1 v2 u1 u2 : Spot) → ShareMore v1 v2 u1 u2 ↔ ShareMore u1 u2 v1 v2
+share-more-swapped v1 v2 u1 u2 = (swap v1 v2 u1 u2, swap u1 u2 v1 v2)
+  where
+    swap : (a b c d : Spot) → ShareMore a b c d → ShareMore c d a b
+    swap a b c d (P, Q, apart, (p, p'), (q, q')) = (P, Q, apart, (p', p), (q', q))
 
 -- ---- the axes change places
 abbrev pub flip : Spot → Spot
@@ -84,17 +89,23 @@ flip-apart : (P Q : Point) → Apart P Q → Apart (flip-point P) (flip-point Q)
 flip-apart P Q (inl h) = inr h
 flip-apart P Q (inr h) = inl h
 
-pub share-flipped : (v1 v2 u1 u2 : Spot) → Share v1 v2 u1 u2 → Share (flip v1) (flip v2) (flip u1) (flip u2)
-share-flipped v1 v2 u1 u2 (P, (p, q)) = (flip-point P, (flip-on P v1 v2 p, flip-on P u1 u2 q))
+pub share-flipped : (v1 v2 u1 u2 : Spot) → Share v1 v2 u1 u2 ↔ Share (flip v1) (flip v2) (flip u1) (flip u2)
+share-flipped v1 v2 u1 u2 = (turn v1 v2 u1 u2, turn (flip v1) (flip v2) (flip u1) (flip u2))
+  where
+    turn : (a b c d : Spot) → Share a b c d → Share (flip a) (flip b) (flip c) (flip d)
+    turn a b c d (P, (p, q)) = (flip-point P, (flip-on P a b p, flip-on P c d q))
 
-pub share-more-flipped : (v1 v2 u1 u2 : Spot) → ShareMore v1 v2 u1 u2 → ShareMore (flip v1) (flip v2) (flip u1) (flip u2)
-share-more-flipped v1 v2 u1 u2 (P, Q, apart, (p, p'), (q, q')) = (
-  flip-point P,
-  flip-point Q,
-  flip-apart P Q apart,
-  (flip-on P v1 v2 p, flip-on P u1 u2 p'),
-  (flip-on Q v1 v2 q, flip-on Q u1 u2 q'),
-)
+pub share-more-flipped : (v1 v2 u1 u2 : Spot) → ShareMore v1 v2 u1 u2 ↔ ShareMore (flip v1) (flip v2) (flip u1) (flip u2)
+share-more-flipped v1 v2 u1 u2 = (turn v1 v2 u1 u2, turn (flip v1) (flip v2) (flip u1) (flip u2))
+  where
+    turn : (a b c d : Spot) → ShareMore a b c d → ShareMore (flip a) (flip b) (flip c) (flip d)
+    turn a b c d (P, Q, apart, (p, p'), (q, q')) = (
+      flip-point P,
+      flip-point Q,
+      flip-apart P Q apart,
+      (flip-on P a b p, flip-on P c d p'),
+      (flip-on Q a b q, flip-on Q c d q'),
+    )
 
 -- ---- segments without length, and points that are grid points
 abbrev pub Same : Spot → Spot → Type 0
@@ -103,7 +114,7 @@ Same a b = (a .x ≡ b .x) × (a .y ≡ b .y)
 abbrev pub IsSpot : Point → Spot → Type 0
 IsSpot P a = (P .x ≡ a .x *ℤ pos (P .over)) × (P .y ≡ a .y *ℤ pos (P .over))
 
-pub stays : (c a b s : ℤ) (q t : ℕ) → 0 < t → c *ℤ pos t ≡ pos q *ℤ (a *ℤ pos t +ℤ (b -ℤ a) *ℤ s) → a ≡ b → c ≡ a *ℤ pos q
+stays : (c a b s : ℤ) (q t : ℕ) → 0 < t → c *ℤ pos t ≡ pos q *ℤ (a *ℤ pos t +ℤ (b -ℤ a) *ℤ s) → a ≡ b → c ≡ a *ℤ pos q
 stays c a b s q t H h e =
     let C = var 0 in let A = var 1 in let B = var 2 in let S = var 3 in let Q = var 4 in let T' = var 5 in
     cancel c (a *ℤ pos q) t H
@@ -115,6 +126,23 @@ only-spot P a b (ex, ey) (s, t, l, h) = (
   stays (P .x) (a .x) (b .x) (pos s) (P .over) t (h .some) (h .at-x) ex,
   stays (P .y) (a .y) (b .y) (pos s) (P .over) t (h .some) (h .at-y) ey,
 )
+
+-- so have points at an end
+pub is-start : (P : Point) (a b : Spot) (t : ℕ) → Along P a b (pos 0) t → IsSpot P a
+is-start P a b t h = (
+  at-none (P .x) (a .x) (b .x) (P .over) t (h .some) (h .at-x),
+  at-none (P .y) (a .y) (b .y) (P .over) t (h .some) (h .at-y),
+)
+  where
+    at-none : (c a b : ℤ) (q t : ℕ) → 0 < t → c *ℤ pos t ≡ pos q *ℤ (a *ℤ pos t +ℤ (b -ℤ a) *ℤ pos 0) → c ≡ a *ℤ pos q
+    at-none c a b q t H h =
+        let C = var 0 in let A = var 1 in let B = var 2 in let Q = var 3 in let T' = var 4 in
+        cancel c (a *ℤ pos q) t H
+        (combine (c ∷ a ∷ b ∷ pos q ∷ pos t ∷ []) (C ⊠ T') (A ⊠ Q ⊠ T')
+        (num 1) (C ⊠ T') (Q ⊠ (A ⊠ T' ⊞ (B ⊟ A) ⊠ num 0)) h tt)
+
+pub is-end : (P : Point) (a b : Spot) (t : ℕ) → Along P a b (pos t) t → IsSpot P b
+is-end P a b t h = is-start P b a t (along-back P a b t 0 t (omega arith) h)
 
 lies : (c p a b s : ℤ) (q t : ℕ) → 0 < q → c *ℤ pos t ≡ pos q *ℤ (a *ℤ pos t +ℤ (b -ℤ a) *ℤ s) → c ≡ p *ℤ pos q
     → p *ℤ pos t ≡ pos 1 *ℤ (a *ℤ pos t +ℤ (b -ℤ a) *ℤ s)
