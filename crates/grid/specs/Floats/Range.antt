@@ -4,7 +4,7 @@
 -- The argument for the second: what is not rounded across is exact. t * length is below the float length + epsilon only if the
 -- exact product of the two floats is; and the quotient t, the length and the sum are off by some 2 ^ -31 at most, epsilon being
 -- 2 ^ -10.
-use mathlib.Core.Path.{_≡_, refl, sym, ap, subst}
+use mathlib.Core.Path.{_≡_, sym, ap, subst}
 use Prim.Native.Nat.{ℕ, _+_, _-_, _*_, _^_, _≤_, _<_}
 use native.Mathlib.Nat.{
   mul-pos,
@@ -24,10 +24,11 @@ use lib.Ieee.Digits.{back}
 use lib.Ieee.Fits.{add-fits, neg-fits, and-i, and-l, and-r}
 use Rattle.float_laws.specs.Signed.{Diff, SizeOf, ups, downs, diff-same, diff-at, diff-finite, neg-diff}
 use Rattle.float_laws.specs.Order.{lt-over, le-over}
+use Rattle.float_laws.specs.Chains.{lt-le}
 use Rattle.float_laws.specs.Rounded.{Rounded, add-over}
-use Rattle.float_laws.specs.Roundings.{Near, Sized, rounded-le, rounded-ge, rounded-below, rounded-above}
+use Rattle.float_laws.specs.Roundings.{Near, Sized, rounded-le, rounded-below, rounded-above}
 use Rattle.float_laws.specs.Whole.{most-whole, least-whole}
-use Rattle.float_laws.specs.Binary64.{unit, unit-pos, zero-is, units64, near64, sized64}
+use Rattle.float_laws.specs.Binary64.{unit, unit-pos, zero-is, units64, mul-least, add-least, near64, sized64}
 use Rattle.floats.specs.Ops.{_⊕_, _⊗_, f0}
 use Rattle.plane.specs.Vector2 as vector2
 use Rattle.plane.specs.declared.vector2.Vector2.{Vector2}
@@ -37,7 +38,7 @@ use Rattle.grid.specs.Floats.Zero.{Eps}
 use Rattle.grid.specs.Floats.Length.{Long}
 use Rattle.grid.specs.Floats.Reach.{Less, Beyond, Reaches}
 use Rattle.grid.specs.Floats.Ratio.{Place, at-most}
-use Rattle.grid.specs.Floats.Bounds.{bounded, cut, near-over, times-length, by-length}
+use Rattle.grid.specs.Floats.Bounds.{bounded, cut, times-length, by-length}
 
 -- ---- the epsilon in units
 pub record EpsUnits (e : Float) (num den : ℕ) : Type 0 where
@@ -257,31 +258,10 @@ module _ (e : Float) (num den : ℕ) (h : Eps e num den)
           together T R W E L Q x y = omega (arith, mul-le-mul-right L y)
 
   -- ---- not before the start
-  -- t * length + epsilon: finite too
+  -- t * length + epsilon, one more rounding
   module _ (p n : ℕ) (d : Diff t p n unit) where
     sum : Rounded binary64 (t ⊗ len ⊕ e) (m-near p n d .p + eu .E) (m-near p n d .n + 0) unit
     sum = add-over binary64 (t ⊗ len) e (m-near p n d .p) (m-near p n d .n) (eu .E) 0 unit unit-pos (m-near p n d .is) (eu .is)
-
-    sum-near : Near unit (t ⊗ len ⊕ e) (m-near p n d .p + eu .E) (m-near p n d .n + 0) unit (2 ^ 68) (2 ^ 54)
-    sum-near =
-        let m = m-near p n d in
-        let b = by-length (2 ^ 44) p n unit (g .R) (t-most p n d) (g .most) in
-        let k = near-over unit unit (unit * unit) (2 ^ 66) unit-pos refl (t ⊗ len) (p * g .R) (n * g .R) m in
-        near64 (t ⊗ len ⊕ e) _ _ unit 68 sum unit-pos
-        (more (m .p) (m .n) unit (eu .E) (whole (m .p) (m .n) (p * g .R) (n * g .R) unit unit-pos (k .0) (b .0)) (eu .most))
-        (less (m .p) (m .n) unit (eu .E) (whole (m .n) (m .p) (n * g .R) (p * g .R) unit unit-pos (k .1) (b .1)))
-        (lit≤ tt)
-      where
-        whole : (x y X Y L : ℕ) → 0 < L → 2 ^ 54 * (x * L + Y) ≤ 2 ^ 54 * (X + y * L) + 2 ^ 66 * (L * L)
-            → X ≤ Y + 2 ^ 66 * (L * L)
-            → x ≤ y + 2 ^ 67 * L
-        whole x y X Y L Q k z = le-of-mul-le-mul-right {m = x} {n = y + 2 ^ 67 * L} {k = L} (omega arith) Q
-
-        more : (x y L E : ℕ) → x ≤ y + 2 ^ 67 * L → 2 * E ≤ L → x + E ≤ y + 0 + 2 ^ 68 * L
-        more x y L E k b = omega arith
-
-        less : (x y L E : ℕ) → y ≤ x + 2 ^ 67 * L → y + 0 ≤ x + E + 2 ^ 68 * L
-        less x y L E k = omega arith
 
   -- the exact parameter is at least 0
   pub after-start : N ≤ P → T (fuzzyGtEps (t ⊗ len) f0 e)
@@ -290,29 +270,13 @@ module _ (e : Float) (num den : ℕ) (h : Eps e num den)
       let n = t-near .n in
       let d = t-near .is in
       let m = m-near p n d in
-      let s = sum-near p n d in
-      let zero-le = least-whole binary64 t P N D r C p n unit unit-pos d 0 0 (lit≤ tt) (lit≤ tt) (turn P N D x) in
-      let least = rounded-ge binary64 (t ⊗ len) _ _ (unit * unit) (product p n d) (mul-pos unit-pos unit-pos) f0 0 0 unit unit-pos
-      (ofBits-fits binary64 0) zero-is
-      (scaled p n (g .R) unit zero-le) in
-      let above = le-over f0 (t ⊗ len) 0 0 (m .p) (m .n) unit unit-pos zero-is (m .is) .0 least in
-      let more = rounded-ge binary64 (t ⊗ len ⊕ e) _ _ unit (sum p n d) unit-pos e (eu .E) 0 unit unit-pos (h .fit) (eu .is)
-      (added (m .p) (m .n) (eu .E) unit above) in
-      let past = le-over e (t ⊗ len ⊕ e) (eu .E) 0 (s .p) (s .n) unit unit-pos (eu .is) (s .is) .0 more in
-      lt-over f0 (t ⊗ len ⊕ e) 0 0 (s .p) (s .n) unit unit-pos zero-is (s .is) .1
-      (less (s .p) (s .n) (eu .E) unit unit-pos past (eu .least))
+      let zero-le = least-whole binary64 t P N D r C p n unit unit-pos d 0 0 (lit≤ tt) (lit≤ tt) (omega arith) in
+      let least = mul-least t len p n (g .R) d (g .is) (omega arith) in
+      let positive = lt-over f0 e 0 0 (eu .E) 0 unit unit-pos zero-is (eu .is) .1 (some (eu .E) unit unit-pos (eu .least)) in
+      lt-le f0 e (t ⊗ len ⊕ e) positive (add-least (t ⊗ len) e (m .p) (m .n) (eu .E) 0 (h .fit) (m .is) (eu .is) least)
     where
-      turn : (P N D : ℕ) → N ≤ P → 0 * D + N ≤ P + 0 * D
-      turn P N D x = omega arith
-
-      scaled : (p n R L : ℕ) → 0 * L + n ≤ p + 0 * L → 0 * (L * L) + n * R * L ≤ p * R * L + 0 * (L * L)
-      scaled p n R L x = omega (arith, mul-le-mul-right (R * L) x)
-
-      added : (p n E L : ℕ) → 0 + n ≤ p + 0 → E * L + (n + 0) * L ≤ (p + E) * L + 0 * L
-      added p n E L x = omega (arith, mul-le-mul-right L x)
-
-      less : (p n E L : ℕ) → 0 < L → E + n ≤ p + 0 → L ≤ 1024 * E → 0 + n < p + 0
-      less p n E L Q x y = omega arith
+      some : (E L : ℕ) → 0 < L → L ≤ 1024 * E → 0 + 0 < E + 0
+      some E L Q x = omega arith
 
   -- where it is a / D below 0, the point lies less than two epsilons before the start
   pub before-start : T (fuzzyGtEps (t ⊗ len) f0 e) → Beyond S num den D P N

@@ -1,6 +1,6 @@
 -- `floats::guess::fits` meets its contract: a no says nothing, and what a yes says is Laws/Guess.
 use mathlib.Core.Path.{_≡_}
-use mathlib.Core.Bool.{false, true, false≢true}
+use mathlib.Core.Bool.{false≢true}
 use Prim.Native.Nat.{ℕ, _+_, _*_, _/_, _-_, _%_, _^_, _<_}
 use native.Mathlib.Omega.{arith}
 use borrow.Author.Needs.{needs}
