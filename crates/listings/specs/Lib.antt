@@ -9,4 +9,5 @@ pub mod Told
 pub mod Refusals
 pub mod HasRow
 pub mod Complete
+pub mod Settle
 pub mod Laws
