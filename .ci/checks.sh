@@ -1,0 +1,247 @@
+# What the gate does, a function for each check. `.ci/run` calls them in its order; `.ci/test` tries that each can fail.
+
+scratch=$(mktemp -d)
+trap 'rm -rf "$scratch"' EXIT
+quick=
+times=()
+
+fail() {
+    echo "gate: $*"
+    exit 1
+}
+
+say() {
+    echo "gate: $*"
+}
+
+# Runs a command and shows what it wrote only where it failed.
+quietly() {
+    local out
+    out=$(mktemp -p "$scratch")
+    "$@" > "$out" 2>&1 || {
+        cat "$out"
+        return 1
+    }
+}
+
+# How long a part took, by the wall's clock: called at its end, with its start.
+note_time() {
+    times+=("$((SECONDS - $1)) s  $part")
+}
+
+say_times() {
+    say "it took $SECONDS seconds:"
+    printf 'gate: %s\n' "${times[@]}"
+}
+
+# ---- proofs
+
+# rt ci removes target/, so it comes first, and nothing is proved twice. Its last line is held back for the end.
+prove() {
+    local start=$SECONDS
+    command -v rt > /dev/null || fail "the Rattle kit's rt is not on the PATH"
+    if ! rt ci 2>&1 | tee "$scratch/rt" | sed -u '$d'; then
+        tail -n 1 "$scratch/rt"
+        fail "rt ci failed"
+    fi
+    verdict=$(tail -n 1 "$scratch/rt")
+    [[ $verdict =~ ^[1-9][0-9]*\ passed,\ 0\ failed$ ]] || fail "rt ci ended with '$verdict'"
+    note_time "$start"
+}
+
+# What has changed is proved first; then what stands on it, and beside that its wrong functions are tried.
+prove_changed() {
+    local start=$SECONDS changed trials=
+    quick=yes
+    command -v rt > /dev/null || fail "the Rattle kit's rt is not on the PATH"
+    changed=$(.ci/trials changed) || fail "what has changed could not be told: $changed"
+    if [ -n "$changed" ]; then
+        # shellcheck disable=SC2086
+        quietly rt check $changed || fail "what has changed is not proved: $changed"
+        # shellcheck disable=SC2086
+        .ci/trials $changed > "$scratch/trials" 2>&1 &
+        trials=$!
+    fi
+    quietly rt check || fail "rt check failed"
+    if [ -n "$trials" ]; then
+        wait "$trials" || fail "a wrong function was not refused as it should be: $(cat "$scratch/trials")"
+        say "$(tail -n 1 "$scratch/trials") ($(echo $changed))"
+    fi
+    note_time "$start"
+}
+
+# Wrong functions, many at a time: beside the must-fail edits, which rt ci has tried one by one. It needs what was proved.
+try_functions() {
+    local start=$SECONDS said
+    said=$(.ci/trials) || fail "a wrong function was not refused as it should be: $said"
+    say "$said"
+    note_time "$start"
+}
+
+# ---- texts
+
+check_texts() {
+    local start=$SECONDS
+    quietly rt fmt --check || fail "rt fmt would change the files above"
+    check_paths
+    .ci/promises || fail "the documents and the sources differ as above: .ci/promises write writes what is generated"
+    note_time "$start"
+}
+
+# A path of somebody's machine in a tracked file means nothing to a user. git grep's status is 1 where it finds none, and above 1
+# where it could not look.
+check_paths() {
+    local status=0
+    git grep -nE '/(work|opt|root|tmp|home)/' || status=$?
+    case $status in
+    1) ;;
+    0) fail "the lines above name paths of a machine" ;;
+    *) fail "git grep could not look for paths of a machine: status $status" ;;
+    esac
+}
+
+# Where each wrong program was refused is what docs/FRAUDS.md says; of a must-fail edit too some fact must fail.
+check_frauds() {
+    local start=$SECONDS
+    .ci/frauds ${quick:+quick} || fail "docs/FRAUDS.md and what was refused differ as above: .ci/frauds write writes what is generated"
+    note_time "$start"
+}
+
+# ---- the gate's own scripts
+
+check_scripts() {
+    local start=$SECONDS
+    quietly .ci/test || fail "a check of the gate does not fail where it should"
+    note_time "$start"
+}
+
+# ---- stored answers
+
+check_stored() {
+    local start=$SECONDS
+    check_replay crates/replay
+    check_layouts target/bin/crossings layouts
+    note_time "$start"
+}
+
+# rt has run the program and held it to its file stdout. Here: that file speaks of the whole list.
+check_replay() {
+    local records
+    records=$(wc -l < "$1/stdin")
+    [ "$records" -gt 0 ] || fail "the recorded list is empty"
+    [ "$(cat "$1/stdout")" = "replayed $records differences 0" ] || fail "$1/stdout does not say that all $records records agree"
+    say "replayed $records records"
+}
+
+# The text program on the stored layouts, their answers byte for byte. It needs no Rust: a model in Rust wrote the answers.
+check_layouts() {
+    local program=$1 texts=("$2"/*.txt) answers=("$2"/*.out) text answer
+    [ -f "${texts[0]}" ] || fail "no layouts are stored"
+    for text in "${texts[@]}"; do
+        answer=${text%.txt}.out
+        "$program" < "$text" > "$scratch/answer" || fail "$program failed on $text"
+        cmp "$scratch/answer" "$answer" || fail "$program does not answer $text with $answer"
+    done
+    [ ${#texts[@]} = ${#answers[@]} ] || fail "there are answers in $2 without a text"
+    say "ran ${#texts[@]} stored layouts"
+}
+
+# ---- the comparison
+
+# The static libraries (the product's, and what only the comparison calls) beside Rust, and the recorded list made again.
+compare_with_rust() {
+    local start=$SECONDS
+    if ! can_compare; then
+        say "no cargo on this machine: NOTHING WAS COMPARED WITH RUST"
+        return
+    fi
+    find_rust_text
+    make_libraries
+    local words=(--release --offline --locked --manifest-path compare/Cargo.toml --target-dir target/compare)
+    export RUSTFLAGS="-D warnings"
+    quietly cargo build "${words[@]}" "${features[@]}" || fail "compare does not build"
+    quietly cargo test "${words[@]}" "${features[@]}" "${packages[@]}" || fail "compare's own tests failed"
+    run_comparison target/compare/release/compare
+    note_time "$start"
+}
+
+can_compare() {
+    command -v cargo > /dev/null && return
+    [ "${CI:-}" != true ] || fail "no cargo on this machine: nothing can be compared with Rust"
+    return 1
+}
+
+# The Rust text is no part of the repository. Where its folder is, compare compiles it and runs its own examples too. A user's clone
+# goes on without it, and says so; where CI is true it must be there.
+find_rust_text() {
+    local folder=${CAVALIER_SRC:-../shared/docs/src}
+    features=()
+    packages=(--package compare)
+    if [ -d "$folder" ]; then
+        features=(--features rust-text)
+        packages=(--workspace)
+    else
+        [ "${CI:-}" != true ] || fail "no Rust text at $folder: nothing can be compared with it"
+        say "no Rust text at $folder: NOTHING WAS COMPARED WITH IT"
+    fi
+}
+
+# Both libraries at once. One that is there already, made of what is proved now, is not made again.
+make_libraries() {
+    local library waits=()
+    for library in capi probe; do
+        if ! cmp -s "target/stamp/$library" "target/staticlib/$library.stamp"; then
+            { quietly rt staticlib "$library" && cp "target/stamp/$library" "target/staticlib/$library.stamp"; } &
+            waits+=($!)
+        fi
+    done
+    for library in "${waits[@]}"; do
+        wait "$library" || fail "a static library was not made"
+    done
+}
+
+# The comparison proper, two runs at a time. Quick: a tenth of the inputs.
+run_comparison() {
+    local compare=$1 inputs=10485760 pairs=4194304 texts=3072 check
+    if [ -n "$quick" ]; then
+        inputs=$((inputs / 10)) pairs=$((pairs / 10)) texts=$((texts / 10))
+    fi
+    "$compare" check "$inputs" > "$scratch/check" 2>&1 &
+    check=$!
+    "$compare" search "$pairs" || fail "an answer breaks what is promised on the grid"
+    quietly "$compare" record "$scratch/list" || fail "compare record failed"
+    check_list "$scratch/list" crates/replay/stdin
+    compare_texts "$compare" "$texts"
+    wait "$check" || {
+        cat "$scratch/check"
+        fail "the library and Rust differ"
+    }
+    cat "$scratch/check"
+}
+
+# The text program beside a model of it over the Rust text, and the stored answers made again.
+compare_texts() {
+    if [ ${#features[@]} = 0 ]; then
+        say "no Rust text: THE TEXT PROGRAM WAS NOT COMPARED WITH A MODEL"
+        return
+    fi
+    "$1" texts target/bin/crossings "$2" || fail "the text program and its model differ"
+    mkdir "$scratch/layouts"
+    cp layouts/*.txt "$scratch/layouts"
+    quietly "$1" layouts "$scratch/layouts" || fail "compare layouts failed"
+    local answer
+    for answer in layouts/*.out; do
+        cmp "$scratch/$answer" "$answer" || fail "$answer is not what 'compare layouts' writes"
+    done
+}
+
+# The list must be what is made here. Without the Rust text only its front can be made: the float functions' answers.
+check_list() {
+    if [ ${#features[@]} -gt 0 ]; then
+        cmp "$1" "$2" || fail "$2 is not what 'compare record' writes"
+        return
+    fi
+    [ -s "$1" ] || fail "compare record wrote nothing"
+    cmp -n "$(wc -c < "$1")" "$1" "$2" || fail "$2 does not begin with what 'compare record' writes"
+    say "no Rust text: ITS PART OF THE RECORDED LIST WAS NOT MADE AGAIN"
+}
