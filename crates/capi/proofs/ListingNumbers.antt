@@ -16,22 +16,13 @@ use Rattle.paths.specs.Path.{vertexCount}
 use Rattle.paths.specs.Segments.{segmentCount}
 use Rattle.paths.specs.Shape.{shape}
 use Rattle.paths.specs.Check.{along, ofVertex, ofSegment, vertexChecks, arcChecks, pathChecks}
-use Rattle.listings.specs.declared.row.Row.{Row}
-use Rattle.listings.specs.declared.row.Look.{Look}
-use Rattle.listings.specs.declared.answer.ListingAnswer.{ListingAnswer}
-use Rattle.listings.specs.Order.{Pair, mutualPairs, selfPairs}
-use Rattle.listings.specs.Look.{look}
-use Rattle.listings.specs.Listing.{
-  Outcome,
-  Leaves,
-  roomCheck,
-  outcomeOf,
-  outcome,
-  mutualChecks,
-  mutualListing,
-  selfChecks,
-  selfListing,
-}
+use Rattle.listing_pairs.specs.declared.row.Row.{Row}
+use Rattle.listing_pairs.specs.declared.row.Look.{Look}
+use Rattle.listing_pairs.specs.Order.{Pair, mutualPairs, selfPairs}
+use Rattle.listing_pairs.specs.Look.{look}
+use Rattle.listing_loop.specs.declared.answer.ListingAnswer.{ListingAnswer}
+use Rattle.listing_loop.specs.Outcome.{Outcome, Leaves, roomCheck, outcomeOf, outcome}
+use Rattle.listing_calls.specs.Listing.{mutualChecks, mutualListing, selfChecks, selfListing}
 use Rattle.capi.specs.HandedListing.{HandedListing, code, counted}
 use Rattle.capi.proofs.Numbers.{Small, fine, refused, and, smalls}
 

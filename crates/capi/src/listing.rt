@@ -2,11 +2,11 @@
 ghost use mathlib.Core.Path.{_≡_};
 ghost use Prim.Native.Nat.{_≤_, _<_};
 ghost use lib.ListN.{length};
-ghost use Rattle.listings.specs.Listing;
+ghost use Rattle.listing_calls.specs.Listing;
 ghost use Rattle.capi.specs.HandedListing as handed;
-use listings::answer::ListingAnswer;
-use listings::mutual_listing;
-use listings::self_listing;
+use listing_calls::mutual_listing;
+use listing_calls::self_listing;
+use listing_loop::answer::ListingAnswer;
 
 // Writes the counts of an answer to the front of `counts` and returns 0; a refusal writes nothing, and 256 and its number are
 // returned.

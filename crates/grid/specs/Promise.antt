@@ -16,9 +16,9 @@ use Rattle.arcs.specs.declared.pline_seg_intr.PlineSegIntr.{PlineSegIntr}
 use Rattle.arcs.specs.declared.pline_seg_intr.PlineSegIntr.the-variants.{NoIntersect, OneIntersect, OverlappingLines}
 use Rattle.crossing.specs.declared.pline_seg_intersect.PlineSegAnswer.the-variants.{Met}
 use Rattle.paths.specs.Segments.{segmentFrom, segmentCount}
-use Rattle.listings.specs.declared.answer.ListingAnswer.the-variants.{Listed}
-use Rattle.listings.specs.Listing.{mutualListing}
-use Rattle.listings.specs.HasRow.{HasRow}
+use Rattle.listing_loop.specs.declared.answer.ListingAnswer.the-variants.{Listed}
+use Rattle.listing_calls.specs.Listing.{mutualListing}
+use Rattle.listing_calls.specs.HasRow.{HasRow}
 
 -- ---- numbers. ℤ has the whole numbers with a sign: `pos n` is n, `natAbs` the size. The float x is a / c: a finite float is
 -- m * 2 ^ e, with a minus where s is true, and 2 ^ e is up e / down e.

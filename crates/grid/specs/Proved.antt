@@ -24,7 +24,7 @@ use Rattle.arcs.specs.declared.pline_seg_intr.PlineSegIntr.the-variants.{
   OverlappingArcs,
 }
 use Rattle.paths.specs.Segments.{segmentFrom}
-use Rattle.listings.specs.Complete.{complete}
+use Rattle.listing_calls.specs.Complete.{complete}
 use Rattle.grid.specs.Promise.{Spot, On, Epsilon, Kept, Promise, ListingPromise}
 use Rattle.grid.specs.Accepted.{accepted, two-lines}
 use Rattle.grid.specs.Joined.{At, vec, vec-at, eps}

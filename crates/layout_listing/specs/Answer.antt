@@ -11,9 +11,10 @@ use Rattle.layout_text.specs.Reader.{Taken, broken, layout, reads}
 use Rattle.layout_lines.specs.declared.Written.{Written}
 use Rattle.layout_lines.specs.Lines.{refusedText, answerText}
 use Rattle.layout_lines.specs.Written.{Lines}
-use Rattle.listings.specs.declared.answer.ListingAnswer.{ListingAnswer}
-use Rattle.listings.specs.declared.answer.ListingAnswer.the-variants.{Refused, Listed}
-use Rattle.listings.specs.Listing.{Outcome, mutualListing}
+use Rattle.listing_loop.specs.declared.answer.ListingAnswer.{ListingAnswer}
+use Rattle.listing_loop.specs.declared.answer.ListingAnswer.the-variants.{Refused, Listed}
+use Rattle.listing_loop.specs.Outcome.{Outcome}
+use Rattle.listing_calls.specs.Listing.{mutualListing}
 
 -- 1/1024
 abbrev pub epsilon : Float

@@ -5,8 +5,8 @@ use layout_lines::write_answer;
 use layout_lines::write_refusal;
 use layout_text::Reading;
 use layout_text::read_layout;
-use listings::answer::ListingAnswer;
-use listings::mutual_listing::mutual_listing;
+use listing_calls::mutual_listing::mutual_listing;
+use listing_loop::answer::ListingAnswer;
 
 // how near is near: 1/1024
 pub const EPSILON: f64 = 0.0009765625;

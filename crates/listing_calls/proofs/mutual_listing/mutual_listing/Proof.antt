@@ -1,0 +1,44 @@
+-- `listing_calls::mutual_listing::mutual_listing` meets its contract: a fault is told as it is; where there is none, every pair
+-- may be looked at, and the job's listing is the two paths'.
+use mathlib.Core.Path.{_≡_, refl, sym, _∙_}
+use borrow.Author.Needs.{needs}
+use denote.Ref.{now}
+use Rattle.checks.specs.declared.fault.Checked.the-variants.{Fine}
+use Rattle.listing_calls.specs.Listing.{checkMutual}
+use Rattle.listing_calls.specs.Laws.Entry.{mutual-ready, mutual-listed, mutual-refused}
+use Rattle.listing_calls.proofs.mutual_listing.mutual_listing.Statement.{statement}
+use Rattle.listing_calls.proofs.mutual_listing.mutual_listing.Tie as tie
+
+abbrev start : tie.After-check-mutual → tie.Start
+start c = c .before .before .before .before .before
+
+-- no fault was found
+fine : (c : tie.After-enum-told)
+    → let a = start (c .before .before) .args in
+    checkMutual (now (a .first)) (a .first-closed) (now (a .second)) (a .second-closed) (a .epsilon) ≡ Fine
+fine c = sym (c .before .before .check-mutual .ensures) ∙ c .enum-told .given .1
+
+list-requires : tie.Need-list-requires
+list-requires c κs =
+    let m = c .before .before in
+    let n = m .before in
+    mutual-ready _ _ _ _ _ (fine (n .before)) _ refl (n .segment-count .ensures) (m .segment-count2 .ensures)
+
+returns : tie.Need-returns
+returns c =
+    let l = c .before .before .before .before in
+    let m = l .before .before .before in
+    let n = m .before in
+    mutual-listed _ _ _ _ _ (fine (n .before)) _ _ _ _ _ _ refl refl (n .segment-count .ensures) (m .segment-count2 .ensures)
+    (l .list .ensures)
+
+returns-2 : tie.Need-returns-2
+returns-2 c =
+    mutual-refused _ _ _ _ _ _ _ _ (sym (c .before .before .before .check-mutual .ensures) ∙ c .before .looked .given .1)
+
+pub mutual-listing-spec : {M : Type 1} → statement M
+mutual-listing-spec =
+    tie.close
+    (tie.spec
+    (λ c. search needs) (λ c. search needs) (λ c. search needs) (λ c. search needs) list-requires
+    (λ c. search needs) (λ c. search needs) (λ c. search needs) returns returns-2)

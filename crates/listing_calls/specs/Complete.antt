@@ -1,0 +1,77 @@
+-- No row is left out: where two paths were listed, every pair of their segments that meets in any class but NoIntersect has a row with
+-- its indices.
+use mathlib.Core.Path.{_≡_, refl}
+use mathlib.Core.Bool.{Bool}
+use mathlib.Core.List.{List}
+use Prim.Native.Nat.{ℕ, zero, suc, _<_, zero-le}
+use native.Mathlib.Omega.{arith}
+use lib.Ieee.{Float}
+use lib.ListN.{length}
+use Rattle.checks.specs.declared.fault.Checked.{Checked}
+use Rattle.checks.specs.declared.fault.Checked.the-variants.{Fine, Bad}
+use Rattle.checks.specs.First.{first as firstFault}
+use Rattle.crossing.specs.PlineSeg.{plineSeg}
+use Rattle.crossing.specs.PlineSegIntr.{classOf}
+use Rattle.arcs.specs.declared.pline_seg_intr.PlineSegIntr.{PlineSegIntr}
+use Rattle.paths.specs.Segments.{segmentFrom, segmentCount}
+use Rattle.listing_pairs.specs.declared.row.Row.{Row}
+use Rattle.listing_pairs.specs.declared.row.Look.the-variants.{Made}
+use Rattle.listing_pairs.specs.Row.{row, lookOf, unlessApart, indicesOf, flat}
+use Rattle.listing_pairs.specs.Order.{mutualPairs}
+use Rattle.listing_pairs.specs.Rows.{rowsOf, lookedAt}
+use Rattle.listing_pairs.specs.Look.{look}
+use Rattle.listing_loop.specs.declared.answer.ListingAnswer.the-variants.{Refused, Listed}
+use Rattle.listing_loop.specs.Outcome.{over, outcomeOf, outcome}
+use Rattle.listing_calls.specs.Listing.{mutualChecks, mutualListing}
+use Rattle.listing_calls.specs.Refusals.{all}
+use Rattle.listing_calls.specs.HasRow.{HasRow}
+use Rattle.listing_calls.specs.Laws.Complete.{pairs-have, row-of-pair, row-in-slice}
+
+-- how segment i of the first path and segment j of the second meet
+abbrev pub pairOf : List Float → List Float → Float → ℕ → ℕ → PlineSegIntr
+pairOf first second epsilon i j =
+    let v = segmentFrom first i in
+    let u = segmentFrom second j in
+    plineSeg (v .v1) (v .v2) (u .v1) (u .v2) epsilon
+
+never : {n k : ℕ} {m : ℕ} → Refused n ≡ Listed k m → ⊥
+never e = let z : _≡_ {A = ℕ} 0 1 = cc in omega (arith, z)
+
+-- a pair that meets makes a row
+makes : (first second : List Float) (epsilon : Float) (i j : ℕ) → 0 < classOf (pairOf first second epsilon i j)
+    → look first second epsilon i j ≡ Made (row i j (pairOf first second epsilon i j))
+unfolding look lookOf
+makes first second epsilon i j h =
+    let met = pairOf first second epsilon i j in go (classOf met) (row i j met) h
+  where
+    go : (class : ℕ) (r : Row) → 0 < class → unlessApart class r ≡ Made r
+    go zero r h = absurd (omega (arith, h))
+    go (suc class) r h = refl
+
+-- what was listed is what there is
+listed-is : (c : Checked) (rows : List Row) (looked n m : ℕ) (old : List ℕ) (points : List Float)
+    → outcomeOf c rows looked old points .answer ≡ Listed n m
+    → (n ≡ length rows) × (outcomeOf c rows looked old points .indices ≡ over old (flat indicesOf rows))
+listed-is Fine rows looked n m old points e = (cc, refl)
+listed-is (Bad fault) rows looked n m old points e = absurd (never e)
+
+pub complete : (first : List Float) (firstClosed : Bool) (second : List Float) (secondClosed : Bool) (epsilon : Float)
+    (indices : List ℕ) (points : List Float) (rows pairs : ℕ)
+    → mutualListing first firstClosed second secondClosed epsilon indices points .answer ≡ Listed rows pairs
+    → (i j : ℕ) → i < segmentCount first firstClosed → j < segmentCount second secondClosed
+    → 0 < classOf (pairOf first second epsilon i j)
+    → HasRow rows (mutualListing first firstClosed second secondClosed epsilon indices points .indices) i j
+unfolding mutualListing outcome
+complete first firstClosed second secondClosed epsilon indices points rows pairs e i j hi hj meets =
+    let f = look first second epsilon in
+    let n = segmentCount first firstClosed in
+    let m = segmentCount second secondClosed in
+    let ps = mutualPairs n m in
+    let checks = mutualChecks first firstClosed second secondClosed epsilon in
+    let found = firstFault (all checks f ps indices points) in
+    let is = listed-is found (rowsOf f ps) (lookedAt f ps) rows pairs indices points e in
+    let r = row i j (pairOf first second epsilon i j) in
+    let here = pairs-have (λ i. 0) (λ i. m) i j n 0 zero-le (omega (arith, hi)) zero-le hj in
+    let w = row-of-pair f (record { i = i; j = j }) ps r here (makes first second epsilon i j meets) in
+    let stands = row-in-slice r (rowsOf f ps) indices w in
+    record { k = length (w .before); written = omega (arith, stands .0, is .0); at = rw (is .1) (stands .1) }

@@ -1,0 +1,4 @@
+-- Laws that only proofs need: from the checks of a listing to its outcome, where the row of a pair stands, and how many rows fit.
+pub mod Entry
+pub mod Complete
+pub mod Counts

@@ -1,0 +1,121 @@
+-- The refusals of the listings, exactly when: a listing refuses with number n if and only if the first fault of its checks in order,
+-- 8 the last of them, has that number; it lists if and only if every check passes; and a refusal leaves both slices as they were.
+-- Table.antt of the crates `checks` and `paths` says of each check when it finds which fault; 8 is `too-many` here.
+use mathlib.Core.Path.{_≡_, refl, sym, ap}
+use mathlib.Core.Bool.{Bool, true, false, cond, true≢false}
+use mathlib.Core.Logic.{_↔_}
+use mathlib.Core.List.{List, [], _∷_, _++_}
+use Prim.Native.Nat.{ℕ, _<_}
+use borrow.Author.Tests.{ltb-true, lt-ltb}
+use lib.Dec.{ltb}
+use lib.Ieee.{Float}
+use lib.ListN.{length}
+use Rattle.checks.specs.declared.fault.Item.the-variants.{Rows}
+use Rattle.checks.specs.declared.fault.Checked.{Checked}
+use Rattle.checks.specs.declared.fault.Checked.the-variants.{Fine, Bad}
+use Rattle.checks.specs.Fault.{at, bad, refuse}
+use Rattle.checks.specs.First.{first as firstFault}
+use Rattle.crossing.specs.Settle.{settle}
+use Rattle.crossing.specs.Settled.{Settled, Apart, settled, no-number}
+use Rattle.paths.specs.Segments.{segmentCount}
+use Rattle.listing_pairs.specs.declared.row.Row.{Row}
+use Rattle.listing_pairs.specs.declared.row.Look.{Look}
+use Rattle.listing_pairs.specs.Order.{Pair, mutualPairs, selfPairs}
+use Rattle.listing_pairs.specs.Rows.{rowsOf, lookedAt}
+use Rattle.listing_pairs.specs.Look.{look}
+use Rattle.listing_loop.specs.declared.answer.ListingAnswer.{ListingAnswer}
+use Rattle.listing_loop.specs.declared.answer.ListingAnswer.the-variants.{Refused, Listed}
+use Rattle.listing_loop.specs.Outcome.{Outcome, room, roomCheck, outcomeOf, outcome}
+use Rattle.listing_calls.specs.Listing.{mutualChecks, mutualListing, selfChecks, selfListing}
+
+is-bad : Checked → Bool
+is-bad Fine = false
+is-bad (Bad f) = true
+
+-- ---- 8: exactly if there are more rows than fit
+pub too-many : (rows : List Row) (indices : List ℕ) (points : List Float)
+    → (roomCheck rows indices points ≡ bad 8 (at 0 0 Rows)) ↔ (room indices points < length rows)
+unfolding roomCheck refuse is-bad
+too-many rows indices points = (
+  λ e. ltb-true _ _ (go (ltb (room indices points) (length rows)) e),
+  λ h. rw (lt-ltb _ _ h) refl,
+)
+  where
+    go : (b : Bool) → cond b (bad 8 (at 0 0 Rows)) Fine ≡ bad 8 (at 0 0 Rows) → b ≡ true
+    go true e = refl
+    go false e = absurd (true≢false (sym (ap is-bad e)))
+
+-- ---- how many rows and pairs
+pub record Counts : Type 0 where
+  pub rows : ℕ
+  pub pairs : ℕ
+
+abbrev pub counted : Counts → ListingAnswer
+counted c = Listed (c .rows) (c .pairs)
+
+-- what a refusal leaves
+pub record Untouched (o : Outcome) (indices : List ℕ) (points : List Float) : Type 0 where
+  pub kept : (n : ℕ) → o .answer ≡ Refused n → (o .indices ≡ indices) × (o .points ≡ points)
+
+apart : Apart Refused counted
+apart = record { numbers = λ n m e. cc; kinds = λ n i e. no-number cc }
+
+-- ---- any listing
+module _ (checks : List Checked) (f : ℕ → ℕ → Look) (ps : List Pair) (indices : List ℕ) (points : List Float) where
+  abbrev pub all : List Checked
+  all = checks ++ (roomCheck (rowsOf f ps) indices points ∷ [])
+
+  abbrev pub counts : Counts
+  counts = record { rows = length (rowsOf f ps); pairs = lookedAt f ps }
+
+  same : (c : Checked) → settle Refused counted c counts ≡ outcomeOf c (rowsOf f ps) (lookedAt f ps) indices points .answer
+  same Fine = refl
+  same (Bad fault) = refl
+
+  outcome-settled : Settled Refused counted (outcome checks f ps indices points .answer) all counts
+  unfolding outcome
+  outcome-settled = rw (← same (firstFault all)) (settled Refused counted apart all counts)
+
+  left-alone : (c : Checked) → Untouched (outcomeOf c (rowsOf f ps) (lookedAt f ps) indices points) indices points
+  left-alone Fine = record { kept = λ n e. absurd (apart .kinds n counts (sym e)) }
+  left-alone (Bad fault) = record { kept = λ n e. (refl, refl) }
+
+  outcome-untouched : Untouched (outcome checks f ps indices points) indices points
+  unfolding outcome
+  outcome-untouched = left-alone (firstFault all)
+
+-- ---- two paths
+module _ (first : List Float) (firstClosed : Bool) (second : List Float) (secondClosed : Bool) (epsilon : Float)
+    (indices : List ℕ) (points : List Float) where
+  abbrev pub between : List Pair
+  between = mutualPairs (segmentCount first firstClosed) (segmentCount second secondClosed)
+
+  abbrev these : List Checked
+  these = mutualChecks first firstClosed second secondClosed epsilon
+
+  pub mutual-settled :
+      Settled Refused counted (mutualListing first firstClosed second secondClosed epsilon indices points .answer)
+      (all (mutualChecks first firstClosed second secondClosed epsilon) (look first second epsilon) between indices points)
+      (counts (mutualChecks first firstClosed second secondClosed epsilon) (look first second epsilon) between indices points)
+  unfolding mutualListing
+  mutual-settled = outcome-settled these (look first second epsilon) between indices points
+
+  pub mutual-untouched : Untouched (mutualListing first firstClosed second secondClosed epsilon indices points) indices points
+  unfolding mutualListing
+  mutual-untouched = outcome-untouched these (look first second epsilon) between indices points
+
+-- ---- one path
+module _ (path : List Float) (closed : Bool) (epsilon : Float) (indices : List ℕ) (points : List Float) where
+  abbrev pub within : List Pair
+  within = selfPairs (segmentCount path closed) closed
+
+  pub self-settled :
+      Settled Refused counted (selfListing path closed epsilon indices points .answer)
+      (all (selfChecks path closed epsilon) (look path path epsilon) within indices points)
+      (counts (selfChecks path closed epsilon) (look path path epsilon) within indices points)
+  unfolding selfListing
+  self-settled = outcome-settled (selfChecks path closed epsilon) (look path path epsilon) within indices points
+
+  pub self-untouched : Untouched (selfListing path closed epsilon indices points) indices points
+  unfolding selfListing
+  self-untouched = outcome-untouched (selfChecks path closed epsilon) (look path path epsilon) within indices points

@@ -1,0 +1,60 @@
+// The crossings of a path with itself.
+ghost use mathlib.Core.Path.{_≡_};
+ghost use Rattle.listing_loop.specs.Outcome;
+ghost use Rattle.listing_calls.specs.Listing;
+use checks::each;
+use checks::fault::Checked;
+use checks::fault::Item;
+use checks::fault::Place;
+use checks::fault::later;
+use listing_loop::answer::ListingAnswer;
+use listing_loop::buffer;
+use listing_pairs::order::Job;
+use paths::check;
+use paths::segments;
+use paths::shape;
+
+// The first fault of epsilon, of the path's length, and of its vertices and arcs.
+fn check_self(path: &[f64], closed: bool, epsilon: f64) -> Checked
+    ensures { λ r. ⌜ r ≡ Listing.checkSelf (now (path .entry)) closed epsilon ⌝ }
+{
+    let a0 = each::epsilon(
+        epsilon,
+        Place {
+            owner: 0,
+            index: 0,
+            item: Item::Epsilon,
+        },
+    );
+    let a1 = later(a0, shape::shape(path, 0));
+    check::check_path(a1, path, closed, 0)
+}
+
+// Lists which segments of the path meet, neighbours excepted, and where, into the lent slices.
+pub fn self_listing(
+    path: &[f64],
+    closed: bool,
+    epsilon: f64,
+    indices: &mut [u64],
+    points: &mut [f64],
+) -> ListingAnswer
+    ensures { λ r. ⌜
+        Outcome.Leaves (Listing.selfListing (now (path .entry)) closed epsilon (now (indices .entry)) (now (points .entry)))
+        r (now (indices .exit)) (now (points .exit)) ⌝ }
+{
+    let looked = check_self(path, closed, epsilon);
+    match looked {
+        Checked::Fine => {
+            let n = segments::segment_count(path, closed);
+            let job = Job {
+                n: n,
+                m: n,
+                own: true,
+                closed: closed,
+                epsilon: epsilon,
+            };
+            buffer::list(path, path, job, indices, points)
+        }
+        Checked::Bad(fault) => ListingAnswer::Refused(fault.number),
+    }
+}

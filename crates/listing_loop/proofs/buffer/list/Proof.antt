@@ -1,0 +1,35 @@
+-- `listing_loop::buffer::list` meets its contract: what is kept is that of the second path's segments, and the listing is that
+-- of `list_kept`.
+use mathlib.Core.Path.{_≡_}
+use native.Mathlib.Omega.{arith}
+use lib.Ieee.{Float, binary64, ofBits}
+use lib.ListN.{length, replicate, length-replicate}
+use Rattle.listing_pairs.specs.Laws.Keeping.{kept-ready}
+use borrow.Author.Needs.{needs}
+use Rattle.listing_loop.proofs.buffer.list.Statement.{statement}
+use Rattle.listing_loop.proofs.buffer.list.Tie as tie
+
+-- the numbers, at first
+long : length (let z : Float = ofBits binary64 0 in replicate 12288 z) ≡ 12288
+long = let z : Float = ofBits binary64 0 in length-replicate 12288 z
+
+keep-requires : tie.Need-keep-requires
+keep-requires c κs =
+    let ready = c .before .before .before .before .before .pre in
+    (ready .m-within, (ready .few-second, omega (arith, long, ready .few-second)))
+
+list-kept-requires : tie.Need-list-kept-requires
+list-kept-requires c κs =
+    let k = c .before .before .before .before in
+    let s = k .before .before .before .before .before .before in
+    kept-ready _ _ _ _ _ (s .pre) (omega (arith, long, s .pre .few-second)) (k .keep .ensures)
+
+returns : tie.Need-returns
+returns c = search needs
+
+pub list-spec : {M : Type 1} → statement M
+list-spec =
+    tie.close
+    (tie.spec
+    (λ c. search needs) keep-requires (λ c. search needs) list-kept-requires (λ c. search needs) (λ c. search needs)
+    returns)

@@ -1,0 +1,103 @@
+-- `listing_loop::buffer::list_behind` meets its contract: counting leaves the slices as they were; where the rest ends on its
+-- page, the rows that were held back and those of that page are all rows.
+use mathlib.Core.Path.{_≡_, sym, ap, _∙_}
+use Prim.Native.Nat.{ℕ, _+_, _-_}
+use native.Mathlib.Omega.{arith}
+use borrow.Author.Needs.{needs}
+use denote.Ref.{now}
+use lib.ListN.{length}
+use lib.Seq.{paste}
+use Rattle.listing_pairs.specs.Look.{look}
+use Rattle.listing_loop.specs.Laws.Loop.{few-on-page}
+use Rattle.listing_loop.specs.Laws.Outcome.{few-on-every, held-indices, held-points, behind-listed, behind-refused}
+use Rattle.listing_loop.proofs.buffer.list_behind.Statement.{statement}
+use Rattle.listing_loop.proofs.buffer.list_behind.Tie as tie
+
+abbrev start : tie.After-fill → tie.Start
+start c = c .before .before .before .before .before .before .before .before .before .before
+
+abbrev counted : tie.After-copy-rows → tie.After-fill
+counted c = c .before .before .before .before .before .before .before .before
+
+-- counting writes nothing
+same-indices : (c : tie.After-fill) → c .fill .last .1 .1 .1 .1 .1 .1 .1 .1 .1 .0 ≡ now (start c .args .indices)
+same-indices c = c .fill .ensures .indices
+
+same-points : (c : tie.After-fill) → c .fill .last .1 .1 .1 .1 .1 .1 .1 .1 .1 .1 .0 ≡ now (start c .args .points)
+same-points c = c .fill .ensures .points
+
+-- the rows that were held back are copied
+copied-indices : (c : tie.After-copy-rows)
+    → (let a = start (counted c) .args in
+    c .copy-rows .last .1 .1 .1 .0 ≡ paste (now (a .indices)) 0 (now (a .held-indices)) 6144)
+copied-indices c =
+    c .copy-rows .ensures .0 ∙ ap (λ l. paste l 0 (now (start (counted c) .args .held-indices)) 6144) (same-indices (counted c))
+
+copied-points : (c : tie.After-copy-rows)
+    → (let a = start (counted c) .args in
+    c .copy-rows .last .1 .1 .1 .1 .0 ≡ paste (now (a .points)) 0 (now (a .held-points)) 8192)
+copied-points c =
+    c .copy-rows .ensures .1 ∙ ap (λ l. paste l 0 (now (start (counted c) .args .held-points)) 8192) (same-points (counted c))
+
+fill-requires : tie.Need-fill-requires
+fill-requires c κs =
+    let h = c .before .before .before .before .before .before .before .before .before .pre in
+    (h .0, (h .1 .1 .1 .within, (h .1 .1 .0, (omega (arith, h .1 .0), omega (arith, h .1 .0)))))
+
+copy-rows-requires : tie.Need-copy-rows-requires
+copy-rows-requires c κs =
+    let f = c .before .before .before .before .before .before .before in
+    let h = start f .pre .1 in (
+      (omega (arith, held-indices (h .1 .1)), omega (arith, held-points (h .1 .1))),
+      (omega (arith, ap length (same-indices f), h .0, h .1 .0), omega (arith, ap length (same-points f), h .0, h .1 .0)),
+    )
+
+fill-requires-2 : tie.Need-fill-requires-2
+fill-requires-2 c κs =
+    let k = c .before .before .before .before .before .before in
+    let h = start (counted k) .pre in
+    let on-indices = ap length (copied-indices k) in
+    let on-points = ap length (copied-points k) in
+    (h .0, (h .1 .1 .1 .within, (h .1 .1 .0, (omega (arith, h .1 .0, on-indices), omega (arith, h .1 .0, on-points)))))
+
+add-t29 : tie.Need-add-t29
+add-t29 c =
+    let k = c .before .before .before .before .before in
+    let s = start (counted (k .before .before .before .before .before .before .before)) in
+    let a = s .args in
+    let F = look (now (a .first)) (now (a .second)) (a .job .epsilon) in
+    let ready = s .pre .0 .pairs in
+    let held = s .pre .1 .1 .1 in
+    let few = few-on-every F (a .job) 2048 (ready .few) (ready .few-second) in
+    let more = few-on-page F (a .job) (a .i) (a .j) (a .room - 2048) (ready .few) (ready .few-second) in
+    omega (arith, held .pairs, few, k .fill2 .ensures .pairs, more)
+
+returns : tie.Need-returns
+returns c =
+    let g = c .before .before .before .before .before in
+    let k = g .before .before .before .before .before .before .before in
+    let t = k .before .before .before in
+    let f = t .before .before .before .before .before in
+    let a = start f .args in
+    let h = start f .pre .1 in
+    let ended = rw (h .0) at (f .fill .ensures .ended) in
+    let done = rw (h .0) at (g .fill2 .ensures) in
+    behind-listed (h .1 .1) (now (a .indices)) (now (a .points)) (omega (arith, h .0, h .1 .0)) (sym ended ∙ t .if1 .taken)
+    _ _ _ _ _ _
+    (done .rows) (ap (λ (n : ℕ). a .pairs + n) (done .pairs)) (copied-indices k) (copied-points k) (done .indices) (done .points)
+
+returns-2 : tie.Need-returns-2
+returns-2 c =
+    let f = c .before .before .before .before .before in
+    let a = start f .args in
+    let h = start f .pre .1 in
+    let ended = rw (h .0) at (f .fill .ensures .ended) in
+    behind-refused (h .1 .1) (now (a .indices)) (now (a .points)) (omega (arith, h .0, h .1 .0)) (sym ended ∙ c .if1 .left)
+    _ _ (same-indices f) (same-points f)
+
+pub list-behind-spec : {M : Type 1} → statement M
+list-behind-spec =
+    tie.close
+    (tie.spec
+    fill-requires copy-rows-requires fill-requires-2 add-t29 (λ c. search needs) (λ c. search needs) returns
+    (λ c. search needs) (λ c. search needs) returns-2)

@@ -1,0 +1,124 @@
+-- `listing_loop::buffer::list_held_back` meets its contract: the buffer is a page of all pairs. Where it ends the listing, it is
+-- copied; where it is as long as the slices and pairs are left, there are too many rows; else the rest follows behind it.
+use mathlib.Core.Path.{_≡_, refl, sym, ap, _∙_}
+use mathlib.Core.Bool.{true}
+use mathlib.Core.List.{List}
+use Prim.Native.Nat.{ℕ, _≤_}
+use native.Mathlib.Omega.{arith}
+use borrow.Author.Needs.{needs}
+use denote.Ref.{now}
+use lib.Ieee.{Float, binary64, ofBits}
+use lib.ListN.{length, replicate, length-replicate}
+use lib.Seq.{length-sets}
+use Rattle.listing_pairs.specs.declared.row.Look.{Look}
+use Rattle.listing_pairs.specs.Order.{Pair}
+use Rattle.listing_pairs.specs.Row.{indicesOf, pointsOf, flat}
+use Rattle.listing_pairs.specs.Look.{look}
+use Rattle.listing_pairs.specs.Laws.Job as job_of
+use Rattle.listing_loop.specs.Laws.Pages.{Page, page, joins, too-many}
+use Rattle.listing_loop.specs.Laws.Filling.{Filled}
+use Rattle.listing_loop.specs.Laws.Outcome.{filled-first, is-refused, held-back, hold}
+use Rattle.listing_loop.proofs.buffer.list_held_back.Statement.{statement}
+use Rattle.listing_loop.proofs.buffer.list_held_back.Tie as tie
+
+abbrev start : tie.After-fill → tie.Start
+start c = c .before .before .before .before .before .before .before .before .before .before
+
+-- the buffer, at first
+abbrev no-indices : List ℕ
+no-indices = replicate 6144 0
+
+abbrev no-points : List Float
+no-points = replicate 8192 (ofBits binary64 0)
+
+long-no-indices : length no-indices ≡ 6144
+long-no-indices = let z : ℕ = 0 in length-replicate 6144 z
+
+long-no-points : length no-points ≡ 8192
+long-no-points = let z : Float = ofBits binary64 0 in length-replicate 8192 z
+
+-- the pairs, and the page of them that the buffer is
+abbrev looks : tie.After-fill → ℕ → ℕ → Look
+looks c = let a = start c .args in look (now (a .first)) (now (a .second)) (a .job .epsilon)
+
+abbrev pairs : tie.After-fill → List Pair
+pairs c = job_of.every (start c .args .job)
+
+abbrev most : tie.After-fill → ℕ
+most c = c .before .before .before .lesser .result
+
+abbrev front : tie.After-fill → Page
+front c = page (looks c) (pairs c) (most c)
+
+done : (c : tie.After-fill)
+    → Filled (start c .args .job) true 0 (front c) (c .fill .result)
+    no-indices (c .fill .last .1 .1 .1 .1 .1 .1 .1 .1 .1 .0)
+    no-points (c .fill .last .1 .1 .1 .1 .1 .1 .1 .1 .1 .1 .0)
+done c =
+    let f = c .before .before .before .before in
+    filled-first (looks c) (start c .args .job) (f .from .result) (most c) (c .fill .result) _ _ _ _
+    (f .from .ensures) (c .fill .ensures)
+
+few : (c : tie.After-fill) → c .fill .result .rows ≤ most c
+few c = omega (arith, done c .rows, joins (looks c) (pairs c) (most c) .few)
+
+long-indices : (c : tie.After-fill) → length (c .fill .last .1 .1 .1 .1 .1 .1 .1 .1 .1 .0) ≡ 6144
+long-indices c = ap length (done c .indices) ∙ length-sets no-indices 0 (flat indicesOf (front c .rows)) ∙ long-no-indices
+
+long-points : (c : tie.After-fill) → length (c .fill .last .1 .1 .1 .1 .1 .1 .1 .1 .1 .1 .0) ≡ 8192
+long-points c = ap length (done c .points) ∙ length-sets no-points 0 (flat pointsOf (front c .rows)) ∙ long-no-points
+
+fill-requires : tie.Need-fill-requires
+fill-requires c κs =
+    let e = c .before .before .lesser .ensures in
+    let s = c .before .before .before .before .before .before .before .before .before in
+    (s .pre .0, (omega arith, (omega arith, (omega (arith, e), omega (arith, e)))))
+
+copy-rows-requires : tie.Need-copy-rows-requires
+copy-rows-requires c κs =
+    let f = c .before .before .before .before .before .before .before in
+    let e = f .before .before .before .lesser .ensures in
+    let h = start f .pre .1 in (
+      (omega (arith, long-indices f, few f, e), omega (arith, long-points f, few f, e)),
+      (omega (arith, few f, e, h), omega (arith, few f, e, h)),
+    )
+
+returns : tie.Need-returns
+returns c =
+    let k = c .before .before .before .before in
+    let t = k .before .before .before .before .before in
+    let f = t .before .before .before in
+    let a = start f .args in
+    let e = f .before .before .before .lesser .ensures in
+    let d = done f in
+    held-back (looks f) (pairs f) (now (a .indices)) (now (a .points)) (joins (looks f) (pairs f) (most f))
+    (omega (arith, e, start f .pre .1)) (sym (d .ended) ∙ t .if1 .taken) _ _ no-indices _ _ no-points _ _
+    (d .rows) (d .pairs) (omega (arith, e, long-no-indices)) (omega (arith, e, long-no-points))
+    (d .indices) (d .points) (k .copy-rows .ensures .0) (k .copy-rows .ensures .1)
+
+returns-2 : tie.Need-returns-2
+returns-2 c =
+    let f = c .before .before .before .before in
+    let a = start f .args in
+    let more = too-many (looks f) (joins (looks f) (pairs f) (most f)) (sym (done f .ended) ∙ c .before .if1 .left) in
+    let e = f .before .before .before .lesser .ensures in
+    is-refused (looks f) (pairs f) (now (a .indices)) (now (a .points)) (omega (arith, more, e, start f .pre .1, c .if2 .taken))
+    _ _ refl refl
+
+list-behind-requires : tie.Need-list-behind-requires
+list-behind-requires c κs =
+    let o = c .before .before .before .before in
+    let f = o .before .before .before .before in
+    let all : most f ≡ 2048 = omega (arith, f .before .before .before .lesser .ensures, o .if2 .left) in
+    let behind = hold (looks f) (start f .args .job) 2048 (most f) (f .fill .result) no-indices _ no-points _ all (done f)
+    (o .before .if1 .left) long-no-indices long-no-points in
+    (start f .pre .0, (start f .pre .1, (omega (arith, o .if2 .left), behind)))
+
+pub list-held-back-spec : {M : Type 1} → statement M
+list-held-back-spec =
+    tie.close
+    (tie.spec
+    (λ c. search needs) (λ c. search needs) (λ c. search needs) (λ c. search needs) fill-requires
+    (λ c. search needs) (λ c. search needs) copy-rows-requires (λ c. search needs) (λ c. search needs) returns
+    returns-2 (λ c. search needs) (λ c. search needs) list-behind-requires (λ c. search needs) (λ c. search needs)
+    (λ c. search needs))

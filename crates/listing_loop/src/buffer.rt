@@ -1,0 +1,215 @@
+// A listing of two looked-at paths into the caller's slices, if all rows fit. Refusal 8 is decided here and nowhere else: it is
+// answered if there are more rows than both slices have room for, and then nothing is written.
+ghost use Rattle.listing_pairs.specs.Look;
+ghost use Rattle.listing_pairs.specs.Laws.Job as job_of;
+ghost use Rattle.listing_pairs.specs.Laws.Keeping;
+ghost use Rattle.listing_pairs.specs.Laws.Ready;
+ghost use Rattle.listing_loop.specs.Outcome;
+ghost use Rattle.listing_loop.specs.Laws.Outcome as outcome_of;
+ghost use Prim.Native.Nat.{_≤_, _<_, _*_, min};
+ghost use lib.ListN.{length};
+ghost use mathlib.Core.Path.{_≡_};
+use super::answer::ListingAnswer;
+use super::fill::fill;
+use checks::refusal;
+use listing_pairs::keeping;
+use listing_pairs::order;
+use listing_pairs::order::Job;
+use listing_pairs::row;
+use listing_pairs::rows;
+
+// how many rows are held back while it is not known that all fit: 112 KiB
+const ROWS: usize = 2048;
+
+// The smaller of two numbers.
+fn lesser(x: usize, y: usize) -> usize
+    ensures { λ r. ⌜ r ≡ min x y ⌝ }
+{
+    if x < y {
+        return x;
+    }
+    y
+}
+
+// The listing of a job of which ROWS rows are held back, up to the pair (i, j), which makes one more: the rest is gone by twice, to
+// count, and if all rows fit to write.
+fn list_behind(
+    first: &[f64],
+    second: &[f64],
+    kept: &[f64],
+    job: Job,
+    i: usize,
+    j: usize,
+    pairs: usize,
+    held_indices: &[u64],
+    held_points: &[f64],
+    room: usize,
+    indices: &mut [u64],
+    points: &mut [f64],
+) -> ListingAnswer
+    requires { ⌜ Keeping.Ready (now first) (now second) (now kept) job ⌝ }
+    requires { ⌜ room ≡ Outcome.room (now indices) (now points) ⌝ }
+    requires { ⌜ 2048 ≤ room ⌝ }
+    requires { ⌜
+        outcome_of.Held (Look.look (now first) (now second) (job .epsilon)) job 2048 i j pairs
+        (now «held_indices») (now «held_points») ⌝ }
+    ensures { λ r. ⌜
+        Outcome.Leaves (outcome_of.listed (Look.look (now (first .entry)) (now (second .entry)) (job .epsilon)) (job_of.every job)
+        (now (indices .entry)) (now (points .entry)))
+        r (now (indices .exit)) (now (points .exit)) ⌝ }
+{
+    let counted = fill(
+        first,
+        second,
+        kept,
+        job,
+        i,
+        j,
+        false,
+        ROWS,
+        room,
+        indices,
+        points,
+    );
+    if counted.ended {
+        rows::copy_rows(held_indices, held_points, ROWS, indices, points);
+        let more = fill(
+            first,
+            second,
+            kept,
+            job,
+            i,
+            j,
+            true,
+            ROWS,
+            room,
+            indices,
+            points,
+        );
+        return ListingAnswer::Listed {
+            rows: more.rows,
+            pairs: pairs + more.pairs,
+        };
+    }
+    ListingAnswer::Refused(refusal::ROWS)
+}
+
+// The listing of a job, its rows held back in a buffer until it is known that all fit.
+fn list_held_back(
+    first: &[f64],
+    second: &[f64],
+    kept: &[f64],
+    job: Job,
+    room: usize,
+    indices: &mut [u64],
+    points: &mut [f64],
+) -> ListingAnswer
+    requires { ⌜ Keeping.Ready (now first) (now second) (now kept) job ⌝ }
+    requires { ⌜ room ≡ Outcome.room (now indices) (now points) ⌝ }
+    ensures { λ r. ⌜
+        Outcome.Leaves (outcome_of.listed (Look.look (now (first .entry)) (now (second .entry)) (job .epsilon)) (job_of.every job)
+        (now (indices .entry)) (now (points .entry)))
+        r (now (indices .exit)) (now (points .exit)) ⌝ }
+{
+    let mut held_indices = [0u64; 6144];
+    let mut held_points = [0.0f64; 8192];
+    let start = order::from(job, 0);
+    let most = lesser(room, ROWS);
+    let held = fill(
+        first,
+        second,
+        kept,
+        job,
+        0,
+        start,
+        true,
+        0,
+        most,
+        &mut held_indices,
+        &mut held_points,
+    );
+    if held.ended {
+        rows::copy_rows(&held_indices, &held_points, held.rows, indices, points);
+        return ListingAnswer::Listed {
+            rows: held.rows,
+            pairs: held.pairs,
+        };
+    }
+    if room <= ROWS {
+        return ListingAnswer::Refused(refusal::ROWS);
+    }
+    list_behind(
+        first,
+        second,
+        kept,
+        job,
+        held.i,
+        held.j,
+        held.pairs,
+        &held_indices,
+        &held_points,
+        room,
+        indices,
+        points,
+    )
+}
+
+// The listing of a job, with what is kept of the second path's segments.
+fn list_kept(
+    first: &[f64],
+    second: &[f64],
+    kept: &[f64],
+    job: Job,
+    indices: &mut [u64],
+    points: &mut [f64],
+) -> ListingAnswer
+    requires { ⌜ Keeping.Ready (now first) (now second) (now kept) job ⌝ }
+    ensures { λ r. ⌜
+        Outcome.Leaves (outcome_of.listed (Look.look (now (first .entry)) (now (second .entry)) (job .epsilon)) (job_of.every job)
+        (now (indices .entry)) (now (points .entry)))
+        r (now (indices .exit)) (now (points .exit)) ⌝ }
+{
+    let room = lesser(indices.len() / row::INDICES, points.len() / row::POINTS);
+    // where every pair could have a row, all rows fit
+    if job.n * job.m <= room {
+        let start = order::from(job, 0);
+        let all = fill(
+            first,
+            second,
+            kept,
+            job,
+            0,
+            start,
+            true,
+            0,
+            room,
+            indices,
+            points,
+        );
+        return ListingAnswer::Listed {
+            rows: all.rows,
+            pairs: all.pairs,
+        };
+    }
+    list_held_back(first, second, kept, job, room, indices, points)
+}
+
+// The listing of a job: refused with 8 if it has more rows than fit, and then nothing is written.
+pub fn list(
+    first: &[f64],
+    second: &[f64],
+    job: Job,
+    indices: &mut [u64],
+    points: &mut [f64],
+) -> ListingAnswer
+    requires { ⌜ Ready.Ready (now first) (now second) job ⌝ }
+    ensures { λ r. ⌜
+        Outcome.Leaves (outcome_of.listed (Look.look (now (first .entry)) (now (second .entry)) (job .epsilon)) (job_of.every job)
+        (now (indices .entry)) (now (points .entry)))
+        r (now (indices .exit)) (now (points .exit)) ⌝ }
+{
+    // three numbers of each segment that a path may have: 96 KiB
+    let mut kept = [0.0f64; 12288];
+    keeping::keep(second, job.m, job.epsilon, &mut kept);
+    list_kept(first, second, &kept, job, indices, points)
+}

@@ -1,0 +1,21 @@
+-- The sequence of pairs as the loop goes by it: from which index and up to which a segment of the first path is paired.
+use mathlib.Core.Bool.{cond, _&&_}
+use mathlib.Core.List.{List}
+use Prim.Native.Nat.{ℕ, _+_, _-_}
+use lib.Dec.{eqb}
+use Rattle.listing_pairs.specs.declared.order.Job.{Job}
+use Rattle.listing_pairs.specs.Order.{Pair, pairsFrom, pairs}
+
+unfoldable pub from : Job → ℕ → ℕ
+from job i = cond (job .own) (i + 2) 0
+
+unfoldable pub to : Job → ℕ → ℕ
+to job i = cond (job .own && job .closed && eqb i 0) (job .m - 1) (job .m)
+
+-- what is left from the pair (i, j) on
+abbrev pub left : Job → ℕ → ℕ → List Pair
+left job i j = pairsFrom (from job) (to job) i j (job .n - i)
+
+-- all pairs
+abbrev pub every : Job → List Pair
+every job = pairs (from job) (to job) (job .n)

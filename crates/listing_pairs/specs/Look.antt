@@ -1,0 +1,15 @@
+-- What a pair of segments gives in a listing: `PlineSeg.plineSeg`, the Rust's `pline_seg_intr`, and the row that it makes.
+use mathlib.Core.List.{List}
+use Prim.Native.Nat.{ℕ}
+use lib.Ieee.{Float}
+use Rattle.crossing.specs.PlineSeg.{plineSeg}
+use Rattle.paths.specs.Segments.{segmentFrom}
+use Rattle.listing_pairs.specs.declared.row.Look.{Look}
+use Rattle.listing_pairs.specs.Row.{lookOf}
+
+-- segment i of the first path and segment j of the second
+unfoldable pub look : List Float → List Float → Float → ℕ → ℕ → Look
+look first second epsilon i j =
+    let v = segmentFrom first i in
+    let u = segmentFrom second j in
+    lookOf i j (plineSeg (v .v1) (v .v2) (u .v1) (u .v2) epsilon)

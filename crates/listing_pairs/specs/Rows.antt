@@ -1,0 +1,27 @@
+-- The scope's row rule: the rows of a sequence of pairs, and how many are looked at, over any `look` that says what a pair gives.
+use mathlib.Core.List.{List, [], _∷_}
+use Prim.Native.Nat.{ℕ, suc}
+use Rattle.listing_pairs.specs.declared.row.Row.{Row}
+use Rattle.listing_pairs.specs.declared.row.Look.{Look}
+use Rattle.listing_pairs.specs.declared.row.Look.the-variants.{Passed, Nothing, Made}
+use Rattle.listing_pairs.specs.Order.{Pair}
+
+-- a row, where there is one, and then those of the rest
+abbrev pub onto : Look → List Row → List Row
+onto Passed rows = rows
+onto Nothing rows = rows
+onto (Made r) rows = r ∷ rows
+
+-- one more, where the pair is looked at
+abbrev pub count : Look → ℕ → ℕ
+count Passed n = n
+count Nothing n = suc n
+count (Made r) n = suc n
+
+abbrev pub rowsOf : (ℕ → ℕ → Look) → List Pair → List Row
+rowsOf look [] = []
+rowsOf look (p ∷ ps) = onto (look (p .i) (p .j)) (rowsOf look ps)
+
+abbrev pub lookedAt : (ℕ → ℕ → Look) → List Pair → ℕ
+lookedAt look [] = 0
+lookedAt look (p ∷ ps) = count (look (p .i) (p .j)) (lookedAt look ps)

@@ -1,0 +1,44 @@
+// What is kept of the second path's segments while the pairs of a listing are gone by: some numbers of each, one segment after the
+// other, so that a pair need not work them out again.
+ghost use mathlib.Core.Path.{_≡_};
+ghost use Prim.Native.Nat.{_≤_, _<_, _+_, _*_};
+ghost use lib.ListN.{length};
+ghost use Rattle.paths.specs.Path;
+ghost use Rattle.listing_pairs.specs.Laws.Keeping;
+use glance::kept::Kept;
+use glance::kept::kept_of;
+use paths::segments;
+
+// how many numbers are kept of a segment
+const NUMBERS: usize = 3;
+
+// Stores what is kept of the path's first m segments.
+pub fn keep(path: &[f64], m: usize, epsilon: f64, kept: &mut [f64])
+    requires { ⌜ m ≤ Path.vertexCount (now path) ⌝ }
+    requires { ⌜ (m ≤ 4096) × (m * 3 ≤ length (now kept)) ⌝ }
+    ensures { λ _. ⌜ now (kept .exit) ≡ Keeping.keep (now (path .entry)) m epsilon (now (kept .entry)) ⌝ }
+{
+    let mut j = 0;
+    while j < m {
+        let s = segments::segment_from(path, j);
+        let k = kept_of(s.v1, s.v2, epsilon);
+        let at = j * NUMBERS;
+        kept[at] = k.first;
+        kept[at + 1] = k.second;
+        kept[at + 2] = k.third;
+        j += 1;
+    }
+}
+
+// What is kept of segment j.
+pub(crate) fn kept_at(kept: &[f64], j: usize) -> Kept
+    requires { ⌜ (j + 1) * 3 ≤ length (now kept) ⌝ }
+    ensures { λ r. ⌜ r ≡ Keeping.keptAt (now (kept .entry)) j ⌝ }
+{
+    let at = j * NUMBERS;
+    Kept {
+        first: kept[at],
+        second: kept[at + 1],
+        third: kept[at + 2],
+    }
+}

@@ -1,0 +1,35 @@
+// What a pair of segments of two looked-at paths gives.
+ghost use mathlib.Core.Path.{_≡_};
+ghost use Prim.Native.Nat.{_<_};
+ghost use Rattle.listing_pairs.specs.Look;
+ghost use Rattle.listing_pairs.specs.Laws.Keeping;
+ghost use Rattle.listing_pairs.specs.Laws.Ready;
+use super::keeping::kept_at;
+use super::order::Job;
+use super::row;
+use glance::kept::Kept;
+use glance::pair::pline_seg_kept;
+use paths::path::Segment;
+use paths::segments;
+
+// What the pair (i, j) gives; v is segment i of the first path, of which `v_kept` is kept: a loop over j works them out once.
+pub fn look(
+    v: Segment,
+    v_kept: Kept,
+    second: &[f64],
+    kept: &[f64],
+    job: Job,
+    i: usize,
+    j: usize,
+) -> row::Look
+    requires { ⌜ Ready.SegmentReady v (now second) job ⌝ }
+    requires { ⌜ Keeping.Keeps (now second) (now kept) job ⌝ }
+    requires { ⌜ «v_kept» ≡ Keeping.ofSegment v (job .epsilon) ⌝ }
+    requires { ⌜ j < job .m ⌝ }
+    ensures { λ r. ⌜ r ≡ Ready.lookOn v (now (second .entry)) (job .epsilon) i j ⌝ }
+{
+    let u = segments::segment_from(second, j);
+    let u_kept = kept_at(kept, j);
+    let met = pline_seg_kept(v.v1, v.v2, v_kept, u.v1, u.v2, u_kept, job.epsilon);
+    row::look_of(i as u64, j as u64, met)
+}

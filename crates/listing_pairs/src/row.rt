@@ -1,0 +1,82 @@
+// A row of a listing: two segments that meet, how, and where. And what looking at a pair of segments gives.
+ghost use mathlib.Core.Path.{_≡_};
+ghost use Rattle.listing_pairs.specs.Row as row;
+use arcs::pline_seg_intr::PlineSegIntr;
+
+// how many whole numbers and how many floats of a row stand in the two lent slices
+pub const INDICES: usize = 3;
+
+pub const POINTS: usize = 4;
+
+// Segment i of the first path and segment j of the second meet: the class's number and the points, +0 for one that the class has
+// not.
+pub struct Row {
+    pub i: u64,
+    pub j: u64,
+    pub class: u64,
+    pub x1: f64,
+    pub y1: f64,
+    pub x2: f64,
+    pub y2: f64,
+}
+
+// What a pair gives: it is passed over and does not count, or it is looked at and makes no row, or makes one.
+pub enum Look {
+    Passed,
+    Nothing,
+    Made(Row),
+}
+
+// What the pair of segments i and j gives that meet like this: no row if they don't.
+pub fn look_of(i: u64, j: u64, met: PlineSegIntr) -> Look
+    ensures { λ r. ⌜ r ≡ row.lookOf i j met ⌝ }
+{
+    match met {
+        PlineSegIntr::NoIntersect => Look::Nothing,
+        PlineSegIntr::TangentIntersect { point } => Look::Made(Row {
+            i: i,
+            j: j,
+            class: 1,
+            x1: point.x,
+            y1: point.y,
+            x2: 0.0,
+            y2: 0.0,
+        }),
+        PlineSegIntr::OneIntersect { point } => Look::Made(Row {
+            i: i,
+            j: j,
+            class: 2,
+            x1: point.x,
+            y1: point.y,
+            x2: 0.0,
+            y2: 0.0,
+        }),
+        PlineSegIntr::TwoIntersects { point1, point2 } => Look::Made(Row {
+            i: i,
+            j: j,
+            class: 3,
+            x1: point1.x,
+            y1: point1.y,
+            x2: point2.x,
+            y2: point2.y,
+        }),
+        PlineSegIntr::OverlappingLines { point1, point2 } => Look::Made(Row {
+            i: i,
+            j: j,
+            class: 4,
+            x1: point1.x,
+            y1: point1.y,
+            x2: point2.x,
+            y2: point2.y,
+        }),
+        PlineSegIntr::OverlappingArcs { point1, point2 } => Look::Made(Row {
+            i: i,
+            j: j,
+            class: 5,
+            x1: point1.x,
+            y1: point1.y,
+            x2: point2.x,
+            y2: point2.y,
+        }),
+    }
+}
