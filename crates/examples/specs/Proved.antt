@@ -32,6 +32,7 @@ use Rattle.checks.specs.Fault.{refuse, later}
 use Rattle.checks.specs.Number.{isInfinite, notFinite, beyond}
 use Rattle.checks.specs.Each
 use Rattle.checks.specs.Arc.{arcChord}
+use Rattle.checks.specs.Calls
 use Rattle.crossing.specs.Told.{Told}
 use Rattle.crossing.specs.LineLine
 use Rattle.crossing.specs.LineCircle
@@ -60,8 +61,8 @@ due (r ∷ rs) = r .due ∷ due rs
 
 pub examples : found table ≡ due table
 unfolding
-    lines.lineLineIntr lines.look lineCircle.lineCircleIntr lineCircle.look circles.circleCircleIntr circles.look
-    pairs.plineSegIntr pairs.look
+    lines.lineLineIntr lineCircle.lineCircleIntr circles.circleCircleIntr pairs.plineSegIntr
+    Calls.checkLineLine Calls.checkLineCircle Calls.checkCircleCircle Calls.checkPlineSeg
     LineLine.within LineLine.crossing LineLine.bothPoints LineLine.firstPoint LineLine.secondPoint LineLine.rising
     LineLine.spanOf LineLine.touchingEnd LineLine.overlap LineLine.parallel LineLine.lineLine
     LineCircle.pointCircle LineCircle.lineThrough LineCircle.twoPoints LineCircle.lineMeets LineCircle.lineCircle
