@@ -1,15 +1,45 @@
--- A line and an arc whose circle it crosses twice: pline_seg_intersect.rs, lines 271-336, line for line.
-use mathlib.Core.Bool.{Bool, cond, _||_}
-use Rattle.floats.specs.Ops.{_≺_}
-use Rattle.plane.specs.BaseMath.{distSquared}
+-- A line and an arc whose circle it touches or crosses: pline_seg_intersect.rs, lines 243-336, line for line.
+use mathlib.Core.Bool.{Bool, cond, not, _||_}
+use lib.Ieee.{Float}
+use Rattle.floats.specs.Ops.{_⊗_, _≺_, f0}
+use Rattle.plane.specs.BaseMath.{distSquared, pointFromParametric}
+use Rattle.plane.specs.Fuzzy.{fuzzyInRangeEps}
 use Rattle.plane.specs.declared.vector2.Vector2.{Vector2}
-use Rattle.arcs.specs.ArcGeometry.{pointLiesOnArc}
+use Rattle.arcs.specs.ArcGeometry.{sweeps, pointLiesOnArc}
 use Rattle.arcs.specs.declared.arc_geometry.ArcGeometry.{ArcGeometry}
 use Rattle.arcs.specs.declared.line_and_arc.PointInSweep.{PointInSweep}
 use Rattle.arcs.specs.declared.line_and_arc.PointInSweep.the-variants.{Nothing, At}
 use Rattle.arcs.specs.declared.line_and_arc.TwoPoints.{TwoPoints}
 use Rattle.arcs.specs.declared.pline_seg_intr.PlineSegIntr.{PlineSegIntr}
-use Rattle.arcs.specs.declared.pline_seg_intr.PlineSegIntr.the-variants.{NoIntersect, OneIntersect, TwoIntersects}
+use Rattle.arcs.specs.declared.pline_seg_intr.PlineSegIntr.the-variants.{
+  NoIntersect,
+  TangentIntersect,
+  OneIntersect,
+  TwoIntersects,
+}
+
+-- lines 243-251
+unfoldable pub pointInSweep : Float → Float → Vector2 → Vector2 → ArcGeometry → Float → PointInSweep
+pointInSweep t lineLength p0 p1 arcGeometry posEqualEps =
+    let p = pointFromParametric p0 p1 t in
+    let withinSweep = sweeps arcGeometry p in
+    cond (not (fuzzyInRangeEps (t ⊗ lineLength) f0 lineLength posEqualEps))
+    Nothing
+    (cond withinSweep (At p) Nothing)
+
+-- lines 262-266
+abbrev pub tangentAt : PointInSweep → PlineSegIntr
+tangentAt (At point) = TangentIntersect point
+tangentAt Nothing = NoIntersect
+
+-- lines 255-267
+unfoldable pub tangentLineArc : Float → Float → Vector2 → Vector2 → ArcGeometry → Float → PlineSegIntr
+tangentLineArc t0 lineLength p0 p1 arcGeometry posEqualEps =
+    cond (pointLiesOnArc arcGeometry p0)
+    (TangentIntersect p0)
+    (cond (pointLiesOnArc arcGeometry p1)
+    (TangentIntersect p1)
+    (tangentAt (pointInSweep t0 lineLength p0 p1 arcGeometry posEqualEps)))
 
 -- lines 274-282
 unfoldable pub oneLineArc : Vector2 → Vector2 → Vector2 → ArcGeometry → PlineSegIntr

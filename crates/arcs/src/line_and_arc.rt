@@ -1,13 +1,16 @@
-// A line and an arc whose circle it crosses twice, for any numbers: pline_seg_intersect.rs, lines 271-336.
+// A line and an arc whose circle it touches or crosses, for any numbers: pline_seg_intersect.rs, lines 243-336.
 // Ends are sticky: where an end of the line lies on the arc, that end is the answer's point. A line that nearly follows the arc
 // meets its circle a little before and a little after such an end, while what meets the line at that end says the end itself; so
 // answers about one place agree.
 ghost use mathlib.Core.Path.{_≡_};
 ghost use Rattle.arcs.specs.LineAndArc;
+ghost use Rattle.plane.specs.Vector2.{sub, length};
 use super::arc_geometry::ArcGeometry;
 use super::pline_seg_intr::PlineSegIntr;
 use plane::base_math::dist_squared;
+use plane::base_math::point_from_parametric;
 use plane::vector2::Vector2;
+use ranges::range::within;
 
 // A point of the line that lies on the segment and in the arc's sweep, or none.
 pub enum PointInSweep {
@@ -19,6 +22,51 @@ pub enum PointInSweep {
 pub struct TwoPoints {
     pub point1: Vector2,
     pub point2: Vector2,
+}
+
+// The point at t of the line p0 to p1, if it lies on that segment and in the arc's sweep. Its place is judged along the segment,
+// so that epsilon is a distance.
+pub fn point_in_sweep(
+    t: f64,
+    p0: Vector2,
+    p1: Vector2,
+    arc_geometry: ArcGeometry,
+    pos_equal_eps: f64,
+) -> PointInSweep
+    ensures { λ r. ⌜ r ≡ LineAndArc.pointInSweep t (length (sub p1 p0)) p0 p1 «arc_geometry» «pos_equal_eps» ⌝ }
+{
+    if !within(t, p1.sub(p0), pos_equal_eps) {
+        return PointInSweep::Nothing;
+    }
+    let p = point_from_parametric(p0, p1, t);
+    if arc_geometry.sweeps(p) {
+        return PointInSweep::At(p);
+    }
+    PointInSweep::Nothing
+}
+
+// A line that touches the circle at t0: at an end of the line that lies on the arc, or at t0, or not at all.
+pub fn tangent_line_arc(
+    t0: f64,
+    p0: Vector2,
+    p1: Vector2,
+    arc_geometry: ArcGeometry,
+    pos_equal_eps: f64,
+) -> PlineSegIntr
+    ensures { λ r. ⌜ r ≡ LineAndArc.tangentLineArc t0 (length (sub p1 p0)) p0 p1 «arc_geometry» «pos_equal_eps» ⌝ }
+{
+    if arc_geometry.point_lies_on_arc(p0) {
+        return PlineSegIntr::TangentIntersect { point: p0 };
+    }
+    if arc_geometry.point_lies_on_arc(p1) {
+        return PlineSegIntr::TangentIntersect { point: p1 };
+    }
+    let t0_point = point_in_sweep(t0, p0, p1, arc_geometry, pos_equal_eps);
+    if let PointInSweep::At(point) = t0_point {
+        PlineSegIntr::TangentIntersect { point }
+    } else {
+        PlineSegIntr::NoIntersect
+    }
 }
 
 // One crossing, at an end of the line that lies on the arc, or else at the point found.

@@ -13,7 +13,8 @@ use Rattle.checks.specs.declared.fault.Checked.the-variants.{Fine, Bad}
 use Rattle.checks.specs.Fault.{refusal, refuse, later}
 use Rattle.checks.specs.Arc.{arcChord}
 use Rattle.checks.specs.Each
-use Rattle.crossing.specs.Settle.{settle}
+use Rattle.checks.specs.Calls as calls
+use Rattle.checks.specs.Settle.{settle}
 use Rattle.crossing.specs.LineLine.{lineLine}
 use Rattle.crossing.specs.LineCircle.{lineCircle}
 use Rattle.crossing.specs.CircleCircle.{circleCircle}
@@ -111,10 +112,10 @@ line-line-case (lineLineIs.Overlapping a b) = omega arith
 line-line-case (lineLineIs.FalseIntersect a b) = omega arith
 
 pub line-line : (v1 v2 u1 u2 : Vector2) (eps : Float) → ofLineLine (lines.lineLineIntr v1 v2 u1 u2 eps) .number < 256
-unfolding ofLineLine lines.lineLineIntr lines.look
+unfolding ofLineLine lines.lineLineIntr calls.checkLineLine
 line-line v1 v2 u1 u2 eps =
     settled ofLines.Refused ofLines.Met (λ (a : LineLineAnswer). ofLineLine a .number)
-    (lines.look v1 v2 u1 u2 eps) (lineLine v1 v2 u1 u2 eps) (search smalls depth 20) (λ n. refl) line-line-case
+    (calls.checkLineLine v1 v2 u1 u2 eps) (lineLine v1 v2 u1 u2 eps) (search smalls depth 20) (λ n. refl) line-line-case
 
 line-circle-case : (i : LineCircleIntr) → ofLineCircle (ofLineAndCircle.Met i) .number < 256
 unfolding ofLineCircle
@@ -124,10 +125,10 @@ line-circle-case (lineCircleIs.TwoIntersects a b) = omega arith
 
 pub line-circle : (p0 p1 : Vector2) (r : Float) (c : Vector2) (eps : Float)
     → ofLineCircle (lineAndCircle.lineCircleIntr p0 p1 r c eps) .number < 256
-unfolding ofLineCircle lineAndCircle.lineCircleIntr lineAndCircle.look
+unfolding ofLineCircle lineAndCircle.lineCircleIntr calls.checkLineCircle
 line-circle p0 p1 r c eps =
     settled ofLineAndCircle.Refused ofLineAndCircle.Met (λ (a : LineCircleAnswer). ofLineCircle a .number)
-    (lineAndCircle.look p0 p1 r c eps) (lineCircle p0 p1 r c eps) (search smalls depth 20) (λ n. refl) line-circle-case
+    (calls.checkLineCircle p0 p1 r c eps) (lineCircle p0 p1 r c eps) (search smalls depth 20) (λ n. refl) line-circle-case
 
 circle-circle-case : (i : CircleCircleIntr) → ofCircleCircle (ofCircles.Met i) .number < 256
 unfolding ofCircleCircle
@@ -138,10 +139,11 @@ circle-circle-case circleCircleIs.Overlapping = omega arith
 
 pub circle-circle : (r1 : Float) (c1 : Vector2) (r2 : Float) (c2 : Vector2) (eps : Float)
     → ofCircleCircle (circles.circleCircleIntr r1 c1 r2 c2 eps) .number < 256
-unfolding ofCircleCircle circles.circleCircleIntr circles.look
+unfolding ofCircleCircle circles.circleCircleIntr calls.checkCircleCircle
 circle-circle r1 c1 r2 c2 eps =
     settled ofCircles.Refused ofCircles.Met (λ (a : CircleCircleAnswer). ofCircleCircle a .number)
-    (circles.look r1 c1 r2 c2 eps) (circleCircle r1 c1 r2 c2 eps) (search smalls depth 20) (λ n. refl) circle-circle-case
+    (calls.checkCircleCircle r1 c1 r2 c2 eps) (circleCircle r1 c1 r2 c2 eps) (search smalls depth 20) (λ n. refl)
+    circle-circle-case
 
 pline-seg-case : (i : PlineSegIntr) → ofPlineSeg (ofPairs.Met i) .number < 256
 unfolding ofPlineSeg
@@ -153,7 +155,7 @@ pline-seg-case (plineSegIs.OverlappingLines p q) = omega arith
 pline-seg-case (plineSegIs.OverlappingArcs p q) = omega arith
 
 pub pline-seg : (v1 v2 u1 u2 : PlineVertex) (eps : Float) → ofPlineSeg (pairs.plineSegIntr v1 v2 u1 u2 eps) .number < 256
-unfolding ofPlineSeg pairs.plineSegIntr pairs.look
+unfolding ofPlineSeg pairs.plineSegIntr calls.checkPlineSeg
 pline-seg v1 v2 u1 u2 eps =
     settled ofPairs.Refused ofPairs.Met (λ (a : PlineSegAnswer). ofPlineSeg a .number)
-    (pairs.look v1 v2 u1 u2 eps) (plineSeg v1 v2 u1 u2 eps) (search smalls depth 20) (λ n. refl) pline-seg-case
+    (calls.checkPlineSeg v1 v2 u1 u2 eps) (plineSeg v1 v2 u1 u2 eps) (search smalls depth 20) (λ n. refl) pline-seg-case

@@ -3,5 +3,6 @@ pub mod Later
 pub mod Order
 pub mod Fine
 pub mod Chains
+pub mod Found
 pub mod Chord
 pub mod Inside

@@ -1,4 +1,5 @@
--- The numbers that are refused: definitions from the refusals' numbers up to lists of checks, and what is proved of them.
+-- The numbers that are refused: definitions from the refusals' numbers up to lists of checks and
+-- what a call answers by them, and what is proved of them.
 pub mod Refusal
 pub mod Limit
 pub mod Fault
@@ -12,5 +13,8 @@ pub mod Edges
 pub mod First
 pub mod FirstFault
 pub mod Lists
+pub mod Calls
+pub mod Settle
+pub mod Settled
 pub mod Told
 pub mod Laws

@@ -1,15 +1,11 @@
--- The call of src/circle_circle_intersect.rt: it looks at its numbers first, in the scope's order; the first fault is its answer.
+-- The call of src/circle_circle_intersect.rt: it looks at its numbers first (`checks`,
+-- Calls.antt); the first fault is its answer.
 use mathlib.Core.Bool.{true, false}
-use mathlib.Core.List.{List, [], _∷_, _++_}
+use mathlib.Core.List.{[], _∷_}
 use lib.Ieee.{Float}
 use Rattle.plane.specs.declared.vector2.Vector2.{Vector2}
-use Rattle.checks.specs.declared.fault.Item.the-variants.{Epsilon}
-use Rattle.checks.specs.declared.fault.Checked.{Checked}
-use Rattle.checks.specs.Fault.{at}
-use Rattle.checks.specs.Each
-use Rattle.checks.specs.First.{first}
-use Rattle.checks.specs.Lists.{circleChecks}
-use Rattle.crossing.specs.Settle.{settle}
+use Rattle.checks.specs.Calls.{checkCircleCircle}
+use Rattle.checks.specs.Settle.{settle}
 use Rattle.crossing.specs.Told.{Told}
 use Rattle.crossing.specs.CircleCircle.{circleCircle}
 use Rattle.crossing.specs.declared.circle_circle_intersect.CircleCircleIntr.the-variants.{
@@ -21,20 +17,11 @@ use Rattle.crossing.specs.declared.circle_circle_intersect.CircleCircleI
 use Rattle.crossing.specs.declared.circle_circle_intersect.CircleCircleAnswer.{CircleCircleAnswer}
 use Rattle.crossing.specs.declared.circle_circle_intersect.CircleCircleAnswer.the-variants.{Refused, Met}
 
--- the call's numbers, in the order in which they are looked at
-abbrev pub checks : Float → Vector2 → Float → Vector2 → Float → List Checked
-checks radius1 center1 radius2 center2 epsilon =
-    (Each.epsilon epsilon (at 0 0 Epsilon) ∷ [])
-    ++ circleChecks radius1 (center1 .x) (center1 .y) 0
-    ++ circleChecks radius2 (center2 .x) (center2 .y) 1
-
-unfoldable pub look : Float → Vector2 → Float → Vector2 → Float → Checked
-look radius1 center1 radius2 center2 epsilon = first (checks radius1 center1 radius2 center2 epsilon)
-
 -- the first fault's number, or where there is none how they meet
 unfoldable pub circleCircleIntr : Float → Vector2 → Float → Vector2 → Float → CircleCircleAnswer
 circleCircleIntr radius1 center1 radius2 center2 epsilon =
-    settle Refused Met (look radius1 center1 radius2 center2 epsilon) (circleCircle radius1 center1 radius2 center2 epsilon)
+    settle Refused Met (checkCircleCircle radius1 center1 radius2 center2 epsilon)
+    (circleCircle radius1 center1 radius2 center2 epsilon)
 
 -- ---- what an answer tells, in numbers
 abbrev pub told : CircleCircleAnswer → Told

@@ -1,8 +1,6 @@
--- Laws that only proofs need. Within, Apart, Nested and FarLine also define the four tests of src/shortcuts.rt.
+-- Laws that only proofs need. Apart, Nested and FarLine also define the three tests of src/shortcuts.rt.
 pub mod Answers
 pub mod Bulges
-pub mod Order
-pub mod Within
 pub mod Apart
 pub mod Nested
 pub mod FarLine

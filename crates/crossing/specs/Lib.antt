@@ -6,8 +6,6 @@ pub mod PlineSegIntr
 pub mod LineArc
 pub mod ArcArc
 pub mod PlineSeg
-pub mod Settle
-pub mod Settled
 pub mod Told
 pub mod LineLineIntersect
 pub mod LineCircleIntersect

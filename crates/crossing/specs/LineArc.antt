@@ -1,47 +1,19 @@
 -- A line segment and an arc segment: pline_seg_intersect.rs, lines 208-339, line for line. A reader holds the two side by side.
-use mathlib.Core.Bool.{Bool, cond, not}
+use mathlib.Core.Bool.{Bool}
 use lib.Ieee.{Float}
-use Rattle.floats.specs.Ops.{_⊗_, f0}
-use Rattle.plane.specs.BaseMath.{pointFromParametric}
-use Rattle.plane.specs.Fuzzy.{fuzzyInRangeEps}
 use Rattle.plane.specs.PlineSeg.{segArcRadiusAndCenter}
 use Rattle.plane.specs.PlineVertex.{pos}
 use Rattle.plane.specs.Vector2.{sub, length}
 use Rattle.plane.specs.declared.vector2.Vector2.{Vector2}
 use Rattle.plane.specs.declared.pline_vertex.PlineVertex.{PlineVertex}
-use Rattle.arcs.specs.ArcGeometry.{sweeps, pointLiesOnArc, ofSegment}
-use Rattle.arcs.specs.LineAndArc.{crossingsLineArc}
+use Rattle.arcs.specs.ArcGeometry.{ofSegment}
+use Rattle.arcs.specs.LineAndArc.{pointInSweep, tangentLineArc, crossingsLineArc}
 use Rattle.arcs.specs.declared.arc_geometry.ArcGeometry.{ArcGeometry}
-use Rattle.arcs.specs.declared.line_and_arc.PointInSweep.{PointInSweep}
-use Rattle.arcs.specs.declared.line_and_arc.PointInSweep.the-variants.{Nothing, At}
 use Rattle.arcs.specs.declared.pline_seg_intr.PlineSegIntr.{PlineSegIntr}
-use Rattle.arcs.specs.declared.pline_seg_intr.PlineSegIntr.the-variants.{NoIntersect, TangentIntersect}
+use Rattle.arcs.specs.declared.pline_seg_intr.PlineSegIntr.the-variants.{NoIntersect}
 use Rattle.crossing.specs.LineCircle.{lineCircle}
 use Rattle.crossing.specs.declared.line_circle_intersect.LineCircleIntr.{LineCircleIntr}
 use Rattle.crossing.specs.declared.line_circle_intersect.LineCircleIntr.the-variants as circle
-
--- lines 243-251
-unfoldable pub pointInSweep : Float → Float → Vector2 → Vector2 → ArcGeometry → Float → PointInSweep
-pointInSweep t lineLength p0 p1 arcGeometry posEqualEps =
-    let p = pointFromParametric p0 p1 t in
-    let withinSweep = sweeps arcGeometry p in
-    cond (not (fuzzyInRangeEps (t ⊗ lineLength) f0 lineLength posEqualEps))
-    Nothing
-    (cond withinSweep (At p) Nothing)
-
--- lines 262-266
-abbrev pub tangentAt : PointInSweep → PlineSegIntr
-tangentAt (At point) = TangentIntersect point
-tangentAt Nothing = NoIntersect
-
--- lines 255-267
-unfoldable pub tangentLineArc : Float → Float → Vector2 → Vector2 → ArcGeometry → Float → PlineSegIntr
-tangentLineArc t0 lineLength p0 p1 arcGeometry posEqualEps =
-    cond (pointLiesOnArc arcGeometry p0)
-    (TangentIntersect p0)
-    (cond (pointLiesOnArc arcGeometry p1)
-    (TangentIntersect p1)
-    (tangentAt (pointInSweep t0 lineLength p0 p1 arcGeometry posEqualEps)))
 
 -- lines 227-338, by what the kernel found
 abbrev pub lineArcOf : LineCircleIntr → Vector2 → Vector2 → Vector2 → ArcGeometry → Bool → Float → PlineSegIntr

@@ -1,15 +1,10 @@
--- The call of src/line_circle_intersect.rt: it looks at its numbers first, in the scope's order; the first fault is its answer.
+-- The call of src/line_circle_intersect.rt: it looks at its numbers first (`checks`, Calls.antt); the first fault is its answer.
 use mathlib.Core.Bool.{true, false}
-use mathlib.Core.List.{List, [], _∷_, _++_}
+use mathlib.Core.List.{[], _∷_}
 use lib.Ieee.{Float}
 use Rattle.plane.specs.declared.vector2.Vector2.{Vector2}
-use Rattle.checks.specs.declared.fault.Item.the-variants.{Epsilon}
-use Rattle.checks.specs.declared.fault.Checked.{Checked}
-use Rattle.checks.specs.Fault.{at}
-use Rattle.checks.specs.Each
-use Rattle.checks.specs.First.{first}
-use Rattle.checks.specs.Lists.{pointChecks, circleChecks}
-use Rattle.crossing.specs.Settle.{settle}
+use Rattle.checks.specs.Calls.{checkLineCircle}
+use Rattle.checks.specs.Settle.{settle}
 use Rattle.crossing.specs.Told.{Told}
 use Rattle.crossing.specs.LineCircle.{lineCircle}
 use Rattle.crossing.specs.declared.line_circle_intersect.LineCircleIntr.the-variants.{
@@ -20,21 +15,10 @@ use Rattle.crossing.specs.declared.line_circle_intersect.LineCircleIntr.
 use Rattle.crossing.specs.declared.line_circle_intersect.LineCircleAnswer.{LineCircleAnswer}
 use Rattle.crossing.specs.declared.line_circle_intersect.LineCircleAnswer.the-variants.{Refused, Met}
 
--- the call's numbers, in the order in which they are looked at
-abbrev pub checks : Vector2 → Vector2 → Float → Vector2 → Float → List Checked
-checks p0 p1 radius circleCenter epsilon =
-    (Each.epsilon epsilon (at 0 0 Epsilon) ∷ [])
-    ++ pointChecks (p0 .x) (p0 .y) 0 0
-    ++ pointChecks (p1 .x) (p1 .y) 1 0
-    ++ circleChecks radius (circleCenter .x) (circleCenter .y) 2
-
-unfoldable pub look : Vector2 → Vector2 → Float → Vector2 → Float → Checked
-look p0 p1 radius circleCenter epsilon = first (checks p0 p1 radius circleCenter epsilon)
-
 -- the first fault's number, or where there is none how they meet
 unfoldable pub lineCircleIntr : Vector2 → Vector2 → Float → Vector2 → Float → LineCircleAnswer
 lineCircleIntr p0 p1 radius circleCenter epsilon =
-    settle Refused Met (look p0 p1 radius circleCenter epsilon) (lineCircle p0 p1 radius circleCenter epsilon)
+    settle Refused Met (checkLineCircle p0 p1 radius circleCenter epsilon) (lineCircle p0 p1 radius circleCenter epsilon)
 
 -- ---- what an answer tells, in numbers
 abbrev pub told : LineCircleAnswer → Told

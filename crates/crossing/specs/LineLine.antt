@@ -1,12 +1,13 @@
 -- Two line segments: line_line_intersect.rs, line for line. A reader holds the two side by side.
-use mathlib.Core.Bool.{Bool, cond, not, _&&_, _||_}
+use mathlib.Core.Bool.{cond, not, _&&_, _||_}
 use lib.Ieee.{Float}
 use Rattle.floats.specs.Ops.{_⊖_, _⊗_, _⊘_, _≻_, f0, f1}
 use Rattle.floats.specs.F64
 use Rattle.plane.specs.Vector2 as vector2
 use Rattle.plane.specs.declared.vector2.Vector2.{Vector2}
-use Rattle.plane.specs.Fuzzy.{fuzzyEqZeroEps, fuzzyInRangeEps, fuzzyGtEps, fuzzyLtEps}
+use Rattle.plane.specs.Fuzzy.{fuzzyEqZeroEps, fuzzyGtEps, fuzzyLtEps}
 use Rattle.plane.specs.BaseMath.{parametricFromPoint}
+use Rattle.ranges.specs.Range.{within}
 use Rattle.crossing.specs.declared.line_line_intersect.LineLineIntr.{LineLineIntr}
 use Rattle.crossing.specs.declared.line_line_intersect.LineLineIntr.the-variants.{
   NoIntersect,
@@ -15,12 +16,6 @@ use Rattle.crossing.specs.declared.line_line_intersect.LineLineIntr.the-
   FalseIntersect,
 }
 use Rattle.crossing.specs.declared.line_line.Span.{Span}
-
--- lines 121-124, 161-162, 175-176: t by its place along a segment of this length
-unfoldable pub within : Float → Vector2 → Float → Bool
-within t segment eps =
-    let length = vector2.length segment in
-    fuzzyInRangeEps (t ⊗ length) f0 length eps
 
 -- lines 116-129: not parallel
 unfoldable pub crossing : Vector2 → Vector2 → Vector2 → Float → Float → LineLineIntr

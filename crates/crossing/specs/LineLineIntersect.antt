@@ -1,15 +1,10 @@
--- The call of src/line_line_intersect.rt: it looks at its numbers first, in the scope's order; the first fault is its answer.
+-- The call of src/line_line_intersect.rt: it looks at its numbers first (`checks`, Calls.antt); the first fault is its answer.
 use mathlib.Core.Bool.{true, false}
-use mathlib.Core.List.{List, [], _∷_, _++_}
+use mathlib.Core.List.{[], _∷_}
 use lib.Ieee.{Float}
 use Rattle.plane.specs.declared.vector2.Vector2.{Vector2}
-use Rattle.checks.specs.declared.fault.Item.the-variants.{Epsilon}
-use Rattle.checks.specs.declared.fault.Checked.{Checked}
-use Rattle.checks.specs.Fault.{at}
-use Rattle.checks.specs.Each
-use Rattle.checks.specs.First.{first}
-use Rattle.checks.specs.Lists.{pointChecks}
-use Rattle.crossing.specs.Settle.{settle}
+use Rattle.checks.specs.Calls.{checkLineLine}
+use Rattle.checks.specs.Settle.{settle}
 use Rattle.crossing.specs.Told.{Told}
 use Rattle.crossing.specs.LineLine.{lineLine}
 use Rattle.crossing.specs.declared.line_line_intersect.LineLineIntr.the-variants.{
@@ -21,22 +16,10 @@ use Rattle.crossing.specs.declared.line_line_intersect.LineLineIntr.the-
 use Rattle.crossing.specs.declared.line_line_intersect.LineLineAnswer.{LineLineAnswer}
 use Rattle.crossing.specs.declared.line_line_intersect.LineLineAnswer.the-variants.{Refused, Met}
 
--- the call's numbers, in the order in which they are looked at
-abbrev pub checks : Vector2 → Vector2 → Vector2 → Vector2 → Float → List Checked
-checks v1 v2 u1 u2 epsilon =
-    (Each.epsilon epsilon (at 0 0 Epsilon) ∷ [])
-    ++ pointChecks (v1 .x) (v1 .y) 0 0
-    ++ pointChecks (v2 .x) (v2 .y) 1 0
-    ++ pointChecks (u1 .x) (u1 .y) 2 0
-    ++ pointChecks (u2 .x) (u2 .y) 3 0
-
-unfoldable pub look : Vector2 → Vector2 → Vector2 → Vector2 → Float → Checked
-look v1 v2 u1 u2 epsilon = first (checks v1 v2 u1 u2 epsilon)
-
 -- the first fault's number, or where there is none how they meet
 unfoldable pub lineLineIntr : Vector2 → Vector2 → Vector2 → Vector2 → Float → LineLineAnswer
 lineLineIntr v1 v2 u1 u2 epsilon =
-    settle Refused Met (look v1 v2 u1 u2 epsilon) (lineLine v1 v2 u1 u2 epsilon)
+    settle Refused Met (checkLineLine v1 v2 u1 u2 epsilon) (lineLine v1 v2 u1 u2 epsilon)
 
 -- ---- what an answer tells, in numbers
 abbrev pub told : LineLineAnswer → Told

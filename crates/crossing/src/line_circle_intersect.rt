@@ -2,11 +2,8 @@
 ghost use mathlib.Core.Path.{_≡_};
 ghost use Rattle.crossing.specs.LineCircleIntersect;
 use super::line_circle;
-use checks::chain;
-use checks::each;
+use checks::calls::check_line_circle;
 use checks::fault::Checked;
-use checks::fault::Item;
-use checks::fault::Place;
 use plane::vector2::Vector2;
 
 // How a line and a circle meet. A parameter t gives the point p0 + t * (p1 - p0); below 0 or above 1 it lies beyond an end.
@@ -25,23 +22,6 @@ pub enum LineCircleAnswer {
     Met(LineCircleIntr),
 }
 
-// The first of the call's numbers that is at fault: epsilon, then p0 and p1, each x before y, then the radius and the centre.
-fn look(p0: Vector2, p1: Vector2, radius: f64, circle_center: Vector2, epsilon: f64) -> Checked
-    ensures { λ r. ⌜ r ≡ LineCircleIntersect.look p0 p1 radius «circle_center» epsilon ⌝ }
-{
-    let a0 = each::epsilon(
-        epsilon,
-        Place {
-            owner: 0,
-            index: 0,
-            item: Item::Epsilon,
-        },
-    );
-    let a1 = chain::point_after(a0, p0.x, p0.y, 0, 0);
-    let a2 = chain::point_after(a1, p1.x, p1.y, 1, 0);
-    chain::circle_after(a2, radius, circle_center.x, circle_center.y, 2)
-}
-
 // How the line of p0 and p1 and a circle meet, or the refusal of the first number at fault.
 pub fn line_circle_intr(
     p0: Vector2,
@@ -52,7 +32,7 @@ pub fn line_circle_intr(
 ) -> LineCircleAnswer
     ensures { λ r. ⌜ r ≡ LineCircleIntersect.lineCircleIntr p0 p1 radius «circle_center» epsilon ⌝ }
 {
-    let looked = look(p0, p1, radius, circle_center, epsilon);
+    let looked = check_line_circle(p0, p1, radius, circle_center, epsilon);
     match looked {
         Checked::Fine => LineCircleAnswer::Met(line_circle::line_circle(
             p0,

@@ -1,66 +1,18 @@
 // Two line segments, for any numbers: line_line_intersect.rs. The names of its locals are the Rust's.
 ghost use mathlib.Core.Path.{_≡_};
 ghost use Rattle.crossing.specs.LineLine;
-ghost use Rattle.crossing.specs.Laws.Within;
 use super::line_line_intersect::LineLineIntr;
-use super::shortcuts::usual;
 use plane::base_math::parametric_from_point;
 use plane::fuzzy::fuzzy_eq_zero_eps;
 use plane::fuzzy::fuzzy_gt_eps;
-use plane::fuzzy::fuzzy_in_range_eps;
 use plane::fuzzy::fuzzy_lt_eps;
 use plane::vector2::Vector2;
+use ranges::range::within;
 
 // The parameters at which a segment's line is entered and left.
 pub struct Span {
     pub t0: f64,
     pub t1: f64,
-}
-
-// What the shortcut of `within` compares with: on a segment of usual length a parameter is clearly inside up to 31/32, and clearly
-// outside from 33/32 on and down from -1/32.
-const BEFORE_END: f64 = 31.0 / 32.0;
-
-const AFTER_END: f64 = 33.0 / 32.0;
-
-const STEP: f64 = 1.0 / 32.0;
-
-// Whether t is clearly inside a segment of usual length.
-fn inside(t: f64) -> bool
-    ensures { λ r. ⌜ r ≡ Within.inside t ⌝ }
-{
-    (t >= 0.0) & (t <= BEFORE_END)
-}
-
-// Whether t is clearly outside a segment of usual length.
-fn outside(t: f64) -> bool
-    ensures { λ r. ⌜ r ≡ Within.outside t ⌝ }
-{
-    (t >= AFTER_END) | (t <= -STEP)
-}
-
-// Whether the parameter t lies on a segment, given as a vector: by its place along the segment, so that epsilon is a distance.
-fn within_length(t: f64, segment: Vector2, eps: f64) -> bool
-    ensures { λ r. ⌜ r ≡ LineLine.within t segment eps ⌝ }
-{
-    let length = segment.length();
-    fuzzy_in_range_eps(t * length, 0.0, length, eps)
-}
-
-// The same, without a root where t is clearly inside or outside.
-pub fn within(t: f64, segment: Vector2, eps: f64) -> bool
-    ensures { λ r. ⌜ r ≡ LineLine.within t segment eps ⌝ }
-{
-    if !usual(segment.length_squared(), eps) {
-        return within_length(t, segment, eps);
-    }
-    if inside(t) {
-        return true;
-    }
-    if outside(t) {
-        return false;
-    }
-    within_length(t, segment, eps)
 }
 
 // Two segments that are not parallel: their lines cross at one point, which lies on both segments or not.

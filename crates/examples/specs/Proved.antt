@@ -32,6 +32,8 @@ use Rattle.checks.specs.Fault.{refuse, later}
 use Rattle.checks.specs.Number.{isInfinite, notFinite, beyond}
 use Rattle.checks.specs.Each
 use Rattle.checks.specs.Arc.{arcChord}
+use Rattle.checks.specs.Calls
+use Rattle.ranges.specs.Range
 use Rattle.crossing.specs.Told.{Told}
 use Rattle.crossing.specs.LineLine
 use Rattle.crossing.specs.LineCircle
@@ -60,15 +62,15 @@ due (r ∷ rs) = r .due ∷ due rs
 
 pub examples : found table ≡ due table
 unfolding
-    lines.lineLineIntr lines.look lineCircle.lineCircleIntr lineCircle.look circles.circleCircleIntr circles.look
-    pairs.plineSegIntr pairs.look
-    LineLine.within LineLine.crossing LineLine.bothPoints LineLine.firstPoint LineLine.secondPoint LineLine.rising
+    lines.lineLineIntr lineCircle.lineCircleIntr circles.circleCircleIntr pairs.plineSegIntr
+    Calls.checkLineLine Calls.checkLineCircle Calls.checkCircleCircle Calls.checkPlineSeg
+    Range.within LineLine.crossing LineLine.bothPoints LineLine.firstPoint LineLine.secondPoint LineLine.rising
     LineLine.spanOf LineLine.touchingEnd LineLine.overlap LineLine.parallel LineLine.lineLine
     LineCircle.pointCircle LineCircle.lineThrough LineCircle.twoPoints LineCircle.lineMeets LineCircle.lineCircle
     CircleCircle.sameCenter CircleCircle.twoSides CircleCircle.meeting CircleCircle.circleCircle
     ArcSweep.new ArcSweep.exactlyWithinSweep ArcSweep.contains ArcSweep.finding
     ArcGeometry.new ArcGeometry.ofSegment ArcGeometry.sweeps ArcGeometry.pointLiesOnArc
-    LineArc.pointInSweep LineArc.tangentLineArc LineAndArc.oneLineArc LineAndArc.withStickyEnds LineAndArc.inOrder
+    LineAndArc.pointInSweep LineAndArc.tangentLineArc LineAndArc.oneLineArc LineAndArc.withStickyEnds LineAndArc.inOrder
     LineArc.processLineArcIntr
     TwoArcs.bothSweep TwoArcs.tangentArcArc TwoArcs.tryAddEndPointIntr TwoArcs.addIfOnArc TwoArcs.collectEndPoints
     TwoArcs.endForNearer TwoArcs.endsForBoth TwoArcs.twoArcArc TwoArcs.crossingArcs OneCircle.sameArc OneCircle.arc2Ends OneCircle.overlapByDirection

@@ -10,10 +10,10 @@ use Rattle.plane.specs.Vector2 as vector2
 use Rattle.plane.specs.declared.vector2.Vector2.{Vector2}
 use Rattle.plane.specs.declared.pline_vertex.PlineVertex.{PlineVertex}
 use Rattle.plane.specs.declared.pline_seg.ArcRadiusCenter.{ArcRadiusCenter}
+use Rattle.ranges.specs.Laws.Within.{usual, afterEnd}
 use Rattle.crossing.specs.Laws.Apart.{apart}
 use Rattle.crossing.specs.Laws.Nested.{nested}
 use Rattle.crossing.specs.Laws.FarLine.{moderate, huge}
-use Rattle.crossing.specs.Laws.Within.{usual, afterEnd}
 use Rattle.glance.specs.declared.kept.Kept.{Kept}
 use Rattle.glance.specs.Kept.{circleOf}
 

@@ -1,9 +1,9 @@
 // Two line segments that are clearly apart.
 ghost use mathlib.Core.Path.{_≡_};
 ghost use Rattle.glance.specs.Glance;
-use crossing::shortcuts::usual;
 use plane::fuzzy::fuzzy_eq_zero_eps;
 use plane::vector2::Vector2;
+use ranges::range::usual;
 
 // A parameter is clearly outside a segment of usual length from 33/32 on, and down from -1/32.
 const AFTER_END: f64 = 33.0 / 32.0;

@@ -1,6 +1,7 @@
 // The pair call with a glance first: inside a listing, which has looked at the numbers already and kept what belongs to each segment,
 // and on its own.
 ghost use mathlib.Core.Path.{_≡_};
+ghost use Rattle.checks.specs.Calls;
 ghost use Rattle.checks.specs.declared.fault.Checked.the-variants.{Fine};
 ghost use Rattle.crossing.specs.PlineSeg;
 ghost use Rattle.crossing.specs.PlineSegIntersect;
@@ -54,7 +55,7 @@ pub fn pline_seg_kept(
     u: Kept,
     pos_equal_eps: f64,
 ) -> PlineSegIntr
-    requires { ⌜ PlineSegIntersect.look v1 v2 u1 u2 «pos_equal_eps» ≡ Fine ⌝ }
+    requires { ⌜ Calls.checkPlineSeg v1 v2 u1 u2 «pos_equal_eps» ≡ Fine ⌝ }
     requires { ⌜ v ≡ keeping.keptOf v1 v2 «pos_equal_eps» ⌝ }
     requires { ⌜ u ≡ keeping.keptOf u1 u2 «pos_equal_eps» ⌝ }
     ensures { λ r. ⌜ r ≡ PlineSeg.plineSeg v1 v2 u1 u2 «pos_equal_eps» ⌝ }
@@ -92,7 +93,7 @@ fn pline_seg_once(
     u2: PlineVertex,
     pos_equal_eps: f64,
 ) -> PlineSegIntr
-    requires { ⌜ PlineSegIntersect.look v1 v2 u1 u2 «pos_equal_eps» ≡ Fine ⌝ }
+    requires { ⌜ Calls.checkPlineSeg v1 v2 u1 u2 «pos_equal_eps» ≡ Fine ⌝ }
     ensures { λ r. ⌜ r ≡ PlineSeg.plineSeg v1 v2 u1 u2 «pos_equal_eps» ⌝ }
 {
     if line_pair_apart(v1, v2, u1, u2, pos_equal_eps) {

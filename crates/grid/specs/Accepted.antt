@@ -22,14 +22,15 @@ use Rattle.checks.specs.declared.fault.Checked.{Checked}
 use Rattle.checks.specs.declared.fault.Checked.the-variants.{Fine}
 use Rattle.checks.specs.Each
 use Rattle.checks.specs.Arc.{arcChord}
+use Rattle.checks.specs.Calls.{plineSegChecks, checkPlineSeg}
 use Rattle.checks.specs.Edges.{powers}
 use Rattle.checks.specs.FirstFault.{AllFine, none, one, first-fine}
 use Rattle.checks.specs.Limit
+use Rattle.checks.specs.Settle.{settle}
 use Rattle.checks.specs.Laws.Fine.{Within, Between, epsilon-fine, coordinate-fine, bulge-fine}
 use Rattle.crossing.specs.PlineSeg.{plineSeg, processLineLineIntr}
 use Rattle.arcs.specs.declared.pline_seg_intr.PlineSegIntr.{PlineSegIntr}
-use Rattle.crossing.specs.PlineSegIntersect.{checks, look, plineSegIntr}
-use Rattle.crossing.specs.Settle.{settle}
+use Rattle.crossing.specs.PlineSegIntersect.{plineSegIntr}
 use Rattle.crossing.specs.declared.pline_seg_intersect.PlineSegAnswer.the-variants.{Refused, Met}
 use Rattle.grid.specs.Promise.{signed, Is, Epsilon, Spot, On}
 use Rattle.grid.specs.Plane.Whole.{gain, gain-neg}
@@ -162,10 +163,10 @@ no-arc a b owner index t = go (bulgeIsZero a) _ t
 module _ (v1 v2 u1 u2 : PlineVertex) (p1 p2 q1 q2 : Spot) (e : Float) (num den : ℕ) where
   pub accepted : On v1 p1 → On v2 p2 → On u1 q1 → On u2 q2 → T (bulgeIsZero v1) → T (bulgeIsZero u1) → Epsilon e num den
       → plineSegIntr v1 v2 u1 u2 e ≡ Met (plineSeg v1 v2 u1 u2 e)
-  unfolding plineSegIntr look
+  unfolding plineSegIntr checkPlineSeg
   accepted at-v1 at-v2 at-u1 at-u2 line-v line-u eps =
       ap (λ (z : Checked). settle Refused Met z (plineSeg v1 v2 u1 u2 e))
-      (first-fine (checks v1 v2 u1 u2 e) .1
+      (first-fine (plineSegChecks v1 v2 u1 u2 e) .1
       (fine _ _ (epsilon-fine e _ .1 (epsilon-between e num den eps))
       (on-grid v1 p1 _ _ _ at-v1
       (fine _ _ (bulge-fine (v1 .bulge) _ .1 (bulge-within v1 line-v))

@@ -15,8 +15,8 @@ use Rattle.checks.specs.declared.fault.Checked.{Checked}
 use Rattle.checks.specs.declared.fault.Checked.the-variants.{Fine, Bad}
 use Rattle.checks.specs.Fault.{at, bad, refuse}
 use Rattle.checks.specs.First.{first as firstFault}
-use Rattle.crossing.specs.Settle.{settle}
-use Rattle.crossing.specs.Settled.{Settled, Apart, settled, no-number}
+use Rattle.checks.specs.Settle.{settle}
+use Rattle.checks.specs.Settled.{Settled, Apart, settled, no-number}
 use Rattle.paths.specs.Segments.{segmentCount}
 use Rattle.listing_pairs.specs.declared.row.Row.{Row}
 use Rattle.listing_pairs.specs.declared.row.Look.{Look}

@@ -1,6 +1,6 @@
 -- Two line segments that are clearly apart: whether the quotient n / d lies clearly outside 0..1 is told from n and d alone.
 -- No margin is needed: a product that rounds to less than a float is less than it, and a quotient that is at least 33/32, or at most
--- -1/32, rounds to such a one. What the range test says there is in crossing's Laws/Within.
+-- -1/32, rounds to such a one. What the range test says there is in Laws/Within of `ranges`.
 use mathlib.Core.Path.{_≡_, refl, sym, ap, _∙_}
 use Prim.Native.Nat.{ℕ, _+_, _*_, _≤_, _<_}
 use native.Mathlib.Nat.{mul-pos, mul-le-mul-right, lt-of-mul-lt-mul-right, lt-of-not-le, le-of-lt}
@@ -23,9 +23,8 @@ use Rattle.floats.specs.F64
 use Rattle.plane.specs.Vector2 as vector2
 use Rattle.plane.specs.Fuzzy.{fuzzyEqZeroEps}
 use Rattle.plane.specs.declared.vector2.Vector2.{Vector2}
-use Rattle.crossing.specs.LineLine.{lineLine, crossing, parallel, within}
-use Rattle.crossing.specs.PlineSeg.{processLineLineIntr, lineLineOf}
-use Rattle.crossing.specs.Laws.Within.{
+use Rattle.ranges.specs.Range.{within}
+use Rattle.ranges.specs.Laws.Within.{
   usual,
   outside,
   afterEnd,
@@ -35,6 +34,8 @@ use Rattle.crossing.specs.Laws.Within.{
   eps-between,
   within-outside,
 }
+use Rattle.crossing.specs.LineLine.{lineLine, crossing, parallel}
+use Rattle.crossing.specs.PlineSeg.{processLineLineIntr, lineLineOf}
 use Rattle.crossing.specs.declared.line_line_intersect.LineLineIntr.{LineLineIntr}
 use Rattle.crossing.specs.declared.line_line_intersect.LineLineIntr.the-variants as lines
 use Rattle.arcs.specs.declared.pline_seg_intr.PlineSegIntr.the-variants.{NoIntersect}

@@ -19,6 +19,7 @@ use Rattle.checks.specs.Fault.{at, later}
 use Rattle.checks.specs.Limit
 use Rattle.checks.specs.Each
 use Rattle.checks.specs.Arc.{arcChord}
+use Rattle.checks.specs.Calls.{checkPlineSeg}
 use Rattle.checks.specs.First.{first}
 use Rattle.checks.specs.Lists.{pointChecks, vertexChecks}
 use Rattle.checks.specs.Laws.Chains as chains
@@ -26,7 +27,6 @@ use Rattle.checks.specs.Laws.Chord.{squareLeast, long-fine}
 use Rattle.checks.specs.Laws.Fine.{Between, epsilon-fine}
 use Rattle.checks.specs.Laws.Inside.{inside, of-coordinate, of-bulge}
 use Rattle.checks.specs.Laws.Later.{fine-right, later-fine}
-use Rattle.crossing.specs.PlineSegIntersect as pair
 use Rattle.glance.specs.Looked.{pointFine, segmentFine, epsilonFine, pairFine}
 
 -- ---- by its numbers
@@ -40,8 +40,8 @@ pub record Sound (v1 v2 : PlineVertex) (owner : ℕ) : Type 0 where
   pub arc : arcChord v1 v2 owner 0 ≡ Fine
 
 pub look-fine : (v1 v2 u1 u2 : PlineVertex) (epsilon : Float) → Each.epsilon epsilon (at 0 0 Epsilon) ≡ Fine
-    → Sound v1 v2 0 → Sound u1 u2 1 → pair.look v1 v2 u1 u2 epsilon ≡ Fine
-unfolding pair.look
+    → Sound v1 v2 0 → Sound u1 u2 1 → checkPlineSeg v1 v2 u1 u2 epsilon ≡ Fine
+unfolding checkPlineSeg
 look-fine v1 v2 u1 u2 epsilon e fv fu =
     let eps = Each.epsilon epsilon (at 0 0 Epsilon) in
     let c0 : List Checked = eps ∷ [] in
@@ -102,7 +102,7 @@ of-segment v1 v2 owner h =
       arc = of-arc v1 v2 owner (and-r ends long h);
     }
 
-pub glance-fine : (v1 v2 u1 u2 : PlineVertex) (eps : Float) → T (pairFine v1 v2 u1 u2 eps) → pair.look v1 v2 u1 u2 eps ≡ Fine
+pub glance-fine : (v1 v2 u1 u2 : PlineVertex) (eps : Float) → T (pairFine v1 v2 u1 u2 eps) → checkPlineSeg v1 v2 u1 u2 eps ≡ Fine
 unfolding pairFine
 glance-fine v1 v2 u1 u2 eps h =
     let v = segmentFine v1 v2 in

@@ -10,7 +10,8 @@ use lib.Ieee.{Float}
 use Rattle.floats.specs.Ops.{_⊘_}
 use Rattle.plane.specs.Vector2 as vector2
 use Rattle.plane.specs.declared.vector2.Vector2.{Vector2}
-use Rattle.crossing.specs.LineLine.{crossing, within}
+use Rattle.ranges.specs.Range.{within}
+use Rattle.crossing.specs.LineLine.{crossing}
 use Rattle.crossing.specs.declared.line_line_intersect.LineLineIntr.{LineLineIntr}
 use Rattle.crossing.specs.declared.line_line_intersect.LineLineIntr.the-variants.{TrueIntersect, FalseIntersect}
 use Rattle.grid.specs.Floats.Small.{Vec, perp}

@@ -18,7 +18,8 @@ use Rattle.plane.specs.Vector2 as vector2
 use Rattle.plane.specs.declared.vector2.Vector2.{Vector2}
 use Rattle.plane.specs.Fuzzy.{fuzzyEqZeroEps}
 use Rattle.plane.specs.BaseMath.{parametricFromPoint}
-use Rattle.crossing.specs.LineLine.{overlap, spanOf, rising, within}
+use Rattle.ranges.specs.Range.{within}
+use Rattle.crossing.specs.LineLine.{overlap, spanOf, rising}
 use Rattle.crossing.specs.declared.line_line_intersect.LineLineIntr.{LineLineIntr}
 use Rattle.crossing.specs.declared.line_line_intersect.LineLineIntr.the-variants.{NoIntersect}
 use Rattle.grid.specs.Floats.Small.{Small, Vec, vec-sub}

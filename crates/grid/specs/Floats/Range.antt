@@ -33,7 +33,7 @@ use Rattle.floats.specs.Ops.{_⊕_, _⊗_, f0}
 use Rattle.plane.specs.Vector2 as vector2
 use Rattle.plane.specs.declared.vector2.Vector2.{Vector2}
 use Rattle.plane.specs.Fuzzy.{fuzzyInRangeEps, fuzzyGtEps, fuzzyLtEps}
-use Rattle.crossing.specs.LineLine.{within}
+use Rattle.ranges.specs.Range.{within}
 use Rattle.grid.specs.Floats.Zero.{Eps}
 use Rattle.grid.specs.Floats.Length.{Long}
 use Rattle.grid.specs.Floats.Reach.{Less, Beyond, Reaches}

@@ -9,8 +9,8 @@ use Rattle.checks.specs.declared.fault.Item.the-variants.{Epsilon}
 use Rattle.checks.specs.declared.fault.Checked.the-variants.{Fine}
 use Rattle.checks.specs.Fault.{at}
 use Rattle.checks.specs.Each
+use Rattle.checks.specs.Calls.{checkPlineSeg}
 use Rattle.crossing.specs.PlineSeg.{plineSeg}
-use Rattle.crossing.specs.PlineSegIntersect as pair
 use Rattle.glance.specs.Laws.Looked.{Sound, look-fine}
 use Rattle.paths.specs.declared.path.Segment.{Segment}
 use Rattle.paths.specs.Path.{vertexCount}
@@ -35,7 +35,7 @@ look-on v first second epsilon i j e =
     ap (λ (s : Segment). lookOf i j (plineSeg (s .v1) (s .v2) (segmentFrom second j .v1) (segmentFrom second j .v2) epsilon)) e
 
 abbrev PairFine : Segment → Segment → Float → Type 0
-PairFine v u epsilon = pair.look (v .v1) (v .v2) (u .v1) (u .v2) epsilon ≡ Fine
+PairFine v u epsilon = checkPlineSeg (v .v1) (v .v2) (u .v1) (u .v2) epsilon ≡ Fine
 
 -- segment v with every segment of the second path
 pub record SegmentReady (v : Segment) (second : List Float) (job : Job) : Type 0 where
@@ -54,7 +54,10 @@ pub at-segment : (v : Segment) (first second : List Float) (job : Job) (i : ℕ)
 at-segment v first second job i ready h e =
     record {
       m-within = ready .m-within;
-      fine = λ j l. ap (λ (s : Segment). pair.look (s .v1) (s .v2) (segmentFrom second j .v1) (segmentFrom second j .v2) (job .epsilon)) e
+      fine = λ j l.
+          ap
+          (λ (s : Segment). checkPlineSeg (s .v1) (s .v2) (segmentFrom second j .v1) (segmentFrom second j .v2) (job .epsilon))
+          e
           ∙ ready .fine i j h l;
     }
 

@@ -12,6 +12,6 @@ circle-circle-intr-spec =
     (tie.spec
     (search needs) (search needs) (search needs) (search needs)
     (λ c. let t = c .before in
-    simp (← t .before .before .look .ensures, t .enum-told .given .1, ← c .circle-circle .ensures))
+    simp (← t .before .before .check-circle-circle .ensures, t .enum-told .given .1, ← c .circle-circle .ensures))
     (λ c. let t = c .before in
-    simp (← t .before .before .look .ensures, t .looked .given .1)))
+    simp (← t .before .before .check-circle-circle .ensures, t .looked .given .1)))

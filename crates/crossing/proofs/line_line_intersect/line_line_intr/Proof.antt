@@ -12,6 +12,6 @@ line-line-intr-spec =
     (tie.spec
     (search needs) (search needs) (search needs) (search needs)
     (λ c. let t = c .before in
-    simp (← t .before .before .look .ensures, t .enum-told .given .1, ← c .line-line .ensures))
+    simp (← t .before .before .check-line-line .ensures, t .enum-told .given .1, ← c .line-line .ensures))
     (λ c. let t = c .before in
-    simp (← t .before .before .look .ensures, t .looked .given .1)))
+    simp (← t .before .before .check-line-line .ensures, t .looked .given .1)))

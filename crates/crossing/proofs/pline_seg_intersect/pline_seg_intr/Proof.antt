@@ -12,6 +12,6 @@ pline-seg-intr-spec =
     (tie.spec
     (search needs) (search needs) (search needs) (search needs)
     (λ c. let t = c .before in
-    simp (← t .before .before .look .ensures, t .enum-told .given .1, ← c .pline-seg .ensures))
+    simp (← t .before .before .check-pline-seg .ensures, t .enum-told .given .1, ← c .pline-seg .ensures))
     (λ c. let t = c .before in
-    simp (← t .before .before .look .ensures, t .looked .given .1)))
+    simp (← t .before .before .check-pline-seg .ensures, t .looked .given .1)))

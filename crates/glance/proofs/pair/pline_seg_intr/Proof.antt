@@ -6,22 +6,23 @@ use denote.Floats.{passes}
 use borrow.Author.Needs.{needs}
 use Rattle.plane.specs.declared.pline_vertex.PlineVertex.{PlineVertex}
 use Rattle.checks.specs.declared.fault.Checked.the-variants.{Fine}
+use Rattle.checks.specs.Calls.{checkPlineSeg}
 use Rattle.crossing.specs.PlineSeg.{plineSeg}
-use Rattle.crossing.specs.PlineSegIntersect as pair
+use Rattle.crossing.specs.PlineSegIntersect.{plineSegIntr}
 use Rattle.arcs.specs.declared.pline_seg_intr.PlineSegIntr.{PlineSegIntr}
 use Rattle.crossing.specs.declared.pline_seg_intersect.PlineSegAnswer.the-variants.{Met}
 use Rattle.glance.specs.Laws.Looked.{glance-fine}
 use Rattle.glance.proofs.pair.pline_seg_intr.Statement.{statement}
 use Rattle.glance.proofs.pair.pline_seg_intr.Tie as tie
 
-met : (v1 v2 u1 u2 : PlineVertex) (eps : Float) (r : PlineSegIntr) → pair.look v1 v2 u1 u2 eps ≡ Fine → r ≡ plineSeg v1 v2 u1 u2 eps
-    → Met r ≡ pair.plineSegIntr v1 v2 u1 u2 eps
-unfolding pair.plineSegIntr
+met : (v1 v2 u1 u2 : PlineVertex) (eps : Float) (r : PlineSegIntr) → checkPlineSeg v1 v2 u1 u2 eps ≡ Fine
+    → r ≡ plineSeg v1 v2 u1 u2 eps → Met r ≡ plineSegIntr v1 v2 u1 u2 eps
+unfolding plineSegIntr
 met v1 v2 u1 u2 eps r h e = rw h (ap Met e)
 
 looked : (c : tie.Then1)
     → let a = c .before .before .args in
-    pair.look (a .v1) (a .v2) (a .u1) (a .u2) (a .pos-equal-eps) ≡ Fine
+    checkPlineSeg (a .v1) (a .v2) (a .u1) (a .u2) (a .pos-equal-eps) ≡ Fine
 looked c = glance-fine _ _ _ _ _ (passes _ (sym (c .before .pair-fine .ensures) ∙ c .if1 .taken))
 
 pline-seg-once-requires : tie.Need-pline-seg-once-requires

@@ -1,13 +1,13 @@
--- `crossing::line_arc::tangent_line_arc` meets its contract: each return is an end of the definition, by the calls and tests on its
--- way.
+-- `arcs::line_and_arc::tangent_line_arc` meets its contract: each return is an end of the definition, by the calls and tests on
+-- its way.
 use borrow.Author.Needs.{needs}
-use Rattle.crossing.specs.LineArc
+use Rattle.arcs.specs.LineAndArc.{tangentLineArc}
 use Rattle.arcs.specs.Laws.Branches.{branches}
-use Rattle.crossing.proofs.line_arc.tangent_line_arc.Statement.{statement}
-use Rattle.crossing.proofs.line_arc.tangent_line_arc.Tie as tie
+use Rattle.arcs.proofs.line_and_arc.tangent_line_arc.Statement.{statement}
+use Rattle.arcs.proofs.line_and_arc.tangent_line_arc.Tie as tie
 
 pub tangent-line-arc-spec : {M : Type 1} → statement M
-unfolding LineArc.tangentLineArc
+unfolding tangentLineArc
 tangent-line-arc-spec =
     tie.close
     (tie.spec

@@ -41,7 +41,7 @@ use Rattle.floats.specs.Laws.RootPowers.{root64, root-least, root-most}
 use Rattle.plane.specs.Vector2 as vector2
 use Rattle.plane.specs.declared.vector2.Vector2.{Vector2}
 use Rattle.plane.specs.Fuzzy.{fuzzyInRangeEps, fuzzyGtEps, fuzzyLtEps}
-use Rattle.crossing.specs.LineLine.{within}
+use Rattle.ranges.specs.Range.{within}
 
 -- ---- the tests: 2^-40, 2^-10 and 2^50; 31/32, 33/32 and 1/32
 abbrev pub epsLeast : Float

@@ -1,12 +1,12 @@
--- `crossing::line_line_intersect::look` meets its contract: the chain of its calls is the first fault of the list.
+-- `checks::calls::check_line_line` meets its contract: the chain of its calls is the first fault of the list.
 use borrow.Author.Needs.{needs}
-use Rattle.crossing.specs.LineLineIntersect
-use Rattle.crossing.specs.Laws.Order.{alone, with-point}
-use Rattle.crossing.proofs.line_line_intersect.look.Statement.{statement}
-use Rattle.crossing.proofs.line_line_intersect.look.Tie as tie
+use Rattle.checks.specs.Calls
+use Rattle.checks.specs.Laws.Found.{alone, with-point}
+use Rattle.checks.proofs.calls.check_line_line.Statement.{statement}
+use Rattle.checks.proofs.calls.check_line_line.Tie as tie
 
 returns : tie.Need-returns
-unfolding LineLineIntersect.look
+unfolding Calls.checkLineLine
 returns c =
     let p2 = c .before .before in
     let a0 = alone (p2 .before .before .epsilon .ensures) in
@@ -15,6 +15,6 @@ returns c =
     let a3 = with-point a2 _ _ _ _ (c .before .point-after3 .ensures) in
     with-point a3 _ _ _ _ (c .point-after4 .ensures) .is
 
-pub look-spec : {M : Type 1} → statement M
-look-spec =
+pub check-line-line-spec : {M : Type 1} → statement M
+check-line-line-spec =
     tie.close (tie.spec (search needs) (search needs) (search needs) (search needs) (search needs) returns)

@@ -5,12 +5,12 @@ use mathlib.Core.Logic.{_↔_}
 use mathlib.Core.List.{List}
 use Prim.Native.Nat.{ℕ}
 use native.Mathlib.Omega.{arith}
 use Rattle.checks.specs.declared.fault.Fault.{Fault}
 use Rattle.checks.specs.declared.fault.Checked.{Checked}
 use Rattle.checks.specs.declared.fault.Checked.the-variants.{Fine, Bad}
 use Rattle.checks.specs.First.{first}
 use Rattle.checks.specs.FirstFault.{FirstFault, AllFine, first-bad, first-fine}
-use Rattle.crossing.specs.Settle.{settle}
+use Rattle.checks.specs.Settle.{settle}
 
 -- the first fault among the checks, in their order, has the number n
 abbrev pub FirstIs : ℕ → List Checked → Type 0

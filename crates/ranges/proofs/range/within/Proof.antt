@@ -1,21 +1,21 @@
--- `crossing::line_line::within` meets its contract: where t is clearly inside or outside, the law of `Laws/Within` says
+-- `ranges::range::within` meets its contract: where t is clearly inside or outside, the law of `Laws/Within` says
 -- what the length would; elsewhere the length is asked.
 use mathlib.Core.Path.{sym}
 use lib.Dec.{T}
 use denote.Floats.{passes}
 use borrow.Author.Needs.{needs}
+use borrow.Author.Tests.{not-false}
 use Rattle.plane.specs.Vector2 as vector2
-use Rattle.checks.specs.Laws.Fine.{not-denied}
-use Rattle.crossing.specs.Laws.Within.{usual, within-inside, within-outside}
-use Rattle.crossing.proofs.line_line.within.Statement.{statement}
-use Rattle.crossing.proofs.line_line.within.Tie as tie
+use Rattle.ranges.specs.Laws.Within.{usual, within-inside, within-outside}
+use Rattle.ranges.proofs.range.within.Statement.{statement}
+use Rattle.ranges.proofs.range.within.Tie as tie
 
 -- the sizes are usual, as the first test found
 sizes : (c : tie.Else1) → let a = c .before .before .before .args in
     T (usual (vector2.dot (a .segment) (a .segment)) (a .eps))
 sizes c =
     simp (← c .before .before .length-squared .ensures, ← c .before .usual .ensures)
-    (not-denied (c .before .usual .result) (c .if1 .left))
+    (passes _ (not-false (c .before .usual .result) (c .if1 .left)))
 
 returns-2 : tie.Need-returns-2
 returns-2 c =

@@ -1,14 +1,14 @@
--- `crossing::line_arc::point_in_sweep` meets its contract: each return is an end of the definition, by the calls and tests on its
+-- `arcs::line_and_arc::point_in_sweep` meets its contract: each return is an end of the definition, by the calls and tests on its
 -- way.
 use borrow.Author.Needs.{needs}
-use Rattle.crossing.specs.LineArc
-use Rattle.crossing.specs.LineLine
+use Rattle.ranges.specs.Range.{within}
+use Rattle.arcs.specs.LineAndArc.{pointInSweep}
 use Rattle.arcs.specs.Laws.Branches.{branches}
-use Rattle.crossing.proofs.line_arc.point_in_sweep.Statement.{statement}
-use Rattle.crossing.proofs.line_arc.point_in_sweep.Tie as tie
+use Rattle.arcs.proofs.line_and_arc.point_in_sweep.Statement.{statement}
+use Rattle.arcs.proofs.line_and_arc.point_in_sweep.Tie as tie
 
 pub point-in-sweep-spec : {M : Type 1} → statement M
-unfolding LineArc.pointInSweep LineLine.within
+unfolding pointInSweep within
 point-in-sweep-spec =
     tie.close
     (tie.spec

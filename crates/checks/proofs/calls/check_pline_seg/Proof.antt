@@ -1,12 +1,12 @@
--- `crossing::pline_seg_intersect::look` meets its contract: the chain of its calls is the first fault of the list.
+-- `checks::calls::check_pline_seg` meets its contract: the chain of its calls is the first fault of the list.
 use borrow.Author.Needs.{needs}
-use Rattle.crossing.specs.PlineSegIntersect
-use Rattle.crossing.specs.Laws.Order.{alone, with-vertex, with-point, with-check}
-use Rattle.crossing.proofs.pline_seg_intersect.look.Statement.{statement}
-use Rattle.crossing.proofs.pline_seg_intersect.look.Tie as tie
+use Rattle.checks.specs.Calls
+use Rattle.checks.specs.Laws.Found.{alone, with-vertex, with-point, with-check}
+use Rattle.checks.proofs.calls.check_pline_seg.Statement.{statement}
+use Rattle.checks.proofs.calls.check_pline_seg.Tie as tie
 
 returns : tie.Need-returns
-unfolding PlineSegIntersect.look
+unfolding Calls.checkPlineSeg
 returns c =
     let p4 = c .before .before .before .before in
     let p6 = p4 .before .before in
@@ -18,8 +18,8 @@ returns c =
     let a5 = with-check a4 _ (c .before .before .before .arc-chord .ensures) (c .before .before .later .ensures) in
     with-check a5 _ (c .before .arc-chord2 .ensures) (c .later2 .ensures) .is
 
-pub look-spec : {M : Type 1} → statement M
-look-spec =
+pub check-pline-seg-spec : {M : Type 1} → statement M
+check-pline-seg-spec =
     tie.close
     (tie.spec
     (search needs) (search needs) (search needs) (search needs) (search needs) (search needs)

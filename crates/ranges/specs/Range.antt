@@ -1,0 +1,13 @@
+-- Whether a parameter lies on a segment: from line_line_intersect.rs, line for line.
+use mathlib.Core.Bool.{Bool}
+use lib.Ieee.{Float}
+use Rattle.floats.specs.Ops.{_⊗_, f0}
+use Rattle.plane.specs.Vector2 as vector2
+use Rattle.plane.specs.declared.vector2.Vector2.{Vector2}
+use Rattle.plane.specs.Fuzzy.{fuzzyInRangeEps}
+
+-- lines 121-124, 161-162, 175-176: t by its place along a segment of this length
+unfoldable pub within : Float → Vector2 → Float → Bool
+within t segment eps =
+    let length = vector2.length segment in
+    fuzzyInRangeEps (t ⊗ length) f0 length eps
