@@ -23,7 +23,7 @@ SHOWN = {
         re.S,
     ),
     "an equation is left": re.compile(r"what it leaves must be a path whose two ends are equal, and .* is none", re.S),
-    "numbers for which it fails": re.compile(r"All of that holds, and the goal fails, at"),
+    "numbers for which it fails": re.compile(r"All of that holds, and the (?:goal|part) fails, at"),
     "every way was tried": re.compile(r"was found\. Every way was tried: a deeper search would find nothing either"),
 }
 

@@ -4,7 +4,7 @@ use mathlib.Core.Path.{_≡_}
 use mathlib.Core.Bool.{cond}
 use borrow.Author.Tests.{eq-eqb}
 use lib.Dec.{eqb}
-use Rattle.arcs.specs.Laws.Branches.{branches}
+use Rattle.float_laws.specs.Branches.{branches}
 
 pub picked : {A : Type 0} (n k : ℕ) (x y r : A) → n ≡ k → r ≡ x → r ≡ cond (eqb n k) x y
 picked n k x y r h e = rw (eq-eqb n k h) e

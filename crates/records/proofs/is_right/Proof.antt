@@ -1,6 +1,6 @@
 -- `records::is_right` meets its contract: each return is an end of the definition, by the calls and tests on its way.
 use borrow.Author.Needs.{needs}
-use Rattle.arcs.specs.Laws.Branches.{branches}
+use Rattle.float_laws.specs.Branches.{branches}
 use Rattle.records.specs.Calls.{isRight}
 use Rattle.records.proofs.is_right.Statement.{statement}
 use Rattle.records.proofs.is_right.Tie as tie

@@ -1,7 +1,7 @@
 -- `arcs::arc_sweep::exactly_within_sweep` meets its contract: each return is an end of the definition, by the calls
 -- and tests on its way.
 use Rattle.arcs.specs.ArcSweep.{exactlyWithinSweep}
-use Rattle.arcs.specs.Laws.Branches.{branches}
+use Rattle.float_laws.specs.Branches.{branches}
 use Rattle.arcs.proofs.arc_sweep.exactly_within_sweep.Statement.{statement}
 use Rattle.arcs.proofs.arc_sweep.exactly_within_sweep.Tie as tie
 

@@ -1,7 +1,7 @@
 -- `arcs::line_and_arc::one_line_arc` meets its contract: each return is an end of the definition, by the calls and tests on its way.
 use borrow.Author.Needs.{needs}
 use Rattle.arcs.specs.LineAndArc.{oneLineArc}
-use Rattle.arcs.specs.Laws.Branches.{branches}
+use Rattle.float_laws.specs.Branches.{branches}
 use Rattle.arcs.proofs.line_and_arc.one_line_arc.Statement.{statement}
 use Rattle.arcs.proofs.line_and_arc.one_line_arc.Tie as tie
 

@@ -3,7 +3,7 @@
 use borrow.Author.Needs.{needs}
 use Rattle.ranges.specs.Range.{within}
 use Rattle.arcs.specs.LineAndArc.{pointInSweep}
-use Rattle.arcs.specs.Laws.Branches.{branches}
+use Rattle.float_laws.specs.Branches.{branches}
 use Rattle.arcs.proofs.line_and_arc.point_in_sweep.Statement.{statement}
 use Rattle.arcs.proofs.line_and_arc.point_in_sweep.Tie as tie
 

@@ -2,7 +2,7 @@
 -- its way.
 use borrow.Author.Needs.{needs}
 use Rattle.arcs.specs.LineAndArc.{tangentLineArc}
-use Rattle.arcs.specs.Laws.Branches.{branches}
+use Rattle.float_laws.specs.Branches.{branches}
 use Rattle.arcs.proofs.line_and_arc.tangent_line_arc.Statement.{statement}
 use Rattle.arcs.proofs.line_and_arc.tangent_line_arc.Tie as tie
 

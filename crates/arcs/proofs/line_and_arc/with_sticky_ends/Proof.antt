@@ -2,7 +2,7 @@
 -- on its way.
 use borrow.Author.Needs.{needs}
 use Rattle.arcs.specs.LineAndArc.{withStickyEnds}
-use Rattle.arcs.specs.Laws.Branches.{branches}
+use Rattle.float_laws.specs.Branches.{branches}
 use Rattle.arcs.proofs.line_and_arc.with_sticky_ends.Statement.{statement}
 use Rattle.arcs.proofs.line_and_arc.with_sticky_ends.Tie as tie
 
@@ -12,5 +12,6 @@ with-sticky-ends-spec =
     tie.close
     (tie.spec
     (search needs) (search needs) (search needs) (search needs)
-    (λ c. search branches depth 8) (λ c. search branches depth 8) (λ c. search branches depth 8) (λ c. search branches depth 8)
+    (λ c. search branches depth 8) (λ c. search branches depth 8) (λ c. search branches depth 8 fits 30000)
+    (λ c. search branches depth 8)
     (search needs) (search needs) (λ c. search branches depth 8) (λ c. search branches depth 8) (λ c. search branches depth 8))

@@ -1,7 +1,7 @@
 -- `arcs::one_circle::arc2_ends` meets its contract: each return is an end of the definition, by the calls and tests on
 -- its way.
 use Rattle.arcs.specs.OneCircle.{arc2Ends}
-use Rattle.arcs.specs.Laws.Branches.{branches}
+use Rattle.float_laws.specs.Branches.{branches}
 use Rattle.arcs.proofs.one_circle.arc2_ends.Statement.{statement}
 use Rattle.arcs.proofs.one_circle.arc2_ends.Tie as tie
 

@@ -2,7 +2,7 @@
 -- tests on its way.
 use borrow.Author.Needs.{needs}
 use Rattle.arcs.specs.OneCircle.{arcsOfOneCircle}
-use Rattle.arcs.specs.Laws.Branches.{branches}
+use Rattle.float_laws.specs.Branches.{branches}
 use Rattle.arcs.proofs.one_circle.arcs_of_one_circle.Statement.{statement}
 use Rattle.arcs.proofs.one_circle.arcs_of_one_circle.Tie as tie
 

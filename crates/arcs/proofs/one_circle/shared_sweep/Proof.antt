@@ -2,7 +2,7 @@
 -- on its way.
 use borrow.Author.Needs.{needs}
 use Rattle.arcs.specs.OneCircle.{sharedSweep}
-use Rattle.arcs.specs.Laws.Branches.{pairs}
+use Rattle.float_laws.specs.Branches.{pairs}
 use Rattle.arcs.proofs.one_circle.shared_sweep.Statement.{statement}
 use Rattle.arcs.proofs.one_circle.shared_sweep.Tie as tie
 

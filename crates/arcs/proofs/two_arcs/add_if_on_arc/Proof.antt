@@ -1,7 +1,7 @@
 -- `arcs::two_arcs::add_if_on_arc` meets its contract: each return is an end of the definition, by the calls and tests on its way.
 use borrow.Author.Needs.{needs}
 use Rattle.arcs.specs.TwoArcs.{addIfOnArc}
-use Rattle.arcs.specs.Laws.Branches.{branches}
+use Rattle.float_laws.specs.Branches.{branches}
 use Rattle.arcs.proofs.two_arcs.add_if_on_arc.Statement.{statement}
 use Rattle.arcs.proofs.two_arcs.add_if_on_arc.Tie as tie
 

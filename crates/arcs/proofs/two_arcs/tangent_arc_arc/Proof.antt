@@ -2,7 +2,7 @@
 -- tests on its way.
 use borrow.Author.Needs.{needs}
 use Rattle.arcs.specs.TwoArcs.{tangentArcArc}
-use Rattle.arcs.specs.Laws.Branches.{branches}
+use Rattle.float_laws.specs.Branches.{branches}
 use Rattle.arcs.proofs.two_arcs.tangent_arc_arc.Statement.{statement}
 use Rattle.arcs.proofs.two_arcs.tangent_arc_arc.Tie as tie
 

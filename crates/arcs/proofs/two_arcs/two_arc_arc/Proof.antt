@@ -1,7 +1,7 @@
 -- `arcs::two_arcs::two_arc_arc` meets its contract: each return is an end of the definition, by the calls and tests on its way.
 use borrow.Author.Needs.{needs}
 use Rattle.arcs.specs.TwoArcs.{twoArcArc}
-use Rattle.arcs.specs.Laws.Branches.{pairs}
+use Rattle.float_laws.specs.Branches.{pairs}
 use Rattle.arcs.proofs.two_arcs.two_arc_arc.Statement.{statement}
 use Rattle.arcs.proofs.two_arcs.two_arc_arc.Tie as tie
 

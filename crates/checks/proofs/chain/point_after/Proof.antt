@@ -10,4 +10,4 @@ point-after-spec =
     tie.close
     (tie.spec
     (λ c. search needs) (λ c. search needs)
-    (λ c. simp (← c .before .coordinate-after .ensures, ← c .coordinate-after2 .ensures)))
+    (λ c. simp (c .coordinate-after2 .ensures, c .before .coordinate-after .ensures)))

@@ -2,7 +2,7 @@
 -- tests on its way.
 use borrow.Author.Needs.{needs}
 use Rattle.crossing.specs.CircleCircle.{circleCircle}
-use Rattle.arcs.specs.Laws.Branches.{pairs}
+use Rattle.float_laws.specs.Branches.{pairs}
 use Rattle.crossing.proofs.circle_circle.by_distance.Statement.{statement}
 use Rattle.crossing.proofs.circle_circle.by_distance.Tie as tie
 

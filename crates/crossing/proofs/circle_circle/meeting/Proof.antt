@@ -2,7 +2,7 @@
 -- tests on its way.
 use borrow.Author.Needs.{needs}
 use Rattle.crossing.specs.CircleCircle.{meeting}
-use Rattle.arcs.specs.Laws.Branches.{branches}
+use Rattle.float_laws.specs.Branches.{branches}
 use Rattle.crossing.proofs.circle_circle.meeting.Statement.{statement}
 use Rattle.crossing.proofs.circle_circle.meeting.Tie as tie
 

@@ -2,7 +2,7 @@
 -- way.
 use borrow.Author.Needs.{needs}
 use Rattle.crossing.specs.LineCircle.{lineCircle}
-use Rattle.arcs.specs.Laws.Branches.{branches}
+use Rattle.float_laws.specs.Branches.{branches}
 use Rattle.crossing.proofs.line_circle.line_circle.Statement.{statement}
 use Rattle.crossing.proofs.line_circle.line_circle.Tie as tie
 

@@ -2,7 +2,7 @@
 -- way.
 use borrow.Author.Needs.{needs}
 use Rattle.crossing.specs.LineCircle.{twoPoints}
-use Rattle.arcs.specs.Laws.Branches.{branches}
+use Rattle.float_laws.specs.Branches.{branches}
 use Rattle.crossing.proofs.line_circle.two_points.Statement.{statement}
 use Rattle.crossing.proofs.line_circle.two_points.Tie as tie
 

@@ -2,7 +2,7 @@
 -- tests on its way.
 use borrow.Author.Needs.{needs}
 use Rattle.crossing.specs.LineLine.{firstPoint}
-use Rattle.arcs.specs.Laws.Branches.{branches}
+use Rattle.float_laws.specs.Branches.{branches}
 use Rattle.crossing.proofs.line_line.first_point.Statement.{statement}
 use Rattle.crossing.proofs.line_line.first_point.Tie as tie
 

@@ -4,7 +4,7 @@ use mathlib.Core.Path.{_≡_}
 use mathlib.Core.Bool.{cond, not}
 use borrow.Author.Needs.{needs}
 use Rattle.crossing.specs.LineLine.{lineLine, crossing, parallel}
-use Rattle.arcs.specs.Laws.Branches.{branches}
+use Rattle.float_laws.specs.Branches.{branches}
 use Rattle.crossing.proofs.line_line.line_line.Statement.{statement}
 use Rattle.crossing.proofs.line_line.line_line.Tie as tie
 

@@ -6,7 +6,7 @@ use borrow.Author.Needs.{needs}
 use Rattle.floats.specs.Ops.{_⊖_, _⊗_}
 use Rattle.plane.specs.Fuzzy.{fuzzyEqZeroEps}
 use Rattle.crossing.specs.LineLine.{overlap, touchingEnd}
-use Rattle.arcs.specs.Laws.Branches.{branches}
+use Rattle.float_laws.specs.Branches.{branches}
 use Rattle.crossing.specs.declared.line_line_intersect.LineLineIntr.the-variants.{TrueIntersect, Overlapping}
 use Rattle.crossing.proofs.line_line.overlap.Statement.{statement}
 use Rattle.crossing.proofs.line_line.overlap.Tie as tie

@@ -6,7 +6,7 @@ use borrow.Author.Needs.{needs}
 use Rattle.plane.specs.Fuzzy.{fuzzyEqZeroEps}
 use Rattle.plane.specs.Vector2.{perpDot}
 use Rattle.crossing.specs.LineLine.{parallel}
-use Rattle.arcs.specs.Laws.Branches.{pairs}
+use Rattle.float_laws.specs.Branches.{pairs}
 use Rattle.crossing.specs.declared.line_line_intersect.LineLineIntr.{LineLineIntr}
 use Rattle.crossing.specs.declared.line_line_intersect.LineLineIntr.the-variants.{NoIntersect}
 use Rattle.crossing.proofs.line_line.parallel.Statement.{statement}

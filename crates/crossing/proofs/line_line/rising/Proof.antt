@@ -1,7 +1,7 @@
 -- `crossing::line_line::rising` meets its contract: each return is an end of the definition, by the calls and tests on
 -- its way.
 use Rattle.crossing.specs.LineLine.{rising}
-use Rattle.arcs.specs.Laws.Branches.{branches}
+use Rattle.float_laws.specs.Branches.{branches}
 use Rattle.crossing.proofs.line_line.rising.Statement.{statement}
 use Rattle.crossing.proofs.line_line.rising.Tie as tie
 

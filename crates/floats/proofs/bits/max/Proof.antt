@@ -10,4 +10,4 @@ max-spec =
     tie.close
     (tie.spec
     (λ c. search needs) (λ c. search needs)
-    (λ c. simp (← c .before .below .ensures, ← c .pick .ensures)))
+    (λ c. simp (c .pick .ensures, c .before .below .ensures)))

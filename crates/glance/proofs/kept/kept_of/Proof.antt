@@ -1,6 +1,6 @@
 -- `glance::kept::kept_of` meets its contract: its calls and tests lead to the definition's ends.
 use borrow.Author.Needs.{needs}
-use Rattle.arcs.specs.Laws.Branches.{branches}
+use Rattle.float_laws.specs.Branches.{branches}
 use Rattle.glance.specs.Kept as keeping
 use Rattle.glance.proofs.kept.kept_of.Statement.{statement}
 use Rattle.glance.proofs.kept.kept_of.Tie as tie

@@ -1,6 +1,6 @@
 -- `glance::line::constant` meets its contract: its calls and tests lead to the definition's ends.
 use borrow.Author.Needs.{needs}
-use Rattle.arcs.specs.Laws.Branches.{branches}
+use Rattle.float_laws.specs.Branches.{branches}
 use Rattle.glance.specs.Glance
 use Rattle.glance.proofs.line.constant.Statement.{statement}
 use Rattle.glance.proofs.line.constant.Tie as tie

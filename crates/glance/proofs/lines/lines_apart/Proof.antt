@@ -4,7 +4,7 @@ use mathlib.Core.Bool.{cond, not, _||_}
 use borrow.Author.Needs.{needs}
 use Rattle.plane.specs.Fuzzy.{fuzzyEqZeroEps}
 use Rattle.plane.specs.Vector2.{perpDot}
-use Rattle.arcs.specs.Laws.Branches.{branches}
+use Rattle.float_laws.specs.Branches.{branches}
 use Rattle.glance.specs.Glance.{linesApart, crossesOutside}
 use Rattle.glance.proofs.lines.lines_apart.Statement.{statement}
 use Rattle.glance.proofs.lines.lines_apart.Tie as tie

@@ -1,6 +1,6 @@
 -- `glance::pair::clearly_apart` meets its contract: its calls and tests lead to the definition's ends.
 use borrow.Author.Needs.{needs}
-use Rattle.arcs.specs.Laws.Branches.{branches}
+use Rattle.float_laws.specs.Branches.{branches}
 use Rattle.glance.specs.Glance.{clearlyApart}
 use Rattle.glance.proofs.pair.clearly_apart.Statement.{statement}
 use Rattle.glance.proofs.pair.clearly_apart.Tie as tie

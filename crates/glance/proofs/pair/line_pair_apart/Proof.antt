@@ -1,6 +1,6 @@
 -- `glance::pair::line_pair_apart` meets its contract: its calls and tests lead to the definition's ends.
 use borrow.Author.Needs.{needs}
-use Rattle.arcs.specs.Laws.Branches.{branches}
+use Rattle.float_laws.specs.Branches.{branches}
 use Rattle.glance.specs.Glance.{linePairApart}
 use Rattle.glance.proofs.pair.line_pair_apart.Statement.{statement}
 use Rattle.glance.proofs.pair.line_pair_apart.Tie as tie

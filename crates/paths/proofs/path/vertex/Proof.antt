@@ -11,4 +11,4 @@ vertex-spec =
     (tie.spec
     (λ c. search needs) (λ c. search needs) (λ c. search needs) (λ c. search needs) (λ c. search needs) (λ c. search needs)
     (λ c. search needs) (λ c. search needs) (λ c. search needs) (λ c. search needs)
-    (λ c. simp (← c .new .ensures)))
+    (λ c. simp (c .new .ensures)))

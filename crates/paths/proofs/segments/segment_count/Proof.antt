@@ -1,12 +1,13 @@
 -- `paths::segments::segment_count` meets its contract: each return is an end of the definition, by the calls and tests on its
 -- way.
-use mathlib.Core.Path.{_≡_}
+use mathlib.Core.Path.{_≡_, refl}
 use mathlib.Core.Bool.{cond}
 use Prim.Native.Nat.{_-_}
 use lib.Dec.{ltb}
 use borrow.Author.Needs.{needs}
-use borrow.Author.Tests.{lt-ltb, le-ltb}
+use borrow.Author.Tests.{le-ltb}
 use denote.Ref.{now}
+use Rattle.float_laws.specs.Branches.{below}
 use Rattle.paths.specs.Segments.{segmentCount}
 use Rattle.paths.proofs.segments.segment_count.Statement.{statement}
 use Rattle.paths.proofs.segments.segment_count.Tie as tie
@@ -27,7 +28,7 @@ segment-count-spec =
     tie.close
     (tie.spec
     (λ c. search needs) returns (λ c. search needs)
-    (λ c. rw (counted (c .before)) (simp (lt-ltb _ _ (c .if2 .taken))))
+    (λ c. rw (counted (c .before)) (below _ _ _ _ _ (c .if2 .taken) refl))
     (λ c. let p = c .before in rw (counted (p .before)) (simp (le-ltb _ _ (p .if2 .left), c .if3 .taken)))
     (λ c. search needs)
     (λ c. let p = c .before in rw (counted (p .before)) (simp (le-ltb _ _ (p .if2 .left), c .if3 .left))))

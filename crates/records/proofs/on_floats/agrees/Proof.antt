@@ -1,6 +1,6 @@
 -- `records::on_floats::agrees` meets its contract: each test picks its answer in the definition. Assumes nothing.
 use borrow.Author.Needs.{needs}
-use Rattle.arcs.specs.Laws.Branches.{branches, denied}
+use Rattle.float_laws.specs.Branches.{branches, denied}
 use Rattle.records.specs.OnFloats.{agreesOf}
 use Rattle.records.proofs.on_floats.agrees.Statement.{statement}
 use Rattle.records.proofs.on_floats.agrees.Tie as tie

@@ -1,6 +1,6 @@
 -- `records::on_floats::on_patterns` meets its contract: the test that is met picks the call. Assumes nothing.
 use borrow.Author.Needs.{needs}
-use Rattle.arcs.specs.Laws.Branches.{branches}
+use Rattle.float_laws.specs.Branches.{branches}
 use Rattle.records.specs.OnFloats.{onPatterns}
 use Rattle.records.proofs.on_floats.on_patterns.Statement.{statement}
 use Rattle.records.proofs.on_floats.on_patterns.Tie as tie

@@ -1,6 +1,6 @@
 -- `records::text::digit` meets its contract: each arm's tests pick its answer in the definition. Assumes nothing.
 use borrow.Author.Needs.{needs}
-use Rattle.arcs.specs.Laws.Branches.{branches}
+use Rattle.float_laws.specs.Branches.{branches}
 use Rattle.records.specs.Text.{digitOf}
 use Rattle.records.proofs.text.digit.Statement.{statement}
 use Rattle.records.proofs.text.digit.Tie as tie

@@ -4,7 +4,7 @@ use borrow.Author.Needs.{needs}
 use lib.Ieee.{binary64, ofBits}
 use lib.Ieee.Bits.{nanBits-is}
 use Rattle.floats.specs.Laws.Nan.{the-nan, zero-over-zero}
-use Rattle.arcs.specs.Laws.Branches.{denied}
+use Rattle.float_laws.specs.Branches.{denied}
 use Rattle.records.specs.Text.{numberAt}
 use Rattle.records.proofs.text.number.Statement.{statement}
 use Rattle.records.proofs.text.number.Tie as tie

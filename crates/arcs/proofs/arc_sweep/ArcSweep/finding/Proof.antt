@@ -4,7 +4,7 @@ use mathlib.Core.Path.{_≡_}
 use mathlib.Core.Bool.{cond}
 use borrow.Author.Needs.{needs}
 use Rattle.arcs.specs.ArcSweep.{finding, exactlyWithinSweep, beside}
-use Rattle.arcs.specs.Laws.Branches.{branches}
+use Rattle.float_laws.specs.Branches.{branches}
 use Rattle.arcs.specs.declared.arc_sweep.SweepFinding.{SweepFinding}
 use Rattle.arcs.specs.declared.arc_sweep.SweepFinding.the-variants.{Outside, Inside, NearStart, NearEnd}
 use Rattle.arcs.proofs.arc_sweep.ArcSweep.finding.Statement.{statement}
