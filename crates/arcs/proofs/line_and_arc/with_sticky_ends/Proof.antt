@@ -12,6 +12,5 @@ with-sticky-ends-spec =
     tie.close
     (tie.spec
     (search needs) (search needs) (search needs) (search needs)
-    (λ c. search branches depth 8) (λ c. search branches depth 8) (λ c. search branches depth 8 fits 30000)
-    (λ c. search branches depth 8)
+    (λ c. search branches depth 8) (λ c. search branches depth 8) (λ c. search branches depth 8) (λ c. search branches depth 8)
     (search needs) (search needs) (λ c. search branches depth 8) (λ c. search branches depth 8) (λ c. search branches depth 8))

@@ -1,7 +1,8 @@
 -- `checks::arc::arc_chord` meets its contract: past the first test it is the check of the chord that was worked out, and of a
 -- chord that is long enough by its self dot that check has nothing to say (`Laws/Chord`).
-use mathlib.Core.Path.{_≡_}
+use mathlib.Core.Path.{_≡_, refl}
 use borrow.Author.Needs.{needs}
+use Rattle.float_laws.specs.Branches.{said-so}
 use Rattle.plane.specs.Vector2.{length}
 use Rattle.checks.specs.declared.fault.Item.the-variants.{Chord}
 use Rattle.checks.specs.Fault.{at}
@@ -28,7 +29,7 @@ of-arc c =
 
 returns : tie.Need-returns
 unfolding Arc.arcChord
-returns c = simp (← c .before .bulge-is-zero .ensures, c .if1 .taken)
+returns c = said-so _ _ _ _ _ (c .before .bulge-is-zero .ensures) (c .if1 .taken) refl
 
 pub arc-chord-spec : {M : Type 1} → statement M
 arc-chord-spec =

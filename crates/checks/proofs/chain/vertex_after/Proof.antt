@@ -8,4 +8,4 @@ returns : tie.Need-returns
 returns c = vertex-passed _ _ _ _ _ _ (simp (← c .before .vertex-inside .ensures, c .if1 .taken) tt)
 
 pub vertex-after-spec : {M : Type 1} → statement M
-vertex-after-spec = tie.close (tie.spec (search needs) returns (search needs) (λ c. search needs))
+vertex-after-spec = tie.close (tie.spec (search needs) returns (search needs) (λ c. c .vertex-by-numbers .ensures))

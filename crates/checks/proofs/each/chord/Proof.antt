@@ -6,4 +6,4 @@ use Rattle.checks.proofs.each.chord.Tie as tie
 
 pub chord-spec : {M : Type 1} → statement M
 unfolding chord
-chord-spec = tie.close (tie.spec (λ c. search needs) (λ c. simp (← c .refuse .ensures)))
+chord-spec = tie.close (tie.spec (λ c. search needs) (λ c. simp (c .refuse .ensures)))

@@ -6,4 +6,4 @@ use Rattle.glance.proofs.kept.circle_of.Tie as tie
 
 pub circle-of-spec : {M : Type 1} → statement M
 unfolding keeping.circleOf
-circle-of-spec = tie.close (tie.spec (λ c. search needs) (λ c. simp (← c .new .ensures)))
+circle-of-spec = tie.close (tie.spec (λ c. search needs) (λ c. simp (c .new .ensures)))

@@ -37,9 +37,15 @@ returns c =
     on-one-page F ps (now (a .indices)) (now (a .points)) (joins F ps room) (omega (arith, n .lesser .ensures))
     (no-more F (a .job) room (t .if1 .taken)) _ _ _ _ (done .rows) (done .pairs) (done .indices) (done .points)
 
+list-held-back-requires : tie.Need-list-held-back-requires
+list-held-back-requires c κs =
+    let n = c .before .before .before .before in
+    let s = n .before .before .before .before .before .before in
+    (s .pre, n .lesser .ensures)
+
 pub list-kept-spec : {M : Type 1} → statement M
 list-kept-spec =
     tie.close
     (tie.spec
     (λ c. search needs) mul-if1 (λ c. search needs) fill-requires (λ c. search needs) (λ c. search needs) returns
-    (λ c. search needs) (λ c. search needs) (λ c. search needs) (λ c. search needs))
+    list-held-back-requires (λ c. search needs) (λ c. search needs) (λ c. search needs))
