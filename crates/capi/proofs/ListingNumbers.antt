@@ -20,8 +20,8 @@ use Rattle.listing_pairs.specs.declared.row.Row.{Row}
 use Rattle.listing_pairs.specs.declared.row.Look.{Look}
 use Rattle.listing_pairs.specs.Order.{Pair, mutualPairs, selfPairs}
 use Rattle.listing_pairs.specs.Look.{look}
-use Rattle.listing_loop.specs.declared.answer.ListingAnswer.{ListingAnswer}
-use Rattle.listing_loop.specs.Outcome.{Outcome, Leaves, roomCheck, outcomeOf, outcome}
+use Rattle.listing_outcomes.specs.declared.answer.ListingAnswer.{ListingAnswer}
+use Rattle.listing_outcomes.specs.Outcome.{Outcome, Leaves, roomCheck, outcomeOf, outcome}
 use Rattle.listing_calls.specs.Listing.{mutualChecks, mutualListing, selfChecks, selfListing}
 use Rattle.capi.specs.HandedListing.{HandedListing, code, counted}
 use Rattle.capi.proofs.Numbers.{Small, fine, refused, and, smalls}

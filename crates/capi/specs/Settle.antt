@@ -3,7 +3,7 @@ use Prim.Native.Nat.{ℕ}
 use mathlib.Core.Path.{_≡_, sym, _∙_}
 use mathlib.Core.List.{List}
 use lib.Ieee.{Float}
-use Rattle.listing_loop.specs.Outcome.{Outcome}
+use Rattle.listing_outcomes.specs.Outcome.{Outcome}
 use Rattle.capi.specs.Handed.{Handed}
 use Rattle.capi.specs.HandedListing.{HandedListing}
 use Rattle.capi.specs.declared.answer.Flat.{Flat}

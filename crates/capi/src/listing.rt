@@ -6,7 +6,7 @@ ghost use Rattle.listing_calls.specs.Listing;
 ghost use Rattle.capi.specs.HandedListing as handed;
 use listing_calls::mutual_listing;
 use listing_calls::self_listing;
-use listing_loop::answer::ListingAnswer;
+use listing_outcomes::answer::ListingAnswer;
 
 // Writes the counts of an answer to the front of `counts` and returns 0; a refusal writes nothing, and 256 and its number are
 // returned.

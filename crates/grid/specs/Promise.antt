@@ -16,7 +16,7 @@ use Rattle.arcs.specs.declared.pline_seg_intr.PlineSegIntr.{PlineSegIntr}
 use Rattle.arcs.specs.declared.pline_seg_intr.PlineSegIntr.the-variants.{NoIntersect, OneIntersect, OverlappingLines}
 use Rattle.crossing.specs.declared.pline_seg_intersect.PlineSegAnswer.the-variants.{Met}
 use Rattle.paths.specs.Segments.{segmentFrom, segmentCount}
-use Rattle.listing_loop.specs.declared.answer.ListingAnswer.the-variants.{Listed}
+use Rattle.listing_outcomes.specs.declared.answer.ListingAnswer.the-variants.{Listed}
 use Rattle.listing_calls.specs.Listing.{mutualListing}
 use Rattle.listing_calls.specs.HasRow.{HasRow}
 

@@ -11,9 +11,9 @@ use Rattle.layout_text.specs.Reader.{Taken, broken, layout, reads}
 use Rattle.layout_lines.specs.declared.Written.{Written}
 use Rattle.layout_lines.specs.Lines.{refusedText, answerText}
 use Rattle.layout_lines.specs.Written.{Lines}
-use Rattle.listing_loop.specs.declared.answer.ListingAnswer.{ListingAnswer}
-use Rattle.listing_loop.specs.declared.answer.ListingAnswer.the-variants.{Refused, Listed}
-use Rattle.listing_loop.specs.Outcome.{Outcome}
+use Rattle.listing_outcomes.specs.declared.answer.ListingAnswer.{ListingAnswer}
+use Rattle.listing_outcomes.specs.declared.answer.ListingAnswer.the-variants.{Refused, Listed}
+use Rattle.listing_outcomes.specs.Outcome.{Outcome}
 use Rattle.listing_calls.specs.Listing.{mutualListing}
 
 -- 1/1024

@@ -6,7 +6,7 @@ use layout_lines::write_refusal;
 use layout_text::Reading;
 use layout_text::read_layout;
 use listing_calls::mutual_listing::mutual_listing;
-use listing_loop::answer::ListingAnswer;
+use listing_outcomes::answer::ListingAnswer;
 
 // how near is near: 1/1024
 pub const EPSILON: f64 = 0.0009765625;

@@ -20,8 +20,8 @@ use Rattle.listing_pairs.specs.Row.{row, lookOf, unlessApart, indicesOf, flat}
 use Rattle.listing_pairs.specs.Order.{mutualPairs}
 use Rattle.listing_pairs.specs.Rows.{rowsOf, lookedAt}
 use Rattle.listing_pairs.specs.Look.{look}
-use Rattle.listing_loop.specs.declared.answer.ListingAnswer.the-variants.{Refused, Listed}
-use Rattle.listing_loop.specs.Outcome.{over, outcomeOf, outcome}
+use Rattle.listing_outcomes.specs.declared.answer.ListingAnswer.the-variants.{Refused, Listed}
+use Rattle.listing_outcomes.specs.Outcome.{over, outcomeOf, outcome}
 use Rattle.listing_calls.specs.Listing.{mutualChecks, mutualListing}
 use Rattle.listing_calls.specs.Refusals.{all}
 use Rattle.listing_calls.specs.HasRow.{HasRow}

@@ -13,7 +13,7 @@ use Rattle.paths.specs.Segments.{segmentCount}
 use Rattle.paths.specs.Check.{pathChecks}
 use Rattle.listing_pairs.specs.Order.{mutualPairs, selfPairs}
 use Rattle.listing_pairs.specs.Look.{look}
-use Rattle.listing_loop.specs.Outcome.{Outcome, outcome}
+use Rattle.listing_outcomes.specs.Outcome.{Outcome, outcome}
 
 -- ---- two paths
 -- epsilon; both paths' lengths; the first path's vertices and arcs, then the second's

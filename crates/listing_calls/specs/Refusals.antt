@@ -23,9 +23,9 @@ use Rattle.listing_pairs.specs.declared.row.Look.{Look}
 use Rattle.listing_pairs.specs.Order.{Pair, mutualPairs, selfPairs}
 use Rattle.listing_pairs.specs.Rows.{rowsOf, lookedAt}
 use Rattle.listing_pairs.specs.Look.{look}
-use Rattle.listing_loop.specs.declared.answer.ListingAnswer.{ListingAnswer}
-use Rattle.listing_loop.specs.declared.answer.ListingAnswer.the-variants.{Refused, Listed}
-use Rattle.listing_loop.specs.Outcome.{Outcome, room, roomCheck, outcomeOf, outcome}
+use Rattle.listing_outcomes.specs.declared.answer.ListingAnswer.{ListingAnswer}
+use Rattle.listing_outcomes.specs.declared.answer.ListingAnswer.the-variants.{Refused, Listed}
+use Rattle.listing_outcomes.specs.Outcome.{Outcome, room, roomCheck, outcomeOf, outcome}
 use Rattle.listing_calls.specs.Listing.{mutualChecks, mutualListing, selfChecks, selfListing}
 
 is-bad : Checked → Bool

@@ -1,14 +1,14 @@
 // The crossings of two paths.
 ghost use mathlib.Core.Path.{_≡_};
-ghost use Rattle.listing_loop.specs.Outcome;
+ghost use Rattle.listing_outcomes.specs.Outcome;
 ghost use Rattle.listing_calls.specs.Listing;
 use checks::each;
 use checks::fault::Checked;
 use checks::fault::Item;
 use checks::fault::Place;
 use checks::fault::later;
-use listing_loop::answer::ListingAnswer;
-use listing_loop::buffer;
+use listing_outcomes::answer::ListingAnswer;
+use listing_outcomes::buffer;
 use listing_pairs::order::Job;
 use paths::check;
 use paths::segments;

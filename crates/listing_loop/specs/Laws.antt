@@ -1,7 +1,4 @@
--- Laws that only proofs need: from the loop that fills rows up to the outcome of a listing. Outcome also has what `buffer::list`
--- promises.
+-- Laws that only proofs need: pages of a listing, and the loop that fills rows. Filling also has what `fill::fill` promises.
 pub mod Pages
 pub mod Filling
 pub mod Loop
-pub mod Over
-pub mod Outcome

@@ -1,5 +1,2 @@
--- The outcome of a listing of any sequence of pairs; what is proved of it, and laws.
-pub mod Outcome
-pub mod Told
-pub mod Settle
+-- The loop of every listing, as pages: laws only.
 pub mod Laws

@@ -1,5 +1,2 @@
-// The loop of every listing, and what it answers. Rows go into slices that the caller lends. Whether they fit, which is refusal
-// 8, is decided in `buffer`.
-pub mod answer;
-pub mod buffer;
-mod fill;
+// The loop of every listing: rows from a pair on, as many as fit, into slices that are lent.
+pub mod fill;

@@ -20,9 +20,9 @@ use Rattle.layout_lines.specs.declared.Written.{Written}
 use Rattle.layout_lines.specs.declared.Written.the-variants as Written·
 use Rattle.layout_lines.specs.Lines.{refusedText, answerText}
 use Rattle.layout_lines.specs.Written.{Lines, RefusalLine, AnswerLines}
-use Rattle.listing_loop.specs.declared.answer.ListingAnswer.{ListingAnswer}
-use Rattle.listing_loop.specs.declared.answer.ListingAnswer.the-variants.{Refused, Listed}
-use Rattle.listing_loop.specs.Outcome.{Leaves}
+use Rattle.listing_outcomes.specs.declared.answer.ListingAnswer.{ListingAnswer}
+use Rattle.listing_outcomes.specs.declared.answer.ListingAnswer.the-variants.{Refused, Listed}
+use Rattle.listing_outcomes.specs.Outcome.{Leaves}
 use Rattle.listing_calls.specs.Listing.{mutualListing}
 use Rattle.listing_calls.specs.Laws.Counts.{mutual-fits}
 use Rattle.layout_listing.specs.Answer.{

@@ -14,7 +14,7 @@ use Rattle.listing_pairs.specs.Row.{indicesOf, flat}
 use Rattle.listing_pairs.specs.Order.{Pair, along, pairsFrom}
 use Rattle.listing_pairs.specs.Rows.{onto, rowsOf}
 use Rattle.listing_pairs.specs.Laws.Stores.{flat-append, flat-length}
-use Rattle.listing_loop.specs.Outcome.{over}
+use Rattle.listing_outcomes.specs.Outcome.{over}
 use Rattle.listing_calls.specs.HasRow.{RowAt}
 
 -- x stands in the list: what comes before it, and after it

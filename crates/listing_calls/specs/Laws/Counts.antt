@@ -25,8 +25,8 @@ use Rattle.listing_pairs.specs.Order.{Pair, mutualPairs}
 use Rattle.listing_pairs.specs.Rows.{rowsOf, lookedAt}
 use Rattle.listing_pairs.specs.Look.{look}
 use Rattle.listing_pairs.specs.Laws.Stores.{flat-length}
-use Rattle.listing_loop.specs.declared.answer.ListingAnswer.the-variants.{Refused, Listed}
-use Rattle.listing_loop.specs.Outcome.{Outcome, over, room, roomCheck, outcomeOf, outcome}
+use Rattle.listing_outcomes.specs.declared.answer.ListingAnswer.the-variants.{Refused, Listed}
+use Rattle.listing_outcomes.specs.Outcome.{Outcome, over, room, roomCheck, outcomeOf, outcome}
 use Rattle.listing_calls.specs.Listing.{mutualChecks, mutualListing}
 
 -- at most `most` rows, in slices as long as these

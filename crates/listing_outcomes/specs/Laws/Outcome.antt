@@ -19,10 +19,8 @@ use Rattle.listing_pairs.specs.Order.{Pair, pairsFrom}
 use Rattle.listing_pairs.specs.Rows.{rowsOf, lookedAt}
 use Rattle.listing_pairs.specs.Laws.Job as job_of
 use Rattle.listing_pairs.specs.Laws.Stores.{flat-append, flat-length}
 use Rattle.listing_loop.specs.declared.fill.Filling.{Filling}
-use Rattle.listing_loop.specs.declared.answer.ListingAnswer.the-variants.{Refused, Listed}
-use Rattle.listing_loop.specs.Outcome.{Outcome, Leaves, over, room, roomCheck, outcomeOf}
 use Rattle.listing_loop.specs.Laws.Pages.{
   Page,
   page,
   empty,
@@ -34,9 +32,11 @@ use Rattle.listing_loop.specs.Laws.Pages.{
   all-fit,
   few-rows,
 }
 use Rattle.listing_loop.specs.Laws.Filling.{Filled}
 use Rattle.listing_loop.specs.Laws.Loop.{few-left, few-on-page}
-use Rattle.listing_loop.specs.Laws.Over.{sets-over, paste-over, paste-all, over-all, sets-beyond}
+use Rattle.listing_outcomes.specs.declared.answer.ListingAnswer.the-variants.{Refused, Listed}
+use Rattle.listing_outcomes.specs.Outcome.{Outcome, Leaves, over, room, roomCheck, outcomeOf}
+use Rattle.listing_outcomes.specs.Laws.Over.{sets-over, paste-over, paste-all, over-all, sets-beyond}
 
 -- a listing whose numbers were found fine
 abbrev pub listed : (ℕ → ℕ → Look) → List Pair → List ℕ → List Float → Outcome

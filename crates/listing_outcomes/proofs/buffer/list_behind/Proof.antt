@@ -1,4 +1,4 @@
--- `listing_loop::buffer::list_behind` meets its contract: counting leaves the slices as they were; where the rest ends on its
+-- `listing_outcomes::buffer::list_behind` meets its contract: counting leaves the slices as they were; where the rest ends on its
 -- page, the rows that were held back and those of that page are all rows.
 use mathlib.Core.Path.{_≡_, sym, ap, _∙_}
 use Prim.Native.Nat.{ℕ, _+_, _-_}
@@ -8,10 +8,10 @@ use denote.Ref.{now}
 use lib.ListN.{length}
 use lib.Seq.{paste}
 use Rattle.listing_pairs.specs.Look.{look}
 use Rattle.listing_loop.specs.Laws.Loop.{few-on-page}
-use Rattle.listing_loop.specs.Laws.Outcome.{few-on-every, held-indices, held-points, behind-listed, behind-refused}
-use Rattle.listing_loop.proofs.buffer.list_behind.Statement.{statement}
-use Rattle.listing_loop.proofs.buffer.list_behind.Tie as tie
+use Rattle.listing_outcomes.specs.Laws.Outcome.{few-on-every, held-indices, held-points, behind-listed, behind-refused}
+use Rattle.listing_outcomes.proofs.buffer.list_behind.Statement.{statement}
+use Rattle.listing_outcomes.proofs.buffer.list_behind.Tie as tie
 
 abbrev start : tie.After-fill → tie.Start
 start c = c .before .before .before .before .before .before .before .before .before .before

@@ -1,4 +1,4 @@
--- `listing_loop::buffer::list_held_back` meets its contract: the buffer is a page of all pairs. Where it ends the listing, it is
+-- `listing_outcomes::buffer::list_held_back` meets its contract: the buffer is a page of all pairs. Where it ends the listing, it is
 -- copied; where it is as long as the slices and pairs are left, there are too many rows; else the rest follows behind it.
 use mathlib.Core.Path.{_≡_, refl, sym, ap, _∙_}
 use mathlib.Core.Bool.{true}
@@ -15,11 +15,11 @@ use Rattle.listing_pairs.specs.Order.{Pair}
 use Rattle.listing_pairs.specs.Row.{indicesOf, pointsOf, flat}
 use Rattle.listing_pairs.specs.Look.{look}
 use Rattle.listing_pairs.specs.Laws.Job as job_of
 use Rattle.listing_loop.specs.Laws.Pages.{Page, page, joins, too-many}
 use Rattle.listing_loop.specs.Laws.Filling.{Filled}
-use Rattle.listing_loop.specs.Laws.Outcome.{filled-first, is-refused, held-back, hold}
-use Rattle.listing_loop.proofs.buffer.list_held_back.Statement.{statement}
-use Rattle.listing_loop.proofs.buffer.list_held_back.Tie as tie
+use Rattle.listing_outcomes.specs.Laws.Outcome.{filled-first, is-refused, held-back, hold}
+use Rattle.listing_outcomes.proofs.buffer.list_held_back.Statement.{statement}
+use Rattle.listing_outcomes.proofs.buffer.list_held_back.Tie as tie
 
 abbrev start : tie.After-fill → tie.Start
 start c = c .before .before .before .before .before .before .before .before .before .before

@@ -1,4 +1,4 @@
--- `listing_loop::buffer::list_kept` meets its contract: where every pair could have a row, the page of all pairs is the listing;
+-- `listing_outcomes::buffer::list_kept` meets its contract: where every pair could have a row, the page of all pairs is the listing;
 -- else rows are held back.
 use native.Mathlib.Nat.{mul-le-mul}
 use native.Mathlib.Omega.{arith}
@@ -6,10 +6,10 @@ use borrow.Author.Needs.{needs}
 use denote.Ref.{now}
 use Rattle.listing_pairs.specs.Look.{look}
 use Rattle.listing_pairs.specs.Laws.Job as job_of
 use Rattle.listing_loop.specs.Laws.Pages.{joins}
-use Rattle.listing_loop.specs.Laws.Outcome.{filled-first, no-more, on-one-page}
-use Rattle.listing_loop.proofs.buffer.list_kept.Statement.{statement}
-use Rattle.listing_loop.proofs.buffer.list_kept.Tie as tie
+use Rattle.listing_outcomes.specs.Laws.Outcome.{filled-first, no-more, on-one-page}
+use Rattle.listing_outcomes.proofs.buffer.list_kept.Statement.{statement}
+use Rattle.listing_outcomes.proofs.buffer.list_kept.Tie as tie
 
 mul-if1 : tie.Need-mul-if1
 mul-if1 c =

@@ -3,8 +3,8 @@ use Prim.Native.Nat.{ℕ}
 use mathlib.Core.Path.{_≡_, sym, _∙_}
 use mathlib.Core.List.{List}
 use lib.Ieee.{Float}
-use Rattle.listing_loop.specs.Outcome.{Outcome, Leaves}
-use Rattle.listing_loop.specs.declared.answer.ListingAnswer.{ListingAnswer}
+use Rattle.listing_outcomes.specs.Outcome.{Outcome, Leaves}
+use Rattle.listing_outcomes.specs.declared.answer.ListingAnswer.{ListingAnswer}
 
 pub listing-settled : {o : Outcome} {r s : ListingAnswer} {i j : List ℕ} {p q : List Float}
     → Leaves o r i p → Leaves o s j q → (r ≡ s) × (i ≡ j) × (p ≡ q)

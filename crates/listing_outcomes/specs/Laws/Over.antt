@@ -7,7 +7,7 @@ use native.Mathlib.Omega.{arith}
 use lib.ListN.{length, length-append, take, drop}
 use lib.Seq.{paste, sets, sets-eq, take-at, take-length, drop-length}
 use Rattle.listing_pairs.specs.Laws.Stores.{sets-append}
-use Rattle.listing_loop.specs.Outcome.{over}
+use Rattle.listing_outcomes.specs.Outcome.{over}
 
 module _ {A : Type 0} where
   pub sets-over : (l vs : List A) → length vs ≤ length l → sets l 0 vs ≡ over l vs

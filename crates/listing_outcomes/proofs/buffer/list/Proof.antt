@@ -1,4 +1,4 @@
--- `listing_loop::buffer::list` meets its contract: what is kept is that of the second path's segments, and the listing is that
+-- `listing_outcomes::buffer::list` meets its contract: what is kept is that of the second path's segments, and the listing is that
 -- of `list_kept`.
 use mathlib.Core.Path.{_≡_}
 use native.Mathlib.Omega.{arith}
@@ -6,8 +6,8 @@ use lib.Ieee.{Float, binary64, ofBits}
 use lib.ListN.{length, replicate, length-replicate}
 use Rattle.listing_pairs.specs.Laws.Keeping.{kept-ready}
 use borrow.Author.Needs.{needs}
-use Rattle.listing_loop.proofs.buffer.list.Statement.{statement}
-use Rattle.listing_loop.proofs.buffer.list.Tie as tie
+use Rattle.listing_outcomes.proofs.buffer.list.Statement.{statement}
+use Rattle.listing_outcomes.proofs.buffer.list.Tie as tie
 
 -- the numbers, at first
 long : length (let z : Float = ofBits binary64 0 in replicate 12288 z) ≡ 12288

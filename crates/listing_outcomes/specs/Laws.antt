@@ -1,0 +1,3 @@
+-- Laws that only proofs need: from pages up to the outcome of a listing. Outcome also has what `buffer::list` promises.
+pub mod Over
+pub mod Outcome

@@ -1,0 +1,5 @@
+-- The outcome of a listing of any sequence of pairs; what is proved of it, and laws.
+pub mod Outcome
+pub mod Told
+pub mod Settle
+pub mod Laws
