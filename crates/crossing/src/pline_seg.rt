@@ -6,7 +6,6 @@ use super::arc_arc::arc_arc;
 use super::line_arc::process_line_arc_intr;
 use super::line_line::line_line;
 use super::line_line_intersect::LineLineIntr;
-use arcs::circle::circle_if_arc;
 use arcs::pline_seg_intr::PlineSegIntr;
 use plane::base_math::point_from_parametric;
 use plane::pline_seg::ArcRadiusCenter;
@@ -67,19 +66,4 @@ pub fn pline_seg_on(
         return process_line_arc_intr(u1.pos(), u2.pos(), v1, v2, circle1, true, pos_equal_eps);
     }
     arc_arc(v1, v2, circle1, u1, u2, circle2, pos_equal_eps)
-}
-
-// The same, from the segments alone.
-pub fn pline_seg(
-    v1: PlineVertex,
-    v2: PlineVertex,
-    u1: PlineVertex,
-    u2: PlineVertex,
-    pos_equal_eps: f64,
-) -> PlineSegIntr
-    ensures { λ r. ⌜ r ≡ PlineSeg.plineSeg v1 v2 u1 u2 «pos_equal_eps» ⌝ }
-{
-    let circle1 = circle_if_arc(v1, v2);
-    let circle2 = circle_if_arc(u1, u2);
-    pline_seg_on(v1, v2, circle1, u1, u2, circle2, pos_equal_eps)
 }

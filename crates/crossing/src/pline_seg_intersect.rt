@@ -1,15 +1,12 @@
-// Two segments of polylines: the answer, and the call that looks at its numbers first.
+// Two segments of polylines: the answer, and how they meet for a caller that has looked at their numbers. The pair call itself is
+// `glance::pair::pline_seg_intr`.
 ghost use mathlib.Core.Path.{_≡_};
 ghost use Rattle.crossing.specs.PlineSeg;
-ghost use Rattle.crossing.specs.PlineSegIntersect;
 ghost use Rattle.arcs.specs.Laws.Circles;
 ghost use Rattle.checks.specs.Calls;
 ghost use Rattle.checks.specs.declared.fault.Checked.the-variants.{Fine};
-use super::pline_seg::pline_seg;
 use super::pline_seg::pline_seg_on;
 use arcs::pline_seg_intr::PlineSegIntr;
-use checks::calls::check_pline_seg;
-use checks::fault::Checked;
 use plane::pline_seg::ArcRadiusCenter;
 use plane::pline_vertex::PlineVertex;
 
@@ -17,23 +14,6 @@ use plane::pline_vertex::PlineVertex;
 pub enum PlineSegAnswer {
     Refused(u64),
     Met(PlineSegIntr),
-}
-
-// How the segments v1 to v2 and u1 to u2 meet, or the refusal of the first number at fault.
-pub fn pline_seg_intr(
-    v1: PlineVertex,
-    v2: PlineVertex,
-    u1: PlineVertex,
-    u2: PlineVertex,
-    pos_equal_eps: f64,
-) -> PlineSegAnswer
-    ensures { λ r. ⌜ r ≡ PlineSegIntersect.plineSegIntr v1 v2 u1 u2 «pos_equal_eps» ⌝ }
-{
-    let looked = check_pline_seg(v1, v2, u1, u2, pos_equal_eps);
-    match looked {
-        Checked::Fine => PlineSegAnswer::Met(pline_seg(v1, v2, u1, u2, pos_equal_eps)),
-        Checked::Bad(fault) => PlineSegAnswer::Refused(fault.number),
-    }
 }
 
 // How the segments v1 to v2 and u1 to u2 meet, for a caller that has looked at their numbers already and has the circle of each that

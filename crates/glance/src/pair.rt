@@ -1,5 +1,5 @@
-// The pair call with a glance first: inside a listing, which has looked at the numbers already and kept what belongs to each segment,
-// and on its own.
+// How two segments meet, with a glance first: inside a listing, which has looked at the numbers already and kept what belongs to each
+// segment; and the pair call, which looks at its numbers itself.
 ghost use mathlib.Core.Path.{_≡_};
 ghost use Rattle.checks.specs.Calls;
 ghost use Rattle.checks.specs.declared.fault.Checked.the-variants.{Fine};
@@ -15,7 +15,8 @@ use super::lines::lines_apart;
 use super::looked::pair_fine;
 use arcs::circle::circle_if_arc;
 use arcs::pline_seg_intr::PlineSegIntr;
-use crossing::pline_seg_intersect;
+use checks::calls::check_pline_seg;
+use checks::fault::Checked;
 use crossing::pline_seg_intersect::PlineSegAnswer;
 use crossing::pline_seg_intersect::pline_seg_looked_at;
 use plane::pline_vertex::PlineVertex;
@@ -118,5 +119,9 @@ pub fn pline_seg_intr(
     if pair_fine(v1, v2, u1, u2, pos_equal_eps) {
         return PlineSegAnswer::Met(pline_seg_once(v1, v2, u1, u2, pos_equal_eps));
     }
-    pline_seg_intersect::pline_seg_intr(v1, v2, u1, u2, pos_equal_eps)
+    let checked = check_pline_seg(v1, v2, u1, u2, pos_equal_eps);
+    match checked {
+        Checked::Fine => PlineSegAnswer::Met(pline_seg_once(v1, v2, u1, u2, pos_equal_eps)),
+        Checked::Bad(fault) => PlineSegAnswer::Refused(fault.number),
+    }
 }

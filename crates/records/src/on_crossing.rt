@@ -13,7 +13,7 @@ use capi::answer::Flat;
 use crossing::circle_circle_intersect;
 use crossing::line_circle_intersect;
 use crossing::line_line_intersect;
-use crossing::pline_seg_intersect;
+use glance::pair;
 
 // Whether the line's two lines meet as it says.
 pub fn line_line(body: &[u8]) -> bool
@@ -61,7 +61,7 @@ pub fn circle_circle(body: &[u8]) -> bool
 pub fn pline_seg(body: &[u8]) -> bool
     ensures { λ r. ⌜ r ≡ OnCrossing.plineSeg (now (body .entry)) ⌝ }
 {
-    let met = pline_seg_intersect::pline_seg_intr(
+    let met = pair::pline_seg_intr(
         vertex(body, 0),
         vertex(body, 3),
         vertex(body, 6),
