@@ -186,17 +186,14 @@ find_rust_text() {
     fi
 }
 
-# Both libraries at once. One that is there already, made of what is proved now, is not made again.
+# One library after the other, since rt keeps notes in target/. One that is there already, made of what is proved now, is not made again.
 make_libraries() {
-    local library waits=()
+    local library
     for library in capi probe; do
         if ! cmp -s "target/stamp/$library" "target/staticlib/$library.stamp"; then
-            { quietly rt staticlib "$library" && cp "target/stamp/$library" "target/staticlib/$library.stamp"; } &
-            waits+=($!)
+            quietly rt staticlib "$library" || fail "rt staticlib $library failed"
+            cp "target/stamp/$library" "target/staticlib/$library.stamp"
         fi
-    done
-    for library in "${waits[@]}"; do
-        wait "$library" || fail "a static library was not made"
     done
 }
 
