@@ -105,6 +105,36 @@ fn pline_seg_once(
     pline_seg_looked_at(v1, v2, circle1, u1, u2, circle2, pos_equal_eps)
 }
 
+// The pair call number by number, for numbers that comparisons alone do not tell to be fine. It has no glance at the segments, so that
+// the usual way stands in one place.
+fn pline_seg_checked(
+    v1: PlineVertex,
+    v2: PlineVertex,
+    u1: PlineVertex,
+    u2: PlineVertex,
+    pos_equal_eps: f64,
+) -> PlineSegAnswer
+    ensures { λ r. ⌜ r ≡ PlineSegIntersect.plineSegIntr v1 v2 u1 u2 «pos_equal_eps» ⌝ }
+{
+    let checked = check_pline_seg(v1, v2, u1, u2, pos_equal_eps);
+    match checked {
+        Checked::Fine => {
+            let circle1 = circle_if_arc(v1, v2);
+            let circle2 = circle_if_arc(u1, u2);
+            PlineSegAnswer::Met(pline_seg_looked_at(
+                v1,
+                v2,
+                circle1,
+                u1,
+                u2,
+                circle2,
+                pos_equal_eps,
+            ))
+        }
+        Checked::Bad(fault) => PlineSegAnswer::Refused(fault.number),
+    }
+}
+
 // How the segments v1 to v2 and u1 to u2 meet, or the refusal of the first number at fault: the pair call, with a glance at its
 // numbers and at the segments first.
 pub fn pline_seg_intr(
@@ -119,9 +149,5 @@ pub fn pline_seg_intr(
     if pair_fine(v1, v2, u1, u2, pos_equal_eps) {
         return PlineSegAnswer::Met(pline_seg_once(v1, v2, u1, u2, pos_equal_eps));
     }
-    let checked = check_pline_seg(v1, v2, u1, u2, pos_equal_eps);
-    match checked {
-        Checked::Fine => PlineSegAnswer::Met(pline_seg_once(v1, v2, u1, u2, pos_equal_eps)),
-        Checked::Bad(fault) => PlineSegAnswer::Refused(fault.number),
-    }
+    pline_seg_checked(v1, v2, u1, u2, pos_equal_eps)
 }

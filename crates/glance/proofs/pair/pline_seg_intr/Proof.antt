@@ -1,5 +1,5 @@
 -- `glance::pair::pline_seg_intr` meets its contract: where the glance finds all numbers fine, so does the look, and the answer is how the
--- segments meet; elsewhere by what the check of all numbers finds.
+-- segments meet; elsewhere the numbers are checked one by one.
 use mathlib.Core.Path.{_≡_, sym, ap, _∙_}
 use lib.Ieee.{Float}
 use denote.Floats.{passes}
@@ -31,22 +31,6 @@ pline-seg-once-requires c κs = looked c
 returns : tie.Need-returns
 returns c = met _ _ _ _ _ _ (looked (c .before)) (c .pline-seg-once .ensures)
 
--- past the glance: what the check found
-pline-seg-once-requires-2 : tie.Need-pline-seg-once-requires-2
-pline-seg-once-requires-2 c κs = sym (c .before .before .check-pline-seg .ensures) ∙ c .enum-told .given .1
-
-returns-2 : tie.Need-returns-2
-returns-2 c =
-    let t = c .before in
-    met _ _ _ _ _ _ (sym (t .before .before .check-pline-seg .ensures) ∙ t .enum-told .given .1) (c .pline-seg-once2 .ensures)
-
-returns-3 : tie.Need-returns-3
-unfolding plineSegIntr
-returns-3 c = let t = c .before in simp (← t .before .before .check-pline-seg .ensures, t .checked .given .1)
-
 pub pline-seg-intr-spec : {M : Type 1} → statement M
 pline-seg-intr-spec =
-    tie.close
-    (tie.spec
-    (search needs) pline-seg-once-requires returns (search needs) (search needs) pline-seg-once-requires-2 (search needs)
-    returns-2 returns-3)
+    tie.close (tie.spec (search needs) pline-seg-once-requires returns (search needs) (λ c. search needs))
