@@ -7,7 +7,7 @@ use borrow.Author.Tests.{lt-ltb, le-ltb}
 use lib.ListN.{length}
 use lib.Seq.{sets}
 use lib.Ieee.{Float}
-use Rattle.capi.specs.declared.answer.Flat.{Flat}
+use Rattle.answers.specs.declared.flat.Flat.{Flat}
 use Rattle.capi.specs.Handed.{Handed}
 
 module _ (f : Flat) (old : List Float) where

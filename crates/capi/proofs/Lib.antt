@@ -1,4 +1,3 @@
 mod Ends
-mod Told
 mod Numbers
 mod ListingNumbers

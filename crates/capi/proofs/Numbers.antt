@@ -39,7 +39,7 @@ use Rattle.arcs.specs.declared.pline_seg_intr.PlineSegIntr.{PlineSegIntr}
 use Rattle.arcs.specs.declared.pline_seg_intr.PlineSegIntr.the-variants as plineSegIs
 use Rattle.crossing.specs.declared.pline_seg_intersect.PlineSegAnswer.{PlineSegAnswer}
 use Rattle.crossing.specs.declared.pline_seg_intersect.PlineSegAnswer.the-variants as ofPairs
-use Rattle.capi.specs.Handed.{ofLineLine, ofLineCircle, ofCircleCircle, ofPlineSeg}
+use Rattle.answers.specs.Flat.{ofLineLine, ofLineCircle, ofCircleCircle, ofPlineSeg}
 
 -- ---- a check's
 pub record Small (c : Checked) : Type 0 where

@@ -6,7 +6,7 @@ use lib.Ieee.{Float}
 use Rattle.listing_outcomes.specs.Outcome.{Outcome}
 use Rattle.capi.specs.Handed.{Handed}
 use Rattle.capi.specs.HandedListing.{HandedListing}
-use Rattle.capi.specs.declared.answer.Flat.{Flat}
+use Rattle.answers.specs.declared.flat.Flat.{Flat}
 
 pub handed-settled : {f : Flat} {r s : ℕ} {old a b : List Float} → Handed f r old a → Handed f s old b → (r ≡ s) × (a ≡ b)
 handed-settled p q = (p .told ∙ sym (q .told), p .holds ∙ sym (q .holds))

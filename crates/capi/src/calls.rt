@@ -1,11 +1,13 @@
 // How two lines, a line and a circle, two circles, or two segments of polylines meet: the calls that look at their numbers first.
 // The answer's number is returned, and its values go into a lent slice.
-ghost use Rattle.capi.specs.Handed.{Handed, point, vertex, ofLineLine, ofLineCircle, ofCircleCircle, ofPlineSeg};
+ghost use Rattle.answers.specs.Flat.{ofLineLine, ofLineCircle, ofCircleCircle, ofPlineSeg};
+ghost use Rattle.capi.specs.Handed.{Handed, point, vertex};
 ghost use Rattle.crossing.specs.LineLineIntersect.{lineLineIntr};
 ghost use Rattle.crossing.specs.LineCircleIntersect.{lineCircleIntr};
 ghost use Rattle.crossing.specs.CircleCircleIntersect.{circleCircleIntr};
 ghost use Rattle.crossing.specs.PlineSegIntersect.{plineSegIntr};
-use super::answer;
+use super::hand_over::hand_over;
+use answers::flat;
 use crossing::circle_circle_intersect;
 use crossing::line_circle_intersect;
 use crossing::line_line_intersect;
@@ -38,8 +40,8 @@ pub extern "C" fn vj_line_line_intr(
         Vector2 { x: u2x, y: u2y },
         epsilon,
     );
-    let flat = answer::of_line_line(met);
-    answer::hand_over(flat, out)
+    let numbers = flat::of_line_line(met);
+    hand_over(numbers, out)
 }
 
 // How the line of p0 and p1 and a circle meet.
@@ -66,8 +68,8 @@ pub extern "C" fn vj_line_circle_intr(
         Vector2 { x: cx, y: cy },
         epsilon,
     );
-    let flat = answer::of_line_circle(met);
-    answer::hand_over(flat, out)
+    let numbers = flat::of_line_circle(met);
+    hand_over(numbers, out)
 }
 
 // How two circles meet.
@@ -93,8 +95,8 @@ pub extern "C" fn vj_circle_circle_intr(
         Vector2 { x: c2x, y: c2y },
         epsilon,
     );
-    let flat = answer::of_circle_circle(met);
-    answer::hand_over(flat, out)
+    let numbers = flat::of_circle_circle(met);
+    hand_over(numbers, out)
 }
 
 // How the segments v1 to v2 and u1 to u2 meet, each a line or an arc by the bulge of its first vertex.
@@ -143,6 +145,6 @@ pub extern "C" fn vj_pair(
         },
         epsilon,
     );
-    let flat = answer::of_pline_seg(met);
-    answer::hand_over(flat, out)
+    let numbers = flat::of_pline_seg(met);
+    hand_over(numbers, out)
 }

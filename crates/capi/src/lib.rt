@@ -6,8 +6,8 @@ ghost use mathlib.Core.Path.{_≡_};
 ghost use Rattle.floats.specs.F64;
 ghost use Rattle.floats.specs.Bits;
 
-pub mod answer;
 pub mod calls;
+pub mod hand_over;
 pub mod listing;
 
 // The absolute value.

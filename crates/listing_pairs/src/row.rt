@@ -1,6 +1,7 @@
 // A row of a listing: two segments that meet, how, and where. And what looking at a pair of segments gives.
 ghost use mathlib.Core.Path.{_≡_};
 ghost use Rattle.listing_pairs.specs.Row as row;
+use answers::class_and_points::class_and_points;
 use arcs::pline_seg_intr::PlineSegIntr;
 
 // how many whole numbers and how many floats of a row stand in the two lent slices
@@ -31,52 +32,17 @@ pub enum Look {
 pub fn look_of(i: u64, j: u64, met: PlineSegIntr) -> Look
     ensures { λ r. ⌜ r ≡ row.lookOf i j met ⌝ }
 {
-    match met {
-        PlineSegIntr::NoIntersect => Look::Nothing,
-        PlineSegIntr::TangentIntersect { point } => Look::Made(Row {
-            i: i,
-            j: j,
-            class: 1,
-            x1: point.x,
-            y1: point.y,
-            x2: 0.0,
-            y2: 0.0,
-        }),
-        PlineSegIntr::OneIntersect { point } => Look::Made(Row {
-            i: i,
-            j: j,
-            class: 2,
-            x1: point.x,
-            y1: point.y,
-            x2: 0.0,
-            y2: 0.0,
-        }),
-        PlineSegIntr::TwoIntersects { point1, point2 } => Look::Made(Row {
-            i: i,
-            j: j,
-            class: 3,
-            x1: point1.x,
-            y1: point1.y,
-            x2: point2.x,
-            y2: point2.y,
-        }),
-        PlineSegIntr::OverlappingLines { point1, point2 } => Look::Made(Row {
-            i: i,
-            j: j,
-            class: 4,
-            x1: point1.x,
-            y1: point1.y,
-            x2: point2.x,
-            y2: point2.y,
-        }),
-        PlineSegIntr::OverlappingArcs { point1, point2 } => Look::Made(Row {
-            i: i,
-            j: j,
-            class: 5,
-            x1: point1.x,
-            y1: point1.y,
-            x2: point2.x,
-            y2: point2.y,
-        }),
+    let m = class_and_points(met);
+    if m.class == 0 {
+        return Look::Nothing;
     }
+    Look::Made(Row {
+        i: i,
+        j: j,
+        class: m.class,
+        x1: m.x1,
+        y1: m.y1,
+        x2: m.x2,
+        y2: m.y2,
+    })
 }

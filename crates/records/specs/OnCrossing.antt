@@ -8,8 +8,8 @@ use Rattle.crossing.specs.LineLineIntersect.{lineLineIntr}
 use Rattle.crossing.specs.LineCircleIntersect.{lineCircleIntr}
 use Rattle.crossing.specs.CircleCircleIntersect.{circleCircleIntr}
 use Rattle.crossing.specs.PlineSegIntersect.{plineSegIntr}
-use Rattle.capi.specs.declared.answer.Flat.{Flat}
-use Rattle.capi.specs.Handed.{ofLineLine, ofLineCircle, ofCircleCircle, ofPlineSeg}
+use Rattle.answers.specs.declared.flat.Flat.{Flat}
+use Rattle.answers.specs.Flat.{ofLineLine, ofLineCircle, ofCircleCircle, ofPlineSeg}
 use Rattle.records.specs.Text.{valueAt, numberAt}
 use Rattle.records.specs.OnPlane.{same, pointAt, vertexAt}
 

@@ -8,8 +8,8 @@ use super::on_plane::same;
 use super::on_plane::vertex;
 use super::text::number;
 use super::text::value;
-use capi::answer;
-use capi::answer::Flat;
+use answers::flat;
+use answers::flat::Flat;
 use crossing::circle_circle_intersect;
 use crossing::line_circle_intersect;
 use crossing::line_line_intersect;
@@ -26,7 +26,7 @@ pub fn line_line(body: &[u8]) -> bool
         point(body, 6),
         number(body, 8),
     );
-    is_answer(answer::of_line_line(met), body, 9)
+    is_answer(flat::of_line_line(met), body, 9)
 }
 
 // Whether the line's line and circle meet as it says.
@@ -40,7 +40,7 @@ pub fn line_circle(body: &[u8]) -> bool
         point(body, 5),
         number(body, 7),
     );
-    is_answer(answer::of_line_circle(met), body, 8)
+    is_answer(flat::of_line_circle(met), body, 8)
 }
 
 // Whether the line's circles meet as it says.
@@ -54,7 +54,7 @@ pub fn circle_circle(body: &[u8]) -> bool
         point(body, 4),
         number(body, 6),
     );
-    is_answer(answer::of_circle_circle(met), body, 7)
+    is_answer(flat::of_circle_circle(met), body, 7)
 }
 
 // Whether the line's segments meet as it says.
@@ -68,21 +68,21 @@ pub fn pline_seg(body: &[u8]) -> bool
         vertex(body, 9),
         number(body, 12),
     );
-    is_answer(answer::of_pline_seg(met), body, 13)
+    is_answer(flat::of_pline_seg(met), body, 13)
 }
 
 // Whether the answer is the one that stands from number i on: a refusal is 256 and its number.
-fn is_answer(flat: Flat, body: &[u8], i: usize) -> bool
+fn is_answer(numbers: Flat, body: &[u8], i: usize) -> bool
     requires { ⌜ i < 14 ⌝ }
-    ensures { λ r. ⌜ r ≡ OnCrossing.isAnswer flat (now (body .entry)) i ⌝ }
+    ensures { λ r. ⌜ r ≡ OnCrossing.isAnswer numbers (now (body .entry)) i ⌝ }
 {
     let told = value(body, i);
-    if flat.refused {
-        return (told / 256 == 1) & (told % 256 == flat.number);
+    if numbers.refused {
+        return (told / 256 == 1) & (told % 256 == numbers.number);
     }
-    (told == flat.number)
-        & same(flat.a, number(body, i + 1))
-        & same(flat.b, number(body, i + 2))
-        & same(flat.c, number(body, i + 3))
-        & same(flat.d, number(body, i + 4))
+    (told == numbers.number)
+        & same(numbers.a, number(body, i + 1))
+        & same(numbers.b, number(body, i + 2))
+        & same(numbers.c, number(body, i + 3))
+        & same(numbers.d, number(body, i + 4))
 }

@@ -1,10 +1,10 @@
--- `capi::answer::of_circle_circle` meets its contract: a refusal is told as one, and each case as that case.
+-- `answers::flat::of_circle_circle` meets its contract: a refusal is told as one, and each case as that case.
 use borrow.Author.Needs.{needs}
 use Rattle.crossing.specs.declared.circle_circle_intersect.CircleCircleAnswer.the-variants.{Met}
-use Rattle.capi.specs.Handed.{ofCircleCircle, refusal, case}
-use Rattle.capi.proofs.Told.{as-refused, as-met}
-use Rattle.capi.proofs.answer.of_circle_circle.Statement.{statement}
-use Rattle.capi.proofs.answer.of_circle_circle.Tie as tie
+use Rattle.answers.specs.Flat.{ofCircleCircle, refusal, case}
+use Rattle.answers.proofs.Told.{as-refused, as-met}
+use Rattle.answers.proofs.flat.of_circle_circle.Statement.{statement}
+use Rattle.answers.proofs.flat.of_circle_circle.Tie as tie
 
 pub of-circle-circle-spec : {M : Type 1} → statement M
 unfolding ofCircleCircle refusal case

@@ -1,6 +1,6 @@
 -- An answer as plain numbers: it is told as the refusal, or the case, that it is.
 use mathlib.Core.Path.{_≡_}
-use Rattle.capi.specs.declared.answer.Flat.{Flat}
+use Rattle.answers.specs.declared.flat.Flat.{Flat}
 
 module _ {Answer : Type 0} (tell : Answer → Flat) where
   pub as-refused : (answer refused : Answer) (flat : Flat) → answer ≡ refused → flat ≡ tell refused → flat ≡ tell answer

@@ -1,10 +1,10 @@
--- `capi::answer::hand_over` meets its contract: its two tests are the definition's.
+-- `capi::hand_over::hand_over` meets its contract: its two tests are the definition's.
 use native.Mathlib.Omega.{arith}
 use borrow.Author.Needs.{needs}
 use lib.ListN.{length-set}
 use Rattle.capi.proofs.Ends.{no-room, refused, written}
-use Rattle.capi.proofs.answer.hand_over.Statement.{statement}
-use Rattle.capi.proofs.answer.hand_over.Tie as tie
+use Rattle.capi.proofs.hand_over.hand_over.Statement.{statement}
+use Rattle.capi.proofs.hand_over.hand_over.Tie as tie
 
 returns : tie.Need-returns
 returns c = no-room _ _ (omega arith)

@@ -1,10 +1,10 @@
--- `capi::answer::of_line_line` meets its contract: a refusal is told as one, and each case as that case.
+-- `answers::flat::of_line_line` meets its contract: a refusal is told as one, and each case as that case.
 use borrow.Author.Needs.{needs}
 use Rattle.crossing.specs.declared.line_line_intersect.LineLineAnswer.the-variants.{Met}
-use Rattle.capi.specs.Handed.{ofLineLine, refusal, case}
-use Rattle.capi.proofs.Told.{as-refused, as-met}
-use Rattle.capi.proofs.answer.of_line_line.Statement.{statement}
-use Rattle.capi.proofs.answer.of_line_line.Tie as tie
+use Rattle.answers.specs.Flat.{ofLineLine, refusal, case}
+use Rattle.answers.proofs.Told.{as-refused, as-met}
+use Rattle.answers.proofs.flat.of_line_line.Statement.{statement}
+use Rattle.answers.proofs.flat.of_line_line.Tie as tie
 
 pub of-line-line-spec : {M : Type 1} → statement M
 unfolding ofLineLine refusal case

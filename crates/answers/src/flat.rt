@@ -1,8 +1,7 @@
-// An answer as plain numbers, and how it is handed to a caller in C.
-ghost use Prim.Native.Nat.{_<_};
+// A call's answer as plain numbers: a refusal, or the number of its case with four values.
 ghost use mathlib.Core.Path.{_≡_};
-ghost use Rattle.capi.specs.Handed;
-use arcs::pline_seg_intr::PlineSegIntr;
+ghost use Rattle.answers.specs.Flat as flat_of;
+use super::class_and_points::class_and_points;
 use crossing::circle_circle_intersect::CircleCircleAnswer;
 use crossing::circle_circle_intersect::CircleCircleIntr;
 use crossing::line_circle_intersect::LineCircleAnswer;
@@ -23,7 +22,7 @@ pub struct Flat {
 
 // The refusal of a number.
 fn refusal(number: u64) -> Flat
-    ensures { λ r. ⌜ r ≡ Handed.refusal number ⌝ }
+    ensures { λ r. ⌜ r ≡ flat_of.refusal number ⌝ }
 {
     Flat {
         refused: true,
@@ -37,7 +36,7 @@ fn refusal(number: u64) -> Flat
 
 // A case and its values.
 fn case(number: u64, a: f64, b: f64, c: f64, d: f64) -> Flat
-    ensures { λ r. ⌜ r ≡ Handed.case number a b c d ⌝ }
+    ensures { λ r. ⌜ r ≡ flat_of.case number a b c d ⌝ }
 {
     Flat {
         refused: false,
@@ -51,7 +50,7 @@ fn case(number: u64, a: f64, b: f64, c: f64, d: f64) -> Flat
 
 // What the call on two lines answers.
 pub fn of_line_line(answer: LineLineAnswer) -> Flat
-    ensures { λ r. ⌜ r ≡ Handed.ofLineLine answer ⌝ }
+    ensures { λ r. ⌜ r ≡ flat_of.ofLineLine answer ⌝ }
 {
     match answer {
         LineLineAnswer::Refused(n) => refusal(n),
@@ -66,7 +65,7 @@ pub fn of_line_line(answer: LineLineAnswer) -> Flat
 
 // What the call on a line and a circle answers.
 pub fn of_line_circle(answer: LineCircleAnswer) -> Flat
-    ensures { λ r. ⌜ r ≡ Handed.ofLineCircle answer ⌝ }
+    ensures { λ r. ⌜ r ≡ flat_of.ofLineCircle answer ⌝ }
 {
     match answer {
         LineCircleAnswer::Refused(n) => refusal(n),
@@ -80,7 +79,7 @@ pub fn of_line_circle(answer: LineCircleAnswer) -> Flat
 
 // What the call on two circles answers.
 pub fn of_circle_circle(answer: CircleCircleAnswer) -> Flat
-    ensures { λ r. ⌜ r ≡ Handed.ofCircleCircle answer ⌝ }
+    ensures { λ r. ⌜ r ≡ flat_of.ofCircleCircle answer ⌝ }
 {
     match answer {
         CircleCircleAnswer::Refused(n) => refusal(n),
@@ -97,42 +96,13 @@ pub fn of_circle_circle(answer: CircleCircleAnswer) -> Flat
 
 // What the call on two segments answers.
 pub fn of_pline_seg(answer: PlineSegAnswer) -> Flat
-    ensures { λ r. ⌜ r ≡ Handed.ofPlineSeg answer ⌝ }
+    ensures { λ r. ⌜ r ≡ flat_of.ofPlineSeg answer ⌝ }
 {
     match answer {
         PlineSegAnswer::Refused(n) => refusal(n),
-        PlineSegAnswer::Met(intr) => match intr {
-            PlineSegIntr::NoIntersect => case(0, 0.0, 0.0, 0.0, 0.0),
-            PlineSegIntr::TangentIntersect { point } => case(1, point.x, point.y, 0.0, 0.0),
-            PlineSegIntr::OneIntersect { point } => case(2, point.x, point.y, 0.0, 0.0),
-            PlineSegIntr::TwoIntersects { point1, point2 } => {
-                case(3, point1.x, point1.y, point2.x, point2.y)
-            }
-            PlineSegIntr::OverlappingLines { point1, point2 } => {
-                case(4, point1.x, point1.y, point2.x, point2.y)
-            }
-            PlineSegIntr::OverlappingArcs { point1, point2 } => {
-                case(5, point1.x, point1.y, point2.x, point2.y)
-            }
-        },
+        PlineSegAnswer::Met(intr) => {
+            let m = class_and_points(intr);
+            case(m.class, m.x1, m.y1, m.x2, m.y2)
+        }
     }
-}
-
-// Writes an answer's four values to the front of `out` and returns its number. Nothing is written where `out` has no room for
-// four, or where the answer is a refusal.
-pub fn hand_over(flat: Flat, out: &mut [f64]) -> u64
-    requires { ⌜ flat .number < 256 ⌝ }
-    ensures { λ r. ⌜ Handed.Handed flat r (now (out .entry)) (now (out .exit)) ⌝ }
-{
-    if out.len() < 4 {
-        return 512;
-    }
-    if flat.refused {
-        return 256 + flat.number;
-    }
-    out[0] = flat.a;
-    out[1] = flat.b;
-    out[2] = flat.c;
-    out[3] = flat.d;
-    flat.number
 }

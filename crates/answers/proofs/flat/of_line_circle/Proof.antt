@@ -1,10 +1,10 @@
--- `capi::answer::of_line_circle` meets its contract: a refusal is told as one, and each case as that case.
+-- `answers::flat::of_line_circle` meets its contract: a refusal is told as one, and each case as that case.
 use borrow.Author.Needs.{needs}
 use Rattle.crossing.specs.declared.line_circle_intersect.LineCircleAnswer.the-variants.{Met}
-use Rattle.capi.specs.Handed.{ofLineCircle, refusal, case}
-use Rattle.capi.proofs.Told.{as-refused, as-met}
-use Rattle.capi.proofs.answer.of_line_circle.Statement.{statement}
-use Rattle.capi.proofs.answer.of_line_circle.Tie as tie
+use Rattle.answers.specs.Flat.{ofLineCircle, refusal, case}
+use Rattle.answers.proofs.Told.{as-refused, as-met}
+use Rattle.answers.proofs.flat.of_line_circle.Statement.{statement}
+use Rattle.answers.proofs.flat.of_line_circle.Tie as tie
 
 pub of-line-circle-spec : {M : Type 1} → statement M
 unfolding ofLineCircle refusal case
