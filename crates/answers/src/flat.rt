@@ -3,11 +3,11 @@ ghost use mathlib.Core.Path.{_≡_};
 ghost use Rattle.answers.specs.Flat as flat_of;
 use super::class_and_points::class_and_points;
 use crossing::circle_circle_intersect::CircleCircleAnswer;
-use crossing::circle_circle_intersect::CircleCircleIntr;
+use crossing::circle_circle_intr::CircleCircleIntr;
 use crossing::line_circle_intersect::LineCircleAnswer;
-use crossing::line_circle_intersect::LineCircleIntr;
+use crossing::line_circle_intr::LineCircleIntr;
 use crossing::line_line_intersect::LineLineAnswer;
-use crossing::line_line_intersect::LineLineIntr;
+use crossing::line_line_intr::LineLineIntr;
 use crossing::pline_seg_intersect::PlineSegAnswer;
 
 // A refusal and its number, or the number of the case and four values, those that it lacks +0.

@@ -23,16 +23,16 @@ use Rattle.crossing.specs.LineLineIntersect as lines
 use Rattle.crossing.specs.LineCircleIntersect as lineAndCircle
 use Rattle.crossing.specs.CircleCircleIntersect as circles
 use Rattle.crossing.specs.PlineSegIntersect as pairs
-use Rattle.crossing.specs.declared.line_line_intersect.LineLineIntr.{LineLineIntr}
-use Rattle.crossing.specs.declared.line_line_intersect.LineLineIntr.the-variants as lineLineIs
+use Rattle.crossing.specs.declared.line_line_intr.LineLineIntr.{LineLineIntr}
+use Rattle.crossing.specs.declared.line_line_intr.LineLineIntr.the-variants as lineLineIs
 use Rattle.crossing.specs.declared.line_line_intersect.LineLineAnswer.{LineLineAnswer}
 use Rattle.crossing.specs.declared.line_line_intersect.LineLineAnswer.the-variants as ofLines
-use Rattle.crossing.specs.declared.line_circle_intersect.LineCircleIntr.{LineCircleIntr}
-use Rattle.crossing.specs.declared.line_circle_intersect.LineCircleIntr.the-variants as lineCircleIs
+use Rattle.crossing.specs.declared.line_circle_intr.LineCircleIntr.{LineCircleIntr}
+use Rattle.crossing.specs.declared.line_circle_intr.LineCircleIntr.the-variants as lineCircleIs
 use Rattle.crossing.specs.declared.line_circle_intersect.LineCircleAnswer.{LineCircleAnswer}
 use Rattle.crossing.specs.declared.line_circle_intersect.LineCircleAnswer.the-variants as ofLineAndCircle
-use Rattle.crossing.specs.declared.circle_circle_intersect.CircleCircleIntr.{CircleCircleIntr}
-use Rattle.crossing.specs.declared.circle_circle_intersect.CircleCircleIntr.the-variants as circleCircleIs
+use Rattle.crossing.specs.declared.circle_circle_intr.CircleCircleIntr.{CircleCircleIntr}
+use Rattle.crossing.specs.declared.circle_circle_intr.CircleCircleIntr.the-variants as circleCircleIs
 use Rattle.crossing.specs.declared.circle_circle_intersect.CircleCircleAnswer.{CircleCircleAnswer}
 use Rattle.crossing.specs.declared.circle_circle_intersect.CircleCircleAnswer.the-variants as ofCircles
 use Rattle.arcs.specs.declared.pline_seg_intr.PlineSegIntr.{PlineSegIntr}
@@ -61,29 +61,29 @@ both (Bad f) b ha hb = ha
 pub and : {a b : Checked} → Small a → Small b → Small (later a b)
 and {a} {b} = both a b
 
+pub epsilon : (x : Float) → Small (Each.epsilon x)
+unfolding Each.epsilon
+epsilon x = refused _ 4 _ (omega arith)
+
 module _ (x : Float) (p : Place) where
   finite : Small (Each.finite x p)
   unfolding Each.finite
   finite = refused _ 1 p (omega arith)
 
-  pub epsilon : Small (Each.epsilon x p)
-  unfolding Each.epsilon
-  epsilon = refused _ 4 p (omega arith)
-
   pub coordinate : Small (Each.coordinate x p)
-  unfolding Each.coordinate
+  unfolding Each.coordinate Each.finiteThen
   coordinate = and finite (refused _ 2 p (omega arith))
 
   pub bulge : Small (Each.bulge x p)
-  unfolding Each.bulge
+  unfolding Each.bulge Each.finiteThen
   bulge = and finite (refused _ 3 p (omega arith))
 
   pub radius : Small (Each.radius x p)
-  unfolding Each.radius
+  unfolding Each.radius Each.finiteThen
   radius = and finite (refused _ 9 p (omega arith))
 
   pub center : Small (Each.center x p)
-  unfolding Each.center
+  unfolding Each.center Each.finiteThen
   center = and finite (refused _ 9 p (omega arith))
 
   chord : (is-line : Bool) → Small (cond is-line Fine (Each.chord x p))

@@ -3,7 +3,7 @@ use mathlib.Core.Bool.{cond}
 use Prim.Native.Nat.{ℕ}
 use Rattle.plane.specs.declared.pline_vertex.PlineVertex.{PlineVertex}
 use Rattle.plane.specs.PlineVertex.{pos, bulgeIsZero}
-use Rattle.plane.specs.Vector2.{sub, length}
+use Rattle.plane.specs.Vector2 as vector2
 use Rattle.checks.specs.declared.fault.Item.the-variants.{Chord}
 use Rattle.checks.specs.declared.fault.Checked.{Checked}
 use Rattle.checks.specs.declared.fault.Checked.the-variants.{Fine}
@@ -13,4 +13,4 @@ use Rattle.checks.specs.Each
 -- the segment from a to b is an arc if a's bulge is not near zero; its chord is b - a
 unfoldable pub arcChord : PlineVertex → PlineVertex → ℕ → ℕ → Checked
 arcChord a b owner index =
-    cond (bulgeIsZero a) Fine (Each.chord (length (sub (pos b) (pos a))) (at owner index Chord))
+    cond (bulgeIsZero a) Fine (Each.chord (vector2.length (vector2.sub (pos b) (pos a))) (at owner index Chord))

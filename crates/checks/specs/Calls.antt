@@ -4,9 +4,7 @@ use mathlib.Core.List.{List, [], _∷_, _++_}
 use lib.Ieee.{Float}
 use Rattle.plane.specs.declared.vector2.Vector2.{Vector2}
 use Rattle.plane.specs.declared.pline_vertex.PlineVertex.{PlineVertex}
-use Rattle.checks.specs.declared.fault.Item.the-variants.{Epsilon}
 use Rattle.checks.specs.declared.fault.Checked.{Checked}
-use Rattle.checks.specs.Fault.{at}
 use Rattle.checks.specs.Each
 use Rattle.checks.specs.Arc.{arcChord}
 use Rattle.checks.specs.First.{first}
@@ -16,7 +14,7 @@ use Rattle.checks.specs.Lists.{pointChecks, vertexChecks, circleChecks}
 -- the call's numbers, in the order in which they are looked at
 abbrev pub lineLineChecks : Vector2 → Vector2 → Vector2 → Vector2 → Float → List Checked
 lineLineChecks v1 v2 u1 u2 epsilon =
-    (Each.epsilon epsilon (at 0 0 Epsilon) ∷ [])
+    (Each.epsilon epsilon ∷ [])
     ++ pointChecks (v1 .x) (v1 .y) 0 0
     ++ pointChecks (v2 .x) (v2 .y) 1 0
     ++ pointChecks (u1 .x) (u1 .y) 2 0
@@ -29,7 +27,7 @@ checkLineLine v1 v2 u1 u2 epsilon = first (lineLineChecks v1 v2 u1 u2 epsilon)
 -- the call's numbers, in the order in which they are looked at
 abbrev pub lineCircleChecks : Vector2 → Vector2 → Float → Vector2 → Float → List Checked
 lineCircleChecks p0 p1 radius circleCenter epsilon =
-    (Each.epsilon epsilon (at 0 0 Epsilon) ∷ [])
+    (Each.epsilon epsilon ∷ [])
     ++ pointChecks (p0 .x) (p0 .y) 0 0
     ++ pointChecks (p1 .x) (p1 .y) 1 0
     ++ circleChecks radius (circleCenter .x) (circleCenter .y) 2
@@ -41,7 +39,7 @@ checkLineCircle p0 p1 radius circleCenter epsilon = first (lineCircleChecks p0 p
 -- the call's numbers, in the order in which they are looked at
 abbrev pub circleCircleChecks : Float → Vector2 → Float → Vector2 → Float → List Checked
 circleCircleChecks radius1 center1 radius2 center2 epsilon =
-    (Each.epsilon epsilon (at 0 0 Epsilon) ∷ [])
+    (Each.epsilon epsilon ∷ [])
     ++ circleChecks radius1 (center1 .x) (center1 .y) 0
     ++ circleChecks radius2 (center2 .x) (center2 .y) 1
 
@@ -52,7 +50,7 @@ checkCircleCircle radius1 center1 radius2 center2 epsilon = first (circleCircleC
 -- the call's numbers, in the order in which they are looked at: segment v is owner 0, u is 1; an end is its index
 abbrev pub plineSegChecks : PlineVertex → PlineVertex → PlineVertex → PlineVertex → Float → List Checked
 plineSegChecks v1 v2 u1 u2 posEqualEps =
-    (Each.epsilon posEqualEps (at 0 0 Epsilon) ∷ [])
+    (Each.epsilon posEqualEps ∷ [])
     ++ vertexChecks (v1 .x) (v1 .y) (v1 .bulge) 0 0
     ++ pointChecks (v2 .x) (v2 .y) 0 1
     ++ vertexChecks (u1 .x) (u1 .y) (u1 .bulge) 1 0

@@ -7,10 +7,11 @@ use Prim.Native.Nat.{ℕ, zero, suc, _+_, _-_}
 use lib.IntN.{pos, negsuc}
 use lib.Ieee.{Float, fin, binary64, ofBits, isNan, lt}
 use Rattle.floats.specs.F64
+use Rattle.checks.specs.declared.fault.Item.the-variants.{Epsilon}
 use Rattle.checks.specs.declared.fault.Place.{Place}
 use Rattle.checks.specs.declared.fault.Checked.{Checked}
 use Rattle.checks.specs.declared.fault.Checked.the-variants.{Fine}
-use Rattle.checks.specs.Fault.{bad, refuse, later}
+use Rattle.checks.specs.Fault.{at, bad, refuse, later}
 use Rattle.checks.specs.Number.{isInfinite, notFinite, beyond}
 use Rattle.checks.specs.Each
 use Rattle.checks.specs.Limit
@@ -80,12 +81,18 @@ from check limit n =
     row check 0 n ∷
     row check 0xbff0_0000_0000_0000 n ∷ []
 
+-- epsilon, whose place is its own
+abbrev pub epsilonRows : List Row
+epsilonRows =
+    let check : Float → Place → Checked = λ x p. Each.epsilon x in
+    from check 0x3d70_0000_0000_0000 4
+    ++ (row check 0x3fe0_0000_0000_0000 0 ∷ row check 0x3fe0_0000_0000_0001 4 ∷ [])
+    ++ notNumbers check 4
+
+-- the numbers that stand at any place
 abbrev pub rows : List Row
 rows =
-    from Each.epsilon 0x3d70_0000_0000_0000 4
-    ++ (row Each.epsilon 0x3fe0_0000_0000_0000 0 ∷ row Each.epsilon 0x3fe0_0000_0000_0001 4 ∷ [])
-    ++ notNumbers Each.epsilon 4
-    ++ upTo Each.coordinate 0x4130_0000_0000_0000 2
+    upTo Each.coordinate 0x4130_0000_0000_0000 2
     ++ notNumbers Each.coordinate 1
     ++ upTo Each.bulge 0x3ff0_0000_0000_0000 3
     ++ notNumbers Each.bulge 1
@@ -97,7 +104,11 @@ rows =
     ++ from Each.chord 0x3d70_0000_0000_0000 5
     ++ (row Each.chord 0x7ff8_0000_0000_0000 0 ∷ [])
 
+pub epsilon-edges : found (at 0 0 Epsilon) epsilonRows ≡ due (at 0 0 Epsilon) epsilonRows
+unfolding Each.epsilon refuse notFinite isNan isInfinite lt ofBits
+epsilon-edges = refl
+
 pub edges : (p : Place) → found p rows ≡ due p rows
-unfolding Each.epsilon Each.finite Each.coordinate Each.bulge Each.radius Each.center Each.chord
+unfolding Each.finite Each.finiteThen Each.coordinate Each.bulge Each.radius Each.center Each.chord
     refuse later notFinite isNan isInfinite beyond F64.abs lt ofBits
 edges p = refl

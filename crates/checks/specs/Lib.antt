@@ -5,7 +5,6 @@ pub mod Limit
 pub mod Fault
 pub mod Number
 pub mod Each
-pub mod Chain
 pub mod Arc
 pub mod Exactly
 pub mod Table

@@ -4,7 +4,7 @@ ghost use Rattle.checks.specs.Arc;
 use super::each;
 use super::fault::Checked;
 use super::fault::Item;
-use super::fault::Place;
+use super::fault::at;
 use super::limit;
 use plane::pline_vertex::PlineVertex;
 
@@ -21,12 +21,5 @@ pub fn arc_chord(a: PlineVertex, b: PlineVertex, owner: u64, index: u64) -> Chec
     if chord.length_squared() >= limit::CHORD_SQUARE {
         return Checked::Fine;
     }
-    each::chord(
-        chord.length(),
-        Place {
-            owner: owner,
-            index: index,
-            item: Item::Chord,
-        },
-    )
+    each::chord(chord.length(), at(owner, index, Item::Chord))
 }

@@ -6,8 +6,6 @@ use super::arc;
 use super::chain;
 use super::each;
 use super::fault::Checked;
-use super::fault::Item;
-use super::fault::Place;
 use super::fault::later;
 use plane::pline_vertex::PlineVertex;
 use plane::vector2::Vector2;
@@ -16,14 +14,7 @@ use plane::vector2::Vector2;
 pub fn check_line_line(v1: Vector2, v2: Vector2, u1: Vector2, u2: Vector2, epsilon: f64) -> Checked
     ensures { λ r. ⌜ r ≡ Calls.checkLineLine v1 v2 u1 u2 epsilon ⌝ }
 {
-    let a0 = each::epsilon(
-        epsilon,
-        Place {
-            owner: 0,
-            index: 0,
-            item: Item::Epsilon,
-        },
-    );
+    let a0 = each::epsilon(epsilon);
     let a1 = chain::point_after(a0, v1.x, v1.y, 0, 0);
     let a2 = chain::point_after(a1, v2.x, v2.y, 1, 0);
     let a3 = chain::point_after(a2, u1.x, u1.y, 2, 0);
@@ -41,14 +32,7 @@ pub fn check_line_circle(
 ) -> Checked
     ensures { λ r. ⌜ r ≡ Calls.checkLineCircle p0 p1 radius «circle_center» epsilon ⌝ }
 {
-    let a0 = each::epsilon(
-        epsilon,
-        Place {
-            owner: 0,
-            index: 0,
-            item: Item::Epsilon,
-        },
-    );
+    let a0 = each::epsilon(epsilon);
     let a1 = chain::point_after(a0, p0.x, p0.y, 0, 0);
     let a2 = chain::point_after(a1, p1.x, p1.y, 1, 0);
     chain::circle_after(a2, radius, circle_center.x, circle_center.y, 2)
@@ -65,14 +49,7 @@ pub fn check_circle_circle(
 ) -> Checked
     ensures { λ r. ⌜ r ≡ Calls.checkCircleCircle radius1 center1 radius2 center2 epsilon ⌝ }
 {
-    let a0 = each::epsilon(
-        epsilon,
-        Place {
-            owner: 0,
-            index: 0,
-            item: Item::Epsilon,
-        },
-    );
+    let a0 = each::epsilon(epsilon);
     let a1 = chain::circle_after(a0, radius1, center1.x, center1.y, 0);
     chain::circle_after(a1, radius2, center2.x, center2.y, 1)
 }
@@ -88,14 +65,7 @@ pub fn check_pline_seg(
 ) -> Checked
     ensures { λ r. ⌜ r ≡ Calls.checkPlineSeg v1 v2 u1 u2 «pos_equal_eps» ⌝ }
 {
-    let a0 = each::epsilon(
-        pos_equal_eps,
-        Place {
-            owner: 0,
-            index: 0,
-            item: Item::Epsilon,
-        },
-    );
+    let a0 = each::epsilon(pos_equal_eps);
     let a1 = chain::vertex_after(a0, v1.x, v1.y, v1.bulge, 0, 0);
     let a2 = chain::point_after(a1, v2.x, v2.y, 0, 1);
     let a3 = chain::vertex_after(a2, u1.x, u1.y, u1.bulge, 1, 0);

@@ -2,7 +2,9 @@
 ghost use mathlib.Core.Path.{_≡_};
 ghost use Rattle.checks.specs.Each;
 use super::fault::Checked;
+use super::fault::Item;
 use super::fault::Place;
+use super::fault::at;
 use super::fault::later;
 use super::fault::refuse;
 use super::limit;
@@ -16,14 +18,21 @@ pub fn finite(x: f64, place: Place) -> Checked
     refuse(number::not_finite(x), refusal::NOT_FINITE, place)
 }
 
-// Refusal 4 if epsilon is a NaN, infinite, below 2^-40 or above 1/2.
-pub fn epsilon(eps: f64, place: Place) -> Checked
-    ensures { λ r. ⌜ r ≡ Each.epsilon eps place ⌝ }
+// Refusal 1 if x is a NaN or an infinity, then refusal `number` if `bad`.
+fn finite_then(x: f64, bad: bool, number: u64, place: Place) -> Checked
+    ensures { λ r. ⌜ r ≡ Each.finiteThen x bad number place ⌝ }
+{
+    later(finite(x, place), refuse(bad, number, place))
+}
+
+// Refusal 4 if epsilon is a NaN, infinite, below 2^-40 or above 1/2. A call has one epsilon, so its place is always the same.
+pub fn epsilon(eps: f64) -> Checked
+    ensures { λ r. ⌜ r ≡ Each.epsilon eps ⌝ }
 {
     refuse(
         number::not_finite(eps) | number::outside(limit::EPSILON_LEAST, limit::EPSILON_MOST, eps),
         refusal::EPSILON,
-        place,
+        at(0, 0, Item::Epsilon),
     )
 }
 
@@ -31,13 +40,11 @@ pub fn epsilon(eps: f64, place: Place) -> Checked
 pub fn coordinate(x: f64, place: Place) -> Checked
     ensures { λ r. ⌜ r ≡ Each.coordinate x place ⌝ }
 {
-    later(
-        finite(x, place),
-        refuse(
-            number::beyond(limit::COORDINATE, x),
-            refusal::COORDINATE,
-            place,
-        ),
+    finite_then(
+        x,
+        number::beyond(limit::COORDINATE, x),
+        refusal::COORDINATE,
+        place,
     )
 }
 
@@ -45,23 +52,18 @@ pub fn coordinate(x: f64, place: Place) -> Checked
 pub fn bulge(b: f64, place: Place) -> Checked
     ensures { λ r. ⌜ r ≡ Each.bulge b place ⌝ }
 {
-    later(
-        finite(b, place),
-        refuse(number::beyond(limit::BULGE, b), refusal::BULGE, place),
-    )
+    finite_then(b, number::beyond(limit::BULGE, b), refusal::BULGE, place)
 }
 
 // A circle's radius: refusal 1 if it is not finite, then 9 if it is below 2^-42, as zero and negative ones are, or above 2^47.
 pub fn radius(r: f64, place: Place) -> Checked
     ensures { λ a. ⌜ a ≡ Each.radius r place ⌝ }
 {
-    later(
-        finite(r, place),
-        refuse(
-            number::outside(limit::RADIUS_LEAST, limit::RADIUS_MOST, r),
-            refusal::CIRCLE,
-            place,
-        ),
+    finite_then(
+        r,
+        number::outside(limit::RADIUS_LEAST, limit::RADIUS_MOST, r),
+        refusal::CIRCLE,
+        place,
     )
 }
 
@@ -69,15 +71,12 @@ pub fn radius(r: f64, place: Place) -> Checked
 pub fn center(x: f64, place: Place) -> Checked
     ensures { λ r. ⌜ r ≡ Each.center x place ⌝ }
 {
-    later(
-        finite(x, place),
-        refuse(number::beyond(limit::CENTER, x), refusal::CIRCLE, place),
-    )
+    finite_then(x, number::beyond(limit::CENTER, x), refusal::CIRCLE, place)
 }
 
 // An arc's chord length, as its caller computed it: refusal 5 if it is below 2^-40. A NaN is not below and passes.
-pub fn chord(length: f64, place: Place) -> Checked
-    ensures { λ r. ⌜ r ≡ Each.chord length place ⌝ }
+pub fn chord(chord_length: f64, place: Place) -> Checked
+    ensures { λ r. ⌜ r ≡ Each.chord «chord_length» place ⌝ }
 {
-    refuse(length < limit::CHORD_LEAST, refusal::CHORD, place)
+    refuse(chord_length < limit::CHORD_LEAST, refusal::CHORD, place)
 }

@@ -38,6 +38,17 @@ pub enum Checked {
     Bad(Fault),
 }
 
+// The place of an owner's number.
+pub fn at(owner: u64, index: u64, item: Item) -> Place
+    ensures { λ r. ⌜ r ≡ fault.at owner index item ⌝ }
+{
+    Place {
+        owner: owner,
+        index: index,
+        item: item,
+    }
+}
+
 // The fault of this number and place if `bad`, and else fine.
 pub fn refuse(bad: bool, number: u64, place: Place) -> Checked
     ensures { λ r. ⌜ r ≡ fault.refuse bad number place ⌝ }

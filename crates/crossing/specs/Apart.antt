@@ -14,13 +14,13 @@ use Rattle.crossing.specs.CircleCircleIntersect as circles
 use Rattle.crossing.specs.PlineSegIntersect as pairs
 use Rattle.crossing.specs.declared.line_line_intersect.LineLineAnswer.{LineLineAnswer}
 use Rattle.crossing.specs.declared.line_line_intersect.LineLineAnswer.the-variants as ofLines
-use Rattle.crossing.specs.declared.line_line_intersect.LineLineIntr.the-variants as lineLineIs
+use Rattle.crossing.specs.declared.line_line_intr.LineLineIntr.the-variants as lineLineIs
 use Rattle.crossing.specs.declared.line_circle_intersect.LineCircleAnswer.{LineCircleAnswer}
 use Rattle.crossing.specs.declared.line_circle_intersect.LineCircleAnswer.the-variants as ofLineAndCircle
-use Rattle.crossing.specs.declared.line_circle_intersect.LineCircleIntr.the-variants as lineCircleIs
+use Rattle.crossing.specs.declared.line_circle_intr.LineCircleIntr.the-variants as lineCircleIs
 use Rattle.crossing.specs.declared.circle_circle_intersect.CircleCircleAnswer.{CircleCircleAnswer}
 use Rattle.crossing.specs.declared.circle_circle_intersect.CircleCircleAnswer.the-variants as ofCircles
-use Rattle.crossing.specs.declared.circle_circle_intersect.CircleCircleIntr.the-variants as circleCircleIs
+use Rattle.crossing.specs.declared.circle_circle_intr.CircleCircleIntr.the-variants as circleCircleIs
 use Rattle.crossing.specs.declared.pline_seg_intersect.PlineSegAnswer.{PlineSegAnswer}
 use Rattle.crossing.specs.declared.pline_seg_intersect.PlineSegAnswer.the-variants as ofPairs
 

@@ -10,8 +10,8 @@ use Rattle.arcs.specs.TwoArcs.{tangentArcArc, crossingArcs}
 use Rattle.arcs.specs.declared.pline_seg_intr.PlineSegIntr.{PlineSegIntr}
 use Rattle.arcs.specs.declared.pline_seg_intr.PlineSegIntr.the-variants.{NoIntersect}
 use Rattle.crossing.specs.CircleCircle.{circleCircle}
-use Rattle.crossing.specs.declared.circle_circle_intersect.CircleCircleIntr.{CircleCircleIntr}
-use Rattle.crossing.specs.declared.circle_circle_intersect.CircleCircleIntr.the-variants as circles
+use Rattle.crossing.specs.declared.circle_circle_intr.CircleCircleIntr.{CircleCircleIntr}
+use Rattle.crossing.specs.declared.circle_circle_intr.CircleCircleIntr.the-variants as circles
 
 -- lines 363-642, by what the kernel found
 abbrev pub arcArcOf :

@@ -8,7 +8,7 @@ use Rattle.checks.specs.Calls.{checkCircleCircle}
 use Rattle.checks.specs.Settle.{settle}
 use Rattle.crossing.specs.Told.{Told}
 use Rattle.crossing.specs.CircleCircle.{circleCircle}
-use Rattle.crossing.specs.declared.circle_circle_intersect.CircleCircleIntr.the-variants.{
+use Rattle.crossing.specs.declared.circle_circle_intr.CircleCircleIntr.the-variants.{
   NoIntersect,
   TangentIntersect,
   TwoIntersects,

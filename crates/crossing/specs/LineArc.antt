@@ -12,8 +12,8 @@ use Rattle.arcs.specs.declared.arc_geometry.ArcGeometry.{ArcGeometry}
 use Rattle.arcs.specs.declared.pline_seg_intr.PlineSegIntr.{PlineSegIntr}
 use Rattle.arcs.specs.declared.pline_seg_intr.PlineSegIntr.the-variants.{NoIntersect}
 use Rattle.crossing.specs.LineCircle.{lineCircle}
-use Rattle.crossing.specs.declared.line_circle_intersect.LineCircleIntr.{LineCircleIntr}
-use Rattle.crossing.specs.declared.line_circle_intersect.LineCircleIntr.the-variants as circle
+use Rattle.crossing.specs.declared.line_circle_intr.LineCircleIntr.{LineCircleIntr}
+use Rattle.crossing.specs.declared.line_circle_intr.LineCircleIntr.the-variants as circle
 
 -- lines 227-338, by what the kernel found
 abbrev pub lineArcOf : LineCircleIntr → Vector2 → Vector2 → Vector2 → ArcGeometry → Bool → Float → PlineSegIntr

@@ -7,8 +7,8 @@ use Rattle.plane.specs.Vector2 as vector2
 use Rattle.plane.specs.declared.vector2.Vector2.{Vector2}
 use Rattle.plane.specs.Fuzzy.{fuzzyEqEps, fuzzyEqZero}
 use Rattle.plane.specs.BaseMath.{minMax, parametricFromPoint}
-use Rattle.crossing.specs.declared.line_circle_intersect.LineCircleIntr.{LineCircleIntr}
-use Rattle.crossing.specs.declared.line_circle_intersect.LineCircleIntr.the-variants.{
+use Rattle.crossing.specs.declared.line_circle_intr.LineCircleIntr.{LineCircleIntr}
+use Rattle.crossing.specs.declared.line_circle_intr.LineCircleIntr.the-variants.{
   NoIntersect,
   TangentIntersect,
   TwoIntersects,

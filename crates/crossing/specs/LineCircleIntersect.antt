@@ -7,7 +7,7 @@ use Rattle.checks.specs.Calls.{checkLineCircle}
 use Rattle.checks.specs.Settle.{settle}
 use Rattle.crossing.specs.Told.{Told}
 use Rattle.crossing.specs.LineCircle.{lineCircle}
-use Rattle.crossing.specs.declared.line_circle_intersect.LineCircleIntr.the-variants.{
+use Rattle.crossing.specs.declared.line_circle_intr.LineCircleIntr.the-variants.{
   NoIntersect,
   TangentIntersect,
   TwoIntersects,

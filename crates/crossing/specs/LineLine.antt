@@ -8,8 +8,8 @@ use Rattle.plane.specs.declared.vector2.Vector2.{Vector2}
 use Rattle.plane.specs.Fuzzy.{fuzzyEqZeroEps, fuzzyGtEps, fuzzyLtEps}
 use Rattle.plane.specs.BaseMath.{parametricFromPoint}
 use Rattle.ranges.specs.Range.{within}
-use Rattle.crossing.specs.declared.line_line_intersect.LineLineIntr.{LineLineIntr}
-use Rattle.crossing.specs.declared.line_line_intersect.LineLineIntr.the-variants.{
+use Rattle.crossing.specs.declared.line_line_intr.LineLineIntr.{LineLineIntr}
+use Rattle.crossing.specs.declared.line_line_intr.LineLineIntr.the-variants.{
   NoIntersect,
   TrueIntersect,
   Overlapping,

@@ -7,7 +7,7 @@ use Rattle.checks.specs.Calls.{checkLineLine}
 use Rattle.checks.specs.Settle.{settle}
 use Rattle.crossing.specs.Told.{Told}
 use Rattle.crossing.specs.LineLine.{lineLine}
-use Rattle.crossing.specs.declared.line_line_intersect.LineLineIntr.the-variants.{
+use Rattle.crossing.specs.declared.line_line_intr.LineLineIntr.the-variants.{
   NoIntersect,
   TrueIntersect,
   Overlapping,

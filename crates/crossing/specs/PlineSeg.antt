@@ -8,8 +8,8 @@ use Rattle.plane.specs.declared.pline_vertex.PlineVertex.{PlineVertex}
 use Rattle.crossing.specs.ArcArc.{arcArc}
 use Rattle.crossing.specs.LineArc.{processLineArcIntr}
 use Rattle.crossing.specs.LineLine.{lineLine}
-use Rattle.crossing.specs.declared.line_line_intersect.LineLineIntr.{LineLineIntr}
-use Rattle.crossing.specs.declared.line_line_intersect.LineLineIntr.the-variants as lines
+use Rattle.crossing.specs.declared.line_line_intr.LineLineIntr.{LineLineIntr}
+use Rattle.crossing.specs.declared.line_line_intr.LineLineIntr.the-variants as lines
 use Rattle.arcs.specs.declared.pline_seg_intr.PlineSegIntr.{PlineSegIntr}
 use Rattle.arcs.specs.declared.pline_seg_intr.PlineSegIntr.the-variants.{
   NoIntersect,

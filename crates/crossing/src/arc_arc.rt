@@ -3,7 +3,7 @@ ghost use mathlib.Core.Path.{_≡_};
 ghost use Rattle.crossing.specs.ArcArc;
 ghost use Rattle.plane.specs.PlineSeg.{segArcRadiusAndCenter};
 use super::circle_circle::circle_circle;
-use super::circle_circle_intersect::CircleCircleIntr;
+use super::circle_circle_intr::CircleCircleIntr;
 use arcs::arc_geometry::ArcGeometry;
 use arcs::one_circle::overlapping_arc_arc;
 use arcs::pline_seg_intr::PlineSegIntr;

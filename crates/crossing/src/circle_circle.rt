@@ -1,7 +1,7 @@
 // Two circles, for any numbers: circle_circle_intersect.rs. The names of its locals are the Rust's.
 ghost use mathlib.Core.Path.{_≡_};
 ghost use Rattle.crossing.specs.CircleCircle;
-use super::circle_circle_intersect::CircleCircleIntr;
+use super::circle_circle_intr::CircleCircleIntr;
 use super::shortcuts::apart;
 use super::shortcuts::nested;
 use plane::fuzzy::fuzzy_eq_eps;

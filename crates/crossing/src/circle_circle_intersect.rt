@@ -2,21 +2,10 @@
 ghost use mathlib.Core.Path.{_≡_};
 ghost use Rattle.crossing.specs.CircleCircleIntersect;
 use super::circle_circle;
+use super::circle_circle_intr::CircleCircleIntr;
 use checks::calls::check_circle_circle;
 use checks::fault::Checked;
 use plane::vector2::Vector2;
-
-// How two circles meet.
-pub enum CircleCircleIntr {
-    // Apart, or one inside the other.
-    NoIntersect,
-    // One point, or two that are near each other.
-    TangentIntersect { point: Vector2 },
-    // Two points.
-    TwoIntersects { point1: Vector2, point2: Vector2 },
-    // The same circle.
-    Overlapping,
-}
 
 // What the call answers: how they meet, or the number of the refusal.
 pub enum CircleCircleAnswer {

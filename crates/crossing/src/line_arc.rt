@@ -4,7 +4,7 @@ ghost use mathlib.Core.Path.{_≡_};
 ghost use Rattle.crossing.specs.LineArc;
 ghost use Rattle.plane.specs.PlineSeg.{segArcRadiusAndCenter};
 use super::line_circle::line_circle;
-use super::line_circle_intersect::LineCircleIntr;
+use super::line_circle_intr::LineCircleIntr;
 use arcs::arc_geometry::ArcGeometry;
 use arcs::line_and_arc::crossings_line_arc;
 use arcs::line_and_arc::point_in_sweep;

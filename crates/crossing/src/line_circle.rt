@@ -2,7 +2,7 @@
 ghost use mathlib.Core.Path.{_≡_};
 ghost use Rattle.crossing.specs.LineCircle;
 ghost use Rattle.crossing.specs.Laws.FarLine;
-use super::line_circle_intersect::LineCircleIntr;
+use super::line_circle_intr::LineCircleIntr;
 use super::shortcuts::moderate;
 use plane::base_math::MinMax;
 use plane::base_math::min_max;

@@ -2,19 +2,10 @@
 ghost use mathlib.Core.Path.{_≡_};
 ghost use Rattle.crossing.specs.LineCircleIntersect;
 use super::line_circle;
+use super::line_circle_intr::LineCircleIntr;
 use checks::calls::check_line_circle;
 use checks::fault::Checked;
 use plane::vector2::Vector2;
-
-// How a line and a circle meet. A parameter t gives the point p0 + t * (p1 - p0); below 0 or above 1 it lies beyond an end.
-pub enum LineCircleIntr {
-    // Apart.
-    NoIntersect,
-    // One point, or two that are near each other.
-    TangentIntersect { t0: f64 },
-    // Two points, the smaller parameter first.
-    TwoIntersects { t0: f64, t1: f64 },
-}
 
 // What the call answers: how they meet, or the number of the refusal.
 pub enum LineCircleAnswer {

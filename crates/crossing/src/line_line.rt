@@ -1,7 +1,7 @@
 // Two line segments, for any numbers: line_line_intersect.rs. The names of its locals are the Rust's.
 ghost use mathlib.Core.Path.{_≡_};
 ghost use Rattle.crossing.specs.LineLine;
-use super::line_line_intersect::LineLineIntr;
+use super::line_line_intr::LineLineIntr;
 use plane::base_math::parametric_from_point;
 use plane::fuzzy::fuzzy_eq_zero_eps;
 use plane::fuzzy::fuzzy_gt_eps;

@@ -5,7 +5,7 @@ ghost use Rattle.arcs.specs.Laws.Circles;
 use super::arc_arc::arc_arc;
 use super::line_arc::process_line_arc_intr;
 use super::line_line::line_line;
-use super::line_line_intersect::LineLineIntr;
+use super::line_line_intr::LineLineIntr;
 use arcs::pline_seg_intr::PlineSegIntr;
 use plane::base_math::point_from_parametric;
 use plane::pline_seg::ArcRadiusCenter;

@@ -82,7 +82,7 @@ unfolding
     baseMath.minMax baseMath.distSquared baseMath.pointFromParametric baseMath.parametricFromPoint
     seg.segArcRadiusAndCenter
     arcChord refuse later isInfinite notFinite beyond
-    Each.epsilon Each.finite Each.coordinate Each.bulge Each.radius Each.center Each.chord
+    Each.epsilon Each.finite Each.finiteThen Each.coordinate Each.bulge Each.radius Each.center Each.chord
     abs min max sqrt rootOf rootAt isqrt rootIn
     add sub mul div neg sum round units odd size span climb lt le eq isNan ofBits ofFields trailingZeros
 examples = refl

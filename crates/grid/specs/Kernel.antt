@@ -14,8 +14,8 @@ use Rattle.plane.specs.BaseMath.{pointFromParametric, parametricFromPoint}
 use Rattle.crossing.specs.LineLine.{crossing, parallel}
 use Rattle.crossing.specs.PlineSeg.{lineLineOf}
 use Rattle.arcs.specs.declared.pline_seg_intr.PlineSegIntr.{PlineSegIntr}
-use Rattle.crossing.specs.declared.line_line_intersect.LineLineIntr.{LineLineIntr}
-use Rattle.crossing.specs.declared.line_line_intersect.LineLineIntr.the-variants.{TrueIntersect, FalseIntersect, NoIntersect}
+use Rattle.crossing.specs.declared.line_line_intr.LineLineIntr.{LineLineIntr}
+use Rattle.crossing.specs.declared.line_line_intr.LineLineIntr.the-variants.{TrueIntersect, FalseIntersect, NoIntersect}
 use Rattle.grid.specs.Promise.{Spot, Parallel, Kept}
 use Rattle.grid.specs.Plane.Whole.{diff}
 use Rattle.grid.specs.Plane.Sides.{way, across, first, second, parallel-across, across-parallel}

@@ -11,8 +11,8 @@ use Rattle.plane.specs.Vector2 as vector2
 use Rattle.plane.specs.declared.vector2.Vector2.{Vector2}
 use Rattle.plane.specs.BaseMath.{pointFromParametric}
 use Rattle.crossing.specs.PlineSeg.{lineLineOf}
-use Rattle.crossing.specs.declared.line_line_intersect.LineLineIntr.{LineLineIntr}
-use Rattle.crossing.specs.declared.line_line_intersect.LineLineIntr.the-variants.{TrueIntersect, NoIntersect}
+use Rattle.crossing.specs.declared.line_line_intr.LineLineIntr.{LineLineIntr}
+use Rattle.crossing.specs.declared.line_line_intr.LineLineIntr.the-variants.{TrueIntersect, NoIntersect}
 use Rattle.grid.specs.Promise.{Spot}
 use Rattle.grid.specs.Plane.Whole.{diff, same}
 use Rattle.grid.specs.Plane.Order.{turned, turned-same}

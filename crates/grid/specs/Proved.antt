@@ -10,7 +10,7 @@ use Rattle.plane.specs.PlineVertex as vertex
 use Rattle.plane.specs.declared.vector2.Vector2.{Vector2}
 use Rattle.crossing.specs.LineLine.{lineLine}
 use Rattle.crossing.specs.PlineSeg.{plineSeg, lineLineOf, processLineLineIntr}
-use Rattle.crossing.specs.declared.line_line_intersect.LineLineIntr.{LineLineIntr}
+use Rattle.crossing.specs.declared.line_line_intr.LineLineIntr.{LineLineIntr}
 use Rattle.plane.specs.PlineVertex.{bulgeIsZero}
 use Rattle.plane.specs.declared.pline_vertex.PlineVertex.{PlineVertex}
 use Rattle.crossing.specs.PlineSegIntr.{classOf}

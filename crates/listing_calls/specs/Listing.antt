@@ -3,9 +3,7 @@ use mathlib.Core.Bool.{Bool}
 use mathlib.Core.List.{List, [], _∷_, _++_}
 use Prim.Native.Nat.{ℕ}
 use lib.Ieee.{Float}
-use Rattle.checks.specs.declared.fault.Item.the-variants.{Epsilon}
 use Rattle.checks.specs.declared.fault.Checked.{Checked}
-use Rattle.checks.specs.Fault.{at}
 use Rattle.checks.specs.Each
 use Rattle.checks.specs.First.{first as firstFault}
 use Rattle.paths.specs.Shape.{shape}
@@ -19,7 +17,7 @@ use Rattle.listing_outcomes.specs.Outcome.{Outcome, outcome}
 -- epsilon; both paths' lengths; the first path's vertices and arcs, then the second's
 abbrev pub mutualChecks : List Float → Bool → List Float → Bool → Float → List Checked
 mutualChecks first firstClosed second secondClosed epsilon =
-    (Each.epsilon epsilon (at 0 0 Epsilon) ∷ shape first 0 ∷ shape second 1 ∷ [])
+    (Each.epsilon epsilon ∷ shape first 0 ∷ shape second 1 ∷ [])
     ++ pathChecks first firstClosed 0
     ++ pathChecks second secondClosed 1
 
@@ -38,7 +36,7 @@ mutualListing first firstClosed second secondClosed epsilon indices points =
 -- ---- one path with itself
 abbrev pub selfChecks : List Float → Bool → Float → List Checked
 selfChecks path closed epsilon =
-    (Each.epsilon epsilon (at 0 0 Epsilon) ∷ shape path 0 ∷ []) ++ pathChecks path closed 0
+    (Each.epsilon epsilon ∷ shape path 0 ∷ []) ++ pathChecks path closed 0
 
 unfoldable pub checkSelf : List Float → Bool → Float → Checked
 checkSelf path closed epsilon = firstFault (selfChecks path closed epsilon)

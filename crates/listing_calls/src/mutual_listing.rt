@@ -4,8 +4,6 @@ ghost use Rattle.listing_outcomes.specs.Outcome;
 ghost use Rattle.listing_calls.specs.Listing;
 use checks::each;
 use checks::fault::Checked;
-use checks::fault::Item;
-use checks::fault::Place;
 use checks::fault::later;
 use listing_outcomes::answer::ListingAnswer;
 use listing_outcomes::buffer;
@@ -24,14 +22,7 @@ fn check_mutual(
 ) -> Checked
     ensures { λ r. ⌜ r ≡ Listing.checkMutual (now (first .entry)) «first_closed» (now (second .entry)) «second_closed» epsilon ⌝ }
 {
-    let a0 = each::epsilon(
-        epsilon,
-        Place {
-            owner: 0,
-            index: 0,
-            item: Item::Epsilon,
-        },
-    );
+    let a0 = each::epsilon(epsilon);
     let a1 = later(a0, shape::shape(first, 0));
     let a2 = later(a1, shape::shape(second, 1));
     let a3 = check::check_path(a2, first, first_closed, 0);

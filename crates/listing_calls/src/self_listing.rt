@@ -4,8 +4,6 @@ ghost use Rattle.listing_outcomes.specs.Outcome;
 ghost use Rattle.listing_calls.specs.Listing;
 use checks::each;
 use checks::fault::Checked;
-use checks::fault::Item;
-use checks::fault::Place;
 use checks::fault::later;
 use listing_outcomes::answer::ListingAnswer;
 use listing_outcomes::buffer;
@@ -18,14 +16,7 @@ use paths::shape;
 fn check_self(path: &[f64], closed: bool, epsilon: f64) -> Checked
     ensures { λ r. ⌜ r ≡ Listing.checkSelf (now (path .entry)) closed epsilon ⌝ }
 {
-    let a0 = each::epsilon(
-        epsilon,
-        Place {
-            owner: 0,
-            index: 0,
-            item: Item::Epsilon,
-        },
-    );
+    let a0 = each::epsilon(epsilon);
     let a1 = later(a0, shape::shape(path, 0));
     check::check_path(a1, path, closed, 0)
 }

@@ -5,6 +5,7 @@ ghost use Rattle.records.specs.Text.{nameOf};
 ghost use Rattle.records.specs.Calls.{numbersOf, isRight};
 
 mod calls;
+mod names;
 mod on_crossing;
 mod on_floats;
 mod on_plane;

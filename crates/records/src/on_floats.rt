@@ -1,10 +1,10 @@
 // Whether `floats` gives a recorded answer.
 ghost use mathlib.Core.Path.{_≡_};
 ghost use Rattle.records.specs.OnFloats.{agreesOf, onPatterns, onNumbers, isAnswer};
-use super::calls::ABS;
-use super::calls::MAX;
-use super::calls::MIN;
-use super::calls::SQRT;
+use super::names::ABS;
+use super::names::MAX;
+use super::names::MIN;
+use super::names::SQRT;
 use super::text::is_nan;
 
 // Whether the call gives the answer: on patterns, and on f64 where the operands are numbers.

@@ -1,4 +1,4 @@
--- The chains of a point, a vertex and a circle, for the proofs of their callers: as lists of checks, and what numbers pass them.
+-- Lists of checks, one after another; and which numbers pass those of a point, a vertex and a circle.
 use mathlib.Core.Path.{_≡_, sym, ap, _∙_}
 use mathlib.Core.Logic.{_↔_, Iff·rfl, Iff·trans}
 use mathlib.Core.List.{List, [], _∷_, _++_}
@@ -10,7 +10,6 @@ use Rattle.checks.specs.declared.fault.Checked.the-variants.{Fine}
 use Rattle.checks.specs.Fault.{at, later}
 use Rattle.checks.specs.Limit
 use Rattle.checks.specs.Each
-use Rattle.checks.specs.Chain
 use Rattle.checks.specs.First.{first}
 use Rattle.checks.specs.Lists.{pointChecks, vertexChecks, circleChecks}
 use Rattle.checks.specs.Laws.Later.{fine-left, fine-right, later-assoc, same-fine, then-fine, alone-fine}
@@ -26,20 +25,6 @@ first-append (c ∷ cs) ds = ap (later c) (first-append cs ds) ∙ sym (later-as
 pub append-fine : (cs ds : List Checked) {F G : Type 0} → ((first cs ≡ Fine) ↔ F) → ((first ds ≡ Fine) ↔ G)
     → ((first (cs ++ ds) ≡ Fine) ↔ (F × G))
 append-fine cs ds p q = same-fine (first-append cs ds) (then-fine p q)
-
-module _ (f : Checked) (x y : Float) (owner : ℕ) where
-  pub point-first : (index : ℕ) → Chain.pointAfter f x y owner index ≡ later f (first (pointChecks x y owner index))
-  unfolding Chain.pointAfter Chain.coordinateAfter
-  point-first index = simp (later-assoc, fine-right)
-
-  pub vertex-first : (b : Float) (index : ℕ)
-      → Chain.vertexAfter f x y b owner index ≡ later f (first (vertexChecks x y b owner index))
-  unfolding Chain.vertexAfter Chain.pointAfter Chain.coordinateAfter Chain.bulgeAfter
-  vertex-first b index = simp (later-assoc, fine-right)
-
-  pub circle-first : (r : Float) → Chain.circleAfter f r x y owner ≡ later f (first (circleChecks r x y owner))
-  unfolding Chain.circleAfter Chain.radiusAfter Chain.centerAfter
-  circle-first r = simp (later-assoc, fine-right)
 
 -- ---- what passes
 pub record PointFine (x y : Float) : Type 0 where
@@ -77,15 +62,3 @@ module _ (x y : Float) (owner : ℕ) where
       Iff·trans
       (then-fine (radius-fine r (at owner 0 Radius)) center)
       (λ h. record { radius = h .0; at-x = h .1 .0; at-y = h .1 .1 }, λ c. (c .radius, (c .at-x, c .at-y)))
-
--- and so do a chain's, after a check f that passes
-module _ (f : Checked) (x y : Float) (owner : ℕ) where
-  pub point-fine : (index : ℕ) → (Chain.pointAfter f x y owner index ≡ Fine) ↔ ((f ≡ Fine) × PointFine x y)
-  point-fine index = same-fine (point-first f x y owner index) (then-fine Iff·rfl (point-listed x y owner index))
-
-  pub vertex-fine : (b : Float) (index : ℕ)
-      → (Chain.vertexAfter f x y b owner index ≡ Fine) ↔ ((f ≡ Fine) × VertexFine x y b)
-  vertex-fine b index = same-fine (vertex-first f x y owner b index) (then-fine Iff·rfl (vertex-listed x y owner b index))
-
-  pub circle-fine : (r : Float) → (Chain.circleAfter f r x y owner ≡ Fine) ↔ ((f ≡ Fine) × CircleFine r x y)
-  circle-fine r = same-fine (circle-first f x y owner r) (then-fine Iff·rfl (circle-listed x y owner r))

@@ -99,13 +99,13 @@ not-short least (fin s m e) l =
     (λ h r. not-below (fin s m e) least r l .0 h, λ h. not-below (fin s m e) least refl l .1 (h refl))
 
 -- ---- the checks
-module _ (x : Float) (p : Place) where
-  pub epsilon-fine : (Each.epsilon x p ≡ Fine) ↔ Between Limit.epsilonLeast Limit.epsilonMost x
-  unfolding ofBits isNan
-  epsilon-fine =
-      Iff·trans (Table.epsilon x p .fine)
-      (Iff·trans (neither _ _) (between Limit.epsilonLeast Limit.epsilonMost x refl refl))
+pub epsilon-fine : (x : Float) → (Each.epsilon x ≡ Fine) ↔ Between Limit.epsilonLeast Limit.epsilonMost x
+unfolding ofBits isNan
+epsilon-fine x =
+    Iff·trans (Table.epsilon x .fine)
+    (Iff·trans (neither _ _) (between Limit.epsilonLeast Limit.epsilonMost x refl refl))
 
+module _ (x : Float) (p : Place) where
   pub coordinate-fine : (Each.coordinate x p ≡ Fine) ↔ Within Limit.coordinate x
   unfolding ofBits isNan
   coordinate-fine = Iff·trans (Table.coordinate x p .fine) (within Limit.coordinate x refl)

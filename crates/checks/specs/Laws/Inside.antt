@@ -2,6 +2,7 @@
 -- is at most nothing. So a vertex whose three numbers are inside leaves a chain of checks as it was.
 use mathlib.Core.Path.{_≡_, sym, ap, _∙_}
 use mathlib.Core.Bool.{Bool, true, false, not, _&&_}
+use mathlib.Core.List.{_∷_}
 use Prim.Native.Nat.{ℕ, _+_, _*_, _≤_}
 use native.Mathlib.Omega.{arith}
 use lib.Dec.{T}
@@ -15,12 +16,11 @@ use Rattle.floats.specs.Ops.{_≼_}
 use Rattle.floats.specs.F64
 use Rattle.checks.specs.declared.fault.Checked.{Checked}
 use Rattle.checks.specs.declared.fault.Checked.the-variants.{Fine}
-use Rattle.checks.specs.Chain.{vertexAfter}
 use Rattle.checks.specs.Fault.{later}
 use Rattle.checks.specs.First.{first}
 use Rattle.checks.specs.Limit
 use Rattle.checks.specs.Lists.{vertexChecks}
-use Rattle.checks.specs.Laws.Chains.{VertexFine, vertex-first, vertex-listed}
+use Rattle.checks.specs.Laws.Chains.{VertexFine, vertex-listed}
 use Rattle.checks.specs.Laws.Fine.{Within}
 use Rattle.checks.specs.Laws.Later.{fine-right}
 
@@ -86,8 +86,5 @@ all-passed x y bulge owner index h =
     vertex-listed x y owner bulge index .1 fine
 
 pub vertex-passed : (f : Checked) (x y bulge : Float) (owner index : ℕ) → T (vertexInside x y bulge)
-    → f ≡ vertexAfter f x y bulge owner index
-vertex-passed f x y bulge owner index h =
-    sym (fine-right f)
-    ∙ ap (later f) (sym (all-passed x y bulge owner index h))
-    ∙ sym (vertex-first f x y owner bulge index)
+    → f ≡ first (f ∷ vertexChecks x y bulge owner index)
+vertex-passed f x y bulge owner index h = sym (fine-right f) ∙ ap (later f) (sym (all-passed x y bulge owner index h))

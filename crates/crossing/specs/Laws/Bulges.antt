@@ -9,8 +9,8 @@ use Rattle.arcs.specs.OneCircle.{overlappingArcArc, sameArc}
 use Rattle.crossing.specs.ArcArc.{arcArc, arcArcOf}
 use Rattle.arcs.specs.ArcGeometry.{ofSegment}
 use Rattle.crossing.specs.CircleCircle.{circleCircle}
-use Rattle.crossing.specs.declared.circle_circle_intersect.CircleCircleIntr.{CircleCircleIntr}
-use Rattle.crossing.specs.declared.circle_circle_intersect.CircleCircleIntr.the-variants.{
+use Rattle.crossing.specs.declared.circle_circle_intr.CircleCircleIntr.{CircleCircleIntr}
+use Rattle.crossing.specs.declared.circle_circle_intr.CircleCircleIntr.the-variants.{
   NoIntersect,
   TangentIntersect,
   TwoIntersects,

@@ -24,7 +24,7 @@ use Rattle.floats.specs.Laws.Leaves.{abs-fits}
 use Rattle.floats.specs.Laws.RootPowers.{root64}
 use Rattle.plane.specs.declared.vector2.Vector2.{Vector2}
 use Rattle.crossing.specs.declared.line_circle.Line.{Line}
-use Rattle.crossing.specs.declared.line_circle_intersect.LineCircleIntr.the-variants.{NoIntersect}
+use Rattle.crossing.specs.declared.line_circle_intr.LineCircleIntr.the-variants.{NoIntersect}
 use Rattle.crossing.specs.LineCircle.{lineMeets}
 
 -- 2^-100 and 2^100

@@ -24,8 +24,8 @@ use Rattle.floats.specs.Laws.RootBeside.{root-fits, root-within}
 use Rattle.plane.specs.Vector2 as vector2
 use Rattle.plane.specs.declared.vector2.Vector2.{Vector2}
 use Rattle.plane.specs.Fuzzy.{fuzzyEqEps, fuzzyEqZeroEps, fuzzyGtEps, fuzzyLtEps}
-use Rattle.crossing.specs.declared.circle_circle_intersect.CircleCircleIntr.{CircleCircleIntr}
-use Rattle.crossing.specs.declared.circle_circle_intersect.CircleCircleIntr.the-variants.{NoIntersect, Overlapping}
+use Rattle.crossing.specs.declared.circle_circle_intr.CircleCircleIntr.{CircleCircleIntr}
+use Rattle.crossing.specs.declared.circle_circle_intr.CircleCircleIntr.the-variants.{NoIntersect, Overlapping}
 use Rattle.crossing.specs.CircleCircle.{circleCircle, sameCenter, meeting}
 
 abbrev pub nested : Float → Float → Float → Bool

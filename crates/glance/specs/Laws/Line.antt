@@ -14,8 +14,8 @@ use Rattle.plane.specs.declared.pline_seg.ArcRadiusCenter.{ArcRadiusCenter}
 use Rattle.crossing.specs.LineCircle.{lineCircle, lineThrough, lineMeets, pointCircle}
 use Rattle.crossing.specs.Laws.FarLine.{moderate, huge, far-line, line-far}
 use Rattle.crossing.specs.declared.line_circle.Line.{Line}
-use Rattle.crossing.specs.declared.line_circle_intersect.LineCircleIntr.{LineCircleIntr}
-use Rattle.crossing.specs.declared.line_circle_intersect.LineCircleIntr.the-variants.{NoIntersect}
+use Rattle.crossing.specs.declared.line_circle_intr.LineCircleIntr.{LineCircleIntr}
+use Rattle.crossing.specs.declared.line_circle_intr.LineCircleIntr.the-variants.{NoIntersect}
 use Rattle.glance.specs.declared.kept.Kept.{Kept}
 use Rattle.glance.specs.Kept.{noGuess, guess, sound, ofSlant, ofLine}
 use Rattle.glance.specs.Glance.{constant, beside, more, lineBeside}

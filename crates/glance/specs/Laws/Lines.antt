@@ -36,8 +36,8 @@ use Rattle.ranges.specs.Laws.Within.{
 }
 use Rattle.crossing.specs.LineLine.{lineLine, crossing, parallel}
 use Rattle.crossing.specs.PlineSeg.{processLineLineIntr, lineLineOf}
-use Rattle.crossing.specs.declared.line_line_intersect.LineLineIntr.{LineLineIntr}
-use Rattle.crossing.specs.declared.line_line_intersect.LineLineIntr.the-variants as lines
+use Rattle.crossing.specs.declared.line_line_intr.LineLineIntr.{LineLineIntr}
+use Rattle.crossing.specs.declared.line_line_intr.LineLineIntr.the-variants as lines
 use Rattle.arcs.specs.declared.pline_seg_intr.PlineSegIntr.the-variants.{NoIntersect}
 use Rattle.glance.specs.Glance.{beforeStart, quotientOutside, crossesOutside, linesApart}
 

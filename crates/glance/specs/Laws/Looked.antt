@@ -12,7 +12,6 @@ use Rattle.floats.specs.Ops.{_≼_, _≽_}
 use Rattle.plane.specs.PlineVertex.{pos, bulgeIsZero}
 use Rattle.plane.specs.Vector2 as vector2
 use Rattle.plane.specs.declared.pline_vertex.PlineVertex.{PlineVertex}
-use Rattle.checks.specs.declared.fault.Item.the-variants.{Epsilon}
 use Rattle.checks.specs.declared.fault.Checked.{Checked}
 use Rattle.checks.specs.declared.fault.Checked.the-variants.{Fine}
 use Rattle.checks.specs.Fault.{at, later}
@@ -39,11 +38,11 @@ pub record Sound (v1 v2 : PlineVertex) (owner : ℕ) : Type 0 where
   pub end : chains.PointFine (v2 .x) (v2 .y)
   pub arc : arcChord v1 v2 owner 0 ≡ Fine
 
-pub look-fine : (v1 v2 u1 u2 : PlineVertex) (epsilon : Float) → Each.epsilon epsilon (at 0 0 Epsilon) ≡ Fine
+pub look-fine : (v1 v2 u1 u2 : PlineVertex) (epsilon : Float) → Each.epsilon epsilon ≡ Fine
     → Sound v1 v2 0 → Sound u1 u2 1 → checkPlineSeg v1 v2 u1 u2 epsilon ≡ Fine
 unfolding checkPlineSeg
 look-fine v1 v2 u1 u2 epsilon e fv fu =
-    let eps = Each.epsilon epsilon (at 0 0 Epsilon) in
+    let eps = Each.epsilon epsilon in
     let c0 : List Checked = eps ∷ [] in
     let c1 = vertexChecks (v1 .x) (v1 .y) (v1 .bulge) 0 0 in
     let c2 = pointChecks (v2 .x) (v2 .y) 0 1 in
@@ -109,5 +108,5 @@ glance-fine v1 v2 u1 u2 eps h =
     let u = segmentFine u1 u2 in
     let both = and-r (epsilonFine eps) (v && u) h in
     look-fine v1 v2 u1 u2 eps
-    (epsilon-fine eps (at 0 0 Epsilon) .1 (of-epsilon eps (and-l (epsilonFine eps) (v && u) h)))
+    (epsilon-fine eps .1 (of-epsilon eps (and-l (epsilonFine eps) (v && u) h)))
     (of-segment v1 v2 0 (and-l v u both)) (of-segment u1 u2 1 (and-r v u both))

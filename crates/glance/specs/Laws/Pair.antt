@@ -18,8 +18,8 @@ use Rattle.crossing.specs.PlineSeg.{plineSeg, processLineLineIntr}
 use Rattle.crossing.specs.Laws.Apart.{apart, circles-apart}
 use Rattle.crossing.specs.Laws.Nested.{nested, circles-nested}
 use Rattle.arcs.specs.Laws.Circles.{OfArc}
-use Rattle.crossing.specs.declared.circle_circle_intersect.CircleCircleIntr.{CircleCircleIntr}
-use Rattle.crossing.specs.declared.line_circle_intersect.LineCircleIntr.{LineCircleIntr}
+use Rattle.crossing.specs.declared.circle_circle_intr.CircleCircleIntr.{CircleCircleIntr}
+use Rattle.crossing.specs.declared.line_circle_intr.LineCircleIntr.{LineCircleIntr}
 use Rattle.arcs.specs.declared.pline_seg_intr.PlineSegIntr.{PlineSegIntr}
 use Rattle.arcs.specs.declared.pline_seg_intr.PlineSegIntr.the-variants.{NoIntersect}
 use Rattle.glance.specs.declared.kept.Kept.{Kept}

@@ -20,8 +20,8 @@ use Rattle.plane.specs.declared.vector2.Vector2.{Vector2}
 use Rattle.plane.specs.Fuzzy.{fuzzyEqZeroEps, fuzzyGtEps, fuzzyLtEps}
 use Rattle.crossing.specs.LineLine.{overlap, touchingEnd}
 use Rattle.crossing.specs.declared.line_line.Span.{Span}
-use Rattle.crossing.specs.declared.line_line_intersect.LineLineIntr.{LineLineIntr}
-use Rattle.crossing.specs.declared.line_line_intersect.LineLineIntr.the-variants.{NoIntersect, TrueIntersect, Overlapping}
+use Rattle.crossing.specs.declared.line_line_intr.LineLineIntr.{LineLineIntr}
+use Rattle.crossing.specs.declared.line_line_intr.LineLineIntr.the-variants.{NoIntersect, TrueIntersect, Overlapping}
 use Rattle.grid.specs.Floats.Zero.{Eps}
 use Rattle.grid.specs.Floats.Length.{Long}
 use Rattle.grid.specs.Floats.Reach.{on-axis}

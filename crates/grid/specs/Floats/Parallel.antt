@@ -20,8 +20,8 @@ use Rattle.plane.specs.Fuzzy.{fuzzyEqZeroEps}
 use Rattle.plane.specs.BaseMath.{parametricFromPoint}
 use Rattle.ranges.specs.Range.{within}
 use Rattle.crossing.specs.LineLine.{overlap, spanOf, rising}
-use Rattle.crossing.specs.declared.line_line_intersect.LineLineIntr.{LineLineIntr}
-use Rattle.crossing.specs.declared.line_line_intersect.LineLineIntr.the-variants.{NoIntersect}
+use Rattle.crossing.specs.declared.line_line_intr.LineLineIntr.{LineLineIntr}
+use Rattle.crossing.specs.declared.line_line_intr.LineLineIntr.the-variants.{NoIntersect}
 use Rattle.grid.specs.Floats.Small.{Small, Vec, vec-sub}
 use Rattle.grid.specs.Floats.Zero.{Eps, near-zero}
 use Rattle.grid.specs.Floats.Length.{gap, level, square, side-x, side-y, IsZero, Long, long}

@@ -16,8 +16,8 @@ use Rattle.plane.specs.declared.vector2.Vector2.{Vector2}
 use Rattle.plane.specs.Fuzzy.{fuzzyEqZeroEps}
 use Rattle.plane.specs.BaseMath.{parametricFromPoint}
 use Rattle.crossing.specs.LineLine.{lineLine, crossing, parallel, bothPoints, firstPoint, secondPoint, overlap, spanOf}
-use Rattle.crossing.specs.declared.line_line_intersect.LineLineIntr.{LineLineIntr}
-use Rattle.crossing.specs.declared.line_line_intersect.LineLineIntr.the-variants.{NoIntersect, TrueIntersect}
+use Rattle.crossing.specs.declared.line_line_intr.LineLineIntr.{LineLineIntr}
+use Rattle.crossing.specs.declared.line_line_intr.LineLineIntr.the-variants.{NoIntersect, TrueIntersect}
 use Rattle.grid.specs.Floats.Small.{Small, Vec, vec-sub, perp}
 use Rattle.grid.specs.Floats.Zero.{Eps, near-zero, near-point}
 use Rattle.grid.specs.Floats.Length.{IsZero}

@@ -6,7 +6,6 @@ use mathlib.Core.List.{List, [], _∷_, _++_}
 use Prim.Native.Nat.{ℕ}
 use lib.Ieee.{Float}
 use Rattle.checks.specs.declared.fault.Fault.{Fault}
-use Rattle.checks.specs.declared.fault.Item.the-variants.{Epsilon}
 use Rattle.checks.specs.declared.fault.Checked.{Checked}
 use Rattle.checks.specs.declared.fault.Checked.the-variants.{Fine, Bad}
 use Rattle.checks.specs.Fault.{at, later}
@@ -65,13 +64,13 @@ outcome-listed checks first second job i₀ p₀ {epsilon} {ps} {r} {i} {p} e sa
 -- ---- two paths
 module _ (first : List Float) (firstClosed : Bool) (second : List Float) (secondClosed : Bool) (epsilon : Float) where
   abbrev shapes : Checked
-  shapes = later (later (Each.epsilon epsilon (at 0 0 Epsilon)) (shape first 0)) (shape second 1)
+  shapes = later (later (Each.epsilon epsilon) (shape first 0)) (shape second 1)
 
   pub mutual-chain : checkPath (checkPath shapes first firstClosed 0) second secondClosed 1
       ≡ checkMutual first firstClosed second secondClosed epsilon
   unfolding checkPath checkMutual
   mutual-chain =
-      let e = Each.epsilon epsilon (at 0 0 Epsilon) in
+      let e = Each.epsilon epsilon in
       let c0 : List Checked = e ∷ shape first 0 ∷ shape second 1 ∷ [] in
       let c1 = pathChecks first firstClosed 0 in
       let c2 = pathChecks second secondClosed 1 in
@@ -87,16 +86,16 @@ module _ (first : List Float) (firstClosed : Bool) (second : List Float) (second
     inner : (shapes ≡ Fine) × PathFine first firstClosed
     inner = path-fine shapes first firstClosed 0 .0 (outer .0)
 
-    eps : Each.epsilon epsilon (at 0 0 Epsilon) ≡ Fine
+    eps : Each.epsilon epsilon ≡ Fine
     eps =
-        let a = Each.epsilon epsilon (at 0 0 Epsilon) in
+        let a = Each.epsilon epsilon in
         later-fine a (shape first 0) .0 (later-fine (later a (shape first 0)) (shape second 1) .0 (inner .0) .0) .0
 
     pub mutual-ready : (job : Job) → job .epsilon ≡ epsilon
         → job .n ≡ segmentCount first firstClosed → job .m ≡ segmentCount second secondClosed → Ready first second job
     mutual-ready job same n m =
         paths-ready first second firstClosed secondClosed job
-        (ap (λ (x : Float). Each.epsilon x (at 0 0 Epsilon)) same ∙ eps) (inner .1) (outer .1) n m
+        (ap Each.epsilon same ∙ eps) (inner .1) (outer .1) n m
 
     pub mutual-listed : (job : Job) (r : ListingAnswer) (i₀ i : List ℕ) (p₀ p : List Float) → job .own ≡ false
         → job .epsilon ≡ epsilon
@@ -116,12 +115,12 @@ module _ (first : List Float) (firstClosed : Bool) (second : List Float) (second
 -- ---- one path
 module _ (path : List Float) (closed : Bool) (epsilon : Float) where
   abbrev shaped : Checked
-  shaped = later (Each.epsilon epsilon (at 0 0 Epsilon)) (shape path 0)
+  shaped = later (Each.epsilon epsilon) (shape path 0)
 
   pub self-chain : checkPath shaped path closed 0 ≡ checkSelf path closed epsilon
   unfolding checkPath checkSelf
   self-chain =
-      let e = Each.epsilon epsilon (at 0 0 Epsilon) in
+      let e = Each.epsilon epsilon in
       let c0 : List Checked = e ∷ shape path 0 ∷ [] in
       let c1 = pathChecks path closed 0 in
       let two : shaped ≡ firstFault c0 = simp (later-assoc, fine-right) in
@@ -131,13 +130,13 @@ module _ (path : List Float) (closed : Bool) (epsilon : Float) where
     whole : (shaped ≡ Fine) × PathFine path closed
     whole = path-fine shaped path closed 0 .0 (self-chain ∙ e)
 
-    self-eps : Each.epsilon epsilon (at 0 0 Epsilon) ≡ Fine
-    self-eps = later-fine (Each.epsilon epsilon (at 0 0 Epsilon)) (shape path 0) .0 (whole .0) .0
+    self-eps : Each.epsilon epsilon ≡ Fine
+    self-eps = later-fine (Each.epsilon epsilon) (shape path 0) .0 (whole .0) .0
 
     pub self-ready : (job : Job) → job .epsilon ≡ epsilon
         → job .n ≡ segmentCount path closed → job .m ≡ segmentCount path closed → Ready path path job
     self-ready job same n m =
-        paths-ready path path closed closed job (ap (λ (x : Float). Each.epsilon x (at 0 0 Epsilon)) same ∙ self-eps) (whole .1) (whole .1) n m
+        paths-ready path path closed closed job (ap Each.epsilon same ∙ self-eps) (whole .1) (whole .1) n m
 
     pub self-listed : (job : Job) (r : ListingAnswer) (i₀ i : List ℕ) (p₀ p : List Float) → job .own ≡ true
         → job .epsilon ≡ epsilon → job .closed ≡ closed → job .n ≡ segmentCount path closed → job .m ≡ segmentCount path closed

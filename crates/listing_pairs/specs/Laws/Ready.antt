@@ -5,7 +5,6 @@ use mathlib.Core.List.{List}
 use Prim.Native.Nat.{ℕ, _<_, _≤_}
 use native.Mathlib.Omega.{arith}
 use lib.Ieee.{Float}
-use Rattle.checks.specs.declared.fault.Item.the-variants.{Epsilon}
 use Rattle.checks.specs.declared.fault.Checked.the-variants.{Fine}
 use Rattle.checks.specs.Fault.{at}
 use Rattle.checks.specs.Each
@@ -63,7 +62,7 @@ at-segment v first second job i ready h e =
 
 -- ---- what the checks of a listing establish
 -- the look of the pair call at two segments that were found fine
-pub pair-fine : (v u : Segment) (epsilon : Float) → Each.epsilon epsilon (at 0 0 Epsilon) ≡ Fine → SegmentFine v → SegmentFine u
+pub pair-fine : (v u : Segment) (epsilon : Float) → Each.epsilon epsilon ≡ Fine → SegmentFine v → SegmentFine u
     → PairFine v u epsilon
 pair-fine v u epsilon e fv fu = look-fine (v .v1) (v .v2) (u .v1) (u .v2) epsilon e (sound v 0 fv) (sound u 1 fu)
   where
@@ -72,7 +71,7 @@ pair-fine v u epsilon e fv fu = look-fine (v .v1) (v .v2) (u .v1) (u .v2) epsilo
 
 -- both paths found fine: every pair is
 pub paths-ready : (first second : List Float) (firstClosed secondClosed : Bool) (job : Job)
-    → Each.epsilon (job .epsilon) (at 0 0 Epsilon) ≡ Fine → PathFine first firstClosed → PathFine second secondClosed
+    → Each.epsilon (job .epsilon) ≡ Fine → PathFine first firstClosed → PathFine second secondClosed
     → job .n ≡ segmentCount first firstClosed → job .m ≡ segmentCount second secondClosed
     → Ready first second job
 paths-ready first second firstClosed secondClosed job e fv fu n m =

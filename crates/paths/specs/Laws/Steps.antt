@@ -2,15 +2,15 @@
 -- and of its list. And the two loops, one after the other, are the check of the path.
 use mathlib.Core.Path.{_≡_, sym, ap, _∙_}
 use mathlib.Core.Bool.{Bool}
-use mathlib.Core.List.{List}
+use mathlib.Core.List.{List, _∷_}
 use Prim.Native.Nat.{ℕ}
 use lib.Ieee.{Float}
 use Rattle.plane.specs.declared.pline_vertex.PlineVertex.{PlineVertex}
 use Rattle.checks.specs.declared.fault.Checked.{Checked}
 use Rattle.checks.specs.Fault.{later}
 use Rattle.checks.specs.First.{first}
-use Rattle.checks.specs.Chain
-use Rattle.checks.specs.Laws.Chains.{first-append, vertex-first}
+use Rattle.checks.specs.Lists
+use Rattle.checks.specs.Laws.Chains.{first-append}
 use Rattle.checks.specs.Laws.Later.{fine-right, later-assoc}
 use Rattle.paths.specs.declared.path.Segment.{Segment}
 use Rattle.paths.specs.Path.{vertex}
@@ -19,13 +19,11 @@ use Rattle.checks.specs.Arc.{arcChord}
 use Rattle.paths.specs.Check.{ofVertex, ofSegment, vertexChecks, arcChecks, checkVertices, checkArcs, checkPath}
 
 module _ (path : List Float) (owner i : ℕ) (g h : Checked) where
-  pub vertex-step : (v : PlineVertex) → v ≡ vertex path i → h ≡ Chain.vertexAfter g (v .x) (v .y) (v .bulge) owner i
+  pub vertex-step : (v : PlineVertex) → v ≡ vertex path i → h ≡ first (g ∷ Lists.vertexChecks (v .x) (v .y) (v .bulge) owner i)
       → h ≡ later g (first (ofVertex path owner i))
   unfolding ofVertex
   vertex-step v read looked =
-      let w = vertex path i in
-      let same = ap (λ (u : PlineVertex). Chain.vertexAfter g (u .x) (u .y) (u .bulge) owner i) read in
-      looked ∙ same ∙ vertex-first g (w .x) (w .y) owner (w .bulge) i
+      looked ∙ ap (λ (u : PlineVertex). first (g ∷ Lists.vertexChecks (u .x) (u .y) (u .bulge) owner i)) read
 
   pub segment-step : (s : Segment) → s ≡ segmentFrom path i → h ≡ later g (arcChord (s .v1) (s .v2) owner i)
       → h ≡ later g (first (ofSegment path owner i))

@@ -38,5 +38,6 @@ arc-chord-spec =
     (λ c. search needs) returns (λ c. search needs) (λ c. search needs) (λ c. search needs) (λ c. search needs)
     (λ c. let s = c .before in
     simp (of-arc (s .before), long-fine _ _ (s .length-squared .ensures) (c .if2 .taken)))
-    (λ c. search needs) (λ c. search needs)
-    (λ c. let l = c .before in simp (of-arc (l .before .before .before), ← l .length .ensures, ← c .chord .ensures)))
+    (λ c. search needs) (λ c. search needs) (λ c. search needs)
+    (λ c. let l = c .before .before in
+    simp (of-arc (l .before .before .before), l .length .ensures, c .before .at .ensures, c .chord .ensures)))

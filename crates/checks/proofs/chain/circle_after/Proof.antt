@@ -1,13 +1,28 @@
--- `circle_after` meets its contract: its steps are the definition's, one by one.
+-- `circle_after` meets its contract: its checks are the list's, one by one.
 use borrow.Author.Needs.{needs}
-use Rattle.checks.specs.Chain.{circleAfter}
+use Rattle.checks.specs.Laws.Later.{later-assoc, fine-right}
 use Rattle.checks.proofs.chain.circle_after.Statement.{statement}
 use Rattle.checks.proofs.chain.circle_after.Tie as tie
 
+returns : tie.Need-returns
+returns c =
+    simp (
+      c .later3 .ensures,
+      c .before .center2 .ensures,
+      c .before .before .at3 .ensures,
+      c .before .before .before .later2 .ensures,
+      c .before .before .before .before .center .ensures,
+      c .before .before .before .before .before .at2 .ensures,
+      c .before .before .before .before .before .before .later .ensures,
+      c .before .before .before .before .before .before .before .radius .ensures,
+      c .before .before .before .before .before .before .before .before .at .ensures,
+      later-assoc,
+      fine-right,
+    )
+
 pub circle-after-spec : {M : Type 1} → statement M
-unfolding circleAfter
 circle-after-spec =
     tie.close
     (tie.spec
-    (λ c. search needs) (λ c. search needs) (λ c. search needs)
-    (λ c. simp (← c .before .before .radius-after .ensures, ← c .before .center-after .ensures, ← c .center-after2 .ensures)))
+    (λ c. search needs) (λ c. search needs) (λ c. search needs) (λ c. search needs) (λ c. search needs) (λ c. search needs) (λ c. search needs) (λ c. search needs) (λ c. search needs)
+    returns)

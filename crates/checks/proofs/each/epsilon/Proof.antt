@@ -9,5 +9,6 @@ unfolding epsilon
 epsilon-spec =
     tie.close
     (tie.spec
-    (λ c. search needs) (λ c. search needs) (λ c. search needs)
-    (λ c. simp (← c .before .before .not-finite .ensures, ← c .before .outside .ensures, ← c .refuse .ensures)))
+    (λ c. search needs) (λ c. search needs) (λ c. search needs) (λ c. search needs)
+    (λ c. let p = c .before .before in
+    simp (p .before .not-finite .ensures, p .outside .ensures, c .before .at .ensures, c .refuse .ensures)))

@@ -6,7 +6,7 @@ use borrow.Author.Needs.{needs}
 use Rattle.floats.specs.Ops.{_⊘_}
 use Rattle.ranges.specs.Range.{within}
 use Rattle.crossing.specs.LineLine.{crossing}
-use Rattle.crossing.specs.declared.line_line_intersect.LineLineIntr.the-variants.{TrueIntersect, FalseIntersect}
+use Rattle.crossing.specs.declared.line_line_intr.LineLineIntr.the-variants.{TrueIntersect, FalseIntersect}
 use Rattle.crossing.proofs.line_line.crossing.Statement.{statement}
 use Rattle.crossing.proofs.line_line.crossing.Tie as tie
 

@@ -7,7 +7,7 @@ use Rattle.floats.specs.Ops.{_⊖_, _⊗_}
 use Rattle.plane.specs.Fuzzy.{fuzzyEqZeroEps}
 use Rattle.crossing.specs.LineLine.{overlap, touchingEnd}
 use Rattle.float_laws.specs.Branches.{branches}
-use Rattle.crossing.specs.declared.line_line_intersect.LineLineIntr.the-variants.{TrueIntersect, Overlapping}
+use Rattle.crossing.specs.declared.line_line_intr.LineLineIntr.the-variants.{TrueIntersect, Overlapping}
 use Rattle.crossing.proofs.line_line.overlap.Statement.{statement}
 use Rattle.crossing.proofs.line_line.overlap.Tie as tie
 

@@ -7,8 +7,8 @@ use Rattle.plane.specs.Fuzzy.{fuzzyEqZeroEps}
 use Rattle.plane.specs.Vector2.{perpDot}
 use Rattle.crossing.specs.LineLine.{parallel}
 use Rattle.float_laws.specs.Branches.{pairs}
-use Rattle.crossing.specs.declared.line_line_intersect.LineLineIntr.{LineLineIntr}
-use Rattle.crossing.specs.declared.line_line_intersect.LineLineIntr.the-variants.{NoIntersect}
+use Rattle.crossing.specs.declared.line_line_intr.LineLineIntr.{LineLineIntr}
+use Rattle.crossing.specs.declared.line_line_intr.LineLineIntr.the-variants.{NoIntersect}
 use Rattle.crossing.proofs.line_line.parallel.Statement.{statement}
 use Rattle.crossing.proofs.line_line.parallel.Tie as tie
 
