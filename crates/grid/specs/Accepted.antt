@@ -167,7 +167,7 @@ module _ (v1 v2 u1 u2 : PlineVertex) (p1 p2 q1 q2 : Spot) (e : Float) (num den :
   accepted at-v1 at-v2 at-u1 at-u2 line-v line-u eps =
       ap (λ (z : Checked). settle Refused Met z (plineSeg v1 v2 u1 u2 e))
       (first-fine (plineSegChecks v1 v2 u1 u2 e) .1
-      (fine _ _ (epsilon-fine e _ .1 (epsilon-between e num den eps))
+      (fine _ _ (epsilon-fine e .1 (epsilon-between e num den eps))
       (on-grid v1 p1 _ _ _ at-v1
       (fine _ _ (bulge-fine (v1 .bulge) _ .1 (bulge-within v1 line-v))
       (on-grid v2 p2 _ _ _ at-v2
