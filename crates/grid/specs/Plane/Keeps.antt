@@ -42,6 +42,7 @@ module _ (v1 v2 u1 u2 : Spot) (slant : ¬ Parallel v1 v2 u1 u2) (num den : ℕ) 
       → Kept v1 v2 u1 u2 num den NoIntersect
   slanted-none n =
       record {
+        classes = inl refl;
         none-missed = λ e s. let both = shared-between v1 v2 u1 u2 slant s in n (both .0) (both .1);
         overlap = (
           λ o. absurd (none-or-one NoIntersect (o .0) (o .1) (o .0) (inl refl) (o .2)),
@@ -60,6 +61,7 @@ module _ (v1 v2 u1 u2 : Spot) (slant : ¬ Parallel v1 v2 u1 u2) (num den : ℕ) 
   slanted-one o near-v near-u near-x near-y =
       let P = meeting v1 v2 u1 u2 slant in
       record {
+        classes = inr (inl (o, refl));
         none-missed = λ e s. not-one (OneIntersect o) o e refl;
         overlap = (
           λ p. absurd (none-or-one (OneIntersect o) (p .0) (p .1) o (inr refl) (p .2)),
@@ -104,6 +106,7 @@ pub parallel-kept : (v1 v2 u1 u2 : Spot) (num den : ℕ) (r : PlineSegIntr) → 
     → Kept v1 v2 u1 u2 num den r
 parallel-kept v1 v2 u1 u2 num den r par (inl (e, n)) =
     record {
+      classes = inl e;
       none-missed = λ f. n;
       overlap = (
         λ o. absurd (none-or-one r (o .0) (o .1) (o .0) (inl e) (o .2)),
@@ -114,6 +117,7 @@ parallel-kept v1 v2 u1 u2 num den r par (inl (e, n)) =
     }
 parallel-kept v1 v2 u1 u2 num den r par (inr (inl (p, e, s, n))) =
     record {
+      classes = inr (inl (p, e));
       none-missed = λ f. let z : _≡_ {A = ℕ} 0 1 = cc in absurd (omega arith);
       overlap = (λ o. absurd (none-or-one r (o .0) (o .1) p (inr e) (o .2)), λ m. absurd (n m));
       beyond = λ q f not. absurd (not s);
@@ -121,6 +125,7 @@ parallel-kept v1 v2 u1 u2 num den r par (inr (inl (p, e, s, n))) =
     }
 parallel-kept v1 v2 u1 u2 num den r par (inr (inr (p, q, e, s))) =
     record {
+      classes = inr (inr (p, q, e));
       none-missed = λ f. let z : _≡_ {A = ℕ} 0 1 = cc in absurd (omega arith);
       overlap = (λ o. s, λ m. (p, q, e));
       beyond = λ o f not. absurd (not (share-of-more v1 v2 u1 u2 s));
