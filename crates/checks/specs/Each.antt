@@ -34,6 +34,6 @@ radius r p = later (finite r p) (refuse (outside Limit.radiusLeast Limit.radiusM
 unfoldable pub center : Float → Place → Checked
 center x p = later (finite x p) (refuse (beyond Limit.center x) Refusal.circle p)
 
--- an arc's chord length: 5. A NaN is not below the limit, and passes.
+-- an arc's chord length: 5. A NaN is not below the limit, and would pass; Chord.antt says that none is looked at.
 unfoldable pub chord : Float → Place → Checked
 chord length p = refuse (length ≺ Limit.chordLeast) Refusal.chord p
