@@ -48,14 +48,18 @@ checkCircleCircle radius1 center1 radius2 center2 epsilon = first (circleCircleC
 
 -- ---- two segments of polylines
 -- the call's numbers, in the order in which they are looked at: segment v is owner 0, u is 1; an end is its index
-abbrev pub plineSegChecks : PlineVertex → PlineVertex → PlineVertex → PlineVertex → Float → List Checked
-plineSegChecks v1 v2 u1 u2 posEqualEps =
+abbrev pub plineSegNumbers : PlineVertex → PlineVertex → PlineVertex → PlineVertex → Float → List Checked
+plineSegNumbers v1 v2 u1 u2 posEqualEps =
     (Each.epsilon posEqualEps ∷ [])
     ++ vertexChecks (v1 .x) (v1 .y) (v1 .bulge) 0 0
     ++ pointChecks (v2 .x) (v2 .y) 0 1
     ++ vertexChecks (u1 .x) (u1 .y) (u1 .bulge) 1 0
     ++ pointChecks (u2 .x) (u2 .y) 1 1
-    ++ (arcChord v1 v2 0 0 ∷ arcChord u1 u2 1 0 ∷ [])
+
+-- these, and then the chords of the arcs
+abbrev pub plineSegChecks : PlineVertex → PlineVertex → PlineVertex → PlineVertex → Float → List Checked
+plineSegChecks v1 v2 u1 u2 posEqualEps =
+    plineSegNumbers v1 v2 u1 u2 posEqualEps ++ (arcChord v1 v2 0 0 ∷ arcChord u1 u2 1 0 ∷ [])
 
 unfoldable pub checkPlineSeg : PlineVertex → PlineVertex → PlineVertex → PlineVertex → Float → Checked
 checkPlineSeg v1 v2 u1 u2 posEqualEps = first (plineSegChecks v1 v2 u1 u2 posEqualEps)

@@ -40,6 +40,6 @@ radius r p = finiteThen r (outside Limit.radiusLeast Limit.radiusMost r) Refusal
 unfoldable pub center : Float → Place → Checked
 center x p = finiteThen x (beyond Limit.center x) Refusal.circle p
 
--- an arc's chord length: 5. A NaN is not below the limit, and passes.
+-- an arc's chord length: 5. A NaN is not below the limit, and would pass; Chord.antt says that none is looked at.
 unfoldable pub chord : Float → Place → Checked
 chord chordLength p = refuse (chordLength ≺ Limit.chordLeast) Refusal.chord p

@@ -13,6 +13,7 @@ pub mod First
 pub mod FirstFault
 pub mod Lists
 pub mod Calls
+pub mod Chord
 pub mod Settle
 pub mod Settled
 pub mod Told

@@ -13,5 +13,6 @@ pub mod CircleCircleIntersect
 pub mod PlineSegIntersect
 pub mod Apart
 pub mod Refusals
+pub mod Chords
 pub mod Bulges
 pub mod Laws

@@ -1,6 +1,6 @@
 -- What `floats::abs`, `min`, `max` and `sqrt` answer, for every f64: std's functions of these names, and where Rust leaves a zero's
 -- sign open the scope's. A reader believes this file; Nearest.antt says in whole numbers and squares what `sqrt` means, and
--- Ieee754.antt holds the others to the standard. The logic has one NaN, without bits: its bits are Bits.antt's.
+-- Ieee754.antt and Ieee754Root.antt hold all four to the standard. The logic has one NaN, without bits: its bits are Bits.antt's.
 use Prim.Native.Nat.{ℕ, zero, suc, _+_, _*_, _/_, _^_}
 use mathlib.Core.Bool.{Bool, true, false, cond}
 use lib.Dec.{leb, eqb}

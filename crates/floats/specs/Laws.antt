@@ -4,9 +4,11 @@ pub mod Turns
 pub mod Guess
 pub mod RootAt
 pub mod Root
+pub mod Pairs
 pub mod Picked
 pub mod Sqrt
 pub mod Leaves
 pub mod RootPowers
 pub mod RootBeside
 pub mod Nan
+pub mod RootCases

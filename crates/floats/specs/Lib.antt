@@ -6,4 +6,5 @@ pub mod Root
 pub mod Nearest
 pub mod Agree
 pub mod Ieee754
+pub mod Ieee754Root
 pub mod Laws

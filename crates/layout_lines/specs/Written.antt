@@ -1,5 +1,6 @@
 -- What the writer of the scope's lines promises: its answer, and what stands in the slice after it. It asks for 128 bytes a line,
--- which is more than any line has; where there are fewer, or the rows' slices have fewer rows than are told, nothing is written.
+-- which is more than any line has (Room.antt); where there are fewer, or the rows' slices have fewer rows than are told, nothing
+-- is written.
 use Prim.Native.Nat.{ℕ, _/_}
 use mathlib.Core.Path.{_≡_}
 use mathlib.Core.Bool.{Bool, false, _||_, cond}
@@ -9,12 +10,9 @@ use lib.ListN.{length}
 use lib.Seq.{sets}
 use lib.Ieee.{Float}
 use Rattle.layout_lines.specs.Lines.{refusedText, answerText}
+use Rattle.layout_lines.specs.Sizes.{line}
 use Rattle.layout_lines.specs.declared.Written.{Written}
 use Rattle.layout_lines.specs.declared.Written.the-variants as Written·
-
--- how much room is asked for a line
-abbrev pub line : ℕ
-line = 128
 
 -- bytes written to the front of a slice, or nothing
 pub record Lines (rowless roomless : Bool) (bytes : List ℕ) (r : Written) (old now : List ℕ) : Type 0 where

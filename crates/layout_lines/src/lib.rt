@@ -9,7 +9,7 @@ use rows::put_rows;
 mod put;
 mod rows;
 
-// how much room is asked for a line
+// how much room is asked for a line: `line` of specs/Sizes.antt
 pub const LINE: usize = 128;
 
 // How many bytes were written; or that the rows' slices have fewer rows than told, or that the slice has too little room.

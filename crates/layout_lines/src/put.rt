@@ -7,6 +7,7 @@ ghost use lib.Ieee.{binary64, toBits};
 ghost use Rattle.layout_text.specs.Decimal.{decimal};
 ghost use Rattle.layout_lines.specs.Lines as lines;
 ghost use Rattle.layout_lines.specs.Put.{Put, PutIn};
+ghost use Rattle.layout_lines.specs.Sizes as sizes;
 
 // A byte.
 pub fn put_byte(out: &mut [u8], at: usize, b: u8) -> usize
@@ -32,8 +33,8 @@ pub fn put_word(out: &mut [u8], at: usize, word: &[u8]) -> usize
 
 // A number in decimal digits, of which there are at most 20.
 pub fn put_whole(out: &mut [u8], at: usize, n: u64) -> usize
-    requires { ⌜ at + 20 ≤ length (now out) ⌝ }
-    ensures { λ r. ⌜ PutIn 20 (decimal n) (now (out .entry)) at (now (out .exit)) r ⌝ }
+    requires { ⌜ at + sizes.whole ≤ length (now out) ⌝ }
+    ensures { λ r. ⌜ PutIn sizes.whole (decimal n) (now (out .entry)) at (now (out .exit)) r ⌝ }
 {
     put_decimal(out, at, n)
 }
@@ -86,8 +87,8 @@ fn bits(x: f64) -> u64
 
 // A space and a number's bits.
 pub fn put_number(out: &mut [u8], at: usize, x: f64) -> usize
-    requires { ⌜ at + 17 ≤ length (now out) ⌝ }
-    ensures { λ r. ⌜ PutIn 17 (lines.numberText x) (now (out .entry)) at (now (out .exit)) r ⌝ }
+    requires { ⌜ at + sizes.float ≤ length (now out) ⌝ }
+    ensures { λ r. ⌜ PutIn sizes.float (lines.numberText x) (now (out .entry)) at (now (out .exit)) r ⌝ }
 {
     let next = put_byte(out, at, b' ');
     put_hex(out, next, 16, bits(x))

@@ -3,6 +3,7 @@ ghost use Prim.Native.Nat.{_+_, _*_, _≤_};
 ghost use lib.ListN.{length};
 ghost use Rattle.layout_lines.specs.Lines as lines;
 ghost use Rattle.layout_lines.specs.Put.{Put, PutIn};
+ghost use Rattle.layout_lines.specs.Sizes as sizes;
 use super::put::put_byte;
 use super::put::put_number;
 use super::put::put_whole;
@@ -10,8 +11,8 @@ use super::put::put_word;
 
 // The name of a class.
 fn put_class(out: &mut [u8], at: usize, class: u64) -> usize
-    requires { ⌜ at + 7 ≤ length (now out) ⌝ }
-    ensures { λ r. ⌜ PutIn 7 (lines.classText class) (now (out .entry)) at (now (out .exit)) r ⌝ }
+    requires { ⌜ at + sizes.name ≤ length (now out) ⌝ }
+    ensures { λ r. ⌜ PutIn sizes.name (lines.classText class) (now (out .entry)) at (now (out .exit)) r ⌝ }
 {
     if class == 1 {
         return put_word(out, at, b"tangent");
@@ -33,8 +34,8 @@ fn put_class(out: &mut [u8], at: usize, class: u64) -> usize
 
 // The points that a class has.
 fn put_points(out: &mut [u8], at: usize, class: u64, x1: f64, y1: f64, x2: f64, y2: f64) -> usize
-    requires { ⌜ at + 68 ≤ length (now out) ⌝ }
-    ensures { λ r. ⌜ PutIn 68 (lines.pointsText class x1 y1 x2 y2) (now (out .entry)) at (now (out .exit)) r ⌝ }
+    requires { ⌜ at + sizes.points ≤ length (now out) ⌝ }
+    ensures { λ r. ⌜ PutIn sizes.points (lines.pointsText class x1 y1 x2 y2) (now (out .entry)) at (now (out .exit)) r ⌝ }
 {
     if class < 1 {
         return at;
@@ -52,7 +53,7 @@ fn put_points(out: &mut [u8], at: usize, class: u64, x1: f64, y1: f64, x2: f64, 
     at
 }
 
-// A row's line, which has at most 128 bytes.
+// A row's line, which has at most LINE bytes.
 fn put_row(
     out: &mut [u8],
     at: usize,
@@ -64,8 +65,8 @@ fn put_row(
     x2: f64,
     y2: f64,
 ) -> usize
-    requires { ⌜ at + 128 ≤ length (now out) ⌝ }
-    ensures { λ r. ⌜ PutIn 128 (lines.rowText i j class x1 y1 x2 y2) (now (out .entry)) at (now (out .exit)) r ⌝ }
+    requires { ⌜ at + sizes.line ≤ length (now out) ⌝ }
+    ensures { λ r. ⌜ PutIn sizes.line (lines.rowText i j class x1 y1 x2 y2) (now (out .entry)) at (now (out .exit)) r ⌝ }
 {
     let a = put_whole(out, at, i);
     let b = put_byte(out, a, b' ');
@@ -76,10 +77,10 @@ fn put_row(
     put_byte(out, f, b'\n')
 }
 
-// The line with the counts, which has at most 128 bytes.
+// The line with the counts, which has at most LINE bytes.
 pub fn put_counts(out: &mut [u8], pairs: u64, rows: u64) -> usize
-    requires { ⌜ 128 ≤ length (now out) ⌝ }
-    ensures { λ r. ⌜ PutIn 128 (lines.countText pairs rows) (now (out .entry)) 0 (now (out .exit)) r ⌝ }
+    requires { ⌜ sizes.line ≤ length (now out) ⌝ }
+    ensures { λ r. ⌜ PutIn sizes.line (lines.countText pairs rows) (now (out .entry)) 0 (now (out .exit)) r ⌝ }
 {
     let a = put_word(out, 0, b"pairs ");
     let b = put_whole(out, a, pairs);
@@ -92,7 +93,7 @@ pub fn put_counts(out: &mut [u8], pairs: u64, rows: u64) -> usize
 pub fn put_rows(out: &mut [u8], start: usize, rows: usize, index: &[u64], points: &[f64]) -> usize
     requires { ⌜ rows * 3 ≤ length (now index) ⌝ }
     requires { ⌜ rows * 4 ≤ length (now points) ⌝ }
-    requires { ⌜ start + rows * 128 ≤ length (now out) ⌝ }
+    requires { ⌜ start + rows * sizes.line ≤ length (now out) ⌝ }
     ensures { λ r. ⌜ Put (lines.rowsText (now (index .entry)) (now (points .entry)) rows 0) (now (out .entry)) start (now (out .exit)) r ⌝ }
 {
     let mut at = start;

@@ -5,5 +5,6 @@ pub mod Segments
 pub mod Told
 pub mod Check
 pub mod Table
+pub mod Chords
 pub mod View
 pub mod Laws

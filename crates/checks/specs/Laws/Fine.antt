@@ -33,7 +33,7 @@ to-number nan h = absurd (true≢false h)
 to-number (inf s) h = absurd (true≢false h)
 to-number (fin s m e) h = tt
 
-of-number : (x : Float) → T (finite x) → (isNan x || isInfinite x) ≡ false
+pub of-number : (x : Float) → T (finite x) → (isNan x || isInfinite x) ≡ false
 unfolding isNan isInfinite
 of-number nan t = absurd t
 of-number (inf s) t = absurd t

@@ -2,6 +2,7 @@
 -- first that is not fine.
 use mathlib.Core.Path.{_≡_, refl, sym, _∙_}
 use mathlib.Core.Logic.{_↔_, _⊎_, inl, inr, Iff·trans, Iff·and}
+use mathlib.Core.Bool.{Bool, true, false, cond, true≢false}
 use Rattle.checks.specs.declared.fault.Fault.{Fault}
 use Rattle.checks.specs.declared.fault.Checked.{Checked}
 use Rattle.checks.specs.declared.fault.Checked.the-variants.{Fine, Bad}
@@ -35,6 +36,11 @@ then-fine {f} {g} p q = Iff·trans (later-fine f g) (Iff·and p q)
 
 pub alone-fine : {c : Checked} {F : Type 0} → ((c ≡ Fine) ↔ F) → ((later c Fine ≡ Fine) ↔ F)
 alone-fine {c} = same-fine (fine-right c)
+
+-- and it is made only where a test says no
+pub unless-fine : (test : Bool) {c : Checked} {F : Type 0} → ((c ≡ Fine) ↔ F) → ((cond test Fine c ≡ Fine) ↔ (test ≡ false → F))
+unless-fine true exact = (λ e no-test. absurd (true≢false no-test), λ f. refl)
+unless-fine false exact = (λ e no-test. exact .0 e, λ f. exact .1 (f refl))
 
 pub later-bad : (f g : Checked) (x : Fault) → (later f g ≡ Bad x) ↔ ((f ≡ Bad x) ⊎ ((f ≡ Fine) × (g ≡ Bad x)))
 unfolding later

@@ -1,6 +1,6 @@
 -- What `pick` answers, by which of its operands are NaNs, and what a comparison that says yes tells of them.
-use mathlib.Core.Path.{_≡_, refl, sym, ap, subst}
-use mathlib.Core.Bool.{Bool, true, false, not, cond, false≢true}
+use mathlib.Core.Path.{_≡_, refl, sym, ap, _∙_, subst}
+use mathlib.Core.Bool.{Bool, true, false, not, cond, true≢false, false≢true}
 use Prim.Native.Nat.{ℕ, _*_}
 use native.Mathlib.Nat.{le-of-lt}
 use lib.Dec.{T, ltb, ltb→lt}
@@ -14,6 +14,24 @@ pub pick-at : (first : Bool) (a b : ℕ) (p q : Bool) → nanBits binary64 a ≡
     → Bits.pick first a b ≡ cond p (cond q Bits.quietNan b) (cond q a (cond first a b))
 unfolding Bits.pick
 pick-at first a b p q e g = rw (e, g)
+
+-- a NaN is picked where both are NaNs only, and it is the one that is answered
+pub picked-nan : (first : Bool) (a b : ℕ) → nanBits binary64 (Bits.pick first a b) ≡ true → Bits.pick first a b ≡ Bits.quietNan
+picked-nan first a b h = go (nanBits binary64 a) (nanBits binary64 b) refl refl
+  where
+    number : (c : ℕ) → nanBits binary64 c ≡ false → Bits.pick first a b ≡ c → Bits.pick first a b ≡ Bits.quietNan
+    number c n e = absurd (true≢false (sym h ∙ ap (nanBits binary64) e ∙ n))
+
+    one : (f : Bool) → nanBits binary64 a ≡ false → nanBits binary64 b ≡ false → Bits.pick first a b ≡ cond f a b
+        → Bits.pick first a b ≡ Bits.quietNan
+    one true e g r = number a e r
+    one false e g r = number b g r
+
+    go : (p q : Bool) → nanBits binary64 a ≡ p → nanBits binary64 b ≡ q → Bits.pick first a b ≡ Bits.quietNan
+    go true true e g = pick-at first a b true true e g
+    go true false e g = number b g (pick-at first a b true false e g)
+    go false true e g = number a e (pick-at first a b false true e g)
+    go false false e g = one first e g (pick-at first a b false false e g)
 
 -- ---- a comparison that says yes is one of numbers, and does not say yes the other way round
 pub lt-numbers : (x y : Float) → lt x y ≡ true → (isNan x ≡ false) × (isNan y ≡ false)

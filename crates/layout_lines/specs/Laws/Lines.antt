@@ -5,16 +5,17 @@ use native.Mathlib.Omega.{arith}
 use lib.Ieee.{Float}
 use Rattle.layout_text.specs.Decimal.{decimal}
 use Rattle.layout_lines.specs.Lines.{space, newline, pairsWord, rowsWord, classText, pointsText, rowText, countText}
+use Rattle.layout_lines.specs.Sizes as sizes
 use Rattle.layout_lines.specs.Put.{Put, PutIn}
 use Rattle.layout_lines.specs.Laws.Put.{put-join}
 
 pub row-put : (i j class : ℕ) (x1 y1 x2 y2 : Float) {o o1 o2 o3 o4 o5 o6 o7 : List ℕ} {at a b c d e f g : ℕ}
-    → PutIn 20 (decimal i) o at o1 a → Put space o1 a o2 b
-    → PutIn 20 (decimal j) o2 b o3 c → Put space o3 c o4 d
-    → PutIn 7 (classText class) o4 d o5 e
-    → PutIn 68 (pointsText class x1 y1 x2 y2) o5 e o6 f
+    → PutIn sizes.whole (decimal i) o at o1 a → Put space o1 a o2 b
+    → PutIn sizes.whole (decimal j) o2 b o3 c → Put space o3 c o4 d
+    → PutIn sizes.name (classText class) o4 d o5 e
+    → PutIn sizes.points (pointsText class x1 y1 x2 y2) o5 e o6 f
     → Put newline o6 f o7 g
-    → PutIn 128 (rowText i j class x1 y1 x2 y2) o at o7 g
+    → PutIn sizes.line (rowText i j class x1 y1 x2 y2) o at o7 g
 unfolding rowText
 row-put i j class x1 y1 x2 y2 first gap second gap2 name points end =
     let both = put-join (put-join (first .is-put) gap) (second .is-put) in
@@ -24,10 +25,10 @@ row-put i j class x1 y1 x2 y2 first gap second gap2 name points end =
     }
 
 pub counts-put : (pairs rows : ℕ) {o o1 o2 o3 o4 o5 : List ℕ} {at a b c d e : ℕ}
-    → Put pairsWord o at o1 a → PutIn 20 (decimal pairs) o1 a o2 b
-    → Put rowsWord o2 b o3 c → PutIn 20 (decimal rows) o3 c o4 d
+    → Put pairsWord o at o1 a → PutIn sizes.whole (decimal pairs) o1 a o2 b
+    → Put rowsWord o2 b o3 c → PutIn sizes.whole (decimal rows) o3 c o4 d
     → Put newline o4 d o5 e
-    → PutIn 128 (countText pairs rows) o at o5 e
+    → PutIn sizes.line (countText pairs rows) o at o5 e
 unfolding countText
 counts-put pairs rows word first word2 second end =
     record {

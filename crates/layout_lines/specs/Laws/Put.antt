@@ -9,6 +9,7 @@ use lib.ListN.{length, set, getD, drop, length-append, drop-of-length-le}
 use lib.Seq.{sets, drop-cons}
 use Rattle.layout_text.specs.Decimal.{decimal}
 use Rattle.layout_lines.specs.Lines.{glyph, hex}
+use Rattle.layout_lines.specs.Sizes.{whole}
 use Rattle.layout_lines.specs.Put.{Put, PutIn}
 use Rattle.layout_text.specs.Laws.Decimal.{decimal-small, decimal-large}
 use Rattle.layout_text.specs.Laws.Long.{decimal-long}
@@ -111,5 +112,5 @@ pub word-in : (most : ℕ) {word old now : List ℕ} {at next : ℕ} → Put wor
 word-in most p h = record { is-put = p; short = omega (arith, p .after) }
 
 pub decimal-in : (n : ℕ) → n < 10 ^ 20 → {old now : List ℕ} {at next : ℕ} → Put (decimal n) old at now next
-    → PutIn 20 (decimal n) old at now next
-decimal-in n h p = word-in 20 p (decimal-long 19 n h)
+    → PutIn whole (decimal n) old at now next
+decimal-in n h p = word-in whole p (decimal-long 19 n h)

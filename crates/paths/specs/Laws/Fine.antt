@@ -1,7 +1,7 @@
 -- What a path is that was found fine, and only such a path is found fine: the facts that callers' proofs go on with.
-use mathlib.Core.Path.{_≡_, refl}
+use mathlib.Core.Path.{_≡_}
 use mathlib.Core.Logic.{_↔_, Iff·rfl, Iff·trans}
-use mathlib.Core.Bool.{Bool, true, false, cond, true≢false}
+use mathlib.Core.Bool.{Bool, false}
 use mathlib.Core.List.{List}
 use Prim.Native.Nat.{ℕ, _<_}
 use native.Mathlib.Omega.{arith}
@@ -17,7 +17,7 @@ use Rattle.checks.specs.declared.fault.Checked.the-variants.{Fine}
 use Rattle.checks.specs.Fault.{at}
 use Rattle.checks.specs.Limit
 use Rattle.checks.specs.First.{first}
-use Rattle.checks.specs.Laws.Later.{then-fine, alone-fine}
+use Rattle.checks.specs.Laws.Later.{then-fine, alone-fine, unless-fine}
 use Rattle.checks.specs.Laws.Fine.{neither, chord-fine}
 use Rattle.checks.specs.Laws.Chains as chains
 use Rattle.paths.specs.declared.path.Segment.{Segment}
@@ -60,15 +60,11 @@ pub arc-fine : (a b : PlineVertex) (owner index : ℕ) → (arcChord a b owner i
 unfolding arcChord
 arc-fine a b owner index =
     let p = at owner index Chord in
-    let exact = unless (bulgeIsZero a) (chord-fine (length (sub (pos b) (pos a))) p) in
+    let exact = unless-fine (bulgeIsZero a) (chord-fine (length (sub (pos b) (pos a))) p) in
     (λ e. record { long = exact .0 e }, λ f. exact .1 (f .long))
-  where
-    unless : (line : Bool) {c : Checked} {F : Type 0} → ((c ≡ Fine) ↔ F) → ((cond line Fine c ≡ Fine) ↔ (line ≡ false → F))
-    unless true exact = (λ e no-line. absurd (true≢false no-line), λ f. refl)
-    unless false exact = (λ e no-line. exact .0 e, λ f. exact .1 (f refl))
 
 module _ (path : List Float) (owner i : ℕ) where
-  vertex-fine : (first (ofVertex path owner i) ≡ Fine) ↔ VertexFine (vertex path i)
+  pub vertex-fine : (first (ofVertex path owner i) ≡ Fine) ↔ VertexFine (vertex path i)
   unfolding ofVertex
   vertex-fine = let v = vertex path i in chains.vertex-listed (v .x) (v .y) owner (v .bulge) i
 

@@ -5,7 +5,7 @@ use Prim.Native.Nat.{ℕ}
 use borrow.Author.Needs.{needs}
 use native.Mathlib.Omega.{arith}
 use Rattle.floats.specs.Bits
-use Rattle.floats.proofs.Cases.{root-zero, root-inf, root-neg-zero, root-none}
+use Rattle.floats.specs.Laws.RootCases.{root-zero, root-inf, root-neg-zero, root-none}
 use Rattle.floats.proofs.bits.sqrt.Statement.{statement}
 use Rattle.floats.proofs.bits.sqrt.Tie as tie
 

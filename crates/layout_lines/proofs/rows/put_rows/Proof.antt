@@ -7,6 +7,7 @@ use native.Mathlib.Nat.{sub-zero}
 use native.Mathlib.Omega.{arith}
 use borrow.Author.Needs.{needs}
 use lib.ListN.{length}
+use Rattle.layout_lines.specs.Sizes.{line}
 use Rattle.layout_lines.specs.Lines.{rowAt, rowsText}
 use Rattle.layout_lines.specs.Put.{Put}
 use Rattle.layout_lines.proofs.Ends.{rows-end, rows-more}
@@ -15,7 +16,7 @@ use Rattle.layout_lines.proofs.rows.put_rows.Tie as tie
 
 abbrev Inv-loop : tie.InvT-loop
 Inv-loop out₀ start rows index points at₀ k₀ out at k =
-    (k ≤ rows) × (length out ≡ length out₀) × (at ≤ start + k * 128)
+    (k ≤ rows) × (length out ≡ length out₀) × (at ≤ start + k * line)
     × ((now : List ℕ) (next : ℕ) → Put (rowsText index points (rows - k) k) out at now next
     → Put (rowsText index points rows 0) out₀ start now next)
 
