@@ -16,13 +16,13 @@ mod inputs;
 mod lent;
 #[cfg(feature = "rust-text")]
 mod listings;
-#[cfg(feature = "rust-text")]
+#[cfg_attr(not(feature = "rust-text"), allow(dead_code))]
 mod numbers;
 #[cfg(feature = "rust-text")]
 mod partings;
 #[cfg(feature = "rust-text")]
 mod plane;
-#[cfg(feature = "rust-text")]
+#[cfg_attr(not(feature = "rust-text"), allow(dead_code))]
 mod probe;
 mod record;
 mod rng;
@@ -32,18 +32,20 @@ mod tally;
 mod text;
 #[cfg(feature = "rust-text")]
 mod texts;
+mod views;
 
 use std::env;
 use std::path::Path;
 use std::process::ExitCode;
 
 const USAGE: &str = "\
-usage: compare check [COUNT [SEED]]  compare each float function on COUNT random inputs (default 10485760, seed 1), each
-                                     function of the plane on a quarter as many accepted ones, an eighth of all bit
-                                     patterns, and some beside the limits; each kernel and the pair call until twice
-                                     as many were answered, and on some that are refused; listings of whole paths
-                                     until as many pairs were looked at, and on chosen ones;
-                                     then as compare edges, with a tenth of COUNT
+usage: compare check [COUNT [SEED]]  compare each float function on COUNT random inputs (default 10485760, seed 1); segments
+                                     of a path and of its view, and filled parts of rows, on the stored layouts and on a
+                                     quarter as many; each function of the plane on a quarter as many accepted ones, an
+                                     eighth of all bit patterns, and some beside the limits; each kernel and the pair
+                                     call until twice as many were answered, and on some that are refused; listings of
+                                     whole paths until as many pairs were looked at, and on chosen ones; then as compare
+                                     edges, with a tenth of COUNT
        compare edges [COUNT [SEED]]  compare the kernels, the pair call and listings on COUNT inputs an edge (default 1048576,
                                      seed 1): where two numbers that are compared, by the Rust or by a shortcut of ours,
                                      are all but equal
@@ -89,7 +91,8 @@ fn main() -> ExitCode {
 
 fn check(numbers: &[&str]) -> Result<(), String> {
     let (count, seed) = count_and_seed(numbers, COUNT)?;
-    let differences = floats::check(count, seed) + check_text(count, seed);
+    let differences =
+        floats::check(count, seed) + views::check(count, seed) + check_text(count, seed);
     match differences {
         0 => Ok(()),
         _ => Err(format!("{differences} differences")),

@@ -1,5 +1,5 @@
-//! The functions of `plane`, as crate `probe` exports them. They are for comparison only: no header of the product declares
-//! them.
+//! The functions of `plane`, the segments of a path, and the filled part of rows, as crate `probe` exports them. They are for
+//! comparison only: no header of the product declares them.
 
 // Each is safe: it takes and gives numbers, asks nothing of them, and always returns.
 unsafe extern "C" {
@@ -62,6 +62,33 @@ mod raw {
             out: *mut f64,
             room: usize,
         ) -> usize;
+        #[rustfmt::skip]
+        pub fn vjp_segment(
+            path: *const f64,
+            numbers: usize,
+            closed: bool,
+            i: usize,
+            out: *mut f64,
+            room: usize,
+        ) -> usize;
+        #[rustfmt::skip]
+        pub fn vjp_view_segment(
+            path: *const f64,
+            numbers: usize,
+            closed: bool,
+            i: usize,
+            out: *mut f64,
+            room: usize,
+        ) -> usize;
+        pub fn vjp_view_segment_count(path: *const f64, numbers: usize, closed: bool) -> usize;
+        #[rustfmt::skip]
+        pub fn vjp_filled(
+            points: *const f64,
+            numbers: usize,
+            rows: usize,
+            out: *mut f64,
+            room: usize,
+        ) -> usize;
     }
 }
 
@@ -99,4 +126,26 @@ pub fn vjp_seg_arc_radius_and_center(
 ) -> usize {
     let (start, room) = (out.as_mut_ptr(), out.len());
     unsafe { raw::vjp_seg_arc_radius_and_center(x1, y1, bulge1, x2, y2, bulge2, start, room) }
+}
+
+/// A path with whether it is closed, and an index.
+pub fn vjp_segment(path: &[f64], closed: bool, i: usize, out: &mut [f64]) -> usize {
+    let (start, room) = (out.as_mut_ptr(), out.len());
+    unsafe { raw::vjp_segment(path.as_ptr(), path.len(), closed, i, start, room) }
+}
+
+/// The same, asked of a view of the path.
+pub fn vjp_view_segment(path: &[f64], closed: bool, i: usize, out: &mut [f64]) -> usize {
+    let (start, room) = (out.as_mut_ptr(), out.len());
+    unsafe { raw::vjp_view_segment(path.as_ptr(), path.len(), closed, i, start, room) }
+}
+
+pub fn vjp_view_segment_count(path: &[f64], closed: bool) -> usize {
+    unsafe { raw::vjp_view_segment_count(path.as_ptr(), path.len(), closed) }
+}
+
+/// Float rows, and how many of them are filled.
+pub fn vjp_filled(points: &[f64], rows: usize, out: &mut [f64]) -> usize {
+    let (start, room) = (out.as_mut_ptr(), out.len());
+    unsafe { raw::vjp_filled(points.as_ptr(), points.len(), rows, start, room) }
 }

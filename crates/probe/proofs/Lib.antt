@@ -1,1 +1,2 @@
+mod ByView
 mod Written

@@ -1,7 +1,9 @@
 // Answers of more than one number, handed over in a lent slice: written from its front if all of them fit, and else none is. How
 // many were written is returned.
 ghost use mathlib.Core.List.{[], _∷_};
+ghost use Rattle.paths.specs.Told;
 ghost use Rattle.probe.specs.Numbers.{Given, ofVector};
+use paths::path::SegmentAt;
 use plane::vector2::Vector2;
 
 pub fn two(a: f64, b: f64, out: &mut [f64]) -> usize
@@ -27,9 +29,38 @@ pub fn three(a: f64, b: f64, c: f64, out: &mut [f64]) -> usize
     3
 }
 
+// All of a slice.
+pub fn part(numbers: &[f64], out: &mut [f64]) -> usize
+    ensures { λ r. ⌜ Given (now (numbers .entry)) r (now (out .entry)) (now (out .exit)) ⌝ }
+{
+    if out.len() < numbers.len() {
+        return 0;
+    }
+    let mut k = 0;
+    while k < numbers.len() {
+        out[k] = numbers[k];
+        k += 1;
+    }
+    numbers.len()
+}
+
 // First x, then y.
 pub fn vector(v: Vector2, out: &mut [f64]) -> usize
     ensures { λ r. ⌜ Given (ofVector v) r (now (out .entry)) (now (out .exit)) ⌝ }
 {
     two(v.x, v.y, out)
+}
+
+// A segment's first vertex, then its second; of none no number.
+pub fn segment(at: SegmentAt, out: &mut [f64]) -> usize
+    ensures { λ r. ⌜ Given (Told.told at) r (now (out .entry)) (now (out .exit)) ⌝ }
+{
+    match at {
+        SegmentAt::Nothing => 0,
+        SegmentAt::At(s) => {
+            let v1 = s.v1;
+            let v2 = s.v2;
+            part(&[v1.x, v1.y, v1.bulge, v2.x, v2.y, v2.bulge], out)
+        }
+    }
 }

@@ -1,0 +1,124 @@
+//! A lent path's segments and the filled part of rows, as the scope's prose has them.
+
+/// x, y and bulge.
+pub const VERTEX: usize = 3;
+/// Two points.
+pub const ROW: usize = 4;
+/// The most vertices that a path may have.
+pub const MOST_VERTICES: usize = 4096;
+
+/// Two vertices.
+pub const SEGMENT: usize = 2 * VERTEX;
+
+/// The first vertex's numbers, then the second's.
+pub type Segment = [f64; SEGMENT];
+
+/// Why a path has no segments, whatever the index.
+#[derive(Clone, Copy, Debug, PartialEq)]
+pub enum Empty {
+    /// Refusal 6: its length is no multiple of 3.
+    Length,
+    /// Refusal 7: it has more than 4,096 vertices.
+    Vertices,
+    /// It has fewer than two vertices.
+    Few,
+}
+
+pub fn empty(path: &[f64]) -> Option<Empty> {
+    let vertices = path.chunks_exact(VERTEX);
+    if !vertices.remainder().is_empty() {
+        return Some(Empty::Length);
+    }
+    match vertices.len() {
+        0 | 1 => Some(Empty::Few),
+        n if n > MOST_VERTICES => Some(Empty::Vertices),
+        _ => None,
+    }
+}
+
+/// All segments in order: from each vertex to the next one, and of a closed path from the last one back to the first.
+pub fn segments(path: &[f64], closed: bool) -> Vec<Segment> {
+    if empty(path).is_some() {
+        return Vec::new();
+    }
+    let vertices: Vec<&[f64]> = path.chunks_exact(VERTEX).collect();
+    let joined = |from: &[f64], to: &[f64]| -> Segment {
+        let numbers: Vec<f64> = from.iter().chain(to).copied().collect();
+        numbers.try_into().expect("two vertices")
+    };
+    let mut all: Vec<Segment> = vertices
+        .windows(2)
+        .map(|two| joined(two[0], two[1]))
+        .collect();
+    if closed {
+        all.push(joined(vertices[vertices.len() - 1], vertices[0]));
+    }
+    all
+}
+
+/// The first so many rows; the empty part if there are not as many whole ones.
+pub fn filled(points: &[f64], rows: usize) -> Vec<f64> {
+    let whole: Vec<&[f64]> = points.chunks_exact(ROW).collect();
+    match whole.get(..rows) {
+        Some(front) => front.concat(),
+        None => Vec::new(),
+    }
+}
+
+#[cfg(test)]
+mod tests {
+    use super::*;
+
+    const THREE: [f64; 9] = [0.0, 0.0, 0.5, 4.0, 0.0, -1.0, 4.0, 3.0, 0.25];
+
+    /// The last closed one runs back to vertex 0 with the last bulge.
+    #[test]
+    fn segments_of_three_vertices() {
+        let inner = [
+            [0.0, 0.0, 0.5, 4.0, 0.0, -1.0],
+            [4.0, 0.0, -1.0, 4.0, 3.0, 0.25],
+        ];
+        assert_eq!(segments(&THREE, false), inner);
+        let back = [4.0, 3.0, 0.25, 0.0, 0.0, 0.5];
+        assert_eq!(segments(&THREE, true), [inner[0], inner[1], back]);
+    }
+
+    #[test]
+    fn two_vertices_closed_run_there_and_back() {
+        let (there, back) = (
+            [0.0, 0.0, 0.5, 4.0, 0.0, -1.0],
+            [4.0, 0.0, -1.0, 0.0, 0.0, 0.5],
+        );
+        assert_eq!(segments(&THREE[..6], false), [there]);
+        assert_eq!(segments(&THREE[..6], true), [there, back]);
+    }
+
+    #[test]
+    fn paths_without_segments() {
+        for (path, why) in [
+            (vec![], Empty::Few),
+            (vec![0.0; 3], Empty::Few),
+            (vec![0.0; 1], Empty::Length),
+            (vec![0.0; 8], Empty::Length),
+            (vec![0.0; 3 * 4097], Empty::Vertices),
+            (vec![0.0; 3 * 4097 + 1], Empty::Length),
+        ] {
+            assert_eq!(empty(&path), Some(why));
+            assert!(segments(&path, false).is_empty() && segments(&path, true).is_empty());
+        }
+        let most = vec![0.0; 3 * 4096];
+        assert_eq!(segments(&most, false).len(), 4095);
+        assert_eq!(segments(&most, true).len(), 4096);
+    }
+
+    #[test]
+    fn filled_parts() {
+        let points: Vec<f64> = (0..11).map(f64::from).collect();
+        assert_eq!(filled(&points, 0), [0.0; 0]);
+        assert_eq!(filled(&points, 1), points[..4]);
+        assert_eq!(filled(&points, 2), points[..8]);
+        assert_eq!(filled(&points, 3), [0.0; 0]);
+        assert_eq!(filled(&points, usize::MAX), [0.0; 0]);
+        assert_eq!(filled(&[], 0), [0.0; 0]);
+    }
+}

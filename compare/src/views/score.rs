@@ -1,0 +1,180 @@
+//! Holds one call after the other to the model, and counts what kinds of input were met, told from the input itself.
+
+use super::draw::room;
+use super::lent::Lent;
+use super::model::{empty, filled, Empty, Segment, ROW, SEGMENT, VERTEX};
+use super::{Ask, Fill};
+use crate::numbers::hex;
+use crate::rng::Rng;
+use crate::tally::Tally;
+
+const OF_SEGMENTS: [&str; 8] = [
+    "inner",
+    "back to vertex 0",
+    "none by 6",
+    "none by 7",
+    "none of fewer than 2 vertices",
+    "none, one beyond",
+    "none, further",
+    "without room",
+];
+const OF_ROWS: [&str; 6] = [
+    "no row",
+    "some rows",
+    "all rows",
+    "one beyond",
+    "further",
+    "without room",
+];
+
+/// One way to ask for a segment.
+pub struct Segments {
+    ask: Ask,
+    tally: Tally,
+    kinds: Kinds,
+}
+
+impl Segments {
+    pub fn new(name: &'static str, ask: Ask) -> Segments {
+        Segments {
+            ask,
+            tally: Tally::new(name),
+            kinds: Kinds::new(name, &OF_SEGMENTS),
+        }
+    }
+
+    pub fn asked(&self) -> u64 {
+        self.kinds.all()
+    }
+
+    /// Asks for segment i of a lent path, of which the model has these.
+    pub fn compare(&mut self, path: &Lent, closed: bool, i: usize, all: &[Segment], rng: &mut Rng) {
+        let expected = all.get(i).map_or(&[][..], |segment| segment);
+        let mut out = Lent::room(room(SEGMENT, rng));
+        let short = out.slice().len() < expected.len();
+        let told = (self.ask)(path.slice(), closed, i, out.slice_mut());
+        let right = is_given(&out, told, expected) && path.is_kept();
+        self.tally.add(right, || {
+            let (length, written) = (path.slice().len(), hex(out.slice()));
+            let expected = hex(expected);
+            format!("{length} numbers, closed {closed}, {i}: {told} {written}, expected {expected}")
+        });
+        let kind = kind_of(path.slice(), closed, i, all.len());
+        self.kinds.count(if short { "without room" } else { kind });
+    }
+
+    pub fn report(&self) -> u64 {
+        self.tally.report() + self.kinds.report()
+    }
+}
+
+fn kind_of(path: &[f64], closed: bool, i: usize, segments: usize) -> &'static str {
+    match empty(path) {
+        Some(Empty::Length) => "none by 6",
+        Some(Empty::Vertices) => "none by 7",
+        Some(Empty::Few) => "none of fewer than 2 vertices",
+        None if closed && i + 1 == path.len() / VERTEX => "back to vertex 0",
+        None if i < segments => "inner",
+        None if i == segments => "none, one beyond",
+        None => "none, further",
+    }
+}
+
+/// The second call.
+pub struct Filled {
+    ask: Fill,
+    tally: Tally,
+    kinds: Kinds,
+}
+
+impl Filled {
+    pub fn new(name: &'static str, ask: Fill) -> Filled {
+        Filled {
+            ask,
+            tally: Tally::new(name),
+            kinds: Kinds::new(name, &OF_ROWS),
+        }
+    }
+
+    pub fn asked(&self) -> u64 {
+        self.kinds.all()
+    }
+
+    /// Asks for the first so many of lent rows.
+    pub fn compare(&mut self, rows: &Lent, count: usize, rng: &mut Rng) {
+        let expected = filled(rows.slice(), count);
+        let mut out = Lent::room(room(rows.slice().len(), rng));
+        let short = out.slice().len() < expected.len();
+        let told = (self.ask)(rows.slice(), count, out.slice_mut());
+        let right = is_given(&out, told, &expected) && rows.is_kept();
+        self.tally.add(right, || {
+            let (length, part) = (rows.slice().len(), expected.len());
+            format!("{length} numbers, {count} rows: {told} numbers or others, expected {part}")
+        });
+        let whole = rows.slice().len() / ROW;
+        let kind = match count {
+            _ if short => "without room",
+            0 => "no row",
+            n if n < whole => "some rows",
+            n if n == whole => "all rows",
+            n if n == whole + 1 => "one beyond",
+            _ => "further",
+        };
+        self.kinds.count(kind);
+    }
+
+    pub fn report(&self) -> u64 {
+        self.tally.report() + self.kinds.report()
+    }
+}
+
+/// Whether the numbers were written if they fit, and nothing else was. Numbers are handed on as they are: a zero keeps its sign.
+/// Of a NaN no bits are promised.
+fn is_given(out: &Lent, told: usize, numbers: &[f64]) -> bool {
+    let numbers = if out.slice().len() < numbers.len() {
+        &[]
+    } else {
+        numbers
+    };
+    let same = |(a, b): (&f64, &f64)| a.to_bits() == b.to_bits() || a.is_nan() && b.is_nan();
+    told == numbers.len()
+        && out
+            .written(told)
+            .is_some_and(|ours| ours.iter().zip(numbers).all(same))
+}
+
+/// How often each kind was met. All that there are stand here from the start.
+struct Kinds {
+    name: &'static str,
+    met: Vec<(&'static str, u64)>,
+}
+
+impl Kinds {
+    fn new(name: &'static str, kinds: &[&'static str]) -> Kinds {
+        let met = kinds.iter().map(|kind| (*kind, 0)).collect();
+        Kinds { name, met }
+    }
+
+    fn count(&mut self, kind: &str) {
+        let found = self.met.iter_mut().find(|(name, _)| *name == kind);
+        found.expect("a kind of the list").1 += 1;
+    }
+
+    fn all(&self) -> u64 {
+        self.met.iter().map(|(_, count)| count).sum()
+    }
+
+    /// Prints how often each occurred, and answers how many never did.
+    fn report(&self) -> u64 {
+        let met: Vec<String> = self
+            .met
+            .iter()
+            .map(|(kind, count)| format!("{kind} {count}"))
+            .collect();
+        println!("{}: {}", self.name, met.join("; "));
+        let unmet = self.met.iter().filter(|(_, count)| *count == 0);
+        unmet
+            .map(|(kind, _)| println!("{}: NEVER MET: {kind}", self.name))
+            .count() as u64
+    }
+}

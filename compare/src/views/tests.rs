@@ -1,0 +1,191 @@
+//! Wrong functions, each of which the comparison must tell, and a right one, which it must pass.
+
+use super::*;
+
+const INPUTS: u64 = 1 << 12;
+
+/// Numbers handed over as the library does.
+fn give(numbers: &[f64], out: &mut [f64]) -> usize {
+    if out.len() < numbers.len() {
+        return 0;
+    }
+    out[..numbers.len()].copy_from_slice(numbers);
+    numbers.len()
+}
+
+fn segment(path: &[f64], closed: bool, i: usize, out: &mut [f64]) -> usize {
+    if i >= count(path, closed) {
+        return 0;
+    }
+    let (from, to) = (3 * i, 3 * (i + 1) % path.len());
+    give(&[&path[from..from + 3], &path[to..to + 3]].concat(), out)
+}
+
+fn count(path: &[f64], closed: bool) -> usize {
+    match model::empty(path) {
+        Some(_) => 0,
+        None => path.len() / 3 - usize::from(!closed),
+    }
+}
+
+fn filled(points: &[f64], rows: usize, out: &mut [f64]) -> usize {
+    give(&model::filled(points, rows), out)
+}
+
+const RIGHT: Ours = Ours {
+    segment: [("right", segment), ("right too", segment)],
+    count,
+    filled,
+};
+
+fn differences(ours: &Ours) -> u64 {
+    of(ours, Path::new(STORED), INPUTS, 1)
+}
+
+#[test]
+fn right_functions_pass() {
+    assert_eq!(differences(&RIGHT), 0);
+    assert_eq!(differences(&OURS), 0);
+}
+
+#[test]
+fn nothing_stored_is_told() {
+    assert_eq!(Run::new(&RIGHT, 1).stored(Path::new(STORED)), 0);
+    assert_eq!(Run::new(&RIGHT, 1).stored(Path::new("nowhere")), 1);
+    assert_eq!(
+        Run::new(&RIGHT, 1).stored(Path::new(STORED).parent().unwrap()),
+        1
+    );
+}
+
+#[test]
+fn wrong_segments_are_told() {
+    let wrong: [(&str, Ask); 12] = [
+        ("always open", |path, _, i, out| {
+            segment(path, false, i, out)
+        }),
+        ("always closed", |path, _, i, out| {
+            segment(path, true, i, out)
+        }),
+        ("the next one", |path, closed, i, out| {
+            segment(path, closed, i.wrapping_add(1), out)
+        }),
+        ("ends swapped", |path, closed, i, out| {
+            let told = segment(path, closed, i, out);
+            if told > 0 {
+                out[..told].rotate_left(3);
+            }
+            told
+        }),
+        (
+            "back to the last one's neighbour",
+            |path, closed, i, out| {
+                let last = closed && path.len() >= 6 && i + 1 == path.len() / 3;
+                let told = segment(path, closed, i, out);
+                if last && told > 0 {
+                    out[3..6].copy_from_slice(&path[3..6]);
+                }
+                told
+            },
+        ),
+        ("a part of a vertex passed over", |path, closed, i, out| {
+            segment(&path[..path.len() / 3 * 3], closed, i, out)
+        }),
+        ("a vertex more allowed", |path, closed, i, out| {
+            match path.len() {
+                12291 if i < 4096 => give(&path[3 * i..3 * i + 6], out),
+                _ => segment(path, closed, i, out),
+            }
+        }),
+        (
+            "a vertex fewer allowed",
+            |path, closed, i, out| match path.len() {
+                12288 => 0,
+                _ => segment(path, closed, i, out),
+            },
+        ),
+        ("one vertex makes one", |path, closed, i, out| {
+            match path.len() {
+                3 if closed && i == 0 => give(&[path, path].concat(), out),
+                _ => segment(path, closed, i, out),
+            }
+        }),
+        ("an index that wraps round", |path, closed, i, out| {
+            segment(path, closed, i.wrapping_mul(3) / 3, out)
+        }),
+        ("written where there is no room", |path, closed, i, out| {
+            let told = segment(path, closed, i, out);
+            if told == 0 && !out.is_empty() && i < count(path, closed) {
+                out[0] = path[3 * i];
+            }
+            told
+        }),
+        ("a zero's sign lost", |path, closed, i, out| {
+            let told = segment(path, closed, i, out);
+            out[..told].iter_mut().for_each(|x| *x += 0.0);
+            told
+        }),
+    ];
+    for (name, ask) in wrong {
+        for by_view in [false, true] {
+            let mut ours = RIGHT;
+            ours.segment[usize::from(by_view)] = (name, ask);
+            assert!(differences(&ours) > 0, "{name}, by the view {by_view}");
+        }
+    }
+}
+
+#[test]
+fn wrong_counts_are_told() {
+    let wrong: [fn(&[f64], bool) -> usize; 3] = [
+        |path, _| count(path, true),
+        |path, closed| count(&path[..path.len().min(3 * 4096)], closed),
+        |path, closed| {
+            if path.len() == 3 {
+                usize::from(closed)
+            } else {
+                count(path, closed)
+            }
+        },
+    ];
+    for count in wrong {
+        assert!(differences(&Ours { count, ..RIGHT }) > 0);
+    }
+}
+
+#[test]
+fn wrong_parts_are_told() {
+    let wrong: [Fill; 6] = [
+        |points, rows, out| filled(points, rows.min(points.len() / 4), out),
+        |points, rows, out| filled(points, if rows == points.len() / 4 { 0 } else { rows }, out),
+        |points, rows, out| filled(points, rows.wrapping_mul(4) / 4, out),
+        |points, rows, out| match points.get(..rows.saturating_mul(3)) {
+            Some(part) => give(part, out),
+            None => 0,
+        },
+        |points, rows, out| {
+            filled(
+                points,
+                if rows == points.len().div_ceil(4) {
+                    points.len() / 4
+                } else {
+                    rows
+                },
+                out,
+            )
+        },
+        |points, rows, out| {
+            let told = filled(points, rows, out);
+            if told < out.len() {
+                out[told] = 0.0;
+            }
+            told
+        },
+    ];
+    for (at, filled) in wrong.into_iter().enumerate() {
+        assert!(
+            differences(&Ours { filled, ..RIGHT }) > 0,
+            "wrong part {at}"
+        );
+    }
+}
