@@ -1,1 +1,1 @@
-mod Told
+mod AsNumbers

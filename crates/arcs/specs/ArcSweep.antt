@@ -2,7 +2,7 @@
 use mathlib.Core.Bool.{Bool, true, cond, _&&_, _||_}
 use lib.Ieee.{Float}
 use Rattle.floats.specs.Ops.{_⊗_, _≺_, _≼_, _≽_, f0}
-use Rattle.plane.specs.Vector2.{sub, dot, perpDot, lengthSquared}
+use Rattle.plane.specs.Vector2 as vector2
 use Rattle.plane.specs.declared.vector2.Vector2.{Vector2}
 use Rattle.arcs.specs.declared.arc_sweep.ArcSweep.{ArcSweep}
 use Rattle.arcs.specs.declared.arc_sweep.SweepFinding.{SweepFinding}
@@ -11,8 +11,8 @@ use Rattle.arcs.specs.declared.arc_sweep.SweepFinding.the-variants.{Outs
 -- lines 31-50
 unfoldable pub new : Vector2 → Vector2 → Vector2 → Bool → Float → ArcSweep
 new center start end isClockwise epsilon =
-    let startVector = sub start center in
-    let endVector = sub end center in
+    let startVector = vector2.sub start center in
+    let endVector = vector2.sub end center in
     let epsilonSquared = epsilon ⊗ epsilon in
     record {
       center = center;
@@ -20,8 +20,8 @@ new center start end isClockwise epsilon =
       «end_vector» = endVector;
       «is_clockwise» = isClockwise;
       «epsilon_squared» = epsilonSquared;
-      «start_fuzzy_limit» = epsilonSquared ⊗ lengthSquared startVector;
-      «end_fuzzy_limit» = epsilonSquared ⊗ lengthSquared endVector;
+      «start_fuzzy_limit» = epsilonSquared ⊗ vector2.lengthSquared startVector;
+      «end_fuzzy_limit» = epsilonSquared ⊗ vector2.lengthSquared endVector;
     }
 
 -- lines 61-65
@@ -31,15 +31,15 @@ exactlyWithinSweep isClockwise startCross endCross =
 
 -- lines 70-71, and for the other edge 72-73
 abbrev pub beside : Vector2 → Vector2 → Float → Float → Bool
-beside edge pointVector cross fuzzyLimit = (dot edge pointVector ≽ f0) && (cross ⊗ cross ≺ fuzzyLimit)
+beside edge pointVector cross fuzzyLimit = (vector2.dot edge pointVector ≽ f0) && (cross ⊗ cross ≺ fuzzyLimit)
 
 -- lines 53-74
 unfoldable pub contains : ArcSweep → Vector2 → Bool
 contains self point =
-    let pointVector = sub point (self .center) in
-    let startCross = perpDot (self .«start_vector») pointVector in
-    let endCross = perpDot (self .«end_vector») pointVector in
-    cond (lengthSquared pointVector ≺ self .«epsilon_squared»)
+    let pointVector = vector2.sub point (self .center) in
+    let startCross = vector2.perpDot (self .«start_vector») pointVector in
+    let endCross = vector2.perpDot (self .«end_vector») pointVector in
+    cond (vector2.lengthSquared pointVector ≺ self .«epsilon_squared»)
     true
     (cond (exactlyWithinSweep (self .«is_clockwise») startCross endCross)
     true
@@ -49,10 +49,10 @@ contains self point =
 -- Ours: the same rules in the same order, with the one that says yes. `Laws.Sweep` has that `contains` is this not being Outside.
 unfoldable pub finding : ArcSweep → Vector2 → SweepFinding
 finding self point =
-    let pointVector = sub point (self .center) in
-    let startCross = perpDot (self .«start_vector») pointVector in
-    let endCross = perpDot (self .«end_vector») pointVector in
-    cond (lengthSquared pointVector ≺ self .«epsilon_squared»)
+    let pointVector = vector2.sub point (self .center) in
+    let startCross = vector2.perpDot (self .«start_vector») pointVector in
+    let endCross = vector2.perpDot (self .«end_vector») pointVector in
+    cond (vector2.lengthSquared pointVector ≺ self .«epsilon_squared»)
     NearCenter
     (cond (exactlyWithinSweep (self .«is_clockwise») startCross endCross)
     Inside

@@ -4,4 +4,5 @@ pub mod ArcGeometry
 pub mod LineAndArc
 pub mod TwoArcs
 pub mod OneCircle
+pub mod Workings
 pub mod Laws

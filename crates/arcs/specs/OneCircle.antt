@@ -5,7 +5,7 @@ use Rattle.floats.specs.Ops.{_⊕_, _⊗_, _⊘_, _≺_, _≈_, f2}
 use Rattle.plane.specs.BaseMath.{distSquared}
 use Rattle.plane.specs.Fuzzy.{fuzzyEpsilon}
 use Rattle.plane.specs.PlineVertex.{pos, bulgeIsNeg}
-use Rattle.plane.specs.Vector2.{eq}
+use Rattle.plane.specs.Vector2 as vector2
 use Rattle.plane.specs.declared.vector2.Vector2.{Vector2}
 use Rattle.plane.specs.declared.pline_vertex.PlineVertex.{PlineVertex}
 use Rattle.plane.specs.declared.pline_seg.ArcRadiusCenter.{ArcRadiusCenter}
@@ -23,8 +23,8 @@ use Rattle.arcs.specs.declared.pline_seg_intr.PlineSegIntr.the-variants.
 -- lines 514-515
 unfoldable pub sameArc : PlineVertex → PlineVertex → PlineVertex → PlineVertex → Bool
 sameArc v1 v2 u1 u2 =
-    (eq (pos v1) (pos u1) && eq (pos v2) (pos u2) && (v1 .bulge ≈ u1 .bulge))
-    || (eq (pos v1) (pos u2) && eq (pos v2) (pos u1) && (v1 .bulge ≈ neg (u1 .bulge)))
+    (vector2.eq (pos v1) (pos u1) && vector2.eq (pos v2) (pos u2) && (v1 .bulge ≈ u1 .bulge))
+    || (vector2.eq (pos v1) (pos u2) && vector2.eq (pos v2) (pos u1) && (v1 .bulge ≈ neg (u1 .bulge)))
 
 -- lines 525-529
 unfoldable pub arc2Ends : Vector2 → Vector2 → Bool → ArcEnds

@@ -1,7 +1,7 @@
 // An arc as the sticky-end rules see it: its sweep, and how far from its centre a point may lie.
 ghost use mathlib.Core.Path.{_≡_};
 ghost use Rattle.arcs.specs.ArcGeometry as geometry;
-ghost use Rattle.arcs.specs.Laws.Ends;
+ghost use Rattle.arcs.specs.Workings.Ends;
 use super::arc_sweep::ArcSweep;
 use plane::base_math::dist_squared;
 use plane::pline_seg::ArcRadiusCenter;

@@ -1,6 +1,6 @@
 // The circle of a segment that may be an arc.
 ghost use mathlib.Core.Path.{_≡_};
-ghost use Rattle.arcs.specs.Laws.Circles;
+ghost use Rattle.arcs.specs.Workings.Circles;
 use plane::pline_seg::ArcRadiusCenter;
 use plane::pline_seg::seg_arc_radius_and_center;
 use plane::pline_vertex::PlineVertex;

@@ -4,13 +4,13 @@
 // answers about one place agree.
 ghost use mathlib.Core.Path.{_≡_};
 ghost use Rattle.arcs.specs.LineAndArc;
-ghost use Rattle.plane.specs.Vector2.{sub, length};
+ghost use Rattle.plane.specs.Vector2 as vector2;
 use super::arc_geometry::ArcGeometry;
 use super::pline_seg_intr::PlineSegIntr;
 use plane::base_math::dist_squared;
 use plane::base_math::point_from_parametric;
 use plane::vector2::Vector2;
-use ranges::range::within;
+use ranges::range::on_segment;
 
 // A point of the line that lies on the segment and in the arc's sweep, or none.
 pub enum PointInSweep {
@@ -33,9 +33,9 @@ pub fn point_in_sweep(
     arc_geometry: ArcGeometry,
     pos_equal_eps: f64,
 ) -> PointInSweep
-    ensures { λ r. ⌜ r ≡ LineAndArc.pointInSweep t (length (sub p1 p0)) p0 p1 «arc_geometry» «pos_equal_eps» ⌝ }
+    ensures { λ r. ⌜ r ≡ LineAndArc.pointInSweep t (vector2.length (vector2.sub p1 p0)) p0 p1 «arc_geometry» «pos_equal_eps» ⌝ }
 {
-    if !within(t, p1.sub(p0), pos_equal_eps) {
+    if !on_segment(t, p1.sub(p0), pos_equal_eps) {
         return PointInSweep::Nothing;
     }
     let p = point_from_parametric(p0, p1, t);
@@ -53,7 +53,7 @@ pub fn tangent_line_arc(
     arc_geometry: ArcGeometry,
     pos_equal_eps: f64,
 ) -> PlineSegIntr
-    ensures { λ r. ⌜ r ≡ LineAndArc.tangentLineArc t0 (length (sub p1 p0)) p0 p1 «arc_geometry» «pos_equal_eps» ⌝ }
+    ensures { λ r. ⌜ r ≡ LineAndArc.tangentLineArc t0 (vector2.length (vector2.sub p1 p0)) p0 p1 «arc_geometry» «pos_equal_eps» ⌝ }
 {
     if arc_geometry.point_lies_on_arc(p0) {
         return PlineSegIntr::TangentIntersect { point: p0 };

@@ -2,7 +2,7 @@
 // Ends are sticky here too: an end of one arc that lies on the other stands for a crossing near it.
 ghost use mathlib.Core.Path.{_≡_};
 ghost use Rattle.arcs.specs.TwoArcs;
-ghost use Rattle.arcs.specs.Laws.Ends;
+ghost use Rattle.arcs.specs.Workings.Ends;
 use super::arc_geometry::ArcGeometry;
 use super::pline_seg_intr::PlineSegIntr;
 use plane::base_math::dist_squared;

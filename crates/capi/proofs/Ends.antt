@@ -7,25 +7,25 @@ use borrow.Author.Tests.{lt-ltb, le-ltb}
 use lib.ListN.{length}
 use lib.Seq.{sets}
 use lib.Ieee.{Float}
-use Rattle.answers.specs.declared.flat.Flat.{Flat}
+use Rattle.answers.specs.declared.padded.PaddedAnswer.{PaddedAnswer}
 use Rattle.capi.specs.Handed.{Handed}
 
-module _ (f : Flat) (old : List Float) where
+module _ (f : PaddedAnswer) (old : List Float) where
   pub no-room : length old < 4 → Handed f 512 old old
-  no-room h = record { told = simp (lt-ltb _ _ h); holds = simp (lt-ltb _ _ h) }
+  no-room h = record { code-is = simp (lt-ltb _ _ h); holds = simp (lt-ltb _ _ h) }
 
   pub refused : 4 ≤ length old → f .refused ≡ true → Handed f (256 + f .number) old old
-  refused h e = record { told = simp (le-ltb _ _ h, e); holds = simp (le-ltb _ _ h, e) }
+  refused h e = record { code-is = simp (le-ltb _ _ h, e); holds = simp (le-ltb _ _ h, e) }
 
   pub written : 4 ≤ length old → f .refused ≡ false
       → Handed f (f .number) old (sets old 0 (f .a ∷ f .b ∷ f .c ∷ f .d ∷ []))
-  written h e = record { told = simp (le-ltb _ _ h, e); holds = simp (le-ltb _ _ h, e) }
+  written h e = record { code-is = simp (le-ltb _ _ h, e); holds = simp (le-ltb _ _ h, e) }
 
--- what a call answers, told by `tell` and handed over; and its number is below 256
-module _ {Answer : Type 0} (tell : Answer → Flat) (flat : Flat) (answer called : Answer) where
-  pub handed : (n : ℕ) (old now : List Float) → flat ≡ tell answer → answer ≡ called → Handed flat n old now
+-- what a call answers, put into numbers by `tell` and handed over; and its number is below 256
+module _ {Answer : Type 0} (tell : Answer → PaddedAnswer) (padded : PaddedAnswer) (answer called : Answer) where
+  pub handed : (n : ℕ) (old now : List Float) → padded ≡ tell answer → answer ≡ called → Handed padded n old now
       → Handed (tell called) n old now
-  handed n old now told is = subst (λ (f : Flat). Handed f n old now) (told ∙ ap tell is)
+  handed n old now code-is is = subst (λ (f : PaddedAnswer). Handed f n old now) (code-is ∙ ap tell is)
 
-  pub small : flat ≡ tell answer → answer ≡ called → tell called .number < 256 → flat .number < 256
-  small told is = subst (λ (f : Flat). f .number < 256) (sym (told ∙ ap tell is))
+  pub small : padded ≡ tell answer → answer ≡ called → tell called .number < 256 → padded .number < 256
+  small code-is is = subst (λ (f : PaddedAnswer). f .number < 256) (sym (code-is ∙ ap tell is))

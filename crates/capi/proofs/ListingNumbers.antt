@@ -81,14 +81,14 @@ module _ (o : Outcome) (a : ListingAnswer) (i : List ℕ) (p : List Float) where
 module _ (o : Outcome) (c₀ i₀ : List ℕ) (p₀ : List Float) where
   pub no-room : length c₀ < 2 → HandedListing o 512 c₀ c₀ i₀ i₀ p₀ p₀
   no-room h =
-      let e = lt-ltb (length c₀) 2 h in record { told = simp e; counts = simp e; indices = simp e; points = simp e }
+      let e = lt-ltb (length c₀) 2 h in record { code-is = simp e; counts = simp e; indices = simp e; points = simp e }
 
   pub handed : 2 ≤ length c₀ → (a : ListingAnswer) (n : ℕ) (c i : List ℕ) (p : List Float) → Leaves o a i p → n ≡ code a
       → c ≡ counted a c₀ → HandedListing o n c₀ c i₀ i p₀ p
-  handed h a n c i p leaves told counts =
+  handed h a n c i p leaves code-is counts =
       let e = le-ltb (length c₀) 2 h in
       record {
-        told = simp e (told ∙ ap code (leaves .answer));
+        code-is = simp e (code-is ∙ ap code (leaves .answer));
         counts = simp e (counts ∙ ap (λ (t : ListingAnswer). counted t c₀) (leaves .answer));
         indices = simp e (leaves .indices);
         points = simp e (leaves .points);

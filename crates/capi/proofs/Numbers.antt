@@ -14,7 +14,7 @@ use Rattle.checks.specs.Fault.{refusal, refuse, later}
 use Rattle.checks.specs.Arc.{arcChord}
 use Rattle.checks.specs.Each
 use Rattle.checks.specs.Calls as calls
-use Rattle.checks.specs.Settle.{settle}
+use Rattle.checks.specs.Answered.{answered}
 use Rattle.crossing.specs.LineLine.{lineLine}
 use Rattle.crossing.specs.LineCircle.{lineCircle}
 use Rattle.crossing.specs.CircleCircle.{circleCircle}
@@ -39,7 +39,7 @@ use Rattle.arcs.specs.declared.pline_seg_intr.PlineSegIntr.{PlineSegIntr}
 use Rattle.arcs.specs.declared.pline_seg_intr.PlineSegIntr.the-variants as plineSegIs
 use Rattle.crossing.specs.declared.pline_seg_intersect.PlineSegAnswer.{PlineSegAnswer}
 use Rattle.crossing.specs.declared.pline_seg_intersect.PlineSegAnswer.the-variants as ofPairs
-use Rattle.answers.specs.Flat.{ofLineLine, ofLineCircle, ofCircleCircle, ofPlineSeg}
+use Rattle.answers.specs.Padded.{ofLineLine, ofLineCircle, ofCircleCircle, ofPlineSeg}
 
 -- ---- a check's
 pub record Small (c : Checked) : Type 0 where
@@ -100,7 +100,7 @@ pub ruleset smalls = (and, fine, epsilon, coordinate, bulge, radius, center, arc
 -- ---- a call's
 module _ {I A : Type 0} (refused : ℕ → A) (met : I → A) (number : A → ℕ) where
   settled : (c : Checked) (i : I) → Small c → ((n : ℕ) → number (refused n) ≡ n) → ((j : I) → number (met j) < 256)
-      → number (settle refused met c i) < 256
+      → number (answered refused met c i) < 256
   settled Fine i small own cases = cases i
   settled (Bad f) i small own cases = subst (λ (n : ℕ). n < 256) (sym (own (f .number))) (small .below)
 

@@ -9,7 +9,7 @@ use lib.Seq.{sets}
 use lib.Ieee.{Float}
 use Rattle.plane.specs.declared.vector2.Vector2.{Vector2}
 use Rattle.plane.specs.declared.pline_vertex.PlineVertex.{PlineVertex}
-use Rattle.answers.specs.declared.flat.Flat.{Flat}
+use Rattle.answers.specs.declared.padded.PaddedAnswer.{PaddedAnswer}
 
 -- ---- in
 
@@ -24,12 +24,12 @@ vertex x y bulge = record { x = x; y = y; bulge = bulge }
 abbrev pub short : List Float → Bool
 short old = ltb (length old) 4
 
-abbrev pub code : Flat → List Float → ℕ
+abbrev pub code : PaddedAnswer → List Float → ℕ
 code f old = cond (short old) 512 (cond (f .refused) (256 + f .number) (f .number))
 
-abbrev pub written : Flat → List Float → List Float
+abbrev pub written : PaddedAnswer → List Float → List Float
 written f old = cond (short old || f .refused) old (sets old 0 (f .a ∷ f .b ∷ f .c ∷ f .d ∷ []))
 
-pub record Handed (f : Flat) (returned : ℕ) (old now : List Float) : Type 0 where
-  pub told : returned ≡ code f old
+pub record Handed (f : PaddedAnswer) (returned : ℕ) (old now : List Float) : Type 0 where
+  pub code-is : returned ≡ code f old
   pub holds : now ≡ written f old

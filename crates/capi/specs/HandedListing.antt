@@ -26,7 +26,7 @@ counted (Refused n) old = old
 counted (Listed rows pairs) old = sets old 0 (rows ∷ pairs ∷ [])
 
 pub record HandedListing (o : Outcome) (returned : ℕ) (c₀ c i₀ i : List ℕ) (p₀ p : List Float) : Type 0 where
-  pub told : returned ≡ cond (short c₀) 512 (code (o .answer))
+  pub code-is : returned ≡ cond (short c₀) 512 (code (o .answer))
   pub counts : c ≡ cond (short c₀) c₀ (counted (o .answer) c₀)
   pub indices : i ≡ cond (short c₀) i₀ (o .indices)
   pub points : p ≡ cond (short c₀) p₀ (o .points)

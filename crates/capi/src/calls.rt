@@ -1,17 +1,17 @@
 // How two lines, a line and a circle, two circles, or two segments of polylines meet: the calls that look at their numbers first.
 // The answer's number is returned, and its values go into a lent slice.
-ghost use Rattle.answers.specs.Flat.{ofLineLine, ofLineCircle, ofCircleCircle, ofPlineSeg};
+ghost use Rattle.answers.specs.Padded.{ofLineLine, ofLineCircle, ofCircleCircle, ofPlineSeg};
 ghost use Rattle.capi.specs.Handed.{Handed, point, vertex};
 ghost use Rattle.crossing.specs.LineLineIntersect.{lineLineIntr};
 ghost use Rattle.crossing.specs.LineCircleIntersect.{lineCircleIntr};
 ghost use Rattle.crossing.specs.CircleCircleIntersect.{circleCircleIntr};
 ghost use Rattle.crossing.specs.PlineSegIntersect.{plineSegIntr};
 use super::hand_over::hand_over;
-use answers::flat;
+use answers::padded;
 use crossing::circle_circle_intersect;
 use crossing::line_circle_intersect;
 use crossing::line_line_intersect;
-use glance::pair;
+use fast_pair::pair;
 use plane::pline_vertex::PlineVertex;
 use plane::vector2::Vector2;
 
@@ -40,7 +40,7 @@ pub extern "C" fn vj_line_line_intr(
         Vector2 { x: u2x, y: u2y },
         epsilon,
     );
-    let numbers = flat::of_line_line(met);
+    let numbers = padded::of_line_line(met);
     hand_over(numbers, out)
 }
 
@@ -68,7 +68,7 @@ pub extern "C" fn vj_line_circle_intr(
         Vector2 { x: cx, y: cy },
         epsilon,
     );
-    let numbers = flat::of_line_circle(met);
+    let numbers = padded::of_line_circle(met);
     hand_over(numbers, out)
 }
 
@@ -95,7 +95,7 @@ pub extern "C" fn vj_circle_circle_intr(
         Vector2 { x: c2x, y: c2y },
         epsilon,
     );
-    let numbers = flat::of_circle_circle(met);
+    let numbers = padded::of_circle_circle(met);
     hand_over(numbers, out)
 }
 
@@ -145,6 +145,6 @@ pub extern "C" fn vj_pair(
         },
         epsilon,
     );
-    let numbers = flat::of_pline_seg(met);
+    let numbers = padded::of_pline_seg(met);
     hand_over(numbers, out)
 }

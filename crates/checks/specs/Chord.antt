@@ -19,7 +19,7 @@ use Rattle.floats.specs.F64
 use Rattle.floats.specs.Laws.Sqrt.{sqrt-is}
 use Rattle.plane.specs.declared.pline_vertex.PlineVertex.{PlineVertex}
 use Rattle.plane.specs.PlineVertex.{pos, bulgeIsZero}
-use Rattle.plane.specs.Vector2.{sub, length}
+use Rattle.plane.specs.Vector2 as vector2
 use Rattle.checks.specs.declared.fault.Item.the-variants.{Epsilon, Chord}
 use Rattle.checks.specs.declared.fault.Place.{Place}
 use Rattle.checks.specs.declared.fault.Checked.{Checked}
@@ -81,7 +81,7 @@ of-unsigned c u =
     over n k L h = omega arith
 
 pub of-points : (a b : PlineVertex) → PointFine (a .x) (a .y) → PointFine (b .x) (b .y) → Length (chordLength a b)
-unfolding length sub pos
+unfolding vector2.length vector2.sub pos
 of-points a b p q =
     let w = way binary64 20 (a .x) (a .y) (b .x) (b .y) (coordinate-small (a .x) (p .at-x)) (coordinate-small (a .y) (p .at-y))
     (coordinate-small (b .x) (q .at-x)) (coordinate-small (b .y) (q .at-y)) (lit≤ tt) in
@@ -124,7 +124,7 @@ segment-passes-when a b owner index h =
 pub pair-chords : (v1 v2 u1 u2 : PlineVertex) (posEqualEps : Float) → AllFine (plineSegNumbers v1 v2 u1 u2 posEqualEps)
     → Length (chordLength v1 v2) × Length (chordLength u1 u2)
 pair-chords v1 v2 u1 u2 posEqualEps h =
-    let e : List Checked = Each.epsilon posEqualEps (at 0 0 Epsilon) ∷ [] in
+    let e : List Checked = Each.epsilon posEqualEps ∷ [] in
     let v : List Checked = vertexChecks (v1 .x) (v1 .y) (v1 .bulge) 0 0 in
     let w : List Checked = pointChecks (v2 .x) (v2 .y) 0 1 in
     let u : List Checked = vertexChecks (u1 .x) (u1 .y) (u1 .bulge) 1 0 in

@@ -1,5 +1,5 @@
 -- What each number is looked at for: the scope's table, number by number. p is the number's place.
--- Table.antt says of each check exactly when it answers which refusal.
+-- RefusalTable.antt says of each check exactly when it answers which refusal.
 use Prim.Native.Nat.{ℕ}
 use mathlib.Core.Bool.{Bool, _||_}
 use lib.Ieee.{Float}

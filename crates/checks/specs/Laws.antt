@@ -5,5 +5,4 @@ pub mod Fine
 pub mod Chains
 pub mod Found
 pub mod Chord
-pub mod Inside
 pub mod Lengths

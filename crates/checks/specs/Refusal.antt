@@ -22,8 +22,8 @@ abbrev pub chord : ℕ
 chord = 5
 
 -- a path's length is no whole number of vertices
-abbrev pub length : ℕ
-length = 6
+abbrev pub pathLength : ℕ
+pathLength = 6
 
 -- a path has too many vertices
 abbrev pub vertices : ℕ

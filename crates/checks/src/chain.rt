@@ -4,7 +4,7 @@ ghost use mathlib.Core.Path.{_≡_};
 ghost use mathlib.Core.List.{_∷_};
 ghost use Rattle.checks.specs.First.{first};
 ghost use Rattle.checks.specs.Lists;
-ghost use Rattle.checks.specs.Laws.Inside;
+ghost use Rattle.checks.specs.Workings.Inside;
 use super::each;
 use super::fault::Checked;
 use super::fault::Item;

@@ -2,7 +2,7 @@
 ghost use mathlib.Core.Path.{_≡_};
 ghost use lib.Ieee.{isNan};
 ghost use Rattle.checks.specs.Number;
-ghost use Rattle.checks.specs.Laws.Inside;
+ghost use Rattle.checks.specs.Workings.Inside;
 
 // Whether x is a NaN.
 pub fn is_nan(x: f64) -> bool

@@ -17,7 +17,7 @@ pub const EPSILON: u64 = 4;
 pub const CHORD: u64 = 5;
 
 // a path's length is no whole number of vertices
-pub const LENGTH: u64 = 6;
+pub const PATH_LENGTH: u64 = 6;
 
 // a path has too many vertices
 pub const VERTICES: u64 = 7;

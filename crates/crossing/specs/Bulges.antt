@@ -6,7 +6,7 @@ use Rattle.plane.specs.PlineVertex.{pos}
 use Rattle.plane.specs.declared.pline_vertex.PlineVertex.{PlineVertex}
 use Rattle.checks.specs.Arc.{arcChord}
 use Rattle.checks.specs.Calls.{checkPlineSeg}
-use Rattle.checks.specs.Settle.{settle}
+use Rattle.checks.specs.Answered.{answered}
 use Rattle.crossing.specs.PlineSegIntersect.{plineSegIntr}
 use Rattle.arcs.specs.declared.pline_seg_intr.PlineSegIntr.{PlineSegIntr}
 use Rattle.crossing.specs.declared.pline_seg_intersect.PlineSegAnswer.the-variants.{Refused, Met}
@@ -16,5 +16,5 @@ pub second-bulges-unused : (v1 v2 u1 u2 : PlineVertex) (posEqualEps vBulge uBulg
     → plineSegIntr v1 v2 u1 u2 posEqualEps ≡ plineSegIntr v1 (withBulge v2 vBulge) u1 (withBulge u2 uBulge) posEqualEps
 unfolding plineSegIntr checkPlineSeg arcChord pos
 second-bulges-unused v1 v2 u1 u2 posEqualEps vBulge uBulge =
-    ap (λ (r : PlineSegIntr). settle Refused Met (checkPlineSeg v1 v2 u1 u2 posEqualEps) r)
+    ap (λ (r : PlineSegIntr). answered Refused Met (checkPlineSeg v1 v2 u1 u2 posEqualEps) r)
     (second-bulges v1 v2 u1 u2 posEqualEps vBulge uBulge)

@@ -5,8 +5,8 @@ use mathlib.Core.List.{[], _∷_}
 use lib.Ieee.{Float}
 use Rattle.plane.specs.declared.vector2.Vector2.{Vector2}
 use Rattle.checks.specs.Calls.{checkCircleCircle}
-use Rattle.checks.specs.Settle.{settle}
-use Rattle.crossing.specs.Told.{Told}
+use Rattle.checks.specs.Answered.{answered}
+use Rattle.crossing.specs.AnswerNumbers.{AnswerNumbers}
 use Rattle.crossing.specs.CircleCircle.{circleCircle}
 use Rattle.crossing.specs.declared.circle_circle_intr.CircleCircleIntr.the-variants.{
   NoIntersect,
@@ -20,13 +20,13 @@ use Rattle.crossing.specs.declared.circle_circle_intersect.CircleCircleA
 -- the first fault's number, or where there is none how they meet
 unfoldable pub circleCircleIntr : Float → Vector2 → Float → Vector2 → Float → CircleCircleAnswer
 circleCircleIntr radius1 center1 radius2 center2 epsilon =
-    settle Refused Met (checkCircleCircle radius1 center1 radius2 center2 epsilon)
+    answered Refused Met (checkCircleCircle radius1 center1 radius2 center2 epsilon)
     (circleCircle radius1 center1 radius2 center2 epsilon)
 
 -- ---- what an answer tells, in numbers
-abbrev pub told : CircleCircleAnswer → Told
-told (Refused n) = record { refused = true; number = n; values = [] }
-told (Met NoIntersect) = record { refused = false; number = 0; values = [] }
-told (Met (TangentIntersect p)) = record { refused = false; number = 1; values = p .x ∷ p .y ∷ [] }
-told (Met (TwoIntersects p q)) = record { refused = false; number = 2; values = p .x ∷ p .y ∷ q .x ∷ q .y ∷ [] }
-told (Met Overlapping) = record { refused = false; number = 3; values = [] }
+abbrev pub numbersOf : CircleCircleAnswer → AnswerNumbers
+numbersOf (Refused n) = record { refused = true; number = n; values = [] }
+numbersOf (Met NoIntersect) = record { refused = false; number = 0; values = [] }
+numbersOf (Met (TangentIntersect p)) = record { refused = false; number = 1; values = p .x ∷ p .y ∷ [] }
+numbersOf (Met (TwoIntersects p q)) = record { refused = false; number = 2; values = p .x ∷ p .y ∷ q .x ∷ q .y ∷ [] }
+numbersOf (Met Overlapping) = record { refused = false; number = 3; values = [] }

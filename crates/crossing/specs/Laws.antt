@@ -1,6 +1,3 @@
 -- Laws that only proofs need. Apart, Nested and FarLine also define the three tests of src/shortcuts.rt.
 pub mod Answers
 pub mod Bulges
-pub mod Apart
-pub mod Nested
-pub mod FarLine

@@ -6,13 +6,14 @@ pub mod PlineSegIntr
 pub mod LineArc
 pub mod ArcArc
 pub mod PlineSeg
-pub mod Told
+pub mod AnswerNumbers
 pub mod LineLineIntersect
 pub mod LineCircleIntersect
 pub mod CircleCircleIntersect
 pub mod PlineSegIntersect
-pub mod Apart
+pub mod SameAnswer
 pub mod Refusals
 pub mod Chords
 pub mod Bulges
+pub mod Workings
 pub mod Laws

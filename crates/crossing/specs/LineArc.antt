@@ -3,7 +3,7 @@ use mathlib.Core.Bool.{Bool}
 use lib.Ieee.{Float}
 use Rattle.plane.specs.PlineSeg.{segArcRadiusAndCenter}
 use Rattle.plane.specs.PlineVertex.{pos}
-use Rattle.plane.specs.Vector2.{sub, length}
+use Rattle.plane.specs.Vector2 as vector2
 use Rattle.plane.specs.declared.vector2.Vector2.{Vector2}
 use Rattle.plane.specs.declared.pline_vertex.PlineVertex.{PlineVertex}
 use Rattle.arcs.specs.ArcGeometry.{ofSegment}
@@ -19,10 +19,10 @@ use Rattle.crossing.specs.declared.line_circle_intr.LineCircleIntr.the-v
 abbrev pub lineArcOf : LineCircleIntr → Vector2 → Vector2 → Vector2 → ArcGeometry → Bool → Float → PlineSegIntr
 lineArcOf circle.NoIntersect p0 p1 arcStart arcGeometry uIsLine posEqualEps = NoIntersect
 lineArcOf (circle.TangentIntersect t0) p0 p1 arcStart arcGeometry uIsLine posEqualEps =
-    let lineLength = length (sub p1 p0) in
+    let lineLength = vector2.length (vector2.sub p1 p0) in
     tangentLineArc t0 lineLength p0 p1 arcGeometry posEqualEps
 lineArcOf (circle.TwoIntersects t0 t1) p0 p1 arcStart arcGeometry uIsLine posEqualEps =
-    let lineLength = length (sub p1 p0) in
+    let lineLength = vector2.length (vector2.sub p1 p0) in
     let t0Point = pointInSweep t0 lineLength p0 p1 arcGeometry posEqualEps in
     let t1Point = pointInSweep t1 lineLength p0 p1 arcGeometry posEqualEps in
     crossingsLineArc t0Point t1Point p0 p1 arcStart arcGeometry uIsLine

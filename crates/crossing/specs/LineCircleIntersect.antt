@@ -4,8 +4,8 @@ use mathlib.Core.List.{[], _∷_}
 use lib.Ieee.{Float}
 use Rattle.plane.specs.declared.vector2.Vector2.{Vector2}
 use Rattle.checks.specs.Calls.{checkLineCircle}
-use Rattle.checks.specs.Settle.{settle}
-use Rattle.crossing.specs.Told.{Told}
+use Rattle.checks.specs.Answered.{answered}
+use Rattle.crossing.specs.AnswerNumbers.{AnswerNumbers}
 use Rattle.crossing.specs.LineCircle.{lineCircle}
 use Rattle.crossing.specs.declared.line_circle_intr.LineCircleIntr.the-variants.{
   NoIntersect,
@@ -18,11 +18,11 @@ use Rattle.crossing.specs.declared.line_circle_intersect.LineCircleAnswe
 -- the first fault's number, or where there is none how they meet
 unfoldable pub lineCircleIntr : Vector2 → Vector2 → Float → Vector2 → Float → LineCircleAnswer
 lineCircleIntr p0 p1 radius circleCenter epsilon =
-    settle Refused Met (checkLineCircle p0 p1 radius circleCenter epsilon) (lineCircle p0 p1 radius circleCenter epsilon)
+    answered Refused Met (checkLineCircle p0 p1 radius circleCenter epsilon) (lineCircle p0 p1 radius circleCenter epsilon)
 
 -- ---- what an answer tells, in numbers
-abbrev pub told : LineCircleAnswer → Told
-told (Refused n) = record { refused = true; number = n; values = [] }
-told (Met NoIntersect) = record { refused = false; number = 0; values = [] }
-told (Met (TangentIntersect t0)) = record { refused = false; number = 1; values = t0 ∷ [] }
-told (Met (TwoIntersects t0 t1)) = record { refused = false; number = 2; values = t0 ∷ t1 ∷ [] }
+abbrev pub numbersOf : LineCircleAnswer → AnswerNumbers
+numbersOf (Refused n) = record { refused = true; number = n; values = [] }
+numbersOf (Met NoIntersect) = record { refused = false; number = 0; values = [] }
+numbersOf (Met (TangentIntersect t0)) = record { refused = false; number = 1; values = t0 ∷ [] }
+numbersOf (Met (TwoIntersects t0 t1)) = record { refused = false; number = 2; values = t0 ∷ t1 ∷ [] }

@@ -7,7 +7,7 @@ use Rattle.plane.specs.Vector2 as vector2
 use Rattle.plane.specs.declared.vector2.Vector2.{Vector2}
 use Rattle.plane.specs.Fuzzy.{fuzzyEqZeroEps, fuzzyGtEps, fuzzyLtEps}
 use Rattle.plane.specs.BaseMath.{parametricFromPoint}
-use Rattle.ranges.specs.Range.{within}
+use Rattle.ranges.specs.Range.{onSegment}
 use Rattle.crossing.specs.declared.line_line_intr.LineLineIntr.{LineLineIntr}
 use Rattle.crossing.specs.declared.line_line_intr.LineLineIntr.the-variants.{
   NoIntersect,
@@ -22,7 +22,7 @@ unfoldable pub crossing : Vector2 → Vector2 → Vector2 → Float → Float �
 crossing v u w vPdotU eps =
     let seg1T = vector2.perpDot u w ⊘ vPdotU in
     let seg2T = vector2.perpDot v w ⊘ vPdotU in
-    cond (not (within seg1T v eps) || not (within seg2T u eps))
+    cond (not (onSegment seg1T v eps) || not (onSegment seg2T u eps))
     (FalseIntersect seg1T seg2T)
     (TrueIntersect seg1T seg2T)
 
@@ -34,13 +34,13 @@ bothPoints v1 u1 eps = cond (vector2.fuzzyEqEps v1 u1 eps) (TrueIntersect f0 f0)
 unfoldable pub firstPoint : Vector2 → Vector2 → Vector2 → Vector2 → Float → LineLineIntr
 firstPoint v1 u1 u2 u eps =
     let seg2T = parametricFromPoint u1 u2 v1 eps in
-    cond (within seg2T u eps) (TrueIntersect f0 seg2T) NoIntersect
+    cond (onSegment seg2T u eps) (TrueIntersect f0 seg2T) NoIntersect
 
 -- lines 172-184: u is a point and v is not
 unfoldable pub secondPoint : Vector2 → Vector2 → Vector2 → Vector2 → Float → LineLineIntr
 secondPoint v1 v2 u1 v eps =
     let seg1T = parametricFromPoint v1 v2 u1 eps in
-    cond (within seg1T v eps) (TrueIntersect seg1T f0) NoIntersect
+    cond (onSegment seg1T v eps) (TrueIntersect seg1T f0) NoIntersect
 
 -- lines 194-196: swapped if the first is greater
 unfoldable pub rising : Float → Float → Span

@@ -4,8 +4,8 @@ use mathlib.Core.List.{[], _∷_}
 use lib.Ieee.{Float}
 use Rattle.plane.specs.declared.vector2.Vector2.{Vector2}
 use Rattle.checks.specs.Calls.{checkLineLine}
-use Rattle.checks.specs.Settle.{settle}
-use Rattle.crossing.specs.Told.{Told}
+use Rattle.checks.specs.Answered.{answered}
+use Rattle.crossing.specs.AnswerNumbers.{AnswerNumbers}
 use Rattle.crossing.specs.LineLine.{lineLine}
 use Rattle.crossing.specs.declared.line_line_intr.LineLineIntr.the-variants.{
   NoIntersect,
@@ -19,12 +19,12 @@ use Rattle.crossing.specs.declared.line_line_intersect.LineLineAnswer.th
 -- the first fault's number, or where there is none how they meet
 unfoldable pub lineLineIntr : Vector2 → Vector2 → Vector2 → Vector2 → Float → LineLineAnswer
 lineLineIntr v1 v2 u1 u2 epsilon =
-    settle Refused Met (checkLineLine v1 v2 u1 u2 epsilon) (lineLine v1 v2 u1 u2 epsilon)
+    answered Refused Met (checkLineLine v1 v2 u1 u2 epsilon) (lineLine v1 v2 u1 u2 epsilon)
 
 -- ---- what an answer tells, in numbers
-abbrev pub told : LineLineAnswer → Told
-told (Refused n) = record { refused = true; number = n; values = [] }
-told (Met NoIntersect) = record { refused = false; number = 0; values = [] }
-told (Met (TrueIntersect t1 t2)) = record { refused = false; number = 1; values = t1 ∷ t2 ∷ [] }
-told (Met (Overlapping t0 t1)) = record { refused = false; number = 2; values = t0 ∷ t1 ∷ [] }
-told (Met (FalseIntersect t1 t2)) = record { refused = false; number = 3; values = t1 ∷ t2 ∷ [] }
+abbrev pub numbersOf : LineLineAnswer → AnswerNumbers
+numbersOf (Refused n) = record { refused = true; number = n; values = [] }
+numbersOf (Met NoIntersect) = record { refused = false; number = 0; values = [] }
+numbersOf (Met (TrueIntersect t1 t2)) = record { refused = false; number = 1; values = t1 ∷ t2 ∷ [] }
+numbersOf (Met (Overlapping t0 t1)) = record { refused = false; number = 2; values = t0 ∷ t1 ∷ [] }
+numbersOf (Met (FalseIntersect t1 t2)) = record { refused = false; number = 3; values = t1 ∷ t2 ∷ [] }

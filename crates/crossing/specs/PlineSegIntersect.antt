@@ -4,8 +4,8 @@ use mathlib.Core.List.{[], _∷_}
 use lib.Ieee.{Float}
 use Rattle.plane.specs.declared.pline_vertex.PlineVertex.{PlineVertex}
 use Rattle.checks.specs.Calls.{checkPlineSeg}
-use Rattle.checks.specs.Settle.{settle}
-use Rattle.crossing.specs.Told.{Told}
+use Rattle.checks.specs.Answered.{answered}
+use Rattle.crossing.specs.AnswerNumbers.{AnswerNumbers}
 use Rattle.crossing.specs.PlineSeg.{plineSeg}
 use Rattle.crossing.specs.PlineSegIntr.{classOf, point1Of, point2Of}
 use Rattle.crossing.specs.declared.pline_seg_intersect.PlineSegAnswer.{PlineSegAnswer}
@@ -14,12 +14,12 @@ use Rattle.crossing.specs.declared.pline_seg_intersect.PlineSegAnswer.th
 -- the first fault's number, or where there is none how they meet
 unfoldable pub plineSegIntr : PlineVertex → PlineVertex → PlineVertex → PlineVertex → Float → PlineSegAnswer
 plineSegIntr v1 v2 u1 u2 posEqualEps =
-    settle Refused Met (checkPlineSeg v1 v2 u1 u2 posEqualEps) (plineSeg v1 v2 u1 u2 posEqualEps)
+    answered Refused Met (checkPlineSeg v1 v2 u1 u2 posEqualEps) (plineSeg v1 v2 u1 u2 posEqualEps)
 
 -- ---- what an answer tells, in numbers: its class and its points, absent ones +0
-abbrev pub told : PlineSegAnswer → Told
-told (Refused n) = record { refused = true; number = n; values = [] }
-told (Met r) =
+abbrev pub numbersOf : PlineSegAnswer → AnswerNumbers
+numbersOf (Refused n) = record { refused = true; number = n; values = [] }
+numbersOf (Met r) =
     record {
       refused = false;
       number = classOf r;

@@ -1,11 +1,11 @@
 -- The refusals of the kernels and of the pair call, exactly when: a call refuses with number n if and only if the first fault among
 -- its numbers, in the order of its list of checks, has that number; and it answers how they meet if and only if every number
--- passes. Table.antt of the crate `checks` says of each check when it finds which fault.
+-- passes. RefusalTable.antt of the crate `checks` says of each check when it finds which fault.
 use lib.Ieee.{Float}
 use Rattle.plane.specs.declared.vector2.Vector2.{Vector2}
 use Rattle.plane.specs.declared.pline_vertex.PlineVertex.{PlineVertex}
 use Rattle.checks.specs.Calls as calls
-use Rattle.checks.specs.Settled.{Settled, Apart, settled, no-number}
+use Rattle.checks.specs.ExactlyWhen.{ExactlyWhen, Distinct, exactly-when, no-number}
 use Rattle.crossing.specs.LineLine.{lineLine}
 use Rattle.crossing.specs.LineCircle.{lineCircle}
 use Rattle.crossing.specs.CircleCircle.{circleCircle}
@@ -20,45 +20,45 @@ use Rattle.crossing.specs.declared.circle_circle_intersect.CircleCircleA
 use Rattle.crossing.specs.declared.pline_seg_intersect.PlineSegAnswer.the-variants as ofPairs
 
 pub line-line : (v1 v2 u1 u2 : Vector2) (epsilon : Float)
-    → Settled ofLines.Refused ofLines.Met
+    → ExactlyWhen ofLines.Refused ofLines.Met
     (lines.lineLineIntr v1 v2 u1 u2 epsilon)
     (calls.lineLineChecks v1 v2 u1 u2 epsilon)
     (lineLine v1 v2 u1 u2 epsilon)
 unfolding lines.lineLineIntr calls.checkLineLine
 line-line v1 v2 u1 u2 epsilon =
-    let apart : Apart ofLines.Refused ofLines.Met = record { numbers = λ n m e. cc; kinds = λ n i e. no-number cc } in
-    settled ofLines.Refused ofLines.Met apart (calls.lineLineChecks v1 v2 u1 u2 epsilon) (lineLine v1 v2 u1 u2 epsilon)
+    let apart : Distinct ofLines.Refused ofLines.Met = record { numbers = λ n m e. cc; kinds = λ n i e. no-number cc } in
+    exactly-when ofLines.Refused ofLines.Met apart (calls.lineLineChecks v1 v2 u1 u2 epsilon) (lineLine v1 v2 u1 u2 epsilon)
 
 pub line-circle : (p0 p1 : Vector2) (radius : Float) (circleCenter : Vector2) (epsilon : Float)
-    → Settled ofLineAndCircle.Refused ofLineAndCircle.Met
+    → ExactlyWhen ofLineAndCircle.Refused ofLineAndCircle.Met
     (lineAndCircle.lineCircleIntr p0 p1 radius circleCenter epsilon)
     (calls.lineCircleChecks p0 p1 radius circleCenter epsilon)
     (lineCircle p0 p1 radius circleCenter epsilon)
 unfolding lineAndCircle.lineCircleIntr calls.checkLineCircle
 line-circle p0 p1 radius circleCenter epsilon =
-    let apart : Apart ofLineAndCircle.Refused ofLineAndCircle.Met = record { numbers = λ n m e. cc; kinds = λ n i e. no-number cc } in
-    settled ofLineAndCircle.Refused ofLineAndCircle.Met apart
+    let apart : Distinct ofLineAndCircle.Refused ofLineAndCircle.Met = record { numbers = λ n m e. cc; kinds = λ n i e. no-number cc } in
+    exactly-when ofLineAndCircle.Refused ofLineAndCircle.Met apart
     (calls.lineCircleChecks p0 p1 radius circleCenter epsilon)
     (lineCircle p0 p1 radius circleCenter epsilon)
 
 pub circle-circle : (radius1 : Float) (center1 : Vector2) (radius2 : Float) (center2 : Vector2) (epsilon : Float)
-    → Settled ofCircles.Refused ofCircles.Met
+    → ExactlyWhen ofCircles.Refused ofCircles.Met
     (circles.circleCircleIntr radius1 center1 radius2 center2 epsilon)
     (calls.circleCircleChecks radius1 center1 radius2 center2 epsilon)
     (circleCircle radius1 center1 radius2 center2 epsilon)
 unfolding circles.circleCircleIntr calls.checkCircleCircle
 circle-circle radius1 center1 radius2 center2 epsilon =
-    let apart : Apart ofCircles.Refused ofCircles.Met = record { numbers = λ n m e. cc; kinds = λ n i e. no-number cc } in
-    settled ofCircles.Refused ofCircles.Met apart
+    let apart : Distinct ofCircles.Refused ofCircles.Met = record { numbers = λ n m e. cc; kinds = λ n i e. no-number cc } in
+    exactly-when ofCircles.Refused ofCircles.Met apart
     (calls.circleCircleChecks radius1 center1 radius2 center2 epsilon)
     (circleCircle radius1 center1 radius2 center2 epsilon)
 
 pub pline-seg : (v1 v2 u1 u2 : PlineVertex) (posEqualEps : Float)
-    → Settled ofPairs.Refused ofPairs.Met
+    → ExactlyWhen ofPairs.Refused ofPairs.Met
     (pairs.plineSegIntr v1 v2 u1 u2 posEqualEps)
     (calls.plineSegChecks v1 v2 u1 u2 posEqualEps)
     (plineSeg v1 v2 u1 u2 posEqualEps)
 unfolding pairs.plineSegIntr calls.checkPlineSeg
 pline-seg v1 v2 u1 u2 posEqualEps =
-    let apart : Apart ofPairs.Refused ofPairs.Met = record { numbers = λ n m e. cc; kinds = λ n i e. no-number cc } in
-    settled ofPairs.Refused ofPairs.Met apart (calls.plineSegChecks v1 v2 u1 u2 posEqualEps) (plineSeg v1 v2 u1 u2 posEqualEps)
+    let apart : Distinct ofPairs.Refused ofPairs.Met = record { numbers = λ n m e. cc; kinds = λ n i e. no-number cc } in
+    exactly-when ofPairs.Refused ofPairs.Met apart (calls.plineSegChecks v1 v2 u1 u2 posEqualEps) (plineSeg v1 v2 u1 u2 posEqualEps)

@@ -1,7 +1,7 @@
 // A line segment and a circle, for any numbers: line_circle_intersect.rs. The names of its locals are the Rust's.
 ghost use mathlib.Core.Path.{_≡_};
 ghost use Rattle.crossing.specs.LineCircle;
-ghost use Rattle.crossing.specs.Laws.FarLine;
+ghost use Rattle.crossing.specs.Workings.FarLine;
 use super::line_circle_intr::LineCircleIntr;
 use super::shortcuts::moderate;
 use plane::base_math::MinMax;

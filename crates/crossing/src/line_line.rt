@@ -7,7 +7,7 @@ use plane::fuzzy::fuzzy_eq_zero_eps;
 use plane::fuzzy::fuzzy_gt_eps;
 use plane::fuzzy::fuzzy_lt_eps;
 use plane::vector2::Vector2;
-use ranges::range::within;
+use ranges::range::on_segment;
 
 // The parameters at which a segment's line is entered and left.
 pub struct Span {
@@ -21,10 +21,10 @@ fn crossing(v: Vector2, u: Vector2, w: Vector2, v_pdot_u: f64, eps: f64) -> Line
 {
     let seg1_t = u.perp_dot(w) / v_pdot_u;
     let seg2_t = v.perp_dot(w) / v_pdot_u;
-    if !within(seg1_t, v, eps) {
+    if !on_segment(seg1_t, v, eps) {
         return LineLineIntr::FalseIntersect { seg1_t, seg2_t };
     }
-    if !within(seg2_t, u, eps) {
+    if !on_segment(seg2_t, u, eps) {
         return LineLineIntr::FalseIntersect { seg1_t, seg2_t };
     }
     LineLineIntr::TrueIntersect { seg1_t, seg2_t }
@@ -48,7 +48,7 @@ fn first_point(v1: Vector2, u1: Vector2, u2: Vector2, u: Vector2, eps: f64) -> L
     ensures { λ r. ⌜ r ≡ LineLine.firstPoint v1 u1 u2 u eps ⌝ }
 {
     let seg2_t = parametric_from_point(u1, u2, v1, eps);
-    if within(seg2_t, u, eps) {
+    if on_segment(seg2_t, u, eps) {
         return LineLineIntr::TrueIntersect {
             seg1_t: 0.0,
             seg2_t,
@@ -62,7 +62,7 @@ fn second_point(v1: Vector2, v2: Vector2, u1: Vector2, v: Vector2, eps: f64) -> 
     ensures { λ r. ⌜ r ≡ LineLine.secondPoint v1 v2 u1 v eps ⌝ }
 {
     let seg1_t = parametric_from_point(v1, v2, u1, eps);
-    if within(seg1_t, v, eps) {
+    if on_segment(seg1_t, v, eps) {
         return LineLineIntr::TrueIntersect {
             seg1_t,
             seg2_t: 0.0,

@@ -1,7 +1,7 @@
 // Two segments of polylines, for any numbers: pline_seg_intersect.rs.
 ghost use mathlib.Core.Path.{_≡_};
 ghost use Rattle.crossing.specs.PlineSeg;
-ghost use Rattle.arcs.specs.Laws.Circles;
+ghost use Rattle.arcs.specs.Workings.Circles;
 use super::arc_arc::arc_arc;
 use super::line_arc::process_line_arc_intr;
 use super::line_line::line_line;

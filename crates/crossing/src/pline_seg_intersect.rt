@@ -1,8 +1,8 @@
 // Two segments of polylines: the answer, and how they meet for a caller that has looked at their numbers. The pair call itself is
-// `glance::pair::pline_seg_intr`.
+// `fast_pair::pair::pline_seg_intr`.
 ghost use mathlib.Core.Path.{_≡_};
 ghost use Rattle.crossing.specs.PlineSeg;
-ghost use Rattle.arcs.specs.Laws.Circles;
+ghost use Rattle.arcs.specs.Workings.Circles;
 ghost use Rattle.checks.specs.Calls;
 ghost use Rattle.checks.specs.declared.fault.Checked.the-variants.{Fine};
 use super::pline_seg::pline_seg_on;
@@ -18,7 +18,7 @@ pub enum PlineSegAnswer {
 
 // How the segments v1 to v2 and u1 to u2 meet, for a caller that has looked at their numbers already and has the circle of each that
 // is an arc: it owes that the look finds no fault, and that these are the circles.
-pub fn pline_seg_looked_at(
+pub fn pline_seg_after_checks(
     v1: PlineVertex,
     v2: PlineVertex,
     circle1: ArcRadiusCenter,

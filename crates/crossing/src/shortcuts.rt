@@ -1,9 +1,9 @@
 // Tests that tell enough without a root, for the kernels' shortcuts and for a glance at a pair. None decides an answer: where one says
 // no the plain form is asked, and what a yes allows is a law of `specs/Laws`.
 ghost use mathlib.Core.Path.{_≡_};
-ghost use Rattle.crossing.specs.Laws.FarLine;
-ghost use Rattle.crossing.specs.Laws.Apart;
-ghost use Rattle.crossing.specs.Laws.Nested;
+ghost use Rattle.crossing.specs.Workings.FarLine;
+ghost use Rattle.crossing.specs.Workings.Apart;
+ghost use Rattle.crossing.specs.Workings.Nested;
 
 // 2^-100 and 2^100, beyond which nothing is told.
 const TINY: f64 = 1.0 / 1267650600228229401496703205376.0;

@@ -1,7 +1,7 @@
 // Lists where the two paths of a layout meet: the layout's text from standard input, the listing's to standard output.
 ghost use Prim.Native.Nat.{_≤_};
 ghost use lib.ListN.{length};
-use layout_lines::Written;
+use answer_lines::Written;
 
 // How many bytes were read, and whether a read failed.
 struct Input {

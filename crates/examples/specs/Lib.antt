@@ -1,3 +1,3 @@
 -- The worked examples: the table, and the proof of all its rows.
-pub mod Table
+pub mod ExampleTable
 pub mod Proved

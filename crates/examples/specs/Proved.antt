@@ -34,7 +34,7 @@ use Rattle.checks.specs.Each
 use Rattle.checks.specs.Arc.{arcChord}
 use Rattle.checks.specs.Calls
 use Rattle.ranges.specs.Range
-use Rattle.crossing.specs.Told.{Told}
+use Rattle.crossing.specs.AnswerNumbers.{AnswerNumbers}
 use Rattle.crossing.specs.LineLine
 use Rattle.crossing.specs.LineCircle
 use Rattle.crossing.specs.CircleCircle
@@ -50,13 +50,13 @@ use Rattle.crossing.specs.LineLineIntersect as lines
 use Rattle.crossing.specs.LineCircleIntersect as lineCircle
 use Rattle.crossing.specs.CircleCircleIntersect as circles
 use Rattle.crossing.specs.PlineSegIntersect as pairs
-use Rattle.examples.specs.Table.{Row, table}
+use Rattle.examples.specs.ExampleTable.{Row, table}
 
-abbrev found : List Row → List Told
+abbrev found : List Row → List AnswerNumbers
 found [] = []
 found (r ∷ rs) = r .found ∷ found rs
 
-abbrev due : List Row → List Told
+abbrev due : List Row → List AnswerNumbers
 due [] = []
 due (r ∷ rs) = r .due ∷ due rs
 
@@ -64,7 +64,7 @@ pub examples : found table ≡ due table
 unfolding
     lines.lineLineIntr lineCircle.lineCircleIntr circles.circleCircleIntr pairs.plineSegIntr
     Calls.checkLineLine Calls.checkLineCircle Calls.checkCircleCircle Calls.checkPlineSeg
-    Range.within LineLine.crossing LineLine.bothPoints LineLine.firstPoint LineLine.secondPoint LineLine.rising
+    Range.onSegment LineLine.crossing LineLine.bothPoints LineLine.firstPoint LineLine.secondPoint LineLine.rising
     LineLine.spanOf LineLine.touchingEnd LineLine.overlap LineLine.parallel LineLine.lineLine
     LineCircle.pointCircle LineCircle.lineThrough LineCircle.twoPoints LineCircle.lineMeets LineCircle.lineCircle
     CircleCircle.sameCenter CircleCircle.twoSides CircleCircle.meeting CircleCircle.circleCircle

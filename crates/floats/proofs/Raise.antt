@@ -18,7 +18,7 @@ use lib.Pow.{pow-add, pow-pos, pow-mono}
 use lib.Ieee.{size}
 use lib.Ieee.Digits.{back}
 use Rattle.float_laws.specs.Powers.{size-exact}
-use Rattle.floats.specs.Root
+use Rattle.floats.specs.Workings.Root
 use Rattle.floats.specs.declared.root.Scaled.{Scaled}
 
 pub double : (a b : ℕ) → a * b ≡ 2 ^ 52 → 2 * a * b ≡ 2 ^ 53

@@ -30,7 +30,7 @@ use Rattle.float_laws.specs.Count.{count, bits-at, toBits-count, ofBits-count}
 use Rattle.floats.specs.F64.{isqrt, rootOf, rootAt}
 use Rattle.floats.specs.F64
 use Rattle.floats.specs.Bits
-use Rattle.floats.specs.Root
+use Rattle.floats.specs.Workings.Root
 use Rattle.floats.specs.declared.root.Scaled.{Scaled}
 use Rattle.floats.specs.Laws.Isqrt.{IsRoot, isqrt-is, sq-lt}
 use Rattle.floats.specs.Laws.RootAt.{rootAt-val}

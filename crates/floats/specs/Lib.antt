@@ -2,9 +2,9 @@
 pub mod Ops
 pub mod F64
 pub mod Bits
-pub mod Root
 pub mod Nearest
 pub mod Agree
 pub mod Ieee754
 pub mod Ieee754Root
+pub mod Workings
 pub mod Laws

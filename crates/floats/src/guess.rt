@@ -2,7 +2,7 @@
 // test is of whole numbers, and exact.
 ghost use mathlib.Core.Path.{_≡_};
 ghost use Prim.Native.Nat.{_^_, _<_};
-ghost use Rattle.floats.specs.Root;
+ghost use Rattle.floats.specs.Workings.Root;
 ghost use Rattle.floats.specs.Laws.Guess.{Right};
 
 // A number below the root of m * 2 ^ (odd - 52) by two parts in 100,000 at most, in units of 2 ^ -25.

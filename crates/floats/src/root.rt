@@ -3,7 +3,7 @@
 ghost use mathlib.Core.Path.{_≡_};
 ghost use Prim.Native.Nat.{_+_, _*_, _^_, _<_};
 ghost use Rattle.floats.specs.Bits;
-ghost use Rattle.floats.specs.Root;
+ghost use Rattle.floats.specs.Workings.Root;
 ghost use Rattle.floats.specs.Laws.Turns.{Room, Sound};
 use super::guess;
 

@@ -7,7 +7,7 @@ use lib.IntN.{ℤ, pos, natAbs, _+ℤ_, _-ℤ_, _*ℤ_}
 use lib.Ieee.{Float}
 use Rattle.float_laws.specs.Binary64.{unit, unit-pos}
 use Rattle.plane.specs.declared.vector2.Vector2.{Vector2}
-use Rattle.grid.specs.Promise.{Spot, Point, Reached, Within}
+use Rattle.grid.specs.Promise.{Spot, Point, Reached, NearExact}
 use Rattle.grid.specs.Plane.Whole.{diff, naturals}
 use Rattle.grid.specs.Plane.Sides.{way}
 use Rattle.grid.specs.Plane.Cross.{Between, Placed}
@@ -47,9 +47,9 @@ reach P a b m S p n D num den h e f g r =
 -- a coordinate near x + way * m / base
 pub coordinate : (c : Float) (x w m : ℤ) (k a b wp wn p n D : ℕ) → x ≡ diff a b → w ≡ diff wp wn → m ≡ diff p n → k ≡ D
     → Beside c a b wp wn p n D
-    → Within c (x *ℤ pos k +ℤ w *ℤ m) k
+    → NearExact c (x *ℤ pos k +ℤ w *ℤ m) k
 coordinate c x w m k a b wp wn p n D e f g h r =
-    subst (λ (z : ℕ). Within c (x *ℤ pos z +ℤ w *ℤ m) z) (sym h)
+    subst (λ (z : ℕ). NearExact c (x *ℤ pos z +ℤ w *ℤ m) z) (sym h)
     (within-parts c (x *ℤ pos D +ℤ w *ℤ m) D (r .p) (r .n) unit (a * D + (wp * p + wn * n)) (b * D + (wp * n + wn * p))
     (is-diff c (r .p) (r .n) unit .1 (r .is)) unit-pos (is x w m e f g)
     (turn _ _ unit (r .most)) (turn _ _ unit (r .least)))

@@ -16,7 +16,7 @@ use Rattle.crossing.specs.PlineSeg.{lineLineOf}
 use Rattle.arcs.specs.declared.pline_seg_intr.PlineSegIntr.{PlineSegIntr}
 use Rattle.crossing.specs.declared.line_line_intr.LineLineIntr.{LineLineIntr}
 use Rattle.crossing.specs.declared.line_line_intr.LineLineIntr.the-variants.{TrueIntersect, FalseIntersect, NoIntersect}
-use Rattle.grid.specs.Promise.{Spot, Parallel, Kept}
+use Rattle.grid.specs.Promise.{Spot, Parallel, Promised}
 use Rattle.grid.specs.Plane.Whole.{diff}
 use Rattle.grid.specs.Plane.Sides.{way, across, first, second, parallel-across, across-parallel}
 use Rattle.grid.specs.Plane.Cross.{base, steps-v, steps-u, meeting, meeting-v, meeting-u}
@@ -144,7 +144,7 @@ module _ (e : Float) (num den : ℕ) (h : Eps e num den)
     unfolding R1 R2
     says = crossing-says e num den h v u w F G H apart
 
-    pub crossed-kept : Kept p1 p2 q1 q2 num den (lineLineOf (crossing v u w (vector2.perpDot v u) e) v1 v2 u1 u2)
+    pub crossed-kept : Promised p1 p2 q1 q2 num den (lineLineOf (crossing v u w (vector2.perpDot v u) e) v1 v2 u1 u2)
     crossed-kept = go (crossing v u w (vector2.perpDot v u) e) (says .answer) (says .inside)
       where
         not-both : (r : LineLineIntr) → r ≡ FalseIntersect t1 t2 → r ≡ TrueIntersect t1 t2 → ⊥
@@ -155,9 +155,9 @@ module _ (e : Float) (num den : ℕ) (h : Eps e num den)
             × Reaches (square u G) num den (R2 .P) (R2 .N) D)
             ⊎ (r ≡ FalseIntersect t1 t2)
             → (Inside (R1 .P) (R1 .N) D → Inside (R2 .P) (R2 .N) D → r ≡ TrueIntersect t1 t2)
-            → Kept p1 p2 q1 q2 num den (lineLineOf r v1 v2 u1 u2)
+            → Promised p1 p2 q1 q2 num den (lineLineOf r v1 v2 u1 u2)
         go r (inr x) y =
-            subst (λ (z : LineLineIntr). Kept p1 p2 q1 q2 num den (lineLineOf z v1 v2 u1 u2)) (sym x)
+            subst (λ (z : LineLineIntr). Promised p1 p2 q1 q2 num den (lineLineOf z v1 v2 u1 u2)) (sym x)
             (slanted-none p1 p2 q1 q2 slant num den
             (λ a b. not-both r x (y
             (inside (steps-v p1 p2 q1 q2) (base p1 p2 q1 q2) (R1 .P) (R1 .N) D base-is place-v a)
@@ -165,7 +165,7 @@ module _ (e : Float) (num den : ℕ) (h : Eps e num den)
         go r (inl (x, r1, r2)) y =
             let near = point e num den h v1 v2 A1 A2 (crossed.long-v e num den h v u w F G H apart .some)
             t1 (R1 .P) (R1 .N) D (R1 .place) r1 in
-            subst (λ (z : LineLineIntr). Kept p1 p2 q1 q2 num den (lineLineOf z v1 v2 u1 u2)) (sym x)
+            subst (λ (z : LineLineIntr). Promised p1 p2 q1 q2 num den (lineLineOf z v1 v2 u1 u2)) (sym x)
             (slanted-one p1 p2 q1 q2 slant num den (pointFromParametric v1 v2 t1)
             (reach (meeting p1 p2 q1 q2 slant) p1 p2 (steps-v p1 p2 q1 q2) (square v F) (R1 .P) (R1 .N) D num den
             (meeting-v p1 p2 q1 q2 slant) place-v base-is (square-long v F p1 p2 v-at) r1)
@@ -261,5 +261,5 @@ module _ (e : Float) (num den : ℕ) (h : Eps e num den)
       ways (yes x) (no n) = aside (inr n)
       ways (yes x) (yes y) = on-line x y (point-or-not v F) (point-or-not u G)
 
-  pub level-kept : Level → Kept p1 p2 q1 q2 num den said
+  pub level-kept : Level → Promised p1 p2 q1 q2 num den said
   level-kept flat = parallel-kept p1 p2 q1 q2 num den said (par flat) (level-told flat)

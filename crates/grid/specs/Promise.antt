@@ -64,8 +64,8 @@ abbrev pub OnSegment : Point → Spot → Spot → Type 0
 OnSegment P a b = (s : ℕ) × (t : ℕ) × (s ≤ t) × Along P a b (pos s) t
 
 -- two points that differ; P is less than 2 * num / den from a, by squares; P is on the segment, or so near to one of its ends
-abbrev pub Apart : Point → Point → Type 0
-Apart P Q = (P .x *ℤ pos (Q .over) ≢ Q .x *ℤ pos (P .over)) ⊎ (P .y *ℤ pos (Q .over) ≢ Q .y *ℤ pos (P .over))
+abbrev pub Differ : Point → Point → Type 0
+Differ P Q = (P .x *ℤ pos (Q .over) ≢ Q .x *ℤ pos (P .over)) ⊎ (P .y *ℤ pos (Q .over) ≢ Q .y *ℤ pos (P .over))
 
 abbrev pub Close : Point → Spot → ℕ → ℕ → Type 0
 Close P a num den =
@@ -77,7 +77,7 @@ abbrev pub Reached : Point → Spot → Spot → ℕ → ℕ → Type 0
 Reached P a b num den = OnSegment P a b ⊎ Close P a num den ⊎ Close P b num den
 
 -- the float c is a number, and within 1 / 1,073,741,824 of x / over
-pub record Within (c : Float) (x : ℤ) (over : ℕ) : Type 0 where
+pub record NearExact (c : Float) (x : ℤ) (over : ℕ) : Type 0 where
   pub a : ℤ
   pub d : ℕ
   pub positive : 0 < d
@@ -93,7 +93,7 @@ module _ (v1 v2 u1 u2 : Spot) where
   Share = (P : Point) × Shared P
 
   abbrev pub ShareMore : Type 0
-  ShareMore = (P : Point) × (Q : Point) × Apart P Q × Shared P × Shared Q
+  ShareMore = (P : Point) × (Q : Point) × Differ P Q × Shared P × Shared Q
 
   abbrev pub Parallel : Type 0
   Parallel = (v2 .x -ℤ v1 .x) *ℤ (u2 .y -ℤ u1 .y) ≡ (v2 .y -ℤ v1 .y) *ℤ (u2 .x -ℤ u1 .x)
@@ -102,7 +102,7 @@ module _ (v1 v2 u1 u2 : Spot) where
   Crossing P = OnLine P v1 v2 × OnLine P u1 u2
 
   -- what is promised of an answer r: it is one of three classes, and the four sentences
-  pub record Kept (num den : ℕ) (r : PlineSegIntr) : Type 0 where
+  pub record Promised (num den : ℕ) (r : PlineSegIntr) : Type 0 where
     pub classes : (r ≡ NoIntersect) ⊎ ((p : Vector2) × (r ≡ OneIntersect p))
         ⊎ ((p : Vector2) × (q : Vector2) × (r ≡ OverlappingLines p q))
     pub none-missed : r ≡ NoIntersect → ¬ Share
@@ -110,13 +110,13 @@ module _ (v1 v2 u1 u2 : Spot) where
     pub beyond : (p : Vector2) → r ≡ OneIntersect p → ¬ Share
         → (¬ Parallel) × (P : Point) × Crossing P × Reached P v1 v2 num den × Reached P u1 u2 num den
     pub exact : (p : Vector2) → r ≡ OneIntersect p → ¬ Parallel
-        → (P : Point) × Crossing P × Within (p .x) (P .x) (P .over) × Within (p .y) (P .y) (P .over)
+        → (P : Point) × Crossing P × NearExact (p .x) (P .x) (P .over) × NearExact (p .y) (P .y) (P .over)
 
 -- ---- the promise: no pair of grid lines is refused, and what the pair call answers keeps these
 abbrev pub Promise : Type 0
 Promise = (v1 v2 u1 u2 : PlineVertex) (p1 p2 q1 q2 : Spot) (e : Float) (num den : ℕ)
     → On v1 p1 → On v2 p2 → On u1 q1 → On u2 q2 → T (bulgeIsZero v1) → T (bulgeIsZero u1) → Epsilon e num den
-    → (r : PlineSegIntr) × (plineSegIntr v1 v2 u1 u2 e ≡ Met r) × Kept p1 p2 q1 q2 num den r
+    → (r : PlineSegIntr) × (plineSegIntr v1 v2 u1 u2 e ≡ Met r) × Promised p1 p2 q1 q2 num den r
 
 -- ---- sentence 5. Segment k of a path is a line between grid points. Two such lines that share a point have a row where two paths
 -- were listed and not refused.

@@ -25,7 +25,7 @@ use Rattle.arcs.specs.declared.pline_seg_intr.PlineSegIntr.the-variants.{
 }
 use Rattle.paths.specs.Segments.{segmentFrom}
 use Rattle.listing_calls.specs.Complete.{complete}
-use Rattle.grid.specs.Promise.{Spot, On, Epsilon, Kept, Promise, ListingPromise}
+use Rattle.grid.specs.Promise.{Spot, On, Epsilon, Promised, Promise, ListingPromise}
 use Rattle.grid.specs.Accepted.{accepted, two-lines}
 use Rattle.grid.specs.Joined.{At, vec, vec-at, eps}
 use Rattle.grid.specs.Kernel.{crossed-kept, level-kept}
@@ -42,15 +42,15 @@ module _ (e : Float) (num den : ℕ) (h : Eps e num den)
       let s = perp (vector2.sub v2 v1) (vector2.sub u2 u1) (vec-sub v2 v1 A2 A1) (vec-sub u2 u1 B2 B1) in
       (s .p, s .n)
 
-  kernel-kept : Kept p1 p2 q1 q2 num den (processLineLineIntr v1 v2 u1 u2 e)
+  kernel-kept : Promised p1 p2 q1 q2 num den (processLineLineIntr v1 v2 u1 u2 e)
   unfolding processLineLineIntr
   kernel-kept = go (ℕ-discrete (turn .0) (turn .1))
     where
-      put : (r : LineLineIntr) → lineLine v1 v2 u1 u2 e ≡ r → Kept p1 p2 q1 q2 num den (lineLineOf r v1 v2 u1 u2)
-          → Kept p1 p2 q1 q2 num den (lineLineOf (lineLine v1 v2 u1 u2 e) v1 v2 u1 u2)
-      put r x k = subst (λ (z : LineLineIntr). Kept p1 p2 q1 q2 num den (lineLineOf z v1 v2 u1 u2)) (sym x) k
+      put : (r : LineLineIntr) → lineLine v1 v2 u1 u2 e ≡ r → Promised p1 p2 q1 q2 num den (lineLineOf r v1 v2 u1 u2)
+          → Promised p1 p2 q1 q2 num den (lineLineOf (lineLine v1 v2 u1 u2 e) v1 v2 u1 u2)
+      put r x k = subst (λ (z : LineLineIntr). Promised p1 p2 q1 q2 num den (lineLineOf z v1 v2 u1 u2)) (sym x) k
 
-      go : Dec (turn .0 ≡ turn .1) → Kept p1 p2 q1 q2 num den (lineLineOf (lineLine v1 v2 u1 u2 e) v1 v2 u1 u2)
+      go : Dec (turn .0 ≡ turn .1) → Promised p1 p2 q1 q2 num den (lineLineOf (lineLine v1 v2 u1 u2 e) v1 v2 u1 u2)
       go (no n) =
           put _ (goes-crossing e num den h v1 v2 u1 u2 A1 A2 B1 B2 n)
           (crossed-kept e num den h v1 v2 u1 u2 A1 A2 B1 B2 p1 p2 q1 q2 a1 a2 b1 b2 n)
@@ -61,9 +61,9 @@ module _ (e : Float) (num den : ℕ) (h : Eps e num den)
 -- the pair's definition
 kept : (v1 v2 u1 u2 : PlineVertex) (p1 p2 q1 q2 : Spot) (e : Float) (num den : ℕ)
     → On v1 p1 → On v2 p2 → On u1 q1 → On u2 q2 → T (bulgeIsZero v1) → T (bulgeIsZero u1) → Epsilon e num den
-    → Kept p1 p2 q1 q2 num den (plineSeg v1 v2 u1 u2 e)
+    → Promised p1 p2 q1 q2 num den (plineSeg v1 v2 u1 u2 e)
 kept v1 v2 u1 u2 p1 p2 q1 q2 e num den a b c d line-v line-u small =
-    subst (λ (r : PlineSegIntr). Kept p1 p2 q1 q2 num den r) (sym (two-lines v1 v2 u1 u2 e line-v line-u))
+    subst (λ (r : PlineSegIntr). Promised p1 p2 q1 q2 num den r) (sym (two-lines v1 v2 u1 u2 e line-v line-u))
     (kernel-kept e num den (eps e num den small) (vertex.pos v1) (vertex.pos v2) (vertex.pos u1) (vertex.pos u2)
     (vec v1 p1 a) (vec v2 p2 b) (vec u1 q1 c) (vec u2 q2 d) p1 p2 q1 q2
     (vec-at v1 p1 a) (vec-at v2 p2 b) (vec-at u1 q1 c) (vec-at u2 q2 d))

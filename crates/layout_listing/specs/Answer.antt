@@ -7,10 +7,10 @@ use lib.Dec.{ltb}
 use lib.Ieee.{Float, binary64, ofBits}
 use lib.ListN.{length, replicate}
 use Rattle.layout_text.specs.Numbers.{pathOf}
-use Rattle.layout_text.specs.Reader.{Taken, broken, layout, reads}
-use Rattle.layout_lines.specs.declared.Written.{Written}
-use Rattle.layout_lines.specs.Lines.{refusedText, answerText}
-use Rattle.layout_lines.specs.Written.{Lines}
+use Rattle.layout_text.specs.Workings.Reader.{Taken, broken, layout, reads}
+use Rattle.answer_lines.specs.declared.Written.{Written}
+use Rattle.answer_lines.specs.Lines.{refusedText, answerText}
+use Rattle.answer_lines.specs.Written.{Lines}
 use Rattle.listing_outcomes.specs.declared.answer.ListingAnswer.{ListingAnswer}
 use Rattle.listing_outcomes.specs.declared.answer.ListingAnswer.the-variants.{Refused, Listed}
 use Rattle.listing_outcomes.specs.Outcome.{Outcome}

@@ -1,8 +1,8 @@
 // From the text of a layout to the text of its listing: all that the program `crossings` does but reading and writing.
 ghost use Rattle.layout_listing.specs.Answer.{AnswerTo, LinesFor};
-use layout_lines::Written;
-use layout_lines::write_answer;
-use layout_lines::write_refusal;
+use answer_lines::Written;
+use answer_lines::write_answer;
+use answer_lines::write_refusal;
 use layout_text::Reading;
 use layout_text::read_layout;
 use listing_calls::mutual_listing::mutual_listing;

@@ -7,8 +7,8 @@ use borrow.Author.Tests.{lt-ltb, le-ltb}
 use lib.ListN.{length, drop}
 use lib.Ieee.{Float}
 use Rattle.layout_text.specs.Limits as limit
-use Rattle.layout_text.specs.Reader.{broken, verticesOf, reads}
-use Rattle.layout_text.specs.Shown.{Filled, Fitting, Shaped}
+use Rattle.layout_text.specs.Workings.Reader.{broken, verticesOf, reads}
+use Rattle.layout_text.specs.Workings.Shown.{Filled, Fitting, Shaped}
 use Rattle.layout_text.specs.Read.{ReadLayout, refusal, roomless}
 use Rattle.layout_text.specs.Laws.Sound.{vertices-spelt}
 use Rattle.layout_text.specs.declared.Reading.the-variants as Reading·

@@ -10,10 +10,10 @@ use lib.ListN.{length, drop, drop-of-length-le}
 use lib.Seq.{drop-cons}
 use lib.IntN.{ℤ, pos}
 use Rattle.layout_text.specs.Limits as limit
-use Rattle.layout_text.specs.Layout.{Vertex, size}
-use Rattle.layout_text.specs.Reader.{Got, nothing, got, stuck, over, passed, other, space, newline, countOf, whole}
-use Rattle.layout_text.specs.Reader.{verticesOf, linesOf, broken, reads}
-use Rattle.layout_text.specs.Shown.{shownNumber, shownPlace, Fitting}
+use Rattle.layout_text.specs.Layout.{Vertex, magnitude}
+use Rattle.layout_text.specs.Workings.Reader.{Got, nothing, got, stuck, over, passed, other, space, newline, countOf, whole}
+use Rattle.layout_text.specs.Workings.Reader.{verticesOf, linesOf, broken, reads}
+use Rattle.layout_text.specs.Workings.Shown.{shownNumber, shownPlace, Fitting}
 use Rattle.layout_text.specs.Laws.Sound.{count-spelt}
 use Rattle.layout_text.proofs.Told.{a-number}
 use Rattle.layout_text.specs.declared.number.Number.{Number}
@@ -23,7 +23,7 @@ use Rattle.layout_text.specs.declared.vertex.Place.the-variants as Place
 
 -- ---- a count has no minus
 
-size-whole : (negative : Bool) (n : ℕ) → size (whole negative n) ≡ n
+size-whole : (negative : Bool) (n : ℕ) → magnitude (whole negative n) ≡ n
 size-whole false n = refl
 size-whole true zero = refl
 size-whole true (suc n) = refl

@@ -5,8 +5,8 @@ use mathlib.Core.List.{List}
 use Prim.Native.Nat.{ℕ}
 use lib.ListN.{drop}
 use lib.IntN.{ℤ}
-use Rattle.layout_text.specs.Reader.{Got, nothing, got, whole}
-use Rattle.layout_text.specs.Shown.{shownNumber}
+use Rattle.layout_text.specs.Workings.Reader.{Got, nothing, got, whole}
+use Rattle.layout_text.specs.Workings.Shown.{shownNumber}
 use Rattle.layout_text.specs.declared.number.Number.{Number}
 use Rattle.layout_text.specs.declared.number.Number.the-variants as Number·
 

@@ -1,5 +1,5 @@
 -- The floats of a layout's numbers are exact: that of a coordinate is the whole number, that of a bulge n is n / 65,536.
--- `HasValue x s a c` says that x is finite, has the sign s, and is a / c in size.
+-- `HasValue x s a c` says that x is finite, has the sign s, and is a / c in magnitude.
 use Prim.Native.Nat.{ℕ, suc, _+_, _-_, _*_, _^_, _≤_, _<_}
 use mathlib.Core.Path.{_≡_, refl, sym, ap, _∙_, subst}
 use mathlib.Core.Bool.{Bool, true, false}
@@ -12,19 +12,19 @@ use lib.Ieee.Fits.{down-pos}
 use lib.Ieee.Exact.{HasValue, round-exact}
 use lib.Ieee.Back.{round-whole}
 use Rattle.layout_text.specs.Limits as limit
-use Rattle.layout_text.specs.Layout.{size}
+use Rattle.layout_text.specs.Layout.{magnitude}
 use Rattle.layout_text.specs.Numbers.{coordinate, bulge, scale}
 
 abbrev pub negative : ℤ → Bool
 negative (pos n) = false
 negative (negsuc n) = true
 
-whole-exact : (z : ℤ) → size z ≤ 2 ^ 53 → HasValue (ofInt binary64 z) (negative z) (size z) 1
+whole-exact : (z : ℤ) → magnitude z ≤ 2 ^ 53 → HasValue (ofInt binary64 z) (negative z) (magnitude z) 1
 unfolding ofInt
 whole-exact (pos n) h = round-whole binary64 false n h
 whole-exact (negsuc n) h = round-whole binary64 true (suc n) h
 
-pub coordinate-exact : (z : ℤ) → size z ≤ limit.coordinate → HasValue (coordinate z) (negative z) (size z) 1
+pub coordinate-exact : (z : ℤ) → magnitude z ≤ limit.coordinate → HasValue (coordinate z) (negative z) (magnitude z) 1
 unfolding coordinate
 coordinate-exact z h = whole-exact z (omega arith)
 
@@ -78,8 +78,8 @@ scale-is : scale ≡ fin false 1 (pos 16)
 unfolding ofBits ofFields
 scale-is = refl
 
-pub bulge-exact : (z : ℤ) → size z ≤ limit.bulge → HasValue (bulge z) (negative z) (size z) 65536
+pub bulge-exact : (z : ℤ) → magnitude z ≤ limit.bulge → HasValue (bulge z) (negative z) (magnitude z) 65536
 unfolding bulge
 bulge-exact z h =
-    subst (λ (y : Float). HasValue (div binary64 (ofInt binary64 z) y) (negative z) (size z) 65536) (sym scale-is)
-    (divided binary64 (omega arith) (omega arith) (ofInt binary64 z) (negative z) (size z) (whole-exact z (omega arith)) h)
+    subst (λ (y : Float). HasValue (div binary64 (ofInt binary64 z) y) (negative z) (magnitude z) 65536) (sym scale-is)
+    (divided binary64 (omega arith) (omega arith) (ofInt binary64 z) (negative z) (magnitude z) (whole-exact z (omega arith)) h)

@@ -10,7 +10,7 @@ use lib.ListN.{length}
 use Rattle.layout_text.specs.Limits as limit
 use Rattle.layout_text.specs.Layout.{Layout, Within}
 use Rattle.layout_text.specs.Form.{textOf}
-use Rattle.layout_text.specs.Reader.{Got, nothing, got, Taken, broken, layout, atEnd, linesOf, reads}
+use Rattle.layout_text.specs.Workings.Reader.{Got, nothing, got, Taken, broken, layout, atEnd, linesOf, reads}
 use Rattle.layout_text.specs.Laws.Complete.{lines-read}
 use Rattle.layout_text.specs.Laws.Sound.{lines-spelt}
 use Rattle.layout_text.specs.Laws.Long.{text-long}

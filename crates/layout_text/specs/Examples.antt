@@ -7,8 +7,8 @@ use lib.IntN.{ℤ, pos, negsuc}
 use Rattle.layout_text.specs.Layout.{Vertex, Layout}
 use Rattle.layout_text.specs.Decimal.{decimal, decimalIn}
 use Rattle.layout_text.specs.Form.{wholeText, vertexText, verticesText, textOf}
-use Rattle.layout_text.specs.Reader.{broken, layout, kindOf, firstKind, digitsOf, positiveOf, zeroOf, countOf}
-use Rattle.layout_text.specs.Reader.{wholeOf, vertexOf, verticesOf, linesOf, reads}
+use Rattle.layout_text.specs.Workings.Reader.{broken, layout, kindOf, firstKind, digitsOf, positiveOf, zeroOf, countOf}
+use Rattle.layout_text.specs.Workings.Reader.{wholeOf, vertexOf, verticesOf, linesOf, reads}
 
 -- ---- the scope's text
 

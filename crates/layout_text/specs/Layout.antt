@@ -18,16 +18,16 @@ pub record Layout : Type 0 where
 -- ---- numbers
 
 -- the magnitude of a whole number
-abbrev pub size : ℤ → ℕ
-size (pos n) = n
-size (negsuc n) = suc n
+abbrev pub magnitude : ℤ → ℕ
+magnitude (pos n) = n
+magnitude (negsuc n) = suc n
 
 -- ---- the limits
 
 pub record VertexWithin (v : Vertex) : Type 0 where
-  pub x-within : size (v .x) ≤ limit.coordinate
-  pub y-within : size (v .y) ≤ limit.coordinate
-  pub bulge-within : size (v .bulge) ≤ limit.bulge
+  pub x-within : magnitude (v .x) ≤ limit.coordinate
+  pub y-within : magnitude (v .y) ≤ limit.coordinate
+  pub bulge-within : magnitude (v .bulge) ≤ limit.bulge
 
 -- every vertex of a list is within the limits
 pub data EachWithin : List Vertex → Type 0 where

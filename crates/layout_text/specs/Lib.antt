@@ -4,11 +4,10 @@ pub mod Layout
 pub mod Decimal
 pub mod Form
 pub mod Numbers
-pub mod Reader
 pub mod Examples
+pub mod Workings
 pub mod Laws
 pub mod Exactly
-pub mod Shown
 pub mod Read
 pub mod Exact
-pub mod Settle
+pub mod ReaderPromise

@@ -9,7 +9,7 @@ use lib.Seq.{sets}
 use lib.Ieee.{Float}
 use Rattle.layout_text.specs.Limits as limit
 use Rattle.layout_text.specs.Numbers.{pathOf}
-use Rattle.layout_text.specs.Reader.{Taken, broken, layout, reads}
+use Rattle.layout_text.specs.Workings.Reader.{Taken, broken, layout, reads}
 use Rattle.layout_text.specs.declared.Reading.{Reading}
 use Rattle.layout_text.specs.declared.Reading.the-variants as Reading·
 

@@ -2,7 +2,7 @@
 ghost use mathlib.Core.Path.{_≡_};
 ghost use Prim.Native.Nat.{_<_};
 ghost use lib.ListN.{length, drop};
-ghost use Rattle.layout_text.specs.Reader.{kindOf, firstKind, other};
+ghost use Rattle.layout_text.specs.Workings.Reader.{kindOf, firstKind, other};
 
 pub const SPACE: u64 = 10;
 

@@ -4,8 +4,8 @@ ghost use mathlib.Core.Bool.{true, false};
 ghost use Prim.Native.Nat.{_≤_, _<_};
 ghost use lib.ListN.{drop};
 ghost use Rattle.layout_text.specs.Limits as limit;
-ghost use Rattle.layout_text.specs.Reader.{digitsOf, positiveOf, zeroOf, countOf, wholeOf, other};
-ghost use Rattle.layout_text.specs.Shown.{shownNumber};
+ghost use Rattle.layout_text.specs.Workings.Reader.{digitsOf, positiveOf, zeroOf, countOf, wholeOf, other};
+ghost use Rattle.layout_text.specs.Workings.Shown.{shownNumber};
 use super::bytes;
 
 // A whole number as its sign and its magnitude, with the place after it; or that there is none.

@@ -1,5 +1,5 @@
 // A text is looked through before anything is written.
-ghost use Rattle.layout_text.specs.Shown.{Shaped};
+ghost use Rattle.layout_text.specs.Workings.Shown.{Shaped};
 use super::bytes;
 use super::limits;
 use super::number;

@@ -1,6 +1,6 @@
 // The f64 numbers that whole numbers stand for.
 ghost use mathlib.Core.Path.{_≡_};
-ghost use Rattle.layout_text.specs.Reader.{whole};
+ghost use Rattle.layout_text.specs.Workings.Reader.{whole};
 ghost use Rattle.layout_text.specs.Numbers;
 
 // n or -n as a float; of 0 there is no negative one.

@@ -2,8 +2,8 @@
 ghost use mathlib.Core.Path.{_≡_};
 ghost use Prim.Native.Nat.{_≤_, _*_};
 ghost use lib.ListN.{drop, length};
-ghost use Rattle.layout_text.specs.Reader.{vertexOf, verticesOf, passed};
-ghost use Rattle.layout_text.specs.Shown.{shownVertex, shownPlace, numbersOf, Filled};
+ghost use Rattle.layout_text.specs.Workings.Reader.{vertexOf, verticesOf, passed};
+ghost use Rattle.layout_text.specs.Workings.Shown.{shownVertex, shownPlace, numbersOf, Filled};
 use super::bytes;
 use super::limits;
 use super::number;

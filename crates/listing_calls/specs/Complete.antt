@@ -16,12 +16,12 @@ use Rattle.arcs.specs.declared.pline_seg_intr.PlineSegIntr.{PlineSegIntr}
 use Rattle.paths.specs.Segments.{segmentFrom, segmentCount}
 use Rattle.listing_pairs.specs.declared.row.Row.{Row}
 use Rattle.listing_pairs.specs.declared.row.Look.the-variants.{Made}
-use Rattle.listing_pairs.specs.Row.{row, lookOf, unlessApart, indicesOf, flat}
+use Rattle.listing_pairs.specs.Row.{row, lookOf, unlessApart, indicesOf, numbersOfRows}
 use Rattle.listing_pairs.specs.Order.{mutualPairs}
 use Rattle.listing_pairs.specs.Rows.{rowsOf, lookedAt}
 use Rattle.listing_pairs.specs.Look.{look}
 use Rattle.listing_outcomes.specs.declared.answer.ListingAnswer.the-variants.{Refused, Listed}
-use Rattle.listing_outcomes.specs.Outcome.{over, outcomeOf, outcome}
+use Rattle.listing_outcomes.specs.Outcome.{overwrite, outcomeOf, outcome}
 use Rattle.listing_calls.specs.Listing.{mutualChecks, mutualListing}
 use Rattle.listing_calls.specs.Refusals.{all}
 use Rattle.listing_calls.specs.HasRow.{HasRow}
@@ -51,7 +51,7 @@ makes first second epsilon i j h =
 -- what was listed is what there is
 listed-is : (c : Checked) (rows : List Row) (looked n m : ℕ) (old : List ℕ) (points : List Float)
     → outcomeOf c rows looked old points .answer ≡ Listed n m
-    → (n ≡ length rows) × (outcomeOf c rows looked old points .indices ≡ over old (flat indicesOf rows))
+    → (n ≡ length rows) × (outcomeOf c rows looked old points .indices ≡ overwrite old (numbersOfRows indicesOf rows))
 listed-is Fine rows looked n m old points e = (cc, refl)
 listed-is (Bad fault) rows looked n m old points e = absurd (never e)
 

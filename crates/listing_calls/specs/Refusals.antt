@@ -1,6 +1,6 @@
 -- The refusals of the listings, exactly when: a listing refuses with number n if and only if the first fault of its checks in order,
 -- 8 the last of them, has that number; it lists if and only if every check passes; and a refusal leaves both slices as they were.
--- Table.antt of the crates `checks` and `paths` says of each check when it finds which fault; 8 is `too-many` here.
+-- RefusalTable.antt of the crates `checks` and `paths` says of each check when it finds which fault; 8 is `too-many` here.
 use mathlib.Core.Path.{_≡_, refl, sym, ap}
 use mathlib.Core.Bool.{Bool, true, false, cond, true≢false}
 use mathlib.Core.Logic.{_↔_}
@@ -15,8 +15,8 @@ use Rattle.checks.specs.declared.fault.Checked.{Checked}
 use Rattle.checks.specs.declared.fault.Checked.the-variants.{Fine, Bad}
 use Rattle.checks.specs.Fault.{at, bad, refuse}
 use Rattle.checks.specs.First.{first as firstFault}
-use Rattle.checks.specs.Settle.{settle}
-use Rattle.checks.specs.Settled.{Settled, Apart, settled, no-number}
+use Rattle.checks.specs.Answered.{answered}
+use Rattle.checks.specs.ExactlyWhen.{ExactlyWhen, Distinct, exactly-when, no-number}
 use Rattle.paths.specs.Segments.{segmentCount}
 use Rattle.listing_pairs.specs.declared.row.Row.{Row}
 use Rattle.listing_pairs.specs.declared.row.Look.{Look}
@@ -57,7 +57,7 @@ counted c = Listed (c .rows) (c .pairs)
 pub record Untouched (o : Outcome) (indices : List ℕ) (points : List Float) : Type 0 where
   pub kept : (n : ℕ) → o .answer ≡ Refused n → (o .indices ≡ indices) × (o .points ≡ points)
 
-apart : Apart Refused counted
+apart : Distinct Refused counted
 apart = record { numbers = λ n m e. cc; kinds = λ n i e. no-number cc }
 
 -- ---- any listing
@@ -68,13 +68,13 @@ module _ (checks : List Checked) (f : ℕ → ℕ → Look) (ps : List Pair) (in
   abbrev pub counts : Counts
   counts = record { rows = length (rowsOf f ps); pairs = lookedAt f ps }
 
-  same : (c : Checked) → settle Refused counted c counts ≡ outcomeOf c (rowsOf f ps) (lookedAt f ps) indices points .answer
+  same : (c : Checked) → answered Refused counted c counts ≡ outcomeOf c (rowsOf f ps) (lookedAt f ps) indices points .answer
   same Fine = refl
   same (Bad fault) = refl
 
-  outcome-settled : Settled Refused counted (outcome checks f ps indices points .answer) all counts
+  outcome-when : ExactlyWhen Refused counted (outcome checks f ps indices points .answer) all counts
   unfolding outcome
-  outcome-settled = rw (← same (firstFault all)) (settled Refused counted apart all counts)
+  outcome-when = rw (← same (firstFault all)) (exactly-when Refused counted apart all counts)
 
   left-alone : (c : Checked) → Untouched (outcomeOf c (rowsOf f ps) (lookedAt f ps) indices points) indices points
   left-alone Fine = record { kept = λ n e. absurd (apart .kinds n counts (sym e)) }
@@ -94,11 +94,11 @@ module _ (first : List Float) (firstClosed : Bool) (second : List Float) (second
   these = mutualChecks first firstClosed second secondClosed epsilon
 
   pub mutual-settled :
-      Settled Refused counted (mutualListing first firstClosed second secondClosed epsilon indices points .answer)
+      ExactlyWhen Refused counted (mutualListing first firstClosed second secondClosed epsilon indices points .answer)
       (all (mutualChecks first firstClosed second secondClosed epsilon) (look first second epsilon) between indices points)
       (counts (mutualChecks first firstClosed second secondClosed epsilon) (look first second epsilon) between indices points)
   unfolding mutualListing
-  mutual-settled = outcome-settled these (look first second epsilon) between indices points
+  mutual-settled = outcome-when these (look first second epsilon) between indices points
 
   pub mutual-untouched : Untouched (mutualListing first firstClosed second secondClosed epsilon indices points) indices points
   unfolding mutualListing
@@ -110,11 +110,11 @@ module _ (path : List Float) (closed : Bool) (epsilon : Float) (indices : List �
   within = selfPairs (segmentCount path closed) closed
 
   pub self-settled :
-      Settled Refused counted (selfListing path closed epsilon indices points .answer)
+      ExactlyWhen Refused counted (selfListing path closed epsilon indices points .answer)
       (all (selfChecks path closed epsilon) (look path path epsilon) within indices points)
       (counts (selfChecks path closed epsilon) (look path path epsilon) within indices points)
   unfolding selfListing
-  self-settled = outcome-settled (selfChecks path closed epsilon) (look path path epsilon) within indices points
+  self-settled = outcome-when (selfChecks path closed epsilon) (look path path epsilon) within indices points
 
   pub self-untouched : Untouched (selfListing path closed epsilon indices points) indices points
   unfolding selfListing

@@ -1,2 +1,3 @@
 -- The loop of every listing, as pages: laws only.
+pub mod Workings
 pub mod Laws

@@ -1,3 +1,2 @@
 -- Laws that only proofs need: from pages up to the outcome of a listing. Outcome also has what `buffer::list` promises.
-pub mod Over
-pub mod Outcome
+pub mod Overwrite

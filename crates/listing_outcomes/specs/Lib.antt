@@ -1,5 +1,6 @@
 -- The outcome of a listing of any sequence of pairs; what is proved of it, and laws.
 pub mod Outcome
-pub mod Told
-pub mod Settle
+pub mod ListingNumbers
+pub mod OneResult
+pub mod Workings
 pub mod Laws

@@ -14,7 +14,7 @@ use Rattle.checks.specs.Refusal
 use Rattle.checks.specs.First.{first as firstFault}
 use Rattle.listing_pairs.specs.declared.row.Row.{Row}
 use Rattle.listing_pairs.specs.declared.row.Look.{Look}
-use Rattle.listing_pairs.specs.Row.{indicesARow, pointsARow, indicesOf, pointsOf, flat}
+use Rattle.listing_pairs.specs.Row.{indicesARow, pointsARow, indicesOf, pointsOf, numbersOfRows}
 use Rattle.listing_pairs.specs.Order.{Pair}
 use Rattle.listing_pairs.specs.Rows.{rowsOf, lookedAt}
 use Rattle.listing_outcomes.specs.declared.answer.ListingAnswer.{ListingAnswer}
@@ -32,9 +32,9 @@ pub record Leaves (o : Outcome) (r : ListingAnswer) (i : List ℕ) (p : List Flo
   pub indices : i ≡ o .indices
   pub points : p ≡ o .points
 
--- values written over the front of what was there; what stands after them is as it was
-abbrev pub over : {A : Type 0} → List A → List A → List A
-over old values = values ++ drop (length values) old
+-- values written overwrite the front of what was there; what stands after them is as it was
+abbrev pub overwrite : {A : Type 0} → List A → List A → List A
+overwrite old values = values ++ drop (length values) old
 
 -- how many rows both slices have room for
 abbrev pub room : List ℕ → List Float → ℕ
@@ -51,8 +51,8 @@ outcomeOf (Bad fault) rows looked indices points =
 outcomeOf Fine rows looked indices points =
     record {
       answer = Listed (length rows) looked;
-      indices = over indices (flat indicesOf rows);
-      points = over points (flat pointsOf rows);
+      indices = overwrite indices (numbersOfRows indicesOf rows);
+      points = overwrite points (numbersOfRows pointsOf rows);
     }
 
 -- the listing of a sequence of pairs: the given checks in order, then 8

@@ -1,11 +1,11 @@
 // A listing of two looked-at paths into the caller's slices, if all rows fit. Refusal 8 is decided here and nowhere else: it is
 // answered if there are more rows than both slices have room for, and then nothing is written.
 ghost use Rattle.listing_pairs.specs.Look;
-ghost use Rattle.listing_pairs.specs.Laws.Job as job_of;
-ghost use Rattle.listing_pairs.specs.Laws.Keeping;
-ghost use Rattle.listing_pairs.specs.Laws.Ready;
+ghost use Rattle.listing_pairs.specs.Workings.Job as job_of;
+ghost use Rattle.listing_pairs.specs.Workings.Keeping;
+ghost use Rattle.listing_pairs.specs.Workings.Ready;
 ghost use Rattle.listing_outcomes.specs.Outcome;
-ghost use Rattle.listing_outcomes.specs.Laws.Outcome as outcome_of;
+ghost use Rattle.listing_outcomes.specs.Workings.Outcome as outcome_of;
 ghost use Prim.Native.Nat.{_≤_, _<_, _*_, min};
 ghost use lib.ListN.{length};
 ghost use mathlib.Core.Path.{_≡_};

@@ -3,4 +3,5 @@ pub mod Row
 pub mod Order
 pub mod Rows
 pub mod Look
+pub mod Workings
 pub mod Laws

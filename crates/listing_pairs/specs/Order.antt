@@ -34,9 +34,9 @@ abbrev pub neighbours : ℕ → Bool → Pair → Bool
 neighbours n closed p = eqb (p .j) (p .i + 1) || (closed && eqb (p .i) 0 && eqb (p .j + 1) n)
 
 -- those for which the test says so
-abbrev pub keep : (Pair → Bool) → List Pair → List Pair
-keep test [] = []
-keep test (p ∷ ps) = cond (test p) (p ∷ keep test ps) (keep test ps)
+abbrev pub those : (Pair → Bool) → List Pair → List Pair
+those test [] = []
+those test (p ∷ ps) = cond (test p) (p ∷ those test ps) (those test ps)
 
 abbrev pub selfPairs : ℕ → Bool → List Pair
-selfPairs n closed = keep (λ p. not (neighbours n closed p)) (pairs (λ i. i + 1) (λ i. n) n)
+selfPairs n closed = those (λ p. not (neighbours n closed p)) (pairs (λ i. i + 1) (λ i. n) n)

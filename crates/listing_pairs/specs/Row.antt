@@ -23,9 +23,9 @@ abbrev pub pointsOf : Row → List Float
 pointsOf r = r .x1 ∷ r .y1 ∷ r .x2 ∷ r .y2 ∷ []
 
 -- the numbers of rows, row after row
-abbrev pub flat : {A : Type 0} → (Row → List A) → List Row → List A
-flat numbers [] = []
-flat numbers (r ∷ rows) = numbers r ++ flat numbers rows
+abbrev pub numbersOfRows : {A : Type 0} → (Row → List A) → List Row → List A
+numbersOfRows numbers [] = []
+numbersOfRows numbers (r ∷ rows) = numbers r ++ numbersOfRows numbers rows
 
 -- the row of segments i and j that meet like this
 abbrev pub row : ℕ → ℕ → PlineSegIntr → Row

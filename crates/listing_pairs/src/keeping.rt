@@ -4,9 +4,9 @@ ghost use mathlib.Core.Path.{_≡_};
 ghost use Prim.Native.Nat.{_≤_, _<_, _+_, _*_};
 ghost use lib.ListN.{length};
 ghost use Rattle.paths.specs.Path;
-ghost use Rattle.listing_pairs.specs.Laws.Keeping;
-use glance::kept::Kept;
-use glance::kept::kept_of;
+ghost use Rattle.listing_pairs.specs.Workings.Keeping;
+use fast_pair::kept::Kept;
+use fast_pair::kept::kept_of;
 use paths::segments;
 
 // how many numbers are kept of a segment
@@ -23,9 +23,9 @@ pub fn keep(path: &[f64], m: usize, epsilon: f64, kept: &mut [f64])
         let s = segments::segment_from(path, j);
         let k = kept_of(s.v1, s.v2, epsilon);
         let at = j * NUMBERS;
-        kept[at] = k.first;
-        kept[at + 1] = k.second;
-        kept[at + 2] = k.third;
+        kept[at] = k.radius_or_slope;
+        kept[at + 1] = k.center_x_or_root;
+        kept[at + 2] = k.center_y_or_zero;
         j += 1;
     }
 }
@@ -37,8 +37,8 @@ pub(crate) fn kept_at(kept: &[f64], j: usize) -> Kept
 {
     let at = j * NUMBERS;
     Kept {
-        first: kept[at],
-        second: kept[at + 1],
-        third: kept[at + 2],
+        radius_or_slope: kept[at],
+        center_x_or_root: kept[at + 1],
+        center_y_or_zero: kept[at + 2],
     }
 }

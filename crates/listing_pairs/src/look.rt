@@ -2,13 +2,13 @@
 ghost use mathlib.Core.Path.{_≡_};
 ghost use Prim.Native.Nat.{_<_};
 ghost use Rattle.listing_pairs.specs.Look;
-ghost use Rattle.listing_pairs.specs.Laws.Keeping;
-ghost use Rattle.listing_pairs.specs.Laws.Ready;
+ghost use Rattle.listing_pairs.specs.Workings.Keeping;
+ghost use Rattle.listing_pairs.specs.Workings.Ready;
 use super::keeping::kept_at;
 use super::order::Job;
 use super::row;
-use glance::kept::Kept;
-use glance::pair::pline_seg_kept;
+use fast_pair::kept::Kept;
+use fast_pair::pair::pline_seg_kept;
 use paths::path::Segment;
 use paths::segments;
 

@@ -1,7 +1,7 @@
 // Which pairs a listing goes by, in order: the first path's index outermost, both rising.
 ghost use mathlib.Core.Path.{_≡_};
 ghost use Prim.Native.Nat.{_≤_};
-ghost use Rattle.listing_pairs.specs.Laws.Job as job_of;
+ghost use Rattle.listing_pairs.specs.Workings.Job as job_of;
 
 // What a listing works on: n segments of the first path, m of the second, and how near is near. In a self listing, `own`, both are
 // the same path.

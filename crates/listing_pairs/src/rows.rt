@@ -3,7 +3,7 @@ ghost use mathlib.Core.Path.{_≡_};
 ghost use Prim.Native.Nat.{_≤_, _<_, _+_, _*_};
 ghost use lib.ListN.{length};
 ghost use lib.Seq.{paste};
-ghost use Rattle.listing_pairs.specs.Laws.Stored;
+ghost use Rattle.listing_pairs.specs.Workings.Stored;
 use super::row;
 use super::row::Row;
 

@@ -2,9 +2,10 @@
 pub mod Path
 pub mod Shape
 pub mod Segments
-pub mod Told
+pub mod SegmentNumbers
 pub mod Check
-pub mod Table
+pub mod PathRefusals
 pub mod Chords
 pub mod View
+pub mod Workings
 pub mod Laws

@@ -27,4 +27,4 @@ refused path = broken path || tooLong path
 unfoldable pub shape : List Float → ℕ → Checked
 shape path owner =
     let place = at owner 0 Length in
-    later (refuse (broken path) Refusal.length place) (refuse (tooLong path) Refusal.vertices place)
+    later (refuse (broken path) Refusal.pathLength place) (refuse (tooLong path) Refusal.vertices place)

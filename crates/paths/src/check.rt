@@ -2,7 +2,7 @@
 // and which of its numbers.
 ghost use mathlib.Core.Path.{_≡_};
 ghost use Rattle.paths.specs.Check;
-ghost use Rattle.paths.specs.Laws.Inside;
+ghost use Rattle.paths.specs.Workings.Inside;
 use super::path;
 use super::segments;
 use checks::arc;

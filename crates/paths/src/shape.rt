@@ -41,7 +41,7 @@ pub fn shape(path: &[f64], owner: u64) -> Checked
         item: Item::Length,
     };
     later(
-        refuse(broken(path), refusal::LENGTH, place),
+        refuse(broken(path), refusal::PATH_LENGTH, place),
         refuse(too_long(path), refusal::VERTICES, place),
     )
 }

@@ -3,7 +3,7 @@ use mathlib.Core.Bool.{cond}
 use lib.Ieee.{Float}
 use Rattle.floats.specs.Ops.{_⊖_, _⊘_, _≺_}
 use Rattle.floats.specs.F64
-use Rattle.plane.specs.Vector2.{add, sub, scale, dot}
+use Rattle.plane.specs.Vector2 as vector2
 use Rattle.plane.specs.declared.vector2.Vector2.{Vector2}
 use Rattle.plane.specs.declared.base_math.MinMax.{MinMax}
 
@@ -14,12 +14,12 @@ minMax v1 v2 = cond (v1 ≺ v2) (record { min = v1; max = v2 }) (record { min = 
 -- base_math.rs 260-266
 unfoldable pub distSquared : Vector2 → Vector2 → Float
 distSquared p0 p1 =
-    let d = sub p0 p1 in
-    dot d d
+    let d = vector2.sub p0 p1 in
+    vector2.dot d d
 
 -- base_math.rs 299-304
 unfoldable pub pointFromParametric : Vector2 → Vector2 → Float → Vector2
-pointFromParametric p0 p1 t = add p0 (scale (sub p1 p0) t)
+pointFromParametric p0 p1 t = vector2.add p0 (vector2.scale (vector2.sub p1 p0) t)
 
 -- base_math.rs 312-336; in the release build, which decides, epsilon is not read
 unfoldable pub parametricFromPoint : Vector2 → Vector2 → Vector2 → Float → Float

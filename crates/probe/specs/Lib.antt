@@ -1,3 +1,3 @@
 -- How the functions of plane are lent to C for the comparison.
 pub mod Numbers
-pub mod Settle
+pub mod OneResult

@@ -1,7 +1,7 @@
 // Answers of more than one number, handed over in a lent slice: written from its front if all of them fit, and else none is. How
 // many were written is returned.
 ghost use mathlib.Core.List.{[], _∷_};
-ghost use Rattle.paths.specs.Told;
+ghost use Rattle.paths.specs.SegmentNumbers;
 ghost use Rattle.probe.specs.Numbers.{Given, ofVector};
 use paths::path::SegmentAt;
 use plane::vector2::Vector2;
@@ -53,7 +53,7 @@ pub fn vector(v: Vector2, out: &mut [f64]) -> usize
 
 // A segment's first vertex, then its second; of none no number.
 pub fn segment(at: SegmentAt, out: &mut [f64]) -> usize
-    ensures { λ r. ⌜ Given (Told.told at) r (now (out .entry)) (now (out .exit)) ⌝ }
+    ensures { λ r. ⌜ Given (SegmentNumbers.segmentNumbers at) r (now (out .entry)) (now (out .exit)) ⌝ }
 {
     match at {
         SegmentAt::Nothing => 0,

@@ -2,7 +2,7 @@
 ghost use mathlib.Core.Path.{_≡_};
 ghost use Rattle.paths.specs.Segments;
 ghost use Rattle.paths.specs.View;
-ghost use Rattle.paths.specs.Told;
+ghost use Rattle.paths.specs.SegmentNumbers;
 ghost use Rattle.probe.specs.Numbers.{Given};
 use super::out;
 use super::viewed;
@@ -11,7 +11,7 @@ use paths::segments;
 // The segment's first vertex, then its second, each x, y and bulge.
 #[no_mangle]
 pub extern "C" fn vjp_segment(path: &[f64], closed: bool, i: usize, out: &mut [f64]) -> usize
-    ensures { λ r. ⌜ Given (Told.told (Segments.segment (now (path .entry)) closed i)) r (now (out .entry)) (now (out .exit)) ⌝ }
+    ensures { λ r. ⌜ Given (SegmentNumbers.segmentNumbers (Segments.segment (now (path .entry)) closed i)) r (now (out .entry)) (now (out .exit)) ⌝ }
 {
     out::segment(segments::segment(path, closed, i), out)
 }
@@ -20,7 +20,7 @@ pub extern "C" fn vjp_segment(path: &[f64], closed: bool, i: usize, out: &mut [f
 #[no_mangle]
 pub extern "C" fn vjp_view_segment(path: &[f64], closed: bool, i: usize, out: &mut [f64]) -> usize
     ensures { λ r. ⌜
-        Given (Told.told (View.segment (View.viewOf (path .entry) closed) i)) r (now (out .entry)) (now (out .exit)) ⌝ }
+        Given (SegmentNumbers.segmentNumbers (View.segment (View.viewOf (path .entry) closed) i)) r (now (out .entry)) (now (out .exit)) ⌝ }
 {
     out::segment(viewed::segment(path, closed, i), out)
 }

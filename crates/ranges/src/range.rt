@@ -3,7 +3,7 @@
 // `specs/Laws`.
 ghost use mathlib.Core.Path.{_≡_};
 ghost use Rattle.ranges.specs.Range;
-ghost use Rattle.ranges.specs.Laws.Within;
+ghost use Rattle.ranges.specs.Workings.OnSegment;
 use plane::fuzzy::fuzzy_in_range_eps;
 use plane::vector2::Vector2;
 
@@ -44,16 +44,16 @@ fn outside(t: f64) -> bool
 }
 
 // Whether the parameter t lies on a segment, given as a vector: by its place along the segment, so that epsilon is a distance.
-fn within_length(t: f64, segment: Vector2, eps: f64) -> bool
-    ensures { λ r. ⌜ r ≡ Range.within t segment eps ⌝ }
+fn on_segment_length(t: f64, segment: Vector2, eps: f64) -> bool
+    ensures { λ r. ⌜ r ≡ Range.onSegment t segment eps ⌝ }
 {
     let length = segment.length();
     fuzzy_in_range_eps(t * length, 0.0, length, eps)
 }
 
 // The same, without a root where t is clearly inside or outside.
-pub fn within(t: f64, segment: Vector2, eps: f64) -> bool
-    ensures { λ r. ⌜ r ≡ Range.within t segment eps ⌝ }
+pub fn on_segment(t: f64, segment: Vector2, eps: f64) -> bool
+    ensures { λ r. ⌜ r ≡ Range.onSegment t segment eps ⌝ }
 {
     if !usual(segment.length_squared(), eps) {
         return within_length(t, segment, eps);

@@ -8,12 +8,12 @@ use Rattle.crossing.specs.LineLineIntersect.{lineLineIntr}
 use Rattle.crossing.specs.LineCircleIntersect.{lineCircleIntr}
 use Rattle.crossing.specs.CircleCircleIntersect.{circleCircleIntr}
 use Rattle.crossing.specs.PlineSegIntersect.{plineSegIntr}
-use Rattle.answers.specs.declared.flat.Flat.{Flat}
-use Rattle.answers.specs.Flat.{ofLineLine, ofLineCircle, ofCircleCircle, ofPlineSeg}
+use Rattle.answers.specs.declared.padded.PaddedAnswer.{PaddedAnswer}
+use Rattle.answers.specs.Padded.{ofLineLine, ofLineCircle, ofCircleCircle, ofPlineSeg}
 use Rattle.records.specs.Text.{valueAt, numberAt}
 use Rattle.records.specs.OnPlane.{same, pointAt, vertexAt}
 
-unfoldable pub isAnswer : Flat → List ℕ → ℕ → Bool
+unfoldable pub isAnswer : PaddedAnswer → List ℕ → ℕ → Bool
 isAnswer f body i =
     let told = valueAt body i in
     cond (f .refused) (eqb (told / 256) 1 && eqb (told % 256) (f .number))

@@ -8,12 +8,12 @@ use super::on_plane::same;
 use super::on_plane::vertex;
 use super::text::number;
 use super::text::value;
-use answers::flat;
-use answers::flat::Flat;
+use answers::padded;
+use answers::padded::PaddedAnswer;
 use crossing::circle_circle_intersect;
 use crossing::line_circle_intersect;
 use crossing::line_line_intersect;
-use glance::pair;
+use fast_pair::pair;
 
 // Whether the line's two lines meet as it says.
 pub fn line_line(body: &[u8]) -> bool
@@ -26,7 +26,7 @@ pub fn line_line(body: &[u8]) -> bool
         point(body, 6),
         number(body, 8),
     );
-    is_answer(flat::of_line_line(met), body, 9)
+    is_answer(padded::of_line_line(met), body, 9)
 }
 
 // Whether the line's line and circle meet as it says.
@@ -40,7 +40,7 @@ pub fn line_circle(body: &[u8]) -> bool
         point(body, 5),
         number(body, 7),
     );
-    is_answer(flat::of_line_circle(met), body, 8)
+    is_answer(padded::of_line_circle(met), body, 8)
 }
 
 // Whether the line's circles meet as it says.
@@ -54,7 +54,7 @@ pub fn circle_circle(body: &[u8]) -> bool
         point(body, 4),
         number(body, 6),
     );
-    is_answer(flat::of_circle_circle(met), body, 7)
+    is_answer(padded::of_circle_circle(met), body, 7)
 }
 
 // Whether the line's segments meet as it says.
@@ -68,11 +68,11 @@ pub fn pline_seg(body: &[u8]) -> bool
         vertex(body, 9),
         number(body, 12),
     );
-    is_answer(flat::of_pline_seg(met), body, 13)
+    is_answer(padded::of_pline_seg(met), body, 13)
 }
 
 // Whether the answer is the one that stands from number i on: a refusal is 256 and its number.
-fn is_answer(numbers: Flat, body: &[u8], i: usize) -> bool
+fn is_answer(numbers: PaddedAnswer, body: &[u8], i: usize) -> bool
     requires { ⌜ i < 14 ⌝ }
     ensures { λ r. ⌜ r ≡ OnCrossing.isAnswer numbers (now (body .entry)) i ⌝ }
 {

@@ -2,7 +2,7 @@
 use mathlib.Core.Path.{_≡_, refl}
 use mathlib.Core.Bool.{Bool, true, false, cond, _||_}
 use Rattle.floats.specs.Ops.{_≺_}
-use Rattle.plane.specs.Vector2.{sub, perpDot, lengthSquared}
+use Rattle.plane.specs.Vector2 as vector2
 use Rattle.plane.specs.declared.vector2.Vector2.{Vector2}
 use Rattle.arcs.specs.declared.arc_sweep.ArcSweep.{ArcSweep}
 use Rattle.arcs.specs.declared.arc_sweep.SweepFinding.{SweepFinding}
@@ -30,10 +30,10 @@ in-order false false false false = refl
 pub contains-is-yes : (self : ArcSweep) (point : Vector2) → contains self point ≡ isYes (finding self point)
 unfolding contains finding
 contains-is-yes self point =
-    let pointVector = sub point (self .center) in
-    let startCross = perpDot (self .«start_vector») pointVector in
-    let endCross = perpDot (self .«end_vector») pointVector in
-    in-order (lengthSquared pointVector ≺ self .«epsilon_squared»)
+    let pointVector = vector2.sub point (self .center) in
+    let startCross = vector2.perpDot (self .«start_vector») pointVector in
+    let endCross = vector2.perpDot (self .«end_vector») pointVector in
+    in-order (vector2.lengthSquared pointVector ≺ self .«epsilon_squared»)
     (exactlyWithinSweep (self .«is_clockwise») startCross endCross)
     (beside (self .«start_vector») pointVector startCross (self .«start_fuzzy_limit»))
     (beside (self .«end_vector») pointVector endCross (self .«end_fuzzy_limit»))

@@ -12,7 +12,7 @@ use Rattle.checks.specs.declared.fault.Checked.the-variants.{Fine}
 use Rattle.checks.specs.Number.{isInfinite}
 use Rattle.checks.specs.Each
 use Rattle.checks.specs.Limit
-use Rattle.checks.specs.Table
+use Rattle.checks.specs.RefusalTable
 use Rattle.checks.specs.Laws.Order.{le-not-lt}
 
 -- x is a number of a magnitude of at most `most`
@@ -102,26 +102,26 @@ not-short least (fin s m e) l =
 pub epsilon-fine : (x : Float) → (Each.epsilon x ≡ Fine) ↔ Between Limit.epsilonLeast Limit.epsilonMost x
 unfolding ofBits isNan
 epsilon-fine x =
-    Iff·trans (Table.epsilon x .fine)
+    Iff·trans (RefusalTable.epsilon x .fine)
     (Iff·trans (neither _ _) (between Limit.epsilonLeast Limit.epsilonMost x refl refl))
 
 module _ (x : Float) (p : Place) where
   pub coordinate-fine : (Each.coordinate x p ≡ Fine) ↔ Within Limit.coordinate x
   unfolding ofBits isNan
-  coordinate-fine = Iff·trans (Table.coordinate x p .fine) (within Limit.coordinate x refl)
+  coordinate-fine = Iff·trans (RefusalTable.coordinate x p .fine) (within Limit.coordinate x refl)
 
   pub bulge-fine : (Each.bulge x p ≡ Fine) ↔ Within Limit.bulge x
   unfolding ofBits isNan
-  bulge-fine = Iff·trans (Table.bulge x p .fine) (within Limit.bulge x refl)
+  bulge-fine = Iff·trans (RefusalTable.bulge x p .fine) (within Limit.bulge x refl)
 
   pub radius-fine : (Each.radius x p ≡ Fine) ↔ Between Limit.radiusLeast Limit.radiusMost x
   unfolding ofBits isNan
-  radius-fine = Iff·trans (Table.radius x p .fine) (between Limit.radiusLeast Limit.radiusMost x refl refl)
+  radius-fine = Iff·trans (RefusalTable.radius x p .fine) (between Limit.radiusLeast Limit.radiusMost x refl refl)
 
   pub center-fine : (Each.center x p ≡ Fine) ↔ Within Limit.center x
   unfolding ofBits isNan
-  center-fine = Iff·trans (Table.center x p .fine) (within Limit.center x refl)
+  center-fine = Iff·trans (RefusalTable.center x p .fine) (within Limit.center x refl)
 
   pub chord-fine : (Each.chord x p ≡ Fine) ↔ (isNan x ≡ false → T (Limit.chordLeast ≼ x))
   unfolding ofBits isNan
-  chord-fine = Iff·trans (Table.chord x p .fine) (not-short Limit.chordLeast x refl)
+  chord-fine = Iff·trans (RefusalTable.chord x p .fine) (not-short Limit.chordLeast x refl)

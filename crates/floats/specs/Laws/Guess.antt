@@ -6,7 +6,7 @@ use native.Mathlib.Nat.{mul-le-mul, sub-le}
 use native.Mathlib.Omega.{arith}
 use mathlib.Core.Bool.{Bool, true}
 use Rattle.floats.specs.F64.{isqrt}
-use Rattle.floats.specs.Root
+use Rattle.floats.specs.Workings.Root
 use Rattle.floats.specs.Laws.Isqrt.{IsRoot, isqrt-is, sq-lt}
 
 -- what a yes means

@@ -7,7 +7,7 @@ use native.Mathlib.Nat.{pow-succ', zero-add}
 use native.Mathlib.Omega.{arith}
 use mathlib.Core.Bool.{Bool, true, false, not, cond}
 use lib.Dec.{T, leb, leb→le, nleb→lt}
-use Rattle.floats.specs.Root
+use Rattle.floats.specs.Workings.Root
 use Rattle.floats.specs.Laws.Isqrt.{IsRoot}
 use Rattle.floats.specs.declared.root.Turning.{Turning}
 

@@ -10,7 +10,7 @@ use lib.Ieee.{Float}
 use Rattle.floats.specs.Ops.{_⊘_}
 use Rattle.plane.specs.Vector2 as vector2
 use Rattle.plane.specs.declared.vector2.Vector2.{Vector2}
-use Rattle.ranges.specs.Range.{within}
+use Rattle.ranges.specs.Range.{onSegment}
 use Rattle.crossing.specs.LineLine.{crossing}
 use Rattle.crossing.specs.declared.line_line_intr.LineLineIntr.{LineLineIntr}
 use Rattle.crossing.specs.declared.line_line_intr.LineLineIntr.the-variants.{TrueIntersect, FalseIntersect}
@@ -18,7 +18,7 @@ use Rattle.grid.specs.Floats.Small.{Vec, perp}
 use Rattle.grid.specs.Floats.Zero.{Eps}
 use Rattle.grid.specs.Floats.Length.{gap, square, IsZero, Long, long}
 use Rattle.grid.specs.Floats.Reach.{Reaches}
-use Rattle.grid.specs.Floats.Range.{within-yes, within-says}
+use Rattle.grid.specs.Floats.Range.{onSegment-yes, within-says}
 use Rattle.grid.specs.Floats.Ratio.{Ratio, ratio}
 
 -- ---- segments with a perp dot other than zero are no points
@@ -76,10 +76,10 @@ module _ (e : Float) (num den : ℕ) (h : Eps e num den) (v u w : Vector2) (A : 
       (first .P) (first .N) base (second .P) (second .N) base t1 t2
   unfolding crossing
   crossing-says = record {
-    answer = told (within t1 v e) (within t2 u e)
+    answer = told (onSegment t1 v e) (onSegment t2 u e)
         (within-says e num den h v (square v A) long-v t1 (first .P) (first .N) base (first .place))
         (within-says e num den h u (square u B) long-u t2 (second .P) (second .N) base (second .place));
-    inside = λ x y. sure (within t1 v e) (within t2 u e)
+    inside = λ x y. sure (onSegment t1 v e) (onSegment t2 u e)
         (within-yes e num den h v (square v A) long-v t1 (first .P) (first .N) base (first .place) (x .0) (x .1))
         (within-yes e num den h u (square u B) long-u t2 (second .P) (second .N) base (second .place) (y .0) (y .1));
   }

@@ -18,7 +18,7 @@ use Rattle.plane.specs.Vector2 as vector2
 use Rattle.plane.specs.declared.vector2.Vector2.{Vector2}
 use Rattle.plane.specs.Fuzzy.{fuzzyEqZeroEps}
 use Rattle.plane.specs.BaseMath.{parametricFromPoint}
-use Rattle.ranges.specs.Range.{within}
+use Rattle.ranges.specs.Range.{onSegment}
 use Rattle.crossing.specs.LineLine.{overlap, spanOf, rising}
 use Rattle.crossing.specs.declared.line_line_intr.LineLineIntr.{LineLineIntr}
 use Rattle.crossing.specs.declared.line_line_intr.LineLineIntr.the-variants.{NoIntersect}
@@ -26,7 +26,7 @@ use Rattle.grid.specs.Floats.Small.{Small, Vec, vec-sub}
 use Rattle.grid.specs.Floats.Zero.{Eps, near-zero}
 use Rattle.grid.specs.Floats.Length.{gap, level, square, side-x, side-y, IsZero, Long, long}
 use Rattle.grid.specs.Floats.Reach.{on-axis}
-use Rattle.grid.specs.Floats.Range.{within-yes, within-says}
+use Rattle.grid.specs.Floats.Range.{onSegment-yes, within-says}
 use Rattle.grid.specs.Floats.Ratio.{wider, Ratio, ratio}
 use Rattle.grid.specs.Floats.Crossing.{Inside}
 use Rattle.grid.specs.Floats.Span.{Risen, risen}
@@ -106,7 +106,7 @@ module _ (e : Float) (num den : ℕ) (h : Eps e num den) (u : Vector2) (A : Vec 
   length-is = long u A long-u
 
   -- the range test says whether the exact place is from 0 to 1
-  pub point-test : (within t u e ≡ true) ↔ Inside (a .P) (a .N) side-d
+  pub point-test : (onSegment t u e ≡ true) ↔ Inside (a .P) (a .N) side-d
   point-test = (
     λ x. let r = within-says e num den h u (square u A) length-is t (a .P) (a .N) side-d (wider (a .place)) x in (
       on-axis e num den h (square u A) side-d (a .place .some) side (a .P) (a .N) (r .start),
@@ -115,8 +115,8 @@ module _ (e : Float) (num den : ℕ) (h : Eps e num den) (u : Vector2) (A : Vec 
     λ x. within-yes e num den h u (square u A) length-is t (a .P) (a .N) side-d (wider (a .place)) (x .0) (x .1),
   )
 
-  point-on : (met : LineLineIntr) → PointOn (cond (within t u e) met NoIntersect) met (a .P) (a .N) (gap dp dn)
-  point-on met = go (within t u e) (point-test .0) (point-test .1)
+  point-on : (met : LineLineIntr) → PointOn (cond (onSegment t u e) met NoIntersect) met (a .P) (a .N) (gap dp dn)
+  point-on met = go (onSegment t u e) (point-test .0) (point-test .1)
     where
       go : (b : Bool) → (b ≡ true → Inside (a .P) (a .N) side-d) → (Inside (a .P) (a .N) side-d → b ≡ true)
           → PointOn (cond b met NoIntersect) met (a .P) (a .N) side-d
@@ -135,11 +135,11 @@ PointAt e a b c A B C r met =
 
 pub point-at : (e : Float) (num den : ℕ) → Eps e num den → (a b c : Vector2) (A : Vec 20 a) (B : Vec 20 b) (C : Vec 20 c)
     → (IsZero (vector2.sub b a) (vec-sub b a B A) → ⊥) → (met : LineLineIntr)
-    → PointAt e a b c A B C (cond (within (parametricFromPoint a b c e) (vector2.sub b a) e) met NoIntersect) met
+    → PointAt e a b c A B C (cond (onSegment (parametricFromPoint a b c e) (vector2.sub b a) e) met NoIntersect) met
 point-at e num den h a b c A B C long-u met = go (along e a b c A B C long-u)
   where
     go : ByAxis e a b c A B C (parametricFromPoint a b c e)
-        → PointAt e a b c A B C (cond (within (parametricFromPoint a b c e) (vector2.sub b a) e) met NoIntersect) met
+        → PointAt e a b c A B C (cond (onSegment (parametricFromPoint a b c e) (vector2.sub b a) e) met NoIntersect) met
     go (inl k) = inl (k, point-on e num den h (vector2.sub b a) (vec-sub b a B A) long-u _ _ _ _ _ k (side-x _ _) met)
     go (inr k) = inr (k, point-on e num den h (vector2.sub b a) (vec-sub b a B A) long-u _ _ _ _ _ k (side-y _ _) met)
 

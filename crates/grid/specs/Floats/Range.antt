@@ -33,7 +33,7 @@ use Rattle.floats.specs.Ops.{_⊕_, _⊗_, f0}
 use Rattle.plane.specs.Vector2 as vector2
 use Rattle.plane.specs.declared.vector2.Vector2.{Vector2}
 use Rattle.plane.specs.Fuzzy.{fuzzyInRangeEps, fuzzyGtEps, fuzzyLtEps}
-use Rattle.ranges.specs.Range.{within}
+use Rattle.ranges.specs.Range.{onSegment}
 use Rattle.grid.specs.Floats.Zero.{Eps}
 use Rattle.grid.specs.Floats.Length.{Long}
 use Rattle.grid.specs.Floats.Reach.{Less, Beyond, Reaches}
@@ -303,13 +303,13 @@ module _ (e : Float) (num den : ℕ) (h : Eps e num den)
           plain T R E L y = let z : T * R < E * L = lt-of-mul-lt-mul-right L {m = T * R} {n = E * L} (omega arith) in omega arith
 
   -- ---- both
-  pub within-yes : N ≤ P → P ≤ N + D → within t v e ≡ true
-  unfolding within fuzzyInRangeEps
+  pub within-yes : N ≤ P → P ≤ N + D → onSegment t v e ≡ true
+  unfolding onSegment fuzzyInRangeEps
   within-yes x y = is-true _ (and-i (fuzzyGtEps (t ⊗ len) f0 e) (fuzzyLtEps (t ⊗ len) len e) (after-start x) (before-end y))
 
   -- a yes is right but for less than two epsilons
-  pub within-says : within t v e ≡ true → Reaches S num den P N D
-  unfolding within fuzzyInRangeEps
+  pub within-says : onSegment t v e ≡ true → Reaches S num den P N D
+  unfolding onSegment fuzzyInRangeEps
   within-says x =
       let w : T (fuzzyGtEps (t ⊗ len) f0 e && fuzzyLtEps (t ⊗ len) len e) = subst T (sym x) tt in
       record {

@@ -8,7 +8,7 @@ use native.Mathlib.Nat.{mul-le-mul-left}
 use native.Mathlib.Omega.{arith}
 use lib.IntN.{ℤ, pos, negsuc, negℤ, natAbs, _+ℤ_, _-ℤ_, _*ℤ_, *ℤ-comm}
 use lib.Signed.{_≤ℤ_}
-use Rattle.grid.specs.Promise.{Spot, Point, Along, OnLine, OnSegment, Apart, Parallel, Share, ShareMore, Crossing}
+use Rattle.grid.specs.Promise.{Spot, Point, Along, OnLine, OnSegment, Differ, Parallel, Share, ShareMore, Crossing}
 use Rattle.grid.specs.Plane.Ring.{solve, combine, combine2, var, neg, num, _⊞_, _⊟_, _⊠_}
 use Rattle.grid.specs.Plane.Order.{cancel, cancel-le, pos-le, natural, turned, turned-eq, size-pos}
 use Rattle.grid.specs.Plane.Sides.{across, across-parallel, first, second, place-v, place-u}
@@ -165,7 +165,7 @@ module _ (v1 v2 u1 u2 : Spot) (slant : ¬ Parallel v1 v2 u1 u2) where
         same-place (P .y) (v1 .y) (v2 .y -ℤ v1 .y) s (steps-v v1 v2 u1 u2) (P .over) t (base v1 v2 u1 u2) (on-v .some) (on-v .at-y) place,
       )
 
-  pub crossing-once : (P Q : Point) → Crossing v1 v2 u1 u2 P → Crossing v1 v2 u1 u2 Q → ¬ Apart P Q
+  pub crossing-once : (P Q : Point) → Crossing v1 v2 u1 u2 P → Crossing v1 v2 u1 u2 Q → ¬ Differ P Q
   crossing-once P Q h k (inl a) =
       a (same-ratio (P .x) (Q .x) (meeting .x) (P .over) (Q .over) (base v1 v2 u1 u2) base-pos (crossing-is P h .0) (crossing-is Q k .0))
   crossing-once P Q h k (inr a) =

@@ -8,7 +8,7 @@ use lib.IntN.{ℤ, pos, _-ℤ_}
 use Rattle.plane.specs.declared.vector2.Vector2.{Vector2}
 use Rattle.arcs.specs.declared.pline_seg_intr.PlineSegIntr.{PlineSegIntr}
 use Rattle.arcs.specs.declared.pline_seg_intr.PlineSegIntr.the-variants.{NoIntersect, OneIntersect, OverlappingLines}
-use Rattle.grid.specs.Promise.{Spot, Parallel, Share, ShareMore, Reached, Within, Kept}
+use Rattle.grid.specs.Promise.{Spot, Parallel, Share, ShareMore, Reached, NearExact, Promised}
 use Rattle.grid.specs.Plane.Cross.{
   Between,
   base,
@@ -39,7 +39,7 @@ same-one o p e = cc
 -- ---- lines that cross: none where a place is not from 0 to 1, or one near to the meeting, which is near to both
 module _ (v1 v2 u1 u2 : Spot) (slant : ¬ Parallel v1 v2 u1 u2) (num den : ℕ) where
   pub slanted-none : (Between (steps-v v1 v2 u1 u2) (base v1 v2 u1 u2) → Between (steps-u v1 v2 u1 u2) (base v1 v2 u1 u2) → ⊥)
-      → Kept v1 v2 u1 u2 num den NoIntersect
+      → Promised v1 v2 u1 u2 num den NoIntersect
   slanted-none n =
       record {
         classes = inl refl;
@@ -55,9 +55,9 @@ module _ (v1 v2 u1 u2 : Spot) (slant : ¬ Parallel v1 v2 u1 u2) (num den : ℕ) 
   pub slanted-one : (o : Vector2)
       → Reached (meeting v1 v2 u1 u2 slant) v1 v2 num den
       → Reached (meeting v1 v2 u1 u2 slant) u1 u2 num den
-      → Within (o .x) (meeting v1 v2 u1 u2 slant .x) (base v1 v2 u1 u2)
-      → Within (o .y) (meeting v1 v2 u1 u2 slant .y) (base v1 v2 u1 u2)
-      → Kept v1 v2 u1 u2 num den (OneIntersect o)
+      → NearExact (o .x) (meeting v1 v2 u1 u2 slant .x) (base v1 v2 u1 u2)
+      → NearExact (o .y) (meeting v1 v2 u1 u2 slant .y) (base v1 v2 u1 u2)
+      → Promised v1 v2 u1 u2 num den (OneIntersect o)
   slanted-one o near-v near-u near-x near-y =
       let P = meeting v1 v2 u1 u2 slant in
       record {
@@ -71,8 +71,8 @@ module _ (v1 v2 u1 u2 : Spot) (slant : ¬ Parallel v1 v2 u1 u2) (num den : ℕ) 
         exact = λ p e s. (
           P,
           meeting-crosses v1 v2 u1 u2 slant,
-          subst (λ (z : Vector2). Within (z .x) (P .x) (P .over)) (same-one o p e) near-x,
-          subst (λ (z : Vector2). Within (z .y) (P .y) (P .over)) (same-one o p e) near-y,
+          subst (λ (z : Vector2). NearExact (z .x) (P .x) (P .over)) (same-one o p e) near-x,
+          subst (λ (z : Vector2). NearExact (z .y) (P .y) (P .over)) (same-one o p e) near-y,
         );
       }
 
@@ -103,7 +103,7 @@ share-of-more : (v1 v2 u1 u2 : Spot) → ShareMore v1 v2 u1 u2 → Share v1 v2 u
 share-of-more v1 v2 u1 u2 s = (s .0, s .3)
 
 pub parallel-kept : (v1 v2 u1 u2 : Spot) (num den : ℕ) (r : PlineSegIntr) → Parallel v1 v2 u1 u2 → Told v1 v2 u1 u2 r
-    → Kept v1 v2 u1 u2 num den r
+    → Promised v1 v2 u1 u2 num den r
 parallel-kept v1 v2 u1 u2 num den r par (inl (e, n)) =
     record {
       classes = inl e;

@@ -8,7 +8,7 @@ use native.Mathlib.Omega.{arith}
 use lib.IntN.{ℤ, pos, negsuc, negℤ, natAbs, _-ℤ_, _*ℤ_}
 use lib.Signed.{_≤ℤ_, _<ℤ_}
 use lib.Ieee.{Float, fin, up, down}
-use Rattle.grid.specs.Promise.{Spot, Point, Is, Reached, Within}
+use Rattle.grid.specs.Promise.{Spot, Point, Is, Reached, NearExact}
 use Rattle.grid.specs.Plane.Whole.{diff, parts, naturals, gain, loss, gain-add, gain-neg}
 use Rattle.grid.specs.Plane.Order.{turned}
 use Rattle.grid.specs.Plane.Cross.{Between, Placed}
@@ -100,7 +100,7 @@ reached-parts P a b p n num den h before past = reached P a b (diff p n) num den
 pub within-parts : (c : Float) (x : ℤ) (k p n d P N : ℕ) → Is c (diff p n) d → 0 < d → x ≡ diff P N
     → 1073741824 * (p * k + N * d) ≤ 1073741824 * (P * d + n * k) + d * k
     → 1073741824 * (P * d + n * k) ≤ 1073741824 * (p * k + N * d) + d * k
-    → Within c x k
+    → NearExact c x k
 within-parts c x k p n d P N is D e up low =
     record {
       a = diff p n;

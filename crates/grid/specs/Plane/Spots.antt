@@ -7,7 +7,7 @@ use Prim.Native.Nat.{ℕ, _+_, _-_, _<_}
 use native.Mathlib.Omega.{arith}
 use lib.IntN.{ℤ, pos, natAbs, _+ℤ_, _-ℤ_, _*ℤ_}
 use lib.Signed.{_≤ℤ_}
-use Rattle.grid.specs.Promise.{Spot, Point, Along, OnSegment, Apart, Share, ShareMore}
+use Rattle.grid.specs.Promise.{Spot, Point, Along, OnSegment, Differ, Share, ShareMore}
 use Rattle.grid.specs.Plane.Ring.{solve, combine, combine2, var, neg, num, _⊞_, _⊟_, _⊠_}
 use Rattle.grid.specs.Plane.Order.{cancel, pos-le, natural, turned, turned-eq, size-pos}
 use Rattle.grid.specs.Plane.Sides.{way, cross}
@@ -85,7 +85,7 @@ flip-point P = record { x = P .y; y = P .x; over = P .over; positive = P .positi
 flip-on : (P : Point) (a b : Spot) → OnSegment P a b → OnSegment (flip-point P) (flip a) (flip b)
 flip-on P a b (s, t, l, h) = (s, t, l, record { some = h .some; at-x = h .at-y; at-y = h .at-x })
 
-flip-apart : (P Q : Point) → Apart P Q → Apart (flip-point P) (flip-point Q)
+flip-apart : (P Q : Point) → Differ P Q → Differ (flip-point P) (flip-point Q)
 flip-apart P Q (inl h) = inr h
 flip-apart P Q (inr h) = inl h
 
@@ -170,7 +170,7 @@ same-spot c d a p q h k =
     let C = var 0 in let D = var 1 in let A = var 2 in let P = var 3 in let Q = var 4 in
     combine2 (c ∷ d ∷ a ∷ pos p ∷ pos q ∷ []) (C ⊠ Q) (D ⊠ P) Q C (A ⊠ P) (neg P) D (A ⊠ Q) h k tt
 
-pub spot-once : (P Q : Point) (a : Spot) → IsSpot P a → IsSpot Q a → ¬ Apart P Q
+pub spot-once : (P Q : Point) (a : Spot) → IsSpot P a → IsSpot Q a → ¬ Differ P Q
 spot-once P Q a h k (inl n) = n (same-spot (P .x) (Q .x) (a .x) (P .over) (Q .over) (h .0) (k .0))
 spot-once P Q a h k (inr n) = n (same-spot (P .y) (Q .y) (a .y) (P .over) (Q .over) (h .1) (k .1))
 

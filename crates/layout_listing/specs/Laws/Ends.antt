@@ -11,15 +11,15 @@ use lib.ListN.{length, replicate, length-replicate, take, drop}
 use lib.Seq.{sets, sets-eq, length-sets, take-at}
 use Rattle.layout_text.specs.Layout.{Vertex, Layout}
 use Rattle.layout_text.specs.Numbers.{pathOf}
-use Rattle.layout_text.specs.Reader.{Taken, broken, layout, reads}
+use Rattle.layout_text.specs.Workings.Reader.{Taken, broken, layout, reads}
 use Rattle.layout_text.specs.Exactly.{read-is-text}
 use Rattle.layout_text.specs.Read as read
 use Rattle.layout_text.specs.declared.Reading.{Reading}
 use Rattle.layout_text.specs.declared.Reading.the-variants as Reading·
-use Rattle.layout_lines.specs.declared.Written.{Written}
-use Rattle.layout_lines.specs.declared.Written.the-variants as Written·
-use Rattle.layout_lines.specs.Lines.{refusedText, answerText}
-use Rattle.layout_lines.specs.Written.{Lines, RefusalLine, AnswerLines}
+use Rattle.answer_lines.specs.declared.Written.{Written}
+use Rattle.answer_lines.specs.declared.Written.the-variants as Written·
+use Rattle.answer_lines.specs.Lines.{refusedText, answerText}
+use Rattle.answer_lines.specs.Written.{Lines, RefusalLine, AnswerLines}
 use Rattle.listing_outcomes.specs.declared.answer.ListingAnswer.{ListingAnswer}
 use Rattle.listing_outcomes.specs.declared.answer.ListingAnswer.the-variants.{Refused, Listed}
 use Rattle.listing_outcomes.specs.Outcome.{Leaves}

@@ -5,7 +5,7 @@ use mathlib.Core.Bool.{Bool, true, false, not, cond}
 use native.Mathlib.Omega.{arith}
 use borrow.Author.Tests.{lt-ltb, le-ltb}
 use lib.Dec.{T, ltb, eqb, ltb→lt, nltb→le, eqb→eq}
-use Rattle.layout_text.specs.Reader.{kindOf, space, newline, minus, other}
+use Rattle.layout_text.specs.Workings.Reader.{kindOf, space, newline, minus, other}
 
 -- the byte of a kind
 unfoldable pub byteOf : ℕ → ℕ

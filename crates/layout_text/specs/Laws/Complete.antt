@@ -8,11 +8,11 @@ use borrow.Author.Tests.{lt-ltb, le-ltb, eq-eqb, ne-eqb}
 use lib.ListN.{length}
 use lib.IntN.{ℤ, pos, negsuc}
 use Rattle.layout_text.specs.Limits as limit
-use Rattle.layout_text.specs.Layout.{Vertex, Layout, VertexWithin, EachWithin, none, more, Within, size}
+use Rattle.layout_text.specs.Layout.{Vertex, Layout, VertexWithin, EachWithin, none, more, Within, magnitude}
 use Rattle.layout_text.specs.Decimal.{decimal}
 use Rattle.layout_text.specs.Form.{wholeText, vertexText, verticesText, textOf}
-use Rattle.layout_text.specs.Reader.{got, kindOf, firstKind, digitsOf, positiveOf, zeroOf, countOf, whole}
-use Rattle.layout_text.specs.Reader.{wholeOf, vertexOf, verticesOf, linesOf, space, newline, minus}
+use Rattle.layout_text.specs.Workings.Reader.{got, kindOf, firstKind, digitsOf, positiveOf, zeroOf, countOf, whole}
+use Rattle.layout_text.specs.Workings.Reader.{wholeOf, vertexOf, verticesOf, linesOf, space, newline, minus}
 use Rattle.layout_text.specs.Laws.Decimal.{decimal-small, decimal-large, by-digits}
 use Rattle.layout_text.specs.Laws.Bytes.{kind-digit}
 
@@ -95,7 +95,7 @@ module _ (most end e : ℕ) (ends : kindOf e ≡ end) (mark : 9 < end) where
       omega (arith, z, zeroth)
   no-minus (suc m) t z = omega (arith, z, first-digit (suc m) (e ∷ t) (omega arith) .1)
 
-  pub whole-read : (z : ℤ) (t : List ℕ) → size z ≤ most → wholeOf most end (wholeText z ++ (e ∷ t)) ≡ got z t
+  pub whole-read : (z : ℤ) (t : List ℕ) → magnitude z ≤ most → wholeOf most end (wholeText z ++ (e ∷ t)) ≡ got z t
   unfolding wholeOf wholeText firstKind kindOf
   whole-read (pos m) t h = rw (ne-eqb (firstKind (decimal m ++ (e ∷ t))) minus (no-minus m t)) (count-read m t h)
   whole-read (negsuc m) t h = positive-read true most end e ends mark (suc m) t (omega arith) h

@@ -8,7 +8,7 @@ use native.Mathlib.Omega.{arith}
 use lib.Dec.{T, ltb, ltb→lt, nltb→le}
 use lib.ListN.{length, length-append}
 use lib.IntN.{ℤ, pos, negsuc}
-use Rattle.layout_text.specs.Layout.{Vertex, Layout, VertexWithin, EachWithin, none, more, Within, size}
+use Rattle.layout_text.specs.Layout.{Vertex, Layout, VertexWithin, EachWithin, none, more, Within, magnitude}
 use Rattle.layout_text.specs.Decimal.{decimal}
 use Rattle.layout_text.specs.Form.{wholeText, vertexText, verticesText, textOf}
 use Rattle.layout_text.specs.Laws.Decimal.{decimal-small, decimal-large}
@@ -27,7 +27,7 @@ decimal-long (suc k) n h =
         let short = rest (omega arith) in
         rw (decimal-large n (large tt), length-append (decimal (n / 10)) ((48 + n % 10) ∷ [])) (omega arith)
 
-whole-long : (k : ℕ) (z : ℤ) → size z < 10 ^ suc k → length (wholeText z) ≤ suc (suc k)
+whole-long : (k : ℕ) (z : ℤ) → magnitude z < 10 ^ suc k → length (wholeText z) ≤ suc (suc k)
 unfolding wholeText
 whole-long k (pos n) h = omega (arith, decimal-long k n h)
 whole-long k (negsuc n) h = omega (arith, decimal-long k (suc n) h)

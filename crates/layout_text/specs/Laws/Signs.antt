@@ -6,7 +6,7 @@ use lib.Dec.{ltb}
 use lib.IntN.{pos}
 use lib.Ieee.{inf, Format, binary64, prec, low, emax, neg, odd, units, round, ofInt}
 use Rattle.layout_text.specs.Numbers.{coordinate}
-use Rattle.layout_text.specs.Reader.{whole}
+use Rattle.layout_text.specs.Workings.Reader.{whole}
 
 odd-neg : (d q k l : ℕ) → neg (odd d false q k l) ≡ odd d true q k l
 unfolding odd neg

@@ -10,10 +10,10 @@ use lib.Dec.{T, ltb, eqb, nltb→le, eqb→eq}
 use lib.ListN.{length, drop}
 use lib.IntN.{ℤ, pos}
 use Rattle.layout_text.specs.Limits as limit
-use Rattle.layout_text.specs.Layout.{Vertex, Layout, VertexWithin, EachWithin, none, more, Within, size}
+use Rattle.layout_text.specs.Layout.{Vertex, Layout, VertexWithin, EachWithin, none, more, Within, magnitude}
 use Rattle.layout_text.specs.Decimal.{decimal}
 use Rattle.layout_text.specs.Form.{wholeText, vertexText, verticesText, textOf}
-use Rattle.layout_text.specs.Reader.{
+use Rattle.layout_text.specs.Workings.Reader.{
   Got,
   nothing,
   got,
@@ -26,7 +26,7 @@ use Rattle.layout_text.specs.Reader.{
   countOf,
   whole,
 }
-use Rattle.layout_text.specs.Reader.{wholeOf, vertexOf, verticesOf, linesOf, space, newline, minus, other}
+use Rattle.layout_text.specs.Workings.Reader.{wholeOf, vertexOf, verticesOf, linesOf, space, newline, minus, other}
 use Rattle.layout_text.specs.Laws.Decimal.{decimal-small, decimal-more}
 use Rattle.layout_text.specs.Laws.Bytes.{byteOf, byte-is, digit-byte}
 
@@ -135,21 +135,21 @@ module _ (negative : Bool) (most end : ℕ) (known : end < other) {z : ℤ} {res
 -- ---- numbers, with what ends them
 
 abbrev ByteText : ℕ → ℕ → List ℕ → ℤ → List ℕ → Type 0
-ByteText most end text z rest = (text ≡ wholeText z ++ (byteOf end ∷ rest)) × (size z ≤ most)
+ByteText most end text z rest = (text ≡ wholeText z ++ (byteOf end ∷ rest)) × (magnitude z ≤ most)
 
 abbrev CountText : ℕ → ℕ → List ℕ → ℤ → List ℕ → Type 0
-CountText most end text z rest = (text ≡ decimal (size z) ++ (byteOf end ∷ rest)) × (size z ≤ most) × (z ≡ pos (size z))
+CountText most end text z rest = (text ≡ decimal (magnitude z) ++ (byteOf end ∷ rest)) × (magnitude z ≤ most) × (z ≡ pos (magnitude z))
 
 -- a number that has no minus is spelt by its digits
 count-as : (most end m : ℕ) (text rest : List ℕ) (z : ℤ) → z ≡ pos m → m ≤ most → text ≡ decimal m ++ (byteOf end ∷ rest)
     → CountText most end text z rest
 count-as most end m text rest z e h t = rw e (t, h, refl)
 
-plain-text : (z : ℤ) → z ≡ pos (size z) → wholeText z ≡ decimal (size z)
+plain-text : (z : ℤ) → z ≡ pos (magnitude z) → wholeText z ≡ decimal (magnitude z)
 unfolding wholeText
 plain-text z e = ap wholeText e
 
-minus-text : (m : ℕ) → 0 < m → (z : ℤ) → z ≡ whole true m → (size z ≡ m) × (wholeText z ≡ 45 ∷ decimal m)
+minus-text : (m : ℕ) → 0 < m → (z : ℤ) → z ≡ whole true m → (magnitude z ≡ m) × (wholeText z ≡ 45 ∷ decimal m)
 unfolding wholeText
 minus-text zero p z e = absurd (omega arith)
 minus-text (suc m) p z e = rw e (refl, refl)
@@ -292,13 +292,13 @@ LayoutText text rest l = (text ≡ textOf l ++ rest) × Within l
 
 layout-text : (text t1 t2 t3 rest : List ℕ) (n m : ℤ) (first second : List Vertex)
     → CountText limit.vertices space text n t1 → CountText limit.vertices newline t1 m t2
-    → VerticesLines (size n) t2 t3 first → VerticesLines (size m) t3 rest second
+    → VerticesLines (magnitude n) t2 t3 first → VerticesLines (magnitude m) t3 rest second
     → LayoutText text rest (record { first = first; second = second })
 unfolding textOf byteOf
 layout-text text t1 t2 t3 rest n m first second cn cm lf ls =
-    let one = ap (λ (l : List ℕ). decimal (size n) ++ (32 ∷ l)) (cm .0) in
+    let one = ap (λ (l : List ℕ). decimal (magnitude n) ++ (32 ∷ l)) (cm .0) in
     let lines = lf .spelt ∙ ap (λ (l : List ℕ). verticesText first ++ l) (ls .spelt) in
-    let two = ap (λ (l : List ℕ). decimal (size n) ++ (32 ∷ (decimal (size m) ++ (10 ∷ l)))) lines in (
+    let two = ap (λ (l : List ℕ). decimal (magnitude n) ++ (32 ∷ (decimal (magnitude m) ++ (10 ∷ l)))) lines in (
       cn .0 ∙ one ∙ two ∙ rw (lf .count, ls .count) (simp append-assoc),
       record {
         first-count = rw (lf .count) (cn .1);
@@ -313,11 +313,11 @@ unfolding linesOf
 lines-spelt text e =
     let sn = both (countOf limit.vertices space text) _ e in
     let sm = both (countOf limit.vertices newline (sn .between)) _ (sn .two) in
-    let sf = both (verticesOf (size (sn .a)) (sm .between)) _ (sm .two) in
-    let ss = both (verticesOf (size (sm .a)) (sf .between)) _ (sf .two) in
+    let sf = both (verticesOf (magnitude (sn .a)) (sm .between)) _ (sm .two) in
+    let ss = both (verticesOf (magnitude (sm .a)) (sf .between)) _ (sf .two) in
     carried (λ l r. LayoutText text r l) (ss .two)
     (layout-text text (sn .between) (sm .between) (sf .between) (ss .between) (sn .a) (sm .a) (sf .a) (ss .a)
     (count-spelt limit.vertices space (omega arith) text (sn .one))
     (count-spelt limit.vertices newline (omega arith) (sn .between) (sm .one))
-    (vertices-spelt (size (sn .a)) (sm .between) (sf .one))
-    (vertices-spelt (size (sm .a)) (sf .between) (ss .one)))
+    (vertices-spelt (magnitude (sn .a)) (sm .between) (sf .one))
+    (vertices-spelt (magnitude (sm .a)) (sf .between) (ss .one)))

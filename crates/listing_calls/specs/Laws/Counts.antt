@@ -20,13 +20,13 @@ use Rattle.checks.specs.Laws.Later.{alone-fine}
 use Rattle.paths.specs.Segments.{segmentCount}
 use Rattle.listing_pairs.specs.declared.row.Row.{Row}
 use Rattle.listing_pairs.specs.declared.row.Look.{Look}
-use Rattle.listing_pairs.specs.Row.{indicesOf, pointsOf, flat}
+use Rattle.listing_pairs.specs.Row.{indicesOf, pointsOf, numbersOfRows}
 use Rattle.listing_pairs.specs.Order.{Pair, mutualPairs}
 use Rattle.listing_pairs.specs.Rows.{rowsOf, lookedAt}
 use Rattle.listing_pairs.specs.Look.{look}
 use Rattle.listing_pairs.specs.Laws.Stores.{flat-length}
 use Rattle.listing_outcomes.specs.declared.answer.ListingAnswer.the-variants.{Refused, Listed}
-use Rattle.listing_outcomes.specs.Outcome.{Outcome, over, room, roomCheck, outcomeOf, outcome}
+use Rattle.listing_outcomes.specs.Outcome.{Outcome, overwrite, room, roomCheck, outcomeOf, outcome}
 use Rattle.listing_calls.specs.Listing.{mutualChecks, mutualListing}
 
 -- at most `most` rows, in slices as long as these
@@ -50,7 +50,7 @@ within rows i₀ p₀ e = ltb-false _ _ (go (ltb (room i₀ p₀) (length rows))
     go true e = let z : _≡_ {A = ℕ} 0 1 = cc in absurd (omega (arith, z))
     go false e = refl
 
-over-long : {A : Type 0} (old values : List A) → length values ≤ length old → length (over old values) ≡ length old
+over-long : {A : Type 0} (old values : List A) → length values ≤ length old → length (overwrite old values) ≡ length old
 over-long old values h =
     omega (arith, length-append values (drop (length values) old), length-drop (length values) old, h)
 
@@ -61,8 +61,8 @@ module _ (rows : List Row) (looked : ℕ) (i₀ : List ℕ) (p₀ : List Float) 
       let fits = within rows i₀ p₀ (h refl) in
       record {
         few = λ n m e. omega (arith, fits, same-rows e);
-        indices = over-long i₀ (flat indicesOf rows) (omega (arith, fits, flat-length indicesOf 3 (λ r. refl) rows));
-        points = over-long p₀ (flat pointsOf rows) (omega (arith, fits, flat-length pointsOf 4 (λ r. refl) rows));
+        indices = over-long i₀ (numbersOfRows indicesOf rows) (omega (arith, fits, flat-length indicesOf 3 (λ r. refl) rows));
+        points = over-long p₀ (numbersOfRows pointsOf rows) (omega (arith, fits, flat-length pointsOf 4 (λ r. refl) rows));
       }
 
 outcome-fits : (checks : List Checked) (f : ℕ → ℕ → Look) (ps : List Pair) (i₀ : List ℕ) (p₀ : List Float)

@@ -22,13 +22,13 @@ use Rattle.listing_pairs.specs.declared.order.Job.{Job}
 use Rattle.listing_pairs.specs.Order.{Pair, mutualPairs, selfPairs}
 use Rattle.listing_pairs.specs.Rows.{rowsOf, lookedAt}
 use Rattle.listing_pairs.specs.Look.{look}
-use Rattle.listing_pairs.specs.Laws.Job.{every}
+use Rattle.listing_pairs.specs.Workings.Job.{every}
 use Rattle.listing_pairs.specs.Laws.Sequence.{mutual-every, self-every}
-use Rattle.listing_pairs.specs.Laws.Ready.{Ready, paths-ready}
+use Rattle.listing_pairs.specs.Workings.Ready.{Ready, paths-ready}
 use Rattle.listing_outcomes.specs.declared.answer.ListingAnswer.{ListingAnswer}
 use Rattle.listing_outcomes.specs.declared.answer.ListingAnswer.the-variants.{Refused}
 use Rattle.listing_outcomes.specs.Outcome.{Leaves, roomCheck, outcomeOf, outcome}
-use Rattle.listing_outcomes.specs.Laws.Outcome.{listed}
+use Rattle.listing_outcomes.specs.Workings.Outcome.{listed}
 use Rattle.listing_calls.specs.Listing.{mutualChecks, checkMutual, mutualListing, selfChecks, checkSelf, selfListing}
 
 -- ---- any listing

@@ -13,13 +13,13 @@ use Rattle.listing_pairs.specs.declared.row.Row.{Row}
 use Rattle.listing_pairs.specs.declared.row.Look.{Look}
 use Rattle.listing_pairs.specs.declared.row.Look.the-variants.{Passed, Nothing, Made}
 use Rattle.listing_pairs.specs.declared.order.Job.{Job}
-use Rattle.listing_pairs.specs.Row.{indicesARow, pointsARow, indicesOf, pointsOf, flat}
-use Rattle.listing_pairs.specs.Laws.Job as job_of
+use Rattle.listing_pairs.specs.Row.{indicesARow, pointsARow, indicesOf, pointsOf, numbersOfRows}
+use Rattle.listing_pairs.specs.Workings.Job as job_of
 use Rattle.listing_pairs.specs.Laws.Order.{few-pairs}
-use Rattle.listing_pairs.specs.Laws.Stored.{kept, putIndices, putPoints}
-use Rattle.listing_loop.specs.Laws.Pages.{Page, page, joins, few-looked}
-use Rattle.listing_loop.specs.Laws.Filling as filling
-use Rattle.listing_loop.specs.Laws.Filling.{Left, Filled}
+use Rattle.listing_pairs.specs.Workings.Stored.{kept, putIndices, putPoints}
+use Rattle.listing_loop.specs.Workings.Pages.{Page, page, joins, few-looked}
+use Rattle.listing_loop.specs.Workings.Filling as filling
+use Rattle.listing_loop.specs.Workings.Filling.{Left, Filled}
 
 -- ---- at most 4,096 by 4,096 pairs
 pub to-within : (job : Job) (i : ℕ) → job_of.to job i ≤ job .m
@@ -108,8 +108,8 @@ module _ {look : ℕ → ℕ → Look} {job : Job} {write : Bool} {at room start
               left = filling.makes look job room write at _ i₀ p₀ i j rows pairs l p inside (s .left) below r e fits;
               fits = omega (arith, fits);
               within = s .within;
-              indices = length-sets l (rows * indicesARow) (flat indicesOf (kept write (r ∷ []))) ∙ s .indices;
-              points = length-sets p (rows * pointsARow) (flat pointsOf (kept write (r ∷ []))) ∙ s .points;
+              indices = length-sets l (rows * indicesARow) (numbersOfRows indicesOf (kept write (r ∷ []))) ∙ s .indices;
+              points = length-sets p (rows * pointsARow) (numbersOfRows pointsOf (kept write (r ∷ []))) ∙ s .points;
             }
 
         pub stops : room ≤ rows

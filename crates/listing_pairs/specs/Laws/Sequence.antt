@@ -8,8 +8,8 @@ use native.Mathlib.Omega.{arith}
 use borrow.Author.Tests.{eq-eqb, ne-eqb, eqb-true}
 use lib.Dec.{eqb}
 use Rattle.listing_pairs.specs.declared.order.Job.{Job}
-use Rattle.listing_pairs.specs.Order.{Pair, along, pairsFrom, mutualPairs, neighbours, keep, selfPairs}
-use Rattle.listing_pairs.specs.Laws.Job.{from, to, every}
+use Rattle.listing_pairs.specs.Order.{Pair, along, pairsFrom, mutualPairs, neighbours, those, selfPairs}
+use Rattle.listing_pairs.specs.Workings.Job.{from, to, every}
 
 -- ---- two paths
 pub mutual-every : (job : Job) → job .own ≡ false → every job ≡ mutualPairs (job .n) (job .m)
@@ -17,12 +17,12 @@ unfolding from to
 mutual-every job e = rw e refl
 
 -- ---- one path
-keep-append : (test : Pair → Bool) (xs ys : List Pair) → keep test (xs ++ ys) ≡ keep test xs ++ keep test ys
+keep-append : (test : Pair → Bool) (xs ys : List Pair) → those test (xs ++ ys) ≡ those test xs ++ those test ys
 keep-append test [] ys = refl
 keep-append test (x ∷ xs) ys = go (test x) (keep-append test xs ys)
   where
-    go : (b : Bool) → keep test (xs ++ ys) ≡ keep test xs ++ keep test ys
-        → cond b (x ∷ keep test (xs ++ ys)) (keep test (xs ++ ys)) ≡ cond b (x ∷ keep test xs) (keep test xs) ++ keep test ys
+    go : (b : Bool) → those test (xs ++ ys) ≡ those test xs ++ those test ys
+        → cond b (x ∷ those test (xs ++ ys)) (those test (xs ++ ys)) ≡ cond b (x ∷ those test xs) (those test xs) ++ those test ys
     go true e = ap (λ (l : List Pair). x ∷ l) e
     go false e = e
 
@@ -56,18 +56,18 @@ module _ (n : ℕ) (closed : Bool) where
       go true = refl
       go false = refl
 
-  all-in : (i j k : ℕ) → i + 2 ≤ j → (closed && eqb i 0) ≡ false → keep test (along i j k) ≡ along i j k
+  all-in : (i j k : ℕ) → i + 2 ≤ j → (closed && eqb i 0) ≡ false → those test (along i j k) ≡ along i j k
   all-in i j zero h e = refl
   all-in i j (suc k) h e =
-      ap (λ (b : Bool). cond b (record { i = i; j = j } ∷ keep test (along i (suc j) k)) (keep test (along i (suc j) k)))
+      ap (λ (b : Bool). cond b (record { i = i; j = j } ∷ those test (along i (suc j) k)) (those test (along i (suc j) k)))
       (others-in i j h e)
       ∙ ap (λ (l : List Pair). record { i = i; j = j } ∷ l) (all-in i (suc j) k (omega (arith, h)) e)
 
-  but-last : (i j k : ℕ) → i + 2 ≤ j → closed ≡ true → i ≡ 0 → j + suc k ≡ n → keep test (along i j (suc k)) ≡ along i j k
+  but-last : (i j k : ℕ) → i + 2 ≤ j → closed ≡ true → i ≡ 0 → j + suc k ≡ n → those test (along i j (suc k)) ≡ along i j k
   but-last i j zero h c z e =
       ap (λ (b : Bool). cond b (record { i = i; j = j } ∷ []) []) (last-out i j c z (omega (arith, e)))
   but-last i j (suc k) h c z e =
-      let after = keep test (along i (suc j) (suc k)) in
+      let after = those test (along i (suc j) (suc k)) in
       ap (λ (b : Bool). cond b (record { i = i; j = j } ∷ after) after) (inner-in i j h (omega (arith, e)))
       ∙ ap (λ (l : List Pair). record { i = i; j = j } ∷ l) (but-last i (suc j) k (omega (arith, h)) c z (omega (arith, e)))
 
@@ -75,14 +75,14 @@ module _ (n : ℕ) (closed : Bool) where
   abbrev upTo : ℕ → ℕ
   upTo i = cond (closed && eqb i 0) (n - 1) n
 
-  one-row : (i : ℕ) → keep test (along i (i + 1) (n - (i + 1))) ≡ along i (i + 2) (upTo i - (i + 2))
+  one-row : (i : ℕ) → those test (along i (i + 1) (n - (i + 1))) ≡ along i (i + 2) (upTo i - (i + 2))
   one-row i = go (n - (i + 1)) refl
     where
       two : i + 2 ≡ suc (i + 1)
       two = omega arith
 
       split : (b : Bool) → (closed && eqb i 0) ≡ b → (c : Bool) → closed ≡ c → (d : Bool) → eqb i 0 ≡ d
-          → (k : ℕ) → n - (i + 1) ≡ suc k → keep test (along i (i + 2) k) ≡ along i (i + 2) (cond b (n - 1) n - (i + 2))
+          → (k : ℕ) → n - (i + 1) ≡ suc k → those test (along i (i + 2) k) ≡ along i (i + 2) (cond b (n - 1) n - (i + 2))
       split false e c f d g k h =
           let same : n - (i + 2) ≡ k = omega (arith, h) in
           all-in i (i + 2) k (omega arith) e ∙ ap (along i (i + 2)) (sym same)
@@ -94,7 +94,7 @@ module _ (n : ℕ) (closed : Bool) where
       split true e true f false g k h = absurd (true≢false (sym e ∙ rw (f, g) refl))
       split true e false f d g k h = absurd (true≢false (sym e ∙ rw f refl))
 
-      go : (k : ℕ) → n - (i + 1) ≡ k → keep test (along i (i + 1) k) ≡ along i (i + 2) (upTo i - (i + 2))
+      go : (k : ℕ) → n - (i + 1) ≡ k → those test (along i (i + 1) k) ≡ along i (i + 2) (upTo i - (i + 2))
       go zero h =
           let none : upTo i - (i + 2) ≡ 0 = few (closed && eqb i 0) h in ap (along i (i + 2)) (sym none)
         where
@@ -102,17 +102,17 @@ module _ (n : ℕ) (closed : Bool) where
           few true h = omega (arith, h)
           few false h = omega (arith, h)
       go (suc k) h =
-          ap (λ (b : Bool). cond b (record { i = i; j = i + 1 } ∷ keep test (along i (suc (i + 1)) k)) (keep test (along i (suc (i + 1)) k)))
+          ap (λ (b : Bool). cond b (record { i = i; j = i + 1 } ∷ those test (along i (suc (i + 1)) k)) (those test (along i (suc (i + 1)) k)))
           (next-out i (i + 1) refl)
-          ∙ ap (λ (j : ℕ). keep test (along i j k)) (sym two)
+          ∙ ap (λ (j : ℕ). those test (along i j k)) (sym two)
           ∙ split (closed && eqb i 0) refl closed refl (eqb i 0) refl k h
 
   all-rows : (i k : ℕ)
-      → keep test (pairsFrom (λ i. i + 1) (λ i. n) i (i + 1) k) ≡ pairsFrom (λ i. i + 2) upTo i (i + 2) k
+      → those test (pairsFrom (λ i. i + 1) (λ i. n) i (i + 1) k) ≡ pairsFrom (λ i. i + 2) upTo i (i + 2) k
   all-rows i zero = refl
   all-rows i (suc k) =
       keep-append test (along i (i + 1) (n - (i + 1))) (pairsFrom (λ i. i + 1) (λ i. n) (suc i) (suc i + 1) k)
-      ∙ ap (λ (l : List Pair). l ++ keep test (pairsFrom (λ i. i + 1) (λ i. n) (suc i) (suc i + 1) k)) (one-row i)
+      ∙ ap (λ (l : List Pair). l ++ those test (pairsFrom (λ i. i + 1) (λ i. n) (suc i) (suc i + 1) k)) (one-row i)
       ∙ ap (λ (l : List Pair). along i (i + 2) (upTo i - (i + 2)) ++ l) (all-rows (suc i) k)
 
 pub self-every : (job : Job) → job .own ≡ true → job .m ≡ job .n → every job ≡ selfPairs (job .n) (job .closed)

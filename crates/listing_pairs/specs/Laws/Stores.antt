@@ -8,7 +8,7 @@ use native.Mathlib.Omega.{arith}
 use lib.ListN.{length, length-append, length-set, set, getD}
 use lib.Seq.{paste, paste-zero, paste-suc, sets}
 use Rattle.listing_pairs.specs.declared.row.Row.{Row}
-use Rattle.listing_pairs.specs.Row.{flat}
+use Rattle.listing_pairs.specs.Row.{numbersOfRows}
 
 -- ---- a loop that copies to the front: after k turns the first k of n are copied
 pub record Copied {A : Type 0} (from : List A) (n : ℕ) (before now : List A) (k : ℕ) : Type 0 where
@@ -45,20 +45,20 @@ module _ {A : Type 0} where
 
   -- ---- the numbers of rows
   pub flat-append : (numbers : Row → List A) (rows more : List Row)
-      → flat numbers (rows ++ more) ≡ flat numbers rows ++ flat numbers more
+      → numbersOfRows numbers (rows ++ more) ≡ numbersOfRows numbers rows ++ numbersOfRows numbers more
   flat-append numbers [] more = refl
   flat-append numbers (r ∷ rows) more =
       ap (λ (l : List A). numbers r ++ l) (flat-append numbers rows more)
-      ∙ sym (append-assoc (numbers r) (flat numbers rows) (flat numbers more))
+      ∙ sym (append-assoc (numbers r) (numbersOfRows numbers rows) (numbersOfRows numbers more))
 
   pub flat-length : (numbers : Row → List A) (width : ℕ) → ((r : Row) → length (numbers r) ≡ width)
-      → (rows : List Row) → length (flat numbers rows) ≡ length rows * width
+      → (rows : List Row) → length (numbersOfRows numbers rows) ≡ length rows * width
   flat-length numbers width each [] = omega arith
   flat-length numbers width each (r ∷ rows) =
       let n = length rows in
       omega (
         arith,
-        length-append (numbers r) (flat numbers rows),
+        length-append (numbers r) (numbersOfRows numbers rows),
         each r,
         flat-length numbers width each rows,
         add-mul n 1 width,

@@ -10,7 +10,7 @@ use lib.Ieee.{Float, isNan}
 use Rattle.floats.specs.Ops.{_≼_}
 use Rattle.plane.specs.declared.pline_vertex.PlineVertex.{PlineVertex}
 use Rattle.plane.specs.PlineVertex.{pos, bulgeIsZero}
-use Rattle.plane.specs.Vector2.{sub, length}
+use Rattle.plane.specs.Vector2 as vector2
 use Rattle.checks.specs.declared.fault.Item.the-variants.{Chord}
 use Rattle.checks.specs.declared.fault.Checked.{Checked}
 use Rattle.checks.specs.declared.fault.Checked.the-variants.{Fine}
@@ -26,7 +26,7 @@ use Rattle.paths.specs.Shape.{broken, tooLong, refused, shape}
 use Rattle.paths.specs.Segments.{segmentCount, segmentFrom}
 use Rattle.checks.specs.Arc.{arcChord}
 use Rattle.paths.specs.Check.{ofVertex, ofSegment, vertexChecks, arcChecks, checkPath}
-use Rattle.paths.specs.Table as table
+use Rattle.paths.specs.PathRefusals as table
 use Rattle.paths.specs.Laws.Along.{along-fine}
 use Rattle.paths.specs.Laws.Segments.{count-within, after-within}
 
@@ -36,8 +36,8 @@ VertexFine v = chains.VertexFine (v .x) (v .y) (v .bulge)
 
 -- if the segment from a to b is an arc, its computed chord length, where it is a number, is at least 2^-40
 pub record ArcFine (a b : PlineVertex) : Type 0 where
-  pub long : bulgeIsZero a ≡ false → isNan (length (sub (pos b) (pos a))) ≡ false
-      → T (Limit.chordLeast ≼ length (sub (pos b) (pos a)))
+  pub long : bulgeIsZero a ≡ false → isNan (vector2.length (vector2.sub (pos b) (pos a))) ≡ false
+      → T (Limit.chordLeast ≼ vector2.length (vector2.sub (pos b) (pos a)))
 
 pub record SegmentFine (s : Segment) : Type 0 where
   pub start : VertexFine (s .v1)
@@ -60,7 +60,7 @@ pub arc-fine : (a b : PlineVertex) (owner index : ℕ) → (arcChord a b owner i
 unfolding arcChord
 arc-fine a b owner index =
     let p = at owner index Chord in
-    let exact = unless-fine (bulgeIsZero a) (chord-fine (length (sub (pos b) (pos a))) p) in
+    let exact = unless-fine (bulgeIsZero a) (chord-fine (vector2.length (vector2.sub (pos b) (pos a))) p) in
     (λ e. record { long = exact .0 e }, λ f. exact .1 (f .long))
 
 module _ (path : List Float) (owner i : ℕ) where

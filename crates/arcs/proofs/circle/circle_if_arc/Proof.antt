@@ -1,6 +1,6 @@
 -- `arcs::circle::circle_if_arc` meets its contract: each return is an end of the definition, by the calls and tests on its way.
 use borrow.Author.Needs.{needs}
-use Rattle.arcs.specs.Laws.Circles.{circleIfArc}
+use Rattle.arcs.specs.Workings.Circles.{circleIfArc}
 use Rattle.arcs.proofs.circle.circle_if_arc.Statement.{statement}
 use Rattle.arcs.proofs.circle.circle_if_arc.Tie as tie
 

@@ -1,7 +1,7 @@
 -- `arcs::two_arcs::crossing_arcs` meets its contract: where the ends are clear of the circles `Laws/Ends` says that none is collected.
 use borrow.Author.Needs.{needs}
 use Rattle.arcs.specs.TwoArcs
-use Rattle.arcs.specs.Laws.Ends.{without-ends}
+use Rattle.arcs.specs.Workings.Ends.{without-ends}
 use Rattle.arcs.proofs.two_arcs.crossing_arcs.Statement.{statement}
 use Rattle.arcs.proofs.two_arcs.crossing_arcs.Tie as tie
 

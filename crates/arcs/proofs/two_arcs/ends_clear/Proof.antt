@@ -1,6 +1,6 @@
 -- `arcs::two_arcs::ends_clear` meets its contract: its calls are the definition's.
 use borrow.Author.Needs.{needs}
-use Rattle.arcs.specs.Laws.Ends.{endsClear}
+use Rattle.arcs.specs.Workings.Ends.{endsClear}
 use Rattle.arcs.proofs.two_arcs.ends_clear.Statement.{statement}
 use Rattle.arcs.proofs.two_arcs.ends_clear.Tie as tie
 

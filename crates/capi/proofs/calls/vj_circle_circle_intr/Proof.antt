@@ -1,6 +1,6 @@
 -- `capi::calls::vj_circle_circle_intr` meets its contract: it hands over what `circle_circle_intr` answers, numbers below 256.
 use borrow.Author.Needs.{needs}
-use Rattle.answers.specs.Flat.{ofCircleCircle}
+use Rattle.answers.specs.Padded.{ofCircleCircle}
 use Rattle.capi.proofs.Ends.{handed, small}
 use Rattle.capi.proofs.Numbers.{circle-circle}
 use Rattle.capi.proofs.calls.vj_circle_circle_intr.Statement.{statement}

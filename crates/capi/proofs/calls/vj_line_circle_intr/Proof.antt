@@ -1,6 +1,6 @@
 -- `capi::calls::vj_line_circle_intr` meets its contract: it hands over what `line_circle_intr` answers, numbers below 256.
 use borrow.Author.Needs.{needs}
-use Rattle.answers.specs.Flat.{ofLineCircle}
+use Rattle.answers.specs.Padded.{ofLineCircle}
 use Rattle.capi.proofs.Ends.{handed, small}
 use Rattle.capi.proofs.Numbers.{line-circle}
 use Rattle.capi.proofs.calls.vj_line_circle_intr.Statement.{statement}

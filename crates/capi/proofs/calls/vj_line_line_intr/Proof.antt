@@ -1,6 +1,6 @@
 -- `capi::calls::vj_line_line_intr` meets its contract: it hands over what `line_line_intr` answers, numbers below 256.
 use borrow.Author.Needs.{needs}
-use Rattle.answers.specs.Flat.{ofLineLine}
+use Rattle.answers.specs.Padded.{ofLineLine}
 use Rattle.capi.proofs.Ends.{handed, small}
 use Rattle.capi.proofs.Numbers.{line-line}
 use Rattle.capi.proofs.calls.vj_line_line_intr.Statement.{statement}

@@ -1,6 +1,6 @@
 -- `capi::calls::vj_pair` meets its contract: it hands over what `pline_seg_intr` answers, numbers below 256.
 use borrow.Author.Needs.{needs}
-use Rattle.answers.specs.Flat.{ofPlineSeg}
+use Rattle.answers.specs.Padded.{ofPlineSeg}
 use Rattle.capi.proofs.Ends.{handed, small}
 use Rattle.capi.proofs.Numbers.{pline-seg}
 use Rattle.capi.proofs.calls.vj_pair.Statement.{statement}

@@ -3,7 +3,7 @@
 use mathlib.Core.Path.{_≡_, refl}
 use borrow.Author.Needs.{needs}
 use Rattle.float_laws.specs.Branches.{said-so}
-use Rattle.plane.specs.Vector2.{length}
+use Rattle.plane.specs.Vector2 as vector2
 use Rattle.checks.specs.declared.fault.Item.the-variants.{Chord}
 use Rattle.checks.specs.Fault.{at}
 use Rattle.checks.specs.Each
@@ -14,7 +14,7 @@ use Rattle.checks.proofs.arc.arc_chord.Tie as tie
 
 of-arc : (c : tie.After-sub)
     → (let a = c .before .before .before .before .before .args in
-    Arc.arcChord (a .a) (a .b) (a .owner) (a .index) ≡ Each.chord (length (c .sub .result)) (at (a .owner) (a .index) Chord))
+    Arc.arcChord (a .a) (a .b) (a .owner) (a .index) ≡ Each.chord (vector2.length (c .sub .result)) (at (a .owner) (a .index) Chord))
 unfolding Arc.arcChord
 of-arc c =
     let ends = c .before .before in

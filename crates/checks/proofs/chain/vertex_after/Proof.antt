@@ -1,6 +1,6 @@
 -- `vertex_after` meets its contract: numbers that are inside leave f as it was, by `Laws/Inside`; else each is looked at.
 use borrow.Author.Needs.{needs}
-use Rattle.checks.specs.Laws.Inside.{vertex-passed}
+use Rattle.checks.specs.Workings.Inside.{vertex-passed}
 use Rattle.checks.proofs.chain.vertex_after.Statement.{statement}
 use Rattle.checks.proofs.chain.vertex_after.Tie as tie
 

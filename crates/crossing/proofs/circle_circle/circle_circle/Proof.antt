@@ -3,8 +3,8 @@
 use mathlib.Core.Path.{sym}
 use denote.Floats.{passes}
 use borrow.Author.Needs.{needs}
-use Rattle.crossing.specs.Laws.Apart.{circles-apart}
-use Rattle.crossing.specs.Laws.Nested.{circles-nested}
+use Rattle.crossing.specs.Workings.Apart.{circles-apart}
+use Rattle.crossing.specs.Workings.Nested.{circles-nested}
 use Rattle.crossing.proofs.circle_circle.circle_circle.Statement.{statement}
 use Rattle.crossing.proofs.circle_circle.circle_circle.Tie as tie
 

@@ -5,7 +5,7 @@ use lib.Dec.{T}
 use lib.Ieee.{Float}
 use denote.Floats.{passes}
 use borrow.Author.Needs.{needs}
-use Rattle.crossing.specs.Laws.FarLine.{moderate, sizes, orders, far-line}
+use Rattle.crossing.specs.Workings.FarLine.{moderate, sizes, orders, far-line}
 use Rattle.crossing.proofs.line_circle.far.Statement.{statement}
 use Rattle.crossing.proofs.line_circle.far.Tie as tie
 

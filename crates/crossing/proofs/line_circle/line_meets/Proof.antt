@@ -2,7 +2,7 @@
 -- the distance would; elsewhere the distance is asked.
 use mathlib.Core.Path.{sym}
 use borrow.Author.Needs.{needs}
-use Rattle.crossing.specs.Laws.FarLine.{line-far}
+use Rattle.crossing.specs.Workings.FarLine.{line-far}
 use Rattle.crossing.proofs.line_circle.line_meets.Statement.{statement}
 use Rattle.crossing.proofs.line_circle.line_meets.Tie as tie
 

@@ -2,7 +2,7 @@
 use mathlib.Core.Path.{refl}
 use native.Mathlib.Omega.{arith}
 use borrow.Author.Needs.{needs}
-use Rattle.floats.specs.Root
+use Rattle.floats.specs.Workings.Root
 use Rattle.floats.specs.Laws.Guess.{part-most, two-most, both-most, all-most}
 use Rattle.floats.proofs.guess.first.Statement.{statement}
 use Rattle.floats.proofs.guess.first.Tie as tie

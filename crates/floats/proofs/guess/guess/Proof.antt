@@ -7,7 +7,7 @@ use borrow.Author.Needs.{needs}
 use lib.Dec.{T}
 use lib.Ieee.{binary64, nanBits, ofBits}
 use Rattle.float_laws.specs.Patterns.{number-up-to}
-use Rattle.floats.specs.Root
+use Rattle.floats.specs.Workings.Root
 use Rattle.floats.specs.Laws.Guess.{first-small}
 use Rattle.floats.proofs.Through.{off}
 use Rattle.floats.proofs.guess.guess.Statement.{statement}

@@ -1,6 +1,6 @@
 -- `floats::root::digits` meets its contract: 54 turns take the unit from 2 ^ 54 to 1, where the root is the whole
 -- part, of which there is one.
-use Rattle.floats.specs.Root
+use Rattle.floats.specs.Workings.Root
 use Rattle.floats.specs.Laws.Isqrt.{isqrt-is, root-unique}
 use Rattle.floats.specs.Laws.Turns.{Turn, start, done, after-six}
 use Rattle.floats.proofs.root.digits.Statement.{statement}

@@ -3,7 +3,7 @@
 use mathlib.Core.Path.{ap, _∙_}
 use Prim.Native.Nat.{ℕ, _+_, _/_, _^_}
 use borrow.Author.Needs.{needs}
-use Rattle.floats.specs.Root
+use Rattle.floats.specs.Workings.Root
 use Rattle.floats.proofs.Raise.{scaled}
 use Rattle.floats.proofs.RootBits.{low-digits, parts-low, parts-high}
 use Rattle.floats.proofs.root.parts.Statement.{statement}

@@ -3,7 +3,7 @@ use mathlib.Core.Path.{ap}
 use Prim.Native.Nat.{ℕ, _+_, _/_}
 use native.Mathlib.Omega.{arith}
 use borrow.Author.Needs.{needs}
-use Rattle.floats.specs.Root
+use Rattle.floats.specs.Workings.Root
 use Rattle.floats.proofs.RootBits.{q-small}
 use Rattle.floats.proofs.root.plain.Statement.{statement}
 use Rattle.floats.proofs.root.plain.Tie as tie

@@ -3,7 +3,7 @@
 use mathlib.Core.Path.{_≡_, ap, _∙_}
 use Prim.Native.Nat.{_+_, _*_, _%_, _^_, _<_}
 use borrow.Author.Needs.{needs}
-use Rattle.floats.specs.Root
+use Rattle.floats.specs.Workings.Root
 use Rattle.floats.proofs.Through.{off}
 use Rattle.floats.specs.Laws.Nan.{number}
 use Rattle.floats.proofs.RootBits.{moved, moved-small}

@@ -1,7 +1,7 @@
 -- `floats::root::six_turns` meets its contract: it is six turns in a row, and each leaves a root under way.
 use Prim.Native.Nat.{_+_}
 use borrow.Author.Needs.{needs}
-use Rattle.floats.specs.Root
+use Rattle.floats.specs.Workings.Root
 use Rattle.floats.specs.Laws.Turns.{Turn, after}
 use Rattle.floats.proofs.root.six_turns.Statement.{statement}
 use Rattle.floats.proofs.root.six_turns.Tie as tie

@@ -3,7 +3,7 @@ use mathlib.Core.Path.{refl}
 use borrow.Author.Needs.{needs}
 use borrow.Author.Tests.{le-leb, lt-leb}
 use Rattle.float_laws.specs.Branches.{holds, fails}
-use Rattle.floats.specs.Root
+use Rattle.floats.specs.Workings.Root
 use Rattle.floats.proofs.root.turn.Statement.{statement}
 use Rattle.floats.proofs.root.turn.Tie as tie
 

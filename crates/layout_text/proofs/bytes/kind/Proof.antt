@@ -1,7 +1,7 @@
 -- `layout_text::bytes::kind` meets its contract: each arm's tests pick its answer in the definition. Assumes nothing.
 use borrow.Author.Needs.{needs}
 use borrow.Author.Tests.{lt-ltb, le-ltb, ne-eqb}
-use Rattle.layout_text.specs.Reader.{kindOf}
+use Rattle.layout_text.specs.Workings.Reader.{kindOf}
 use Rattle.layout_text.proofs.bytes.kind.Statement.{statement}
 use Rattle.layout_text.proofs.bytes.kind.Tie as tie
 

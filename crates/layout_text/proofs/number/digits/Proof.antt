@@ -5,8 +5,8 @@ use mathlib.Core.Path.{_≡_, refl}
 use native.Mathlib.Omega.{arith}
 use borrow.Author.Needs.{needs}
 use lib.ListN.{length, drop}
-use Rattle.layout_text.specs.Reader.{digitsOf}
-use Rattle.layout_text.specs.Shown.{shownNumber}
+use Rattle.layout_text.specs.Workings.Reader.{digitsOf}
+use Rattle.layout_text.specs.Workings.Shown.{shownNumber}
 use Rattle.layout_text.proofs.Digits.{at-end, at-mark, at-other, at-beyond, at-digit}
 use Rattle.layout_text.proofs.number.digits.Statement.{statement}
 use Rattle.layout_text.proofs.number.digits.Tie as tie

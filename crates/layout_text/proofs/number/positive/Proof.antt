@@ -1,7 +1,7 @@
 -- `layout_text::number::positive` meets its contract: its tests are the definition's. Assumes nothing.
 use borrow.Author.Needs.{needs}
-use Rattle.layout_text.specs.Reader.{positiveOf}
-use Rattle.layout_text.specs.Shown.{shownNumber}
+use Rattle.layout_text.specs.Workings.Reader.{positiveOf}
+use Rattle.layout_text.specs.Workings.Shown.{shownNumber}
 use Rattle.layout_text.proofs.Digits.{first-byte}
 use Rattle.layout_text.proofs.number.positive.Statement.{statement}
 use Rattle.layout_text.proofs.number.positive.Tie as tie

@@ -3,7 +3,7 @@
 use native.Mathlib.Omega.{arith}
 use borrow.Author.Needs.{needs}
 use lib.Seq.{drop-drop}
-use Rattle.layout_text.specs.Reader.{wholeOf}
+use Rattle.layout_text.specs.Workings.Reader.{wholeOf}
 use Rattle.layout_text.proofs.Digits.{first-byte}
 use Rattle.layout_text.proofs.number.whole.Statement.{statement}
 use Rattle.layout_text.proofs.number.whole.Tie as tie

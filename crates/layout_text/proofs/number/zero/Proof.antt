@@ -3,8 +3,8 @@ use native.Mathlib.Omega.{arith}
 use borrow.Author.Needs.{needs}
 use borrow.Author.Tests.{eq-eqb, ne-eqb}
 use lib.Seq.{drop-drop}
-use Rattle.layout_text.specs.Reader.{zeroOf}
-use Rattle.layout_text.specs.Shown.{shownNumber}
+use Rattle.layout_text.specs.Workings.Reader.{zeroOf}
+use Rattle.layout_text.specs.Workings.Shown.{shownNumber}
 use Rattle.layout_text.proofs.number.zero.Statement.{statement}
 use Rattle.layout_text.proofs.number.zero.Tie as tie
 

@@ -6,7 +6,7 @@ use native.Mathlib.Nat.{sub-zero}
 use native.Mathlib.Omega.{arith}
 use borrow.Author.Needs.{needs}
 use lib.ListN.{length, drop, length-set}
-use Rattle.layout_text.specs.Reader.{verticesOf}
+use Rattle.layout_text.specs.Workings.Reader.{verticesOf}
 use Rattle.layout_text.proofs.VertexLines.{stored, store-broken, store-line, store-end, filled-broken, filled-end}
 use Rattle.layout_text.proofs.vertex.fill.Statement.{statement}
 use Rattle.layout_text.proofs.vertex.fill.Tie as tie

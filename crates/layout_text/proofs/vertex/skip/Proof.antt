@@ -6,8 +6,8 @@ use native.Mathlib.Nat.{sub-zero}
 use native.Mathlib.Omega.{arith}
 use borrow.Author.Needs.{needs}
 use lib.ListN.{drop}
-use Rattle.layout_text.specs.Reader.{passed, verticesOf}
-use Rattle.layout_text.specs.Shown.{shownPlace}
+use Rattle.layout_text.specs.Workings.Reader.{passed, verticesOf}
+use Rattle.layout_text.specs.Workings.Shown.{shownPlace}
 use Rattle.layout_text.proofs.VertexLines.{pass-broken, pass-line, pass-end}
 use Rattle.layout_text.proofs.vertex.skip.Statement.{statement}
 use Rattle.layout_text.proofs.vertex.skip.Tie as tie

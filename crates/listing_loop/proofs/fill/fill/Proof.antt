@@ -7,8 +7,8 @@ use borrow.Author.Needs.{needs}
 use denote.Ref.{now}
 use lib.Ieee.{Float}
 use Rattle.listing_pairs.specs.Look.{look}
-use Rattle.listing_pairs.specs.Laws.Job as job_of
-use Rattle.listing_pairs.specs.Laws.Ready.{at-segment, look-on}
+use Rattle.listing_pairs.specs.Workings.Job as job_of
+use Rattle.listing_pairs.specs.Workings.Ready.{at-segment, look-on}
 use Rattle.listing_loop.specs.Laws.Loop.{State, to-within, starts, few, ends, next-i, passes, looks, makes, stops}
 use Rattle.listing_loop.proofs.fill.fill.Statement.{statement}
 use Rattle.listing_loop.proofs.fill.fill.Tie as tie

@@ -4,7 +4,7 @@ use mathlib.Core.Path.{_≡_}
 use native.Mathlib.Omega.{arith}
 use lib.Ieee.{Float, binary64, ofBits}
 use lib.ListN.{length, replicate, length-replicate}
-use Rattle.listing_pairs.specs.Laws.Keeping.{kept-ready}
+use Rattle.listing_pairs.specs.Workings.Keeping.{kept-ready}
 use borrow.Author.Needs.{needs}
 use Rattle.listing_outcomes.proofs.buffer.list.Statement.{statement}
 use Rattle.listing_outcomes.proofs.buffer.list.Tie as tie

@@ -9,7 +9,7 @@ use lib.ListN.{length}
 use lib.Seq.{paste}
 use Rattle.listing_pairs.specs.Look.{look}
 use Rattle.listing_loop.specs.Laws.Loop.{few-on-page}
-use Rattle.listing_outcomes.specs.Laws.Outcome.{few-on-every, held-indices, held-points, behind-listed, behind-refused}
+use Rattle.listing_outcomes.specs.Workings.Outcome.{few-on-every, held-indices, held-points, behind-listed, behind-refused}
 use Rattle.listing_outcomes.proofs.buffer.list_behind.Statement.{statement}
 use Rattle.listing_outcomes.proofs.buffer.list_behind.Tie as tie
 

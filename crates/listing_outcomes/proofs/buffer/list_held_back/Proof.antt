@@ -12,12 +12,12 @@ use lib.ListN.{length, replicate, length-replicate}
 use lib.Seq.{length-sets}
 use Rattle.listing_pairs.specs.declared.row.Look.{Look}
 use Rattle.listing_pairs.specs.Order.{Pair}
-use Rattle.listing_pairs.specs.Row.{indicesOf, pointsOf, flat}
+use Rattle.listing_pairs.specs.Row.{indicesOf, pointsOf, numbersOfRows}
 use Rattle.listing_pairs.specs.Look.{look}
-use Rattle.listing_pairs.specs.Laws.Job as job_of
-use Rattle.listing_loop.specs.Laws.Pages.{Page, page, joins, too-many}
-use Rattle.listing_loop.specs.Laws.Filling.{Filled}
-use Rattle.listing_outcomes.specs.Laws.Outcome.{filled-first, is-refused, held-back, hold}
+use Rattle.listing_pairs.specs.Workings.Job as job_of
+use Rattle.listing_loop.specs.Workings.Pages.{Page, page, joins, too-many}
+use Rattle.listing_loop.specs.Workings.Filling.{Filled}
+use Rattle.listing_outcomes.specs.Workings.Outcome.{filled-first, is-refused, held-back, hold}
 use Rattle.listing_outcomes.proofs.buffer.list_held_back.Statement.{statement}
 use Rattle.listing_outcomes.proofs.buffer.list_held_back.Tie as tie
 
@@ -63,10 +63,10 @@ few : (c : tie.After-fill) → c .fill .result .rows ≤ most c
 few c = omega (arith, done c .rows, joins (looks c) (pairs c) (most c) .few)
 
 long-indices : (c : tie.After-fill) → length (c .fill .last .1 .1 .1 .1 .1 .1 .1 .1 .1 .0) ≡ 6144
-long-indices c = ap length (done c .indices) ∙ length-sets no-indices 0 (flat indicesOf (front c .rows)) ∙ long-no-indices
+long-indices c = ap length (done c .indices) ∙ length-sets no-indices 0 (numbersOfRows indicesOf (front c .rows)) ∙ long-no-indices
 
 long-points : (c : tie.After-fill) → length (c .fill .last .1 .1 .1 .1 .1 .1 .1 .1 .1 .1 .0) ≡ 8192
-long-points c = ap length (done c .points) ∙ length-sets no-points 0 (flat pointsOf (front c .rows)) ∙ long-no-points
+long-points c = ap length (done c .points) ∙ length-sets no-points 0 (numbersOfRows pointsOf (front c .rows)) ∙ long-no-points
 
 fill-requires : tie.Need-fill-requires
 fill-requires c κs =

@@ -5,9 +5,9 @@ use native.Mathlib.Omega.{arith}
 use borrow.Author.Needs.{needs}
 use denote.Ref.{now}
 use Rattle.listing_pairs.specs.Look.{look}
-use Rattle.listing_pairs.specs.Laws.Job as job_of
-use Rattle.listing_loop.specs.Laws.Pages.{joins}
-use Rattle.listing_outcomes.specs.Laws.Outcome.{filled-first, no-more, on-one-page}
+use Rattle.listing_pairs.specs.Workings.Job as job_of
+use Rattle.listing_loop.specs.Workings.Pages.{joins}
+use Rattle.listing_outcomes.specs.Workings.Outcome.{filled-first, no-more, on-one-page}
 use Rattle.listing_outcomes.proofs.buffer.list_kept.Statement.{statement}
 use Rattle.listing_outcomes.proofs.buffer.list_kept.Tie as tie
 

@@ -5,7 +5,7 @@ use native.Mathlib.Omega.{arith}
 use borrow.Author.Needs.{needs}
 use denote.Ref.{now}
 use lib.ListN.{length, length-set}
-use Rattle.listing_pairs.specs.Laws.Keeping.{keep, keep-length, keep-more}
+use Rattle.listing_pairs.specs.Workings.Keeping.{keep, keep-length, keep-more}
 use Rattle.listing_pairs.proofs.keeping.keep.Statement.{statement}
 use Rattle.listing_pairs.proofs.keeping.keep.Tie as tie
 

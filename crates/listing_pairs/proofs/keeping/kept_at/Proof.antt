@@ -1,6 +1,6 @@
 -- `listing_pairs::keeping::kept_at` meets its contract: it reads the three numbers where they stand.
 use mathlib.Core.Path.{refl}
-use Rattle.listing_pairs.specs.Laws.Keeping.{keptAt}
+use Rattle.listing_pairs.specs.Workings.Keeping.{keptAt}
 use borrow.Author.Needs.{needs}
 use Rattle.listing_pairs.proofs.keeping.kept_at.Statement.{statement}
 use Rattle.listing_pairs.proofs.keeping.kept_at.Tie as tie

@@ -3,8 +3,8 @@ use mathlib.Core.Path.{sym, ap, _∙_}
 use borrow.Author.Needs.{needs}
 use native.Mathlib.Omega.{arith}
 use Rattle.paths.specs.declared.path.Segment.{Segment}
-use Rattle.listing_pairs.specs.Laws.Keeping.{ofSegment}
-use Rattle.listing_pairs.specs.Laws.Ready.{lookOn}
+use Rattle.listing_pairs.specs.Workings.Keeping.{ofSegment}
+use Rattle.listing_pairs.specs.Workings.Ready.{lookOn}
 use Rattle.listing_pairs.proofs.look.look.Statement.{statement}
 use Rattle.listing_pairs.proofs.look.look.Tie as tie
 

@@ -1,6 +1,6 @@
 -- `listing_pairs::order::from` meets its contract: each return is an end of the definition, by the test that led to it.
 use borrow.Author.Needs.{needs}
-use Rattle.listing_pairs.specs.Laws.Job.{from}
+use Rattle.listing_pairs.specs.Workings.Job.{from}
 use Rattle.listing_pairs.proofs.order.from.Statement.{statement}
 use Rattle.listing_pairs.proofs.order.from.Tie as tie
 

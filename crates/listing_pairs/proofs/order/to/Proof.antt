@@ -1,6 +1,6 @@
 -- `listing_pairs::order::to` meets its contract: each return is an end of the definition, by the test that led to it.
 use borrow.Author.Needs.{needs}
-use Rattle.listing_pairs.specs.Laws.Job.{to}
+use Rattle.listing_pairs.specs.Workings.Job.{to}
 use Rattle.listing_pairs.proofs.order.to.Statement.{statement}
 use Rattle.listing_pairs.proofs.order.to.Tie as tie
 

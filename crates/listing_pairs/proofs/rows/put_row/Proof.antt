@@ -2,7 +2,7 @@
 -- place on.
 use native.Mathlib.Omega.{arith}
 use lib.ListN.{length-set}
-use Rattle.listing_pairs.specs.Laws.Stored.{put-indices, put-points, no-indices, no-points}
+use Rattle.listing_pairs.specs.Workings.Stored.{put-indices, put-points, no-indices, no-points}
 use borrow.Author.Needs.{needs}
 use Rattle.listing_pairs.proofs.rows.put_row.Statement.{statement}
 use Rattle.listing_pairs.proofs.rows.put_row.Tie as tie

@@ -2,7 +2,7 @@
 use borrow.Author.Needs.{needs}
 use Prim.Native.Nat.{_-_}
 use Rattle.paths.specs.Path.{vertexCount}
-use Rattle.paths.specs.Laws.Inside.{InsideBelow, none-yet, one-more}
+use Rattle.paths.specs.Workings.Inside.{InsideBelow, none-yet, one-more}
 use Rattle.paths.proofs.check.vertices_inside.Statement.{statement}
 use Rattle.paths.proofs.check.vertices_inside.Tie as tie
 

@@ -1,11 +1,11 @@
--- `ranges::range::within_length` meets its contract: its calls are the definition's.
+-- `ranges::range::on_segment_length` meets its contract: its calls are the definition's.
 use borrow.Author.Needs.{needs}
-use Rattle.ranges.specs.Range.{within}
-use Rattle.ranges.proofs.range.within_length.Statement.{statement}
-use Rattle.ranges.proofs.range.within_length.Tie as tie
+use Rattle.ranges.specs.Range.{onSegment}
+use Rattle.ranges.proofs.range.on_segment_length.Statement.{statement}
+use Rattle.ranges.proofs.range.on_segment_length.Tie as tie
 
 returns : tie.Need-returns
-unfolding within
+unfolding onSegment
 returns c = simp (← c .before .length .ensures, ← c .fuzzy-in-range-eps .ensures)
 
 pub within-length-spec : {M : Type 1} → statement M

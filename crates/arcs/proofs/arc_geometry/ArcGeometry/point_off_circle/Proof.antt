@@ -1,6 +1,6 @@
 -- `arcs::arc_geometry::ArcGeometry::point_off_circle` meets its contract: its call is the definition's.
 use borrow.Author.Needs.{needs}
-use Rattle.arcs.specs.Laws.Ends
+use Rattle.arcs.specs.Workings.Ends
 use Rattle.arcs.proofs.arc_geometry.ArcGeometry.point_off_circle.Statement.{statement}
 use Rattle.arcs.proofs.arc_geometry.ArcGeometry.point_off_circle.Tie as tie
 

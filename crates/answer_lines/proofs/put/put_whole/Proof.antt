@@ -1,0 +1,20 @@
+-- `answer_lines::put::put_whole` meets its contract: a number below 2^64 has at most 20 digits. Assumes nothing.
+use native.Mathlib.Omega.{arith}
+use borrow.Author.Needs.{needs}
+use Rattle.layout_text.specs.Laws.Long.{decimal-long}
+use Rattle.answer_lines.specs.Laws.Put.{decimal-in}
+use Rattle.answer_lines.proofs.put.put_whole.Statement.{statement}
+use Rattle.answer_lines.proofs.put.put_whole.Tie as tie
+
+put-decimal-requires : tie.Need-put-decimal-requires
+put-decimal-requires c κs =
+    let start = c .before .before in
+    omega (arith, start .pre, decimal-long 19 (start .args .n) (omega arith))
+
+returns : tie.Need-returns
+returns c =
+    let called = c .before .before in
+    decimal-in _ (omega arith) (called .put-decimal .ensures)
+
+pub put-whole-spec : {M : Type 1} → statement M
+put-whole-spec = tie.close (tie.spec put-decimal-requires (λ c. search needs) returns)

@@ -1,0 +1,11 @@
+-- The writer's promise settles the result: two answers that it allows are equal, and so are the slice's contents.
+use Prim.Native.Nat.{ℕ}
+use mathlib.Core.Bool.{Bool}
+use mathlib.Core.Path.{_≡_, sym, _∙_}
+use mathlib.Core.List.{List}
+use Rattle.answer_lines.specs.Written.{Lines}
+use Rattle.answer_lines.specs.declared.Written.{Written}
+
+pub lines-one-result : {rowless roomless : Bool} {bytes old a b : List ℕ} {r s : Written}
+    → Lines rowless roomless bytes r old a → Lines rowless roomless bytes s old b → (r ≡ s) × (a ≡ b)
+lines-one-result p q = (p .told ∙ sym (q .told), p .holds ∙ sym (q .holds))

@@ -1,0 +1,76 @@
+-- The text of an answer fits the room that is asked for it, 128 bytes a line: so nothing of it is cut off at the end of the slice
+-- that the writer is lent, nor at the end of a program's buffer that has that room. The numbers of an answer are below 2^64, as
+-- those of a slice of u64 are; its floats may be any.
+use Prim.Native.Nat.{ℕ, _+_, _*_, _/_, _^_, _≤_, _<_}
+use mathlib.Core.Path.{_≡_, refl, _∙_}
+use mathlib.Core.Bool.{false}
+use mathlib.Core.List.{List, _++_}
+use native.Mathlib.Omega.{arith}
+use borrow.Author.Tests.{le-ltb, lt-leb}
+use lib.ListN.{length, getD, drop}
+use lib.Seq.{sets-eq}
+use lib.Ieee.{Float}
+use Rattle.answer_lines.specs.Lines.{refusedText, countText, rowText, answerText}
+use Rattle.answer_lines.specs.Sizes as sizes
+use Rattle.answer_lines.specs.Sizes.{line, roomFor}
+use Rattle.answer_lines.specs.Written.{Lines, RefusalLine, AnswerLines}
+use Rattle.answer_lines.specs.declared.Written.{Written}
+use Rattle.answer_lines.specs.declared.Written.the-variants as Written·
+use Rattle.answer_lines.specs.Laws.Sizes.{refusal-short, counts-short, row-short, answer-short}
+
+-- ---- lines: a refusal's has at most 29 bytes, that with the counts at most 53, a row's at most 118, its newline among them
+pub refusal-line : (n : ℕ) → n < 2 ^ 64 → length (refusedText n) ≤ sizes.refusal
+refusal-line = refusal-short
+
+pub counts-line : (pairs rows : ℕ) → pairs < 2 ^ 64 → rows < 2 ^ 64 → length (countText pairs rows) ≤ sizes.counts
+counts-line = counts-short
+
+pub row-line : (i j class : ℕ) (x1 y1 x2 y2 : Float) → i < 2 ^ 64 → j < 2 ^ 64
+    → length (rowText i j class x1 y1 x2 y2) ≤ sizes.row
+row-line = row-short
+
+-- ---- answers: at most 128 bytes a line
+pub refusal-fits : (n : ℕ) → n < 2 ^ 64 → length (refusedText n) ≤ line
+refusal-fits n h = omega (arith, refusal-line n h)
+
+pub answer-fits : (pairs rows : ℕ) (index : List ℕ) (points : List Float)
+    → pairs < 2 ^ 64 → rows < 2 ^ 64 → ((k : ℕ) → getD index k 0 < 2 ^ 64)
+    → length (answerText pairs rows index points) ≤ roomFor rows
+answer-fits pairs rows index points p r below = omega (arith, answer-short index points below pairs rows p r)
+
+-- the program `crossings` has room for 512 rows and 65,664 bytes, which is what they are given
+pub room-for-512 : roomFor 512 ≡ 65664
+room-for-512 = refl
+
+-- ---- so what is written is whole
+
+-- the bytes stand at the front of the slice, all of them, and behind them what stood there
+pub record Whole (bytes : List ℕ) (r : Written) (old now : List ℕ) : Type 0 where
+  pub told : r ≡ Written·.Length (length bytes)
+  pub inside : length bytes ≤ length old
+  pub holds : now ≡ bytes ++ drop (length bytes) old
+
+-- what any promise of lines says where nothing is lacking and the bytes fit
+pub lines-whole : (bytes : List ℕ) (r : Written) (old now : List ℕ)
+    → Lines false false bytes r old now → length bytes ≤ length old → Whole bytes r old now
+lines-whole bytes r old now l h =
+    let e : 0 + length bytes ≡ length bytes = omega arith in
+    record { told = l .told; inside = h; holds = l .holds ∙ rw e at (sets-eq bytes old 0 (omega arith)) }
+
+pub refusal-whole : (n : ℕ) (r : Written) (old now : List ℕ) → n < 2 ^ 64 → line ≤ length old → RefusalLine n r old now
+    → Whole (refusedText n) r old now
+refusal-whole n r old now h room l =
+    let k : Lines false false (refusedText n) r old now = rw (le-ltb (length old) line room) at l in
+    lines-whole (refusedText n) r old now k (omega (arith, refusal-fits n h))
+
+pub answer-whole : (pairs rows : ℕ) (index : List ℕ) (points : List Float) (r : Written) (old now : List ℕ)
+    → pairs < 2 ^ 64 → rows < 2 ^ 64 → ((k : ℕ) → getD index k 0 < 2 ^ 64)
+    → rows * 3 ≤ length index → rows * 4 ≤ length points → roomFor rows ≤ length old
+    → AnswerLines pairs rows index points r old now
+    → Whole (answerText pairs rows index points) r old now
+answer-whole pairs rows index points r old now p q below wide long room l =
+    let one = le-ltb (length index / 3) rows (omega arith) in
+    let two = le-ltb (length points / 4) rows (omega arith) in
+    let three = lt-leb (length old / line) rows (omega arith) in
+    let k : Lines false false (answerText pairs rows index points) r old now = rw (one, two, three) at l in
+    lines-whole (answerText pairs rows index points) r old now k (omega (arith, answer-fits pairs rows index points p q below))

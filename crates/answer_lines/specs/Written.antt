@@ -1,0 +1,30 @@
+-- What the writer of the scope's lines promises: its answer, and what stands in the slice after it. It asks for 128 bytes a line,
+-- which is more than any line has (Room.antt); where there are fewer, or the rows' slices have fewer rows than are told, nothing
+-- is written.
+use Prim.Native.Nat.{ℕ, _/_}
+use mathlib.Core.Path.{_≡_}
+use mathlib.Core.Bool.{Bool, false, _||_, cond}
+use mathlib.Core.List.{List}
+use lib.Dec.{leb, ltb}
+use lib.ListN.{length}
+use lib.Seq.{sets}
+use lib.Ieee.{Float}
+use Rattle.answer_lines.specs.Lines.{refusedText, answerText}
+use Rattle.answer_lines.specs.Sizes.{line}
+use Rattle.answer_lines.specs.declared.Written.{Written}
+use Rattle.answer_lines.specs.declared.Written.the-variants as Written·
+
+-- bytes written to the front of a slice, or nothing
+pub record Lines (rowless roomless : Bool) (bytes : List ℕ) (r : Written) (old now : List ℕ) : Type 0 where
+  pub told : r ≡ cond rowless Written·.NoRows (cond roomless Written·.NoRoom (Written·.Length (length bytes)))
+  pub holds : now ≡ cond rowless old (cond roomless old (sets old 0 bytes))
+
+-- a refusal's line
+abbrev pub RefusalLine : ℕ → Written → List ℕ → List ℕ → Type 0
+RefusalLine number r old now = Lines false (ltb (length old) line) (refusedText number) r old now
+
+-- the counts and the rows
+abbrev pub AnswerLines : ℕ → ℕ → List ℕ → List Float → Written → List ℕ → List ℕ → Type 0
+AnswerLines pairs rows index points r old now =
+    Lines (ltb (length index / 3) rows || ltb (length points / 4) rows) (leb (length old / line) rows)
+    (answerText pairs rows index points) r old now

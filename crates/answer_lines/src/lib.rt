@@ -1,0 +1,57 @@
+// An answer as lines of text: the writer. The text is in specs/Lines.antt; what the writer promises is in specs/Written.antt.
+ghost use Rattle.answer_lines.specs.Written.{RefusalLine, AnswerLines};
+use put::put_byte;
+use put::put_whole;
+use put::put_word;
+use rows::put_counts;
+use rows::put_rows;
+
+mod put;
+mod rows;
+
+// how much room is asked for a line: `line` of specs/Sizes.antt
+pub const LINE: usize = 128;
+
+// How many bytes were written; or that the rows' slices have fewer rows than told, or that the slice has too little room.
+pub enum Written {
+    Length(usize),
+    NoRows,
+    NoRoom,
+}
+
+// Writes the line of a refusal.
+pub fn write_refusal(number: u64, out: &mut [u8]) -> Written
+    ensures { λ r. ⌜ RefusalLine number r (now (out .entry)) (now (out .exit)) ⌝ }
+{
+    if out.len() < LINE {
+        return Written::NoRoom;
+    }
+    let a = put_word(out, 0, b"refused ");
+    let b = put_whole(out, a, number);
+    let c = put_byte(out, b, b'\n');
+    Written::Length(c)
+}
+
+// Writes the line with the counts and a line for each row: index rows have three numbers, float rows four.
+pub fn write_answer(
+    pairs: usize,
+    rows: usize,
+    index: &[u64],
+    points: &[f64],
+    out: &mut [u8],
+) -> Written
+    ensures { λ r. ⌜ AnswerLines pairs rows (now (index .entry)) (now (points .entry)) r (now (out .entry)) (now (out .exit)) ⌝ }
+{
+    if index.len() / 3 < rows {
+        return Written::NoRows;
+    }
+    if points.len() / 4 < rows {
+        return Written::NoRows;
+    }
+    if out.len() / LINE <= rows {
+        return Written::NoRoom;
+    }
+    let counts = put_counts(out, pairs as u64, rows as u64);
+    let end = put_rows(out, counts, rows, index, points);
+    Written::Length(end)
+}

@@ -1,0 +1,95 @@
+// Bytes put into a lent slice from a place on. Each answers the place after what it put.
+ghost use mathlib.Core.Path.{_≡_};
+ghost use mathlib.Core.List.{[], _∷_};
+ghost use Prim.Native.Nat.{_+_, _≤_, _<_};
+ghost use lib.ListN.{length};
+ghost use lib.Ieee.{binary64, toBits};
+ghost use Rattle.layout_text.specs.Decimal.{decimal};
+ghost use Rattle.answer_lines.specs.Lines as lines;
+ghost use Rattle.answer_lines.specs.Workings.Put.{Put, PutIn};
+ghost use Rattle.answer_lines.specs.Sizes as sizes;
+
+// A byte.
+pub fn put_byte(out: &mut [u8], at: usize, b: u8) -> usize
+    requires { ⌜ at < length (now out) ⌝ }
+    ensures { λ r. ⌜ Put (b ∷ []) (now (out .entry)) at (now (out .exit)) r ⌝ }
+{
+    out[at] = b;
+    at + 1
+}
+
+// A word.
+pub fn put_word(out: &mut [u8], at: usize, word: &[u8]) -> usize
+    requires { ⌜ at + length (now word) ≤ length (now out) ⌝ }
+    ensures { λ r. ⌜ Put (now (word .entry)) (now (out .entry)) at (now (out .exit)) r ⌝ }
+{
+    let mut i = 0;
+    while i < word.len() {
+        out[at + i] = word[i];
+        i += 1;
+    }
+    at + i
+}
+
+// A number in decimal digits, of which there are at most 20.
+pub fn put_whole(out: &mut [u8], at: usize, n: u64) -> usize
+    requires { ⌜ at + sizes.whole ≤ length (now out) ⌝ }
+    ensures { λ r. ⌜ PutIn sizes.whole (decimal n) (now (out .entry)) at (now (out .exit)) r ⌝ }
+{
+    put_decimal(out, at, n)
+}
+
+fn put_decimal(out: &mut [u8], at: usize, n: u64) -> usize
+    requires { ⌜ at + length (decimal n) ≤ length (now out) ⌝ }
+    ensures { λ r. ⌜ Put (decimal n) (now (out .entry)) at (now (out .exit)) r ⌝ }
+{
+    if n < 10 {
+        out[at] = 48 + n as u8;
+        return at + 1;
+    }
+    let next = put_decimal(out, at, n / 10);
+    out[next] = 48 + (n % 10) as u8;
+    next + 1
+}
+
+// The last k hex digits of a number.
+fn put_hex(out: &mut [u8], at: usize, k: usize, n: u64) -> usize
+    requires { ⌜ at + k ≤ length (now out) ⌝ }
+    ensures { λ r. ⌜ Put (lines.hex k n) (now (out .entry)) at (now (out .exit)) r ⌝ }
+{
+    if k == 0 {
+        return at;
+    }
+    let next = put_hex(out, at, k - 1, n / 16);
+    out[next] = glyph(n % 16);
+    next + 1
+}
+
+fn glyph(d: u64) -> u8
+    requires { ⌜ d < 16 ⌝ }
+    ensures { λ r. ⌜ r ≡ lines.glyph d ⌝ }
+{
+    if d < 10 {
+        return 48 + d as u8;
+    }
+    87 + d as u8
+}
+
+// The bits of a number; every NaN has those of one.
+fn bits(x: f64) -> u64
+    ensures { λ r. ⌜ r ≡ toBits binary64 x ⌝ }
+{
+    if x != x {
+        return 0x7ff8_0000_0000_0000;
+    }
+    f64::to_bits(x)
+}
+
+// A space and a number's bits.
+pub fn put_number(out: &mut [u8], at: usize, x: f64) -> usize
+    requires { ⌜ at + sizes.float ≤ length (now out) ⌝ }
+    ensures { λ r. ⌜ PutIn sizes.float (lines.numberText x) (now (out .entry)) at (now (out .exit)) r ⌝ }
+{
+    let next = put_byte(out, at, b' ');
+    put_hex(out, next, 16, bits(x))
+}

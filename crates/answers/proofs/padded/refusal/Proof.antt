@@ -1,0 +1,9 @@
+-- `answers::padded::refusal` meets its contract: the code is the definition.
+use mathlib.Core.Path.{refl}
+use Rattle.answers.specs.Padded as padding
+use Rattle.answers.proofs.padded.refusal.Statement.{statement}
+use Rattle.answers.proofs.padded.refusal.Tie as tie
+
+pub refusal-spec : {M : Type 1} → statement M
+unfolding padding.refusal
+refusal-spec = tie.close (tie.spec (λ c. refl))

@@ -1,0 +1,58 @@
+-- A call's answer in plain numbers: whether it is a refusal, its number (the refusal's, or the case's), and four values, +0 for those that
+-- the case does not have.
+use Prim.Native.Nat.{ℕ}
+use mathlib.Core.Bool.{true, false}
+use mathlib.Core.List.{List, [], _∷_}
+use lib.Ieee.{Float}
+use Rattle.floats.specs.Ops.{f0}
+use Rattle.crossing.specs.AnswerNumbers.{AnswerNumbers}
+use Rattle.crossing.specs.LineLineIntersect
+use Rattle.crossing.specs.LineCircleIntersect
+use Rattle.crossing.specs.CircleCircleIntersect
+use Rattle.crossing.specs.PlineSegIntersect
+use Rattle.crossing.specs.declared.line_line_intersect.LineLineAnswer.{LineLineAnswer}
+use Rattle.crossing.specs.declared.line_circle_intersect.LineCircleAnswer.{LineCircleAnswer}
+use Rattle.crossing.specs.declared.circle_circle_intersect.CircleCircleAnswer.{CircleCircleAnswer}
+use Rattle.crossing.specs.declared.pline_seg_intersect.PlineSegAnswer.{PlineSegAnswer}
+use Rattle.answers.specs.declared.padded.PaddedAnswer.{PaddedAnswer}
+
+-- ---- a refusal, and a case with its values
+
+unfoldable pub refusal : ℕ → PaddedAnswer
+refusal n = record { refused = true; number = n; a = f0; b = f0; c = f0; d = f0 }
+
+unfoldable pub case : ℕ → Float → Float → Float → Float → PaddedAnswer
+case n a b c d = record { refused = false; number = n; a = a; b = b; c = c; d = d }
+
+-- ---- what an answer tells, its values filled up with +0 to four
+
+abbrev pub head : List Float → Float
+head [] = f0
+head (x ∷ xs) = x
+
+abbrev pub rest : List Float → List Float
+rest [] = []
+rest (x ∷ xs) = xs
+
+abbrev pub padded : AnswerNumbers → PaddedAnswer
+padded t =
+    record {
+      refused = t .refused;
+      number = t .number;
+      a = head (t .values);
+      b = head (rest (t .values));
+      c = head (rest (rest (t .values)));
+      d = head (rest (rest (rest (t .values))));
+    }
+
+unfoldable pub ofLineLine : LineLineAnswer → PaddedAnswer
+ofLineLine answer = padded (LineLineIntersect.numbersOf answer)
+
+unfoldable pub ofLineCircle : LineCircleAnswer → PaddedAnswer
+ofLineCircle answer = padded (LineCircleIntersect.numbersOf answer)
+
+unfoldable pub ofCircleCircle : CircleCircleAnswer → PaddedAnswer
+ofCircleCircle answer = padded (CircleCircleIntersect.numbersOf answer)
+
+unfoldable pub ofPlineSeg : PlineSegAnswer → PaddedAnswer
+ofPlineSeg answer = padded (PlineSegIntersect.numbersOf answer)

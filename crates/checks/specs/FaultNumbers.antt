@@ -1,0 +1,81 @@
+-- What the answer of a check says, in whole numbers: 0 where it is fine; else the scope's number of the refusal, and its place
+-- (owner, index, and which of the numbers). Two answers that say the same are the same.
+use mathlib.Core.Path.{_≡_, refl, sym, ap, _∙_}
+use mathlib.Core.Bool.{cond}
+use mathlib.Core.List.{List, [], _∷_}
+use Prim.Native.Nat.{ℕ}
+use lib.Dec.{eqb}
+use Rattle.checks.specs.declared.fault.Item.{Item}
+use Rattle.checks.specs.declared.fault.Item.the-variants.{
+  Epsilon,
+  X,
+  Y,
+  Bulge,
+  Radius,
+  CenterX,
+  CenterY,
+  Chord,
+  Length,
+  Rows,
+}
+use Rattle.checks.specs.declared.fault.Checked.{Checked}
+use Rattle.checks.specs.declared.fault.Checked.the-variants.{Fine, Bad}
+use Rattle.checks.specs.Fault.{at, bad}
+
+abbrev pub item : Item → ℕ
+item Epsilon = 0
+item X = 1
+item Y = 2
+item Bulge = 3
+item Radius = 4
+item CenterX = 5
+item CenterY = 6
+item Chord = 7
+item Length = 8
+item Rows = 9
+
+abbrev pub faultNumbers : Checked → List ℕ
+faultNumbers Fine = 0 ∷ []
+faultNumbers (Bad f) = f .number ∷ f .place .owner ∷ f .place .index ∷ item (f .place .item) ∷ []
+
+-- ---- back from the numbers
+item-back : ℕ → Item
+item-back n =
+    cond (eqb n 0) Epsilon
+    (cond (eqb n 1) X
+    (cond (eqb n 2) Y
+    (cond (eqb n 3) Bulge
+    (cond (eqb n 4) Radius
+    (cond (eqb n 5) CenterX
+    (cond (eqb n 6) CenterY
+    (cond (eqb n 7) Chord
+    (cond (eqb n 8) Length
+    Rows))))))))
+
+item-same : (i : Item) → item-back (item i) ≡ i
+unfolding item-back
+item-same Epsilon = refl
+item-same X = refl
+item-same Y = refl
+item-same Bulge = refl
+item-same Radius = refl
+item-same CenterX = refl
+item-same CenterY = refl
+item-same Chord = refl
+item-same Length = refl
+item-same Rows = refl
+
+back : List ℕ → Checked
+back [] = Fine
+back (n ∷ []) = Fine
+back (n ∷ o ∷ []) = Fine
+back (n ∷ o ∷ i ∷ []) = Fine
+back (n ∷ o ∷ i ∷ k ∷ rest) = bad n (at o i (item-back k))
+
+numbers-back : (c : Checked) → back (faultNumbers c) ≡ c
+unfolding back
+numbers-back Fine = refl
+numbers-back (Bad f) = simp item-same
+
+pub same-numbers : (a b : Checked) → faultNumbers a ≡ faultNumbers b → a ≡ b
+same-numbers a b e = sym (numbers-back a) ∙ ap back e ∙ numbers-back b

@@ -1,0 +1,29 @@
+-- `fast_pair::pair::line_pair_apart` meets its contract: its calls and tests lead to the definition's ends.
+use borrow.Author.Needs.{needs}
+use Rattle.float_laws.specs.Branches.{branches}
+use Rattle.fast_pair.specs.Workings.ClearlyApart.{linePairApart}
+use Rattle.fast_pair.proofs.pair.line_pair_apart.Statement.{statement}
+use Rattle.fast_pair.proofs.pair.line_pair_apart.Tie as tie
+
+pub line-pair-apart-spec : {M : Type 1} → statement M
+unfolding linePairApart
+line-pair-apart-spec =
+    tie.close
+    (tie.spec
+    (λ c. search needs)
+    (λ c. simp (← c .before .bulge-is-zero .ensures, c .if1 .taken))
+    (λ c. search needs)
+    (λ c. let p = c .before .before in
+    simp (← p .before .bulge-is-zero .ensures, ← c .before .bulge-is-zero2 .ensures) (search branches))
+    (λ c. search needs) (λ c. search needs) (λ c. search needs) (λ c. search needs) (λ c. search needs)
+    (λ c. let p = c .before in
+    let q = p .before .before in
+    let t = q .before .before .before in
+    simp (
+      ← t .before .before .bulge-is-zero .ensures,
+      ← t .bulge-is-zero2 .ensures,
+      ← q .before .pos .ensures,
+      ← q .pos2 .ensures,
+      ← p .before .pos3 .ensures,
+      ← p .pos4 .ensures,
+    ) (search branches)))

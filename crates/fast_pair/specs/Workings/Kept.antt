@@ -1,0 +1,56 @@
+-- What is kept of a segment: src/kept.rt, function by function. Nothing here need be believed: the pair's answer is `plineSeg`'s.
+use mathlib.Core.Bool.{Bool, cond, _&&_}
+use lib.Ieee.{Float, neg, binary64, ofBits}
+use Rattle.floats.specs.Ops.{_⊕_, _⊖_, _⊗_, _⊘_, _≺_, f0, f1}
+use Rattle.floats.specs.F64
+use Rattle.plane.specs.Fuzzy.{fuzzyEqZero}
+use Rattle.plane.specs.PlineSeg.{segArcRadiusAndCenter}
+use Rattle.plane.specs.PlineVertex.{pos, bulgeIsZero}
+use Rattle.plane.specs.Vector2 as vector2
+use Rattle.plane.specs.declared.vector2.Vector2.{Vector2}
+use Rattle.plane.specs.declared.pline_vertex.PlineVertex.{PlineVertex}
+use Rattle.plane.specs.declared.pline_seg.ArcRadiusCenter.{ArcRadiusCenter}
+use Rattle.crossing.specs.Workings.FarLine.{moderate}
+use Rattle.fast_pair.specs.declared.kept.Kept.{Kept}
+
+-- 2^101
+abbrev pub noGuess : Float
+noGuess = ofBits binary64 0x4640_0000_0000_0000
+
+-- 1/2, 513/1024
+abbrev half : Float
+half = ofBits binary64 0x3fe0_0000_0000_0000
+
+abbrev halfMore : Float
+halfMore = ofBits binary64 0x3fe0_0800_0000_0000
+
+unfoldable pub guess : Float → Float → Float
+guess g q = let w = (g ⊕ q ⊘ g) ⊗ half in (w ⊕ q ⊘ w) ⊗ halfMore
+
+-- a guess that the glance may use: its square is above q
+abbrev pub sound : Float → Float → Bool
+sound q w = (moderate q && moderate w) && (q ≺ w ⊗ w)
+
+unfoldable pub ofSlant : Float → Float → Bool → Kept
+ofSlant a b point =
+    let q = a ⊗ a ⊕ b ⊗ b in
+    let w = guess (F64.abs a ⊕ F64.abs b) q in
+    record { «radius_or_slope» = a; «center_x_or_root» = cond point noGuess (cond (sound q w) w noGuess); «center_y_or_zero» = f0 }
+
+unfoldable pub ofLine : Vector2 → Vector2 → Float → Kept
+ofLine p0 p1 eps =
+    let dx = p1 .x ⊖ p0 .x in
+    let dy = p1 .y ⊖ p0 .y in
+    let point = vector2.fuzzyEqEps p0 p1 eps in
+    cond (fuzzyEqZero dx) (ofSlant f1 f0 point) (ofSlant (dy ⊘ dx) (neg f1) point)
+
+unfoldable pub ofArc : PlineVertex → PlineVertex → Kept
+ofArc v1 v2 =
+    let arc = segArcRadiusAndCenter v1 v2 in
+    record { «radius_or_slope» = arc .radius; «center_x_or_root» = arc .center .x; «center_y_or_zero» = arc .center .y }
+
+unfoldable pub keptOf : PlineVertex → PlineVertex → Float → Kept
+keptOf v1 v2 eps = cond (bulgeIsZero v1) (ofLine (pos v1) (pos v2) eps) (ofArc v1 v2)
+
+unfoldable pub circleOf : Kept → ArcRadiusCenter
+circleOf kept = record { radius = kept .«radius_or_slope»; center = vector2.new (kept .«center_x_or_root») (kept .«center_y_or_zero») }

@@ -1,0 +1,106 @@
+// What a listing keeps of a segment: what a pair would work out again each time.
+ghost use mathlib.Core.Path.{_≡_};
+ghost use Rattle.fast_pair.specs.Workings.Kept as keeping;
+use crossing::shortcuts::moderate;
+use plane::fuzzy::fuzzy_eq_zero;
+use plane::pline_seg::ArcRadiusCenter;
+use plane::pline_seg::seg_arc_radius_and_center;
+use plane::pline_vertex::PlineVertex;
+use plane::vector2::Vector2;
+
+// The numbers that are kept of a segment. An arc keeps its radius and its centre's x and y. A line a * x + b * y + c = 0 keeps its slope,
+// 1 if it is vertical; a number that is not below the root of a * a + b * b; and 0. Its bulge tells which of the two a segment is.
+pub struct Kept {
+    pub radius_or_slope: f64,
+    pub center_x_or_root: f64,
+    pub center_y_or_zero: f64,
+}
+
+// The second number of a line of which no root is guessed: 2^101, beyond what a glance takes.
+const NO_GUESS: f64 = 2535301200456458802993406410752.0;
+
+const HALF: f64 = 0.5;
+
+// A little more than a half.
+const HALF_MORE: f64 = 513.0 / 1024.0;
+
+// A number that is most often a little above the root of q, from a first guess g that is not far off: two steps of Newton's, and
+// a thousandth more. Nothing hangs on how good it is.
+fn guess(g: f64, q: f64) -> f64
+    ensures { λ r. ⌜ r ≡ keeping.guess g q ⌝ }
+{
+    let w = (g + q / g) * HALF;
+    (w + q / w) * HALF_MORE
+}
+
+// What is kept of a line whose a and b are these, unless it is a point.
+fn of_slant(a: f64, b: f64, point: bool) -> Kept
+    ensures { λ r. ⌜ r ≡ keeping.ofSlant a b point ⌝ }
+{
+    let q = a * a + b * b;
+    let w = guess(floats::abs(a) + floats::abs(b), q);
+    if point {
+        return Kept {
+            radius_or_slope: a,
+            center_x_or_root: NO_GUESS,
+            center_y_or_zero: 0.0,
+        };
+    }
+    if (moderate(q) & moderate(w)) & (q < w * w) {
+        return Kept {
+            radius_or_slope: a,
+            center_x_or_root: w,
+            center_y_or_zero: 0.0,
+        };
+    }
+    Kept {
+        radius_or_slope: a,
+        center_x_or_root: NO_GUESS,
+        center_y_or_zero: 0.0,
+    }
+}
+
+// What is kept of a line segment.
+fn of_line(p0: Vector2, p1: Vector2, eps: f64) -> Kept
+    ensures { λ r. ⌜ r ≡ keeping.ofLine p0 p1 eps ⌝ }
+{
+    let dx = p1.x - p0.x;
+    let dy = p1.y - p0.y;
+    let point = p0.fuzzy_eq_eps(p1, eps);
+    if fuzzy_eq_zero(dx) {
+        return of_slant(1.0, 0.0, point);
+    }
+    of_slant(dy / dx, -1.0, point)
+}
+
+// What is kept of an arc.
+fn of_arc(v1: PlineVertex, v2: PlineVertex) -> Kept
+    ensures { λ r. ⌜ r ≡ keeping.ofArc v1 v2 ⌝ }
+{
+    let arc = seg_arc_radius_and_center(v1, v2);
+    Kept {
+        radius_or_slope: arc.radius,
+        center_x_or_root: arc.center.x,
+        center_y_or_zero: arc.center.y,
+    }
+}
+
+// What is kept of the segment from v1 to v2.
+pub fn kept_of(v1: PlineVertex, v2: PlineVertex, eps: f64) -> Kept
+    ensures { λ r. ⌜ r ≡ keeping.keptOf v1 v2 eps ⌝ }
+{
+    if v1.bulge_is_zero() {
+        return of_line(v1.pos(), v2.pos(), eps);
+    }
+    of_arc(v1, v2)
+}
+
+// The circle of an arc of which this is kept.
+pub fn circle_of(kept: Kept) -> ArcRadiusCenter
+    ensures { λ r. ⌜ r ≡ keeping.circleOf kept ⌝ }
+{
+    ArcRadiusCenter {
+        radius: kept.radius_or_slope,
+        center: Vector2::new(kept.center_x_or_root, kept.center_y_or_zero),
+    }
+}

@@ -1,0 +1,153 @@
+// How two segments meet, with a glance first: inside a listing, which has looked at the numbers already and kept what belongs to each
+// segment; and the pair call, which looks at its numbers itself.
+ghost use mathlib.Core.Path.{_≡_};
+ghost use Rattle.checks.specs.Calls;
+ghost use Rattle.checks.specs.declared.fault.Checked.the-variants.{Fine};
+ghost use Rattle.crossing.specs.PlineSeg;
+ghost use Rattle.crossing.specs.PlineSegIntersect;
+ghost use Rattle.fast_pair.specs.Workings.ClearlyApart;
+ghost use Rattle.fast_pair.specs.Workings.Kept as keeping;
+use super::all_fine::pair_fine;
+use super::circles::circles_apart;
+use super::kept::Kept;
+use super::kept::circle_of;
+use super::line::line_beside;
+use super::lines::lines_apart;
+use arcs::circle::circle_if_arc;
+use arcs::pline_seg_intr::PlineSegIntr;
+use checks::calls::check_pline_seg;
+use checks::fault::Checked;
+use crossing::pline_seg_intersect::PlineSegAnswer;
+use crossing::pline_seg_intersect::pline_seg_after_checks;
+use plane::pline_vertex::PlineVertex;
+
+// Whether two segments are clearly apart.
+fn clearly_apart(
+    v1: PlineVertex,
+    v2: PlineVertex,
+    v: Kept,
+    u1: PlineVertex,
+    u2: PlineVertex,
+    u: Kept,
+    eps: f64,
+) -> bool
+    ensures { λ r. ⌜ r ≡ ClearlyApart.clearlyApart v1 v2 v u1 u2 u eps ⌝ }
+{
+    if v1.bulge_is_zero() {
+        if u1.bulge_is_zero() {
+            return lines_apart(v1.pos(), v2.pos(), u1.pos(), u2.pos(), eps);
+        }
+        return line_beside(v1.pos(), v2.pos(), v, circle_of(u), eps);
+    }
+    if u1.bulge_is_zero() {
+        return line_beside(u1.pos(), u2.pos(), u, circle_of(v), eps);
+    }
+    circles_apart(circle_of(v), circle_of(u), eps)
+}
+
+// How the segments v1 to v2 and u1 to u2 meet, of which v and u are kept. As `pline_seg_after_checks`, it is for a caller that has
+// looked at the numbers.
+pub fn pline_seg_kept(
+    v1: PlineVertex,
+    v2: PlineVertex,
+    v: Kept,
+    u1: PlineVertex,
+    u2: PlineVertex,
+    u: Kept,
+    pos_equal_eps: f64,
+) -> PlineSegIntr
+    requires { ⌜ Calls.checkPlineSeg v1 v2 u1 u2 «pos_equal_eps» ≡ Fine ⌝ }
+    requires { ⌜ v ≡ keeping.keptOf v1 v2 «pos_equal_eps» ⌝ }
+    requires { ⌜ u ≡ keeping.keptOf u1 u2 «pos_equal_eps» ⌝ }
+    ensures { λ r. ⌜ r ≡ PlineSeg.plineSeg v1 v2 u1 u2 «pos_equal_eps» ⌝ }
+{
+    if clearly_apart(v1, v2, v, u1, u2, u, pos_equal_eps) {
+        return PlineSegIntr::NoIntersect;
+    }
+    pline_seg_after_checks(v1, v2, circle_of(v), u1, u2, circle_of(u), pos_equal_eps)
+}
+
+// Whether both segments are lines, and clearly apart.
+fn line_pair_apart(
+    v1: PlineVertex,
+    v2: PlineVertex,
+    u1: PlineVertex,
+    u2: PlineVertex,
+    eps: f64,
+) -> bool
+    ensures { λ r. ⌜ r ≡ ClearlyApart.linePairApart v1 v2 u1 u2 eps ⌝ }
+{
+    if !v1.bulge_is_zero() {
+        return false;
+    }
+    if !u1.bulge_is_zero() {
+        return false;
+    }
+    lines_apart(v1.pos(), v2.pos(), u1.pos(), u2.pos(), eps)
+}
+
+// The same as `pline_seg_kept`, of segments of which nothing is kept: for one pair it does not pay to keep a line's root.
+fn pline_seg_once(
+    v1: PlineVertex,
+    v2: PlineVertex,
+    u1: PlineVertex,
+    u2: PlineVertex,
+    pos_equal_eps: f64,
+) -> PlineSegIntr
+    requires { ⌜ Calls.checkPlineSeg v1 v2 u1 u2 «pos_equal_eps» ≡ Fine ⌝ }
+    ensures { λ r. ⌜ r ≡ PlineSeg.plineSeg v1 v2 u1 u2 «pos_equal_eps» ⌝ }
+{
+    if line_pair_apart(v1, v2, u1, u2, pos_equal_eps) {
+        return PlineSegIntr::NoIntersect;
+    }
+    let circle1 = circle_if_arc(v1, v2);
+    let circle2 = circle_if_arc(u1, u2);
+    pline_seg_after_checks(v1, v2, circle1, u1, u2, circle2, pos_equal_eps)
+}
+
+// The pair call number by number, for numbers that comparisons alone do not tell to be fine. It has no glance at the segments, so that
+// the usual way stands in one place.
+fn pline_seg_by_numbers(
+    v1: PlineVertex,
+    v2: PlineVertex,
+    u1: PlineVertex,
+    u2: PlineVertex,
+    pos_equal_eps: f64,
+) -> PlineSegAnswer
+    ensures { λ r. ⌜ r ≡ PlineSegIntersect.plineSegIntr v1 v2 u1 u2 «pos_equal_eps» ⌝ }
+{
+    let checked = check_pline_seg(v1, v2, u1, u2, pos_equal_eps);
+    match checked {
+        Checked::Fine => {
+            let circle1 = circle_if_arc(v1, v2);
+            let circle2 = circle_if_arc(u1, u2);
+            PlineSegAnswer::Met(pline_seg_after_checks(
+                v1,
+                v2,
+                circle1,
+                u1,
+                u2,
+                circle2,
+                pos_equal_eps,
+            ))
+        }
+        Checked::Bad(fault) => PlineSegAnswer::Refused(fault.number),
+    }
+}
+
+// How the segments v1 to v2 and u1 to u2 meet, or the refusal of the first number at fault: the pair call, with a glance at its
+// numbers and at the segments first.
+pub fn pline_seg_intr(
+    v1: PlineVertex,
+    v2: PlineVertex,
+    u1: PlineVertex,
+    u2: PlineVertex,
+    pos_equal_eps: f64,
+) -> PlineSegAnswer
+    ensures { λ r. ⌜ r ≡ PlineSegIntersect.plineSegIntr v1 v2 u1 u2 «pos_equal_eps» ⌝ }
+{
+    if pair_fine(v1, v2, u1, u2, pos_equal_eps) {
+        return PlineSegAnswer::Met(pline_seg_once(v1, v2, u1, u2, pos_equal_eps));
+    }
+    pline_seg_by_numbers(v1, v2, u1, u2, pos_equal_eps)
+}

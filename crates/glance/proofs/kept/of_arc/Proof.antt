@@ -1,9 +1,0 @@
--- `glance::kept::of_arc` meets its contract: its calls are the definition's, one by one.
-use borrow.Author.Needs.{needs}
-use Rattle.glance.specs.Kept as keeping
-use Rattle.glance.proofs.kept.of_arc.Statement.{statement}
-use Rattle.glance.proofs.kept.of_arc.Tie as tie
-
-pub of-arc-spec : {M : Type 1} → statement M
-unfolding keeping.ofArc
-of-arc-spec = tie.close (tie.spec (λ c. search needs) (λ c. cc))

@@ -1,7 +1,0 @@
--- `glance::looked::point_fine` meets its contract: its calls are the definition's, one by one.
-use borrow.Author.Needs.{needs}
-use Rattle.glance.proofs.looked.point_fine.Statement.{statement}
-use Rattle.glance.proofs.looked.point_fine.Tie as tie
-
-pub point-fine-spec : {M : Type 1} → statement M
-point-fine-spec = tie.close (tie.spec (λ c. search needs) (λ c. search needs) (λ c. cc))

@@ -1,5 +1,0 @@
--- What is kept of a segment, when two are clearly apart, and when numbers are fine at a glance. No answer's definition names it.
-pub mod Kept
-pub mod Glance
-pub mod Looked
-pub mod Laws

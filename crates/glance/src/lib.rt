@@ -1,8 +1,0 @@
-// Whether two segments are clearly apart, told at a glance: with no root and no division, from three numbers kept of each segment.
-// A glance that says nothing leaves the pair to `crossing`, so every answer is that of the pair call.
-mod circles;
-pub mod kept;
-mod line;
-mod lines;
-mod looked;
-pub mod pair;

@@ -1,0 +1,55 @@
+-- What the code's answers stand for, where they tell a place in the text for what is left of it.
+use mathlib.Core.Path.{_≡_}
+use mathlib.Core.List.{List, [], _∷_}
+use Prim.Native.Nat.{ℕ, _≤_}
+use lib.ListN.{drop}
+use lib.Seq.{sets}
+use lib.IntN.{ℤ}
+use lib.Ieee.{Float}
+use Rattle.layout_text.specs.Layout.{Vertex}
+use Rattle.layout_text.specs.Workings.Reader.{Got, nothing, got, Passed, stuck, over, broken, layout, verticesOf, reads, whole}
+use Rattle.layout_text.specs.Numbers.{pathOf}
+use Rattle.layout_text.specs.declared.number.Number.{Number}
+use Rattle.layout_text.specs.declared.number.Number.the-variants as Number·
+use Rattle.layout_text.specs.declared.vertex.Corner.{Corner}
+use Rattle.layout_text.specs.declared.vertex.Corner.the-variants as Corner·
+use Rattle.layout_text.specs.declared.vertex.Place.{Place}
+use Rattle.layout_text.specs.declared.vertex.Place.the-variants as Place·
+use Rattle.layout_text.specs.declared.shape.Shape.{Shape}
+use Rattle.layout_text.specs.declared.shape.Shape.the-variants as Shape·
+use Rattle.layout_text.specs.Limits as limit
+
+unfoldable pub shownNumber : List ℕ → Number → Got ℤ
+shownNumber text Number·.Broken = nothing
+shownNumber text (Number·.Whole negative n next) = got (whole negative n) (drop next text)
+
+unfoldable pub shownVertex : List ℕ → Corner → Got (List Float)
+shownVertex text Corner·.Broken = nothing
+shownVertex text (Corner·.At x y b next) = got (x ∷ y ∷ b ∷ []) (drop next text)
+
+-- a vertex's three numbers
+unfoldable pub numbersOf : Got Vertex → Got (List Float)
+numbersOf nothing = nothing
+numbersOf (got v rest) = got (pathOf (v ∷ [])) rest
+
+unfoldable pub shownPlace : List ℕ → Place → Passed
+shownPlace text Place·.Broken = stuck
+shownPlace text (Place·.At next) = over (drop next text)
+
+-- where vertices were read, their numbers stand at the front
+abbrev pub Filled : Got (List Vertex) → List Float → List Float → Type 0
+Filled g old now = (vs : List Vertex) (rest : List ℕ) → g ≡ got vs rest → now ≡ sets old 0 (pathOf vs)
+
+-- a text that has the form, with the places where its paths' vertices start
+pub record Fitting (text : List ℕ) (n m first-at second-at : ℕ) : Type 0 where
+  pub first : List Vertex
+  pub second : List Vertex
+  pub is : reads text ≡ layout (record { first = first; second = second })
+  pub first-read : verticesOf n (drop first-at text) ≡ got first (drop second-at text)
+  pub second-read : verticesOf m (drop second-at text) ≡ got second []
+  pub n-within : n ≤ limit.vertices
+  pub m-within : m ≤ limit.vertices
+
+abbrev pub Shaped : List ℕ → Shape → Type 0
+Shaped text Shape·.Broken = reads text ≡ broken
+Shaped text (Shape·.Fits n m first-at second-at) = Fitting text n m first-at second-at

@@ -1,0 +1,262 @@
+-- The outcome of a listing whose numbers were found fine, from pages: all rows on one page; rows held back and then copied; rows
+-- held back, the rest counted, and then filled in behind them; and too many rows.
+use mathlib.Core.Path.{_≡_, refl, sym, ap, _∙_}
+use mathlib.Core.Bool.{true, false}
+use mathlib.Core.List.{List, _++_}
+use Prim.Native.Nat.{ℕ, _+_, _-_, _*_, _≤_, _<_}
+use native.Mathlib.Nat.{mul-le-mul, le-refl, add-mul, sub-zero}
+use native.Mathlib.Omega.{arith}
+use borrow.Author.Tests.{le-ltb, lt-ltb}
+use lib.Ieee.{Float}
+use lib.ListN.{length, length-append}
+use lib.Seq.{paste, sets}
+use Rattle.checks.specs.Fault.{refuse}
+use Rattle.listing_pairs.specs.declared.row.Row.{Row}
+use Rattle.listing_pairs.specs.declared.row.Look.{Look}
+use Rattle.listing_pairs.specs.declared.order.Job.{Job}
+use Rattle.listing_pairs.specs.Row.{indicesOf, pointsOf, numbersOfRows}
+use Rattle.listing_pairs.specs.Order.{Pair, pairsFrom}
+use Rattle.listing_pairs.specs.Rows.{rowsOf, lookedAt}
+use Rattle.listing_pairs.specs.Workings.Job as job_of
+use Rattle.listing_pairs.specs.Laws.Stores.{flat-append, flat-length}
+use Rattle.listing_loop.specs.declared.fill.Filling.{Filling}
+use Rattle.listing_loop.specs.Workings.Pages.{
+  Page,
+  page,
+  empty,
+  Joins,
+  joins,
+  whole-rows,
+  whole-looked,
+  too-many,
+  all-fit,
+  few-rows,
+}
+use Rattle.listing_loop.specs.Workings.Filling.{Filled}
+use Rattle.listing_loop.specs.Laws.Loop.{few-left, few-on-page}
+use Rattle.listing_outcomes.specs.declared.answer.ListingAnswer.the-variants.{Refused, Listed}
+use Rattle.listing_outcomes.specs.Outcome.{Outcome, Leaves, overwrite, room, roomCheck, outcomeOf}
+use Rattle.listing_outcomes.specs.Laws.Overwrite.{sets-over, paste-over, paste-all, over-all, sets-beyond}
+
+-- a listing whose numbers were found fine
+abbrev pub listed : (ℕ → ℕ → Look) → List Pair → List ℕ → List Float → Outcome
+listed look ps indices points =
+    let rows = rowsOf look ps in
+    outcomeOf (roomCheck rows indices points) rows (lookedAt look ps) indices points
+
+module _ (look : ℕ → ℕ → Look) (ps : List Pair) (i₀ : List ℕ) (p₀ : List Float) where
+  abbrev rows : List Row
+  rows = rowsOf look ps
+
+  -- ---- what is left to say of an answer
+  pub is-refused : room i₀ p₀ < length rows → (i : List ℕ) (p : List Float) → i ≡ i₀ → p ≡ p₀
+      → Leaves (listed look ps i₀ p₀) (Refused 8) i p
+  unfolding roomCheck refuse
+  is-refused h i p a b = rw (lt-ltb _ _ h) (record { answer = refl; indices = a; points = b })
+
+  pub is-listed : length rows ≤ room i₀ p₀ → (n k : ℕ) (i : List ℕ) (p : List Float) → n ≡ length rows → k ≡ lookedAt look ps
+      → i ≡ overwrite i₀ (numbersOfRows indicesOf rows) → p ≡ overwrite p₀ (numbersOfRows pointsOf rows)
+      → Leaves (listed look ps i₀ p₀) (Listed n k) i p
+  unfolding roomCheck refuse
+  is-listed h n k i p a b c d = rw (le-ltb _ _ h) (record { answer = rw (a, b) refl; indices = c; points = d })
+
+  -- ---- the numbers of rows that fit
+  -- n rows that both slices have room for
+  pub fit-indices : (n : ℕ) → n ≤ room i₀ p₀ → n * 3 ≤ length i₀
+  fit-indices n h = omega (arith, h)
+
+  pub fit-points : (n : ℕ) → n ≤ room i₀ p₀ → n * 4 ≤ length p₀
+  fit-points n h = omega (arith, h)
+
+  -- ---- no pair is left after a page with room for k rows
+  module _ {k : ℕ} {q : Page} (j : Joins look ps k q) (within : k ≤ room i₀ p₀) (ended : empty (q .rest) ≡ true) where
+    all : q .rows ≡ rows
+    all = whole-rows look j ended
+
+    few : length rows ≤ room i₀ p₀
+    few = omega (arith, ap length all, j .few, within)
+
+    -- one kind of numbers, stored where there is room for all rows
+    stored-all : {A : Type 0} (numbers : Row → List A) (width : ℕ) → ((r : Row) → length (numbers r) ≡ width)
+        → (old : List A) → length rows * width ≤ length old → sets old 0 (numbersOfRows numbers (q .rows)) ≡ overwrite old (numbersOfRows numbers rows)
+    stored-all numbers width each old fit =
+        ap (λ (rs : List Row). sets old 0 (numbersOfRows numbers rs)) all
+        ∙ sets-over old (numbersOfRows numbers rows) (omega (arith, flat-length numbers width each rows, fit))
+
+    -- filled where they are to stand
+    pub on-one-page : (n m : ℕ) (i : List ℕ) (p : List Float) → n ≡ 0 + length (q .rows) → m ≡ q .looked
+        → i ≡ sets i₀ 0 (numbersOfRows indicesOf (q .rows)) → p ≡ sets p₀ 0 (numbersOfRows pointsOf (q .rows))
+        → Leaves (listed look ps i₀ p₀) (Listed n m) i p
+    on-one-page n m i p a b c d =
+        is-listed few n m i p (omega (arith, a, ap length all)) (b ∙ whole-looked look j ended)
+        (c ∙ stored-all indicesOf 3 (λ r. refl) i₀ (fit-indices (length rows) few))
+        (d ∙ stored-all pointsOf 4 (λ r. refl) p₀ (fit-points (length rows) few))
+
+    -- one kind of numbers, stored in a buffer a and copied from there
+    copied-all : {A : Type 0} (numbers : Row → List A) (width : ℕ) → ((r : Row) → length (numbers r) ≡ width)
+        → (old buffer a : List A) (n : ℕ) → n ≡ length rows → k * width ≤ length buffer
+        → a ≡ sets buffer 0 (numbersOfRows numbers (q .rows)) → paste old 0 a (n * width) ≡ overwrite old (numbersOfRows numbers rows)
+    copied-all {A} numbers width each old buffer a n count fit is =
+        let fewer : length rows ≤ k = omega (arith, ap length all, j .few) in
+        let inside = stored-all numbers width each buffer (omega (arith, mul-le-mul fewer (le-refl width), fit)) in
+        ap (λ (l : List A). paste old 0 l (n * width)) (is ∙ inside)
+        ∙ paste-over old buffer (numbersOfRows numbers rows) (n * width)
+        (ap (λ (c : ℕ). c * width) count ∙ sym (flat-length numbers width each rows))
+
+    -- filled into other slices, which have room for k rows, and copied
+    pub held-back : (n m : ℕ) (a₀ a i : List ℕ) (b₀ b p : List Float) → n ≡ 0 + length (q .rows) → m ≡ q .looked
+        → k * 3 ≤ length a₀ → k * 4 ≤ length b₀
+        → a ≡ sets a₀ 0 (numbersOfRows indicesOf (q .rows)) → b ≡ sets b₀ 0 (numbersOfRows pointsOf (q .rows))
+        → i ≡ paste i₀ 0 a (n * 3) → p ≡ paste p₀ 0 b (n * 4)
+        → Leaves (listed look ps i₀ p₀) (Listed n m) i p
+    held-back n m a₀ a i b₀ b p e f x y c d g h =
+        let count : n ≡ length rows = omega (arith, e, ap length all) in
+        is-listed few n m i p count (f ∙ whole-looked look j ended)
+        (g ∙ copied-all indicesOf 3 (λ r. refl) i₀ a₀ a n count x c)
+        (h ∙ copied-all pointsOf 4 (λ r. refl) p₀ b₀ b n count y d)
+
+-- ---- filled from the first pair on
+module _ (look : ℕ → ℕ → Look) (job : Job) where
+  pub from-first : (start : ℕ) → start ≡ job_of.from job 0 → job_of.left job 0 start ≡ job_of.every job
+  from-first start e =
+      ap (λ (j : ℕ). pairsFrom (job_of.from job) (job_of.to job) 0 j (job .n - 0)) e
+      ∙ ap (pairsFrom (job_of.from job) (job_of.to job) 0 (job_of.from job 0)) (sub-zero (job .n))
+
+  pub filled-first : (start k : ℕ) (r : Filling) (i₀ i : List ℕ) (p₀ p : List Float) → start ≡ job_of.from job 0
+      → Filled job true 0 (page look (job_of.left job 0 start) (k - 0)) r i₀ i p₀ p
+      → Filled job true 0 (page look (job_of.every job) k) r i₀ i p₀ p
+  filled-first start k r i₀ i p₀ p e f = rw (from-first start e, sub-zero k) at f
+
+  pub few-on-every : (k : ℕ) → job .n ≤ 4096 → job .m ≤ 4096 → page look (job_of.every job) k .looked ≤ 16777216
+  few-on-every k n m =
+      let start = job_of.from job 0 in
+      omega (
+        arith,
+        ap (λ (ps : List Pair). page look ps k .looked) (from-first start refl),
+        few-on-page look job 0 start k n m,
+      )
+
+  -- where there is room for every pair
+  pub no-more : (k : ℕ) → job .n * job .m ≤ k → empty (page look (job_of.every job) k .rest) ≡ true
+  no-more k h =
+      let ps = job_of.every job in
+      let few = few-left job 0 (job_of.from job 0) in
+      all-fit look ps k (omega (arith, few-rows look ps, ap length (from-first (job_of.from job 0) refl), few, h))
+
+-- ---- k rows are held back, all that fit, and pairs are left from (i, j) on
+pub record Held (look : ℕ → ℕ → Look) (job : Job) (k i j m : ℕ) (a : List ℕ) (b : List Float) : Type 0 where
+  pub within : i ≤ job .n
+  pub rest : page look (job_of.every job) k .rest ≡ job_of.left job i j
+  pub more : empty (page look (job_of.every job) k .rest) ≡ false
+  pub pairs : m ≡ page look (job_of.every job) k .looked
+  pub indices : a ≡ numbersOfRows indicesOf (page look (job_of.every job) k .rows)
+  pub points : b ≡ numbersOfRows pointsOf (page look (job_of.every job) k .rows)
+
+-- the numbers of k rows, stored where there is just room for them
+just-all : {A : Type 0} (numbers : Row → List A) (width : ℕ) → ((r : Row) → length (numbers r) ≡ width)
+    → (rows : List Row) (old : List A) (k : ℕ) → length rows ≡ k → length old ≡ k * width
+    → sets old 0 (numbersOfRows numbers rows) ≡ numbersOfRows numbers rows
+just-all numbers width each rows old k n l =
+    let long = flat-length numbers width each rows ∙ ap (λ (c : ℕ). c * width) n in
+    sets-over old (numbersOfRows numbers rows) (omega (arith, long, l)) ∙ over-all old (numbersOfRows numbers rows) (l ∙ sym long)
+
+-- a page that fills slices of just its room, and after which pairs are left
+pub hold : (look : ℕ → ℕ → Look) (job : Job) (k m : ℕ) (r : Filling) (a₀ a : List ℕ) (b₀ b : List Float) → m ≡ k
+    → Filled job true 0 (page look (job_of.every job) m) r a₀ a b₀ b → r .ended ≡ false → length a₀ ≡ k * 3 → length b₀ ≡ k * 4
+    → Held look job k (r .i) (r .j) (r .pairs) a b
+hold look job k m r a₀ a b₀ b same g e x y =
+    let f = rw same at g in
+    let q = page look (job_of.every job) k in
+    let more = sym (f .ended) ∙ e in
+    let n = joins look (job_of.every job) k .full more .0 in
+    record {
+      within = f .within;
+      rest = f .rest;
+      more = more;
+      pairs = f .pairs;
+      indices = f .indices ∙ just-all indicesOf 3 (λ r. refl) (q .rows) a₀ k n x;
+      points = f .points ∙ just-all pointsOf 4 (λ r. refl) (q .rows) b₀ k n y;
+    }
+
+module _ {look : ℕ → ℕ → Look} {job : Job} {k i j m : ℕ} {a : List ℕ} {b : List Float} (held : Held look job k i j m a b) where
+  abbrev ps : List Pair
+  ps = job_of.every job
+
+  abbrev front : Page
+  front = page look ps k
+
+  first-rows : rowsOf look ps ≡ front .rows ++ rowsOf look (job_of.left job i j)
+  first-rows =
+      sym (joins look ps k .rows) ∙ ap (λ (l : List Pair). front .rows ++ rowsOf look l) (held .rest)
+
+  count-front : length (front .rows) ≡ k
+  count-front = joins look ps k .full (held .more) .0
+
+  pub held-indices : length a ≡ k * 3
+  held-indices = ap length (held .indices) ∙ flat-length indicesOf 3 (λ r. refl) (front .rows) ∙ ap (λ (n : ℕ). n * 3) count-front
+
+  pub held-points : length b ≡ k * 4
+  held-points = ap length (held .points) ∙ flat-length pointsOf 4 (λ r. refl) (front .rows) ∙ ap (λ (n : ℕ). n * 4) count-front
+
+  module _ (i₀ : List ℕ) (p₀ : List Float) (fits : k ≤ room i₀ p₀) where
+    -- the page behind it
+    abbrev pub behind : Page
+    behind = page look (job_of.left job i j) (room i₀ p₀ - k)
+
+    -- pairs are left behind that page too
+    pub behind-refused : empty (behind .rest) ≡ false → (x : List ℕ) (y : List Float) → x ≡ i₀ → y ≡ p₀
+        → Leaves (listed look ps i₀ p₀) (Refused 8) x y
+    behind-refused e =
+        let n = too-many look (joins look (job_of.left job i j) (room i₀ p₀ - k)) e in
+        let l = length-append (front .rows) (rowsOf look (job_of.left job i j)) in
+        is-refused look ps i₀ p₀ (omega (arith, n, l, ap length first-rows, count-front, fits))
+
+    module _ (ended : empty (behind .rest) ≡ true) where
+      both : rowsOf look ps ≡ front .rows ++ behind .rows
+      both =
+          let j = joins look (job_of.left job i j) (room i₀ p₀ - k) in
+          first-rows ∙ ap (λ (rs : List Row). front .rows ++ rs) (sym (whole-rows look j ended))
+
+      looked : lookedAt look ps ≡ m + behind .looked
+      looked =
+          let j = joins look (job_of.left job i j) (room i₀ p₀ - k) in
+          omega (arith, joins look ps k .looked, ap (lookedAt look) (held .rest), whole-looked look j ended, held .pairs)
+
+      count-both : length (rowsOf look ps) ≡ k + length (behind .rows)
+      count-both = omega (arith, ap length both, length-append (front .rows) (behind .rows), count-front)
+
+      few-behind : k + length (behind .rows) ≤ room i₀ p₀
+      few-behind = omega (arith, joins look (job_of.left job i j) (room i₀ p₀ - k) .few, fits)
+
+      -- the numbers of one kind, copied and then stored behind
+      stored-both : {A : Type 0} (numbers : Row → List A) (width : ℕ) → ((r : Row) → length (numbers r) ≡ width)
+          → (old held : List A) → held ≡ numbersOfRows numbers (front .rows) → room i₀ p₀ * width ≤ length old
+          → sets (paste old 0 held (k * width)) (k * width) (numbersOfRows numbers (behind .rows)) ≡ overwrite old (numbersOfRows numbers (rowsOf look ps))
+      stored-both {A} numbers width each old held is long =
+          let front-long = flat-length numbers width each (front .rows) in
+          let behind-long = flat-length numbers width each (behind .rows) in
+          let k-long : k * width ≡ length (numbersOfRows numbers (front .rows)) =
+          ap (λ (n : ℕ). n * width) (sym count-front) ∙ sym front-long in
+          let in-all : (k + length (behind .rows)) * width ≤ room i₀ p₀ * width = mul-le-mul few-behind (le-refl width) in
+          let end : k * width + length (numbersOfRows numbers (behind .rows)) ≤ length old =
+          omega (arith, behind-long, add-mul k (length (behind .rows)) width, in-all, long) in
+          ap (λ (l : List A). sets (paste old 0 l (k * width)) (k * width) (numbersOfRows numbers (behind .rows))) is
+          ∙ ap (λ (l : List A). sets l (k * width) (numbersOfRows numbers (behind .rows)))
+          (paste-all old (numbersOfRows numbers (front .rows)) (k * width) k-long)
+          ∙ sets-beyond old (numbersOfRows numbers (front .rows)) (numbersOfRows numbers (behind .rows)) (k * width) (sym k-long) end
+          ∙ ap (overwrite old) (sym (flat-append numbers (front .rows) (behind .rows)) ∙ ap (numbersOfRows numbers) (sym both))
+
+      -- u and v: the slices with the rows that were held back copied to their fronts
+      pub behind-listed : (n l : ℕ) (u x : List ℕ) (v y : List Float) → n ≡ k + length (behind .rows) → l ≡ m + behind .looked
+          → u ≡ paste i₀ 0 a (k * 3) → v ≡ paste p₀ 0 b (k * 4)
+          → x ≡ sets u (k * 3) (numbersOfRows indicesOf (behind .rows)) → y ≡ sets v (k * 4) (numbersOfRows pointsOf (behind .rows))
+          → Leaves (listed look ps i₀ p₀) (Listed n l) x y
+      behind-listed n l u x v y count pairs to-u to-v to-x to-y =
+          let all = room i₀ p₀ in
+          let front-indices = ap (λ (d : List ℕ). sets d (k * 3) (numbersOfRows indicesOf (behind .rows))) to-u in
+          let front-points = ap (λ (d : List Float). sets d (k * 4) (numbersOfRows pointsOf (behind .rows))) to-v in
+          let long-indices = fit-indices look ps i₀ p₀ all (le-refl all) in
+          let long-points = fit-points look ps i₀ p₀ all (le-refl all) in
+          is-listed look ps i₀ p₀ (omega (arith, count-both, few-behind)) n l x y (count ∙ sym count-both) (pairs ∙ sym looked)
+          (to-x ∙ front-indices ∙ stored-both indicesOf 3 (λ r. refl) i₀ a (held .indices) long-indices)
+          (to-y ∙ front-points ∙ stored-both pointsOf 4 (λ r. refl) p₀ b (held .points) long-points)

@@ -1,0 +1,5 @@
+-- The workings: how answers are found, and quick tests. No answer's definition names anything here, so a reader need not believe it.
+pub mod Job
+pub mod Ready
+pub mod Keeping
+pub mod Stored

@@ -1,0 +1,87 @@
+-- What a listing's loop asks of its paths: the pair call's look finds no fault at any pair. It follows from the checks of both paths.
+use mathlib.Core.Path.{_≡_, ap, _∙_}
+use mathlib.Core.Bool.{Bool}
+use mathlib.Core.List.{List}
+use Prim.Native.Nat.{ℕ, _<_, _≤_}
+use native.Mathlib.Omega.{arith}
+use lib.Ieee.{Float}
+use Rattle.checks.specs.declared.fault.Checked.the-variants.{Fine}
+use Rattle.checks.specs.Fault.{at}
+use Rattle.checks.specs.Each
+use Rattle.checks.specs.Calls.{checkPlineSeg}
+use Rattle.crossing.specs.PlineSeg.{plineSeg}
+use Rattle.fast_pair.specs.Laws.AllFine.{Sound, look-fine}
+use Rattle.paths.specs.declared.path.Segment.{Segment}
+use Rattle.paths.specs.Path.{vertexCount}
+use Rattle.paths.specs.Segments.{segmentFrom, segmentCount}
+use Rattle.paths.specs.Laws.Segments.{count-within, few-segments}
+use Rattle.paths.specs.Laws.Fine.{SegmentFine, PathFine, arc-fine, segment-fine}
+use Rattle.listing_pairs.specs.declared.row.Look.{Look}
+use Rattle.listing_pairs.specs.declared.order.Job.{Job}
+use Rattle.listing_pairs.specs.Row.{lookOf}
+use Rattle.listing_pairs.specs.Look.{look}
+
+-- the pair of a segment v, which is i, and segment j of the second path
+unfoldable pub lookOn : Segment → List Float → Float → ℕ → ℕ → Look
+lookOn v second epsilon i j =
+    let u = segmentFrom second j in
+    lookOf i j (plineSeg (v .v1) (v .v2) (u .v1) (u .v2) epsilon)
+
+pub look-on : (v : Segment) (first second : List Float) (epsilon : Float) (i j : ℕ) → v ≡ segmentFrom first i
+    → lookOn v second epsilon i j ≡ look first second epsilon i j
+unfolding lookOn look
+look-on v first second epsilon i j e =
+    ap (λ (s : Segment). lookOf i j (plineSeg (s .v1) (s .v2) (segmentFrom second j .v1) (segmentFrom second j .v2) epsilon)) e
+
+abbrev PairFine : Segment → Segment → Float → Type 0
+PairFine v u epsilon = checkPlineSeg (v .v1) (v .v2) (u .v1) (u .v2) epsilon ≡ Fine
+
+-- segment v with every segment of the second path
+pub record SegmentReady (v : Segment) (second : List Float) (job : Job) : Type 0 where
+  pub m-within : job .m ≤ vertexCount second
+  pub fine : (j : ℕ) → j < job .m → PairFine v (segmentFrom second j) (job .epsilon)
+
+pub record Ready (first second : List Float) (job : Job) : Type 0 where
+  pub n-within : job .n ≤ vertexCount first
+  pub m-within : job .m ≤ vertexCount second
+  pub few : job .n ≤ 4096
+  pub few-second : job .m ≤ 4096
+  pub fine : (i j : ℕ) → i < job .n → j < job .m → PairFine (segmentFrom first i) (segmentFrom second j) (job .epsilon)
+
+pub at-segment : (v : Segment) (first second : List Float) (job : Job) (i : ℕ) → Ready first second job → i < job .n
+    → v ≡ segmentFrom first i → SegmentReady v second job
+at-segment v first second job i ready h e =
+    record {
+      m-within = ready .m-within;
+      fine = λ j l.
+          ap
+          (λ (s : Segment). checkPlineSeg (s .v1) (s .v2) (segmentFrom second j .v1) (segmentFrom second j .v2) (job .epsilon))
+          e
+          ∙ ready .fine i j h l;
+    }
+
+-- ---- what the checks of a listing establish
+-- the look of the pair call at two segments that were found fine
+pub pair-fine : (v u : Segment) (epsilon : Float) → Each.epsilon epsilon ≡ Fine → SegmentFine v → SegmentFine u
+    → PairFine v u epsilon
+pair-fine v u epsilon e fv fu = look-fine (v .v1) (v .v2) (u .v1) (u .v2) epsilon e (sound v 0 fv) (sound u 1 fu)
+  where
+    sound : (s : Segment) (owner : ℕ) → SegmentFine s → Sound (s .v1) (s .v2) owner
+    sound s owner f = record { start = f .start; end = f .end .point; arc = arc-fine (s .v1) (s .v2) owner 0 .1 (f .arc) }
+
+-- both paths found fine: every pair is
+pub paths-ready : (first second : List Float) (firstClosed secondClosed : Bool) (job : Job)
+    → Each.epsilon (job .epsilon) ≡ Fine → PathFine first firstClosed → PathFine second secondClosed
+    → job .n ≡ segmentCount first firstClosed → job .m ≡ segmentCount second secondClosed
+    → Ready first second job
+paths-ready first second firstClosed secondClosed job e fv fu n m =
+    record {
+      n-within = omega (arith, n, count-within first firstClosed);
+      m-within = omega (arith, m, count-within second secondClosed);
+      few = omega (arith, n, few-segments first firstClosed);
+      few-second = omega (arith, m, few-segments second secondClosed);
+      fine = λ i j h l.
+          pair-fine (segmentFrom first i) (segmentFrom second j) (job .epsilon) e
+          (segment-fine first firstClosed fv i (omega (arith, h, n)))
+          (segment-fine second secondClosed fu j (omega (arith, l, m)));
+    }

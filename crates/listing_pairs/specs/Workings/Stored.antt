@@ -1,0 +1,71 @@
+-- The numbers of rows, stored from a row on in one of the two lent slices, or left out where rows are only counted; and what the
+-- stores of one row leave.
+use mathlib.Core.Path.{_≡_, refl, ap, _∙_}
+use mathlib.Core.Bool.{Bool, true, false}
+use mathlib.Core.List.{List, [], _∷_, append-nil}
+use Prim.Native.Nat.{ℕ, suc, _+_, _*_}
+use native.Mathlib.Nat.{add-mul}
+use native.Mathlib.Omega.{arith}
+use lib.Ieee.{Float}
+use lib.ListN.{length, set}
+use lib.Seq.{sets}
+use Rattle.listing_pairs.specs.declared.row.Row.{Row}
+use Rattle.listing_pairs.specs.Row.{indicesARow, pointsARow, indicesOf, pointsOf, numbersOfRows}
+use Rattle.listing_pairs.specs.Laws.Stores.{sets-append}
+
+-- the rows that are written: all, or none where rows are only counted
+abbrev pub kept : Bool → List Row → List Row
+kept true rows = rows
+kept false rows = []
+
+-- what stands after the numbers of rows are stored from row k on, one kind of numbers, `width` of them a row
+abbrev pub stored : {A : Type 0} → (Row → List A) → ℕ → Bool → List A → ℕ → List Row → List A
+stored numbers width write l k rows = sets l (k * width) (numbersOfRows numbers (kept write rows))
+
+module _ {A : Type 0} (numbers : Row → List A) (width : ℕ) where
+  pub stored-none : (write : Bool) (l : List A) (k : ℕ) → l ≡ stored numbers width write l k []
+  stored-none true l k = refl
+  stored-none false l k = refl
+
+  -- one row, and then the others after it
+  pub stored-one : (write : Bool) (l : List A) (k : ℕ) (r : Row) (rows : List Row) → length (numbers r) ≡ width
+      → stored numbers width write (stored numbers width write l k (r ∷ [])) (k + 1) rows ≡ stored numbers width write l k (r ∷ rows)
+  stored-one true l k r rows e =
+      let next : (k + 1) * width ≡ k * width + length (numbers r) = omega (arith, e, add-mul k 1 width) in
+      ap (λ (vs : List A). sets (sets l (k * width) vs) ((k + 1) * width) (numbersOfRows numbers rows)) (append-nil (numbers r))
+      ∙ ap (λ (i : ℕ). sets (sets l (k * width) (numbers r)) i (numbersOfRows numbers rows)) next
+      ∙ sets-append l (k * width) (numbers r) (numbersOfRows numbers rows)
+  stored-one false l k r rows e = refl
+
+-- a row as row k
+abbrev pub putIndices : Bool → List ℕ → ℕ → Row → List ℕ
+putIndices write l k r = stored indicesOf indicesARow write l k (r ∷ [])
+
+abbrev pub putPoints : Bool → List Float → ℕ → Row → List Float
+putPoints write l k r = stored pointsOf pointsARow write l k (r ∷ [])
+
+-- ---- what straight-line stores leave
+module _ (k : ℕ) (r : Row) (write : Bool) (e : write ≡ true) where
+  pub put-indices : (l : List ℕ)
+      → set (set (set l (k * 3) (r .i)) (k * 3 + 1) (r .j)) (k * 3 + 2) (r .class) ≡ putIndices write l k r
+  put-indices l =
+      let one : k * 3 + 1 ≡ suc (k * 3) = omega arith in
+      let two : k * 3 + 2 ≡ suc (suc (k * 3)) = omega arith in
+      rw (e, one, two) refl
+
+  pub put-points : (l : List Float)
+      → set (set (set (set l (k * 4) (r .x1)) (k * 4 + 1) (r .y1)) (k * 4 + 2) (r .x2)) (k * 4 + 3) (r .y2)
+      ≡ putPoints write l k r
+  put-points l =
+      let one : k * 4 + 1 ≡ suc (k * 4) = omega arith in
+      let two : k * 4 + 2 ≡ suc (suc (k * 4)) = omega arith in
+      let three : k * 4 + 3 ≡ suc (suc (suc (k * 4))) = omega arith in
+      rw (e, one, two, three) refl
+
+-- and none
+module _ (k : ℕ) (r : Row) (write : Bool) (e : write ≡ false) where
+  pub no-indices : (l : List ℕ) → l ≡ putIndices write l k r
+  no-indices l = rw e refl
+
+  pub no-points : (l : List Float) → l ≡ putPoints write l k r
+  no-points l = rw e refl

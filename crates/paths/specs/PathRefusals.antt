@@ -1,0 +1,37 @@
+-- The scope's table, for a path: which refusal its length and its arcs are given, and exactly when. Exactly.antt and RefusalTable.antt
+-- of the crate `checks` say what `Gives` and `GivesThen` state, and the same of each number.
+use mathlib.Core.Bool.{Bool, true, false, cond, not, _&&_}
+use mathlib.Core.List.{List}
+use Prim.Native.Nat.{ℕ}
+use native.Mathlib.Omega.{arith}
+use lib.Ieee.{Float}
+use Rattle.floats.specs.Ops.{_≺_}
+use Rattle.plane.specs.declared.pline_vertex.PlineVertex.{PlineVertex}
+use Rattle.plane.specs.PlineVertex.{pos, bulgeIsZero}
+use Rattle.plane.specs.Vector2 as vector2
+use Rattle.checks.specs.declared.fault.Item.the-variants.{Length, Chord}
+use Rattle.checks.specs.declared.fault.Checked.the-variants.{Fine}
+use Rattle.checks.specs.Fault.{at, refuse}
+use Rattle.checks.specs.Exactly.{Gives, GivesThen, gives, gives-then}
+use Rattle.checks.specs.Each
+use Rattle.checks.specs.Limit
+use Rattle.paths.specs.Shape
+use Rattle.checks.specs.Arc.{arcChord}
+
+-- 6, 7: the length is no multiple of 3; there are more than 4,096 vertices
+pub shape : (path : List Float) (owner : ℕ)
+    → GivesThen (Shape.shape path owner) (at owner 0 Length) 6 (Shape.broken path) 7 (Shape.tooLong path)
+unfolding Shape.shape
+shape path owner = gives-then (Shape.broken path) (Shape.tooLong path) 6 7 (at owner 0 Length) (λ e. omega arith)
+
+-- 5: the segment is an arc, and its computed chord length is below 2^-40
+pub arc-chord : (a b : PlineVertex) (owner index : ℕ)
+    → Gives (arcChord a b owner index) (at owner index Chord) 5
+    (not (bulgeIsZero a) && (vector2.length (vector2.sub (pos b) (pos a)) ≺ Limit.chordLeast))
+unfolding arcChord Each.chord refuse
+arc-chord a b owner index = go (bulgeIsZero a) (vector2.length (vector2.sub (pos b) (pos a)) ≺ Limit.chordLeast)
+  where
+    go : (line short : Bool)
+        → Gives (cond line Fine (refuse short 5 (at owner index Chord))) (at owner index Chord) 5 (not line && short)
+    go true short = gives false 5 (at owner index Chord)
+    go false short = gives short 5 (at owner index Chord)

@@ -1,0 +1,55 @@
+-- A path whose vertices are all inside their limits, told by comparisons alone: its check finds no fault in them, so that what was found
+-- before stays.
+use mathlib.Core.Path.{_≡_, sym, ap, _∙_, subst}
+use mathlib.Core.Logic.{_⊎_, inl, inr}
+use mathlib.Core.Bool.{Bool, false, not}
+use mathlib.Core.List.{List}
+use Prim.Native.Nat.{ℕ, _+_, _≤_, _<_}
+use native.Mathlib.Nat.{eq-or-lt-of-le}
+use native.Mathlib.Omega.{arith}
+use lib.Dec.{T}
+use lib.Ieee.{Float}
+use Rattle.plane.specs.declared.pline_vertex.PlineVertex.{PlineVertex}
+use Rattle.checks.specs.declared.fault.Checked.{Checked}
+use Rattle.checks.specs.Fault.{later}
+use Rattle.checks.specs.Laws.Fine.{not-denied}
+use Rattle.checks.specs.Workings.Inside.{vertexInside, all-passed}
+use Rattle.checks.specs.Laws.Later.{fine-right}
+use Rattle.paths.specs.Path.{vertexCount, vertex}
+use Rattle.paths.specs.Check.{ofVertex, checkVertices}
+use Rattle.paths.specs.Laws.Along.{fine-all}
+
+abbrev pub Inside : PlineVertex → Type 0
+Inside v = T (vertexInside (v .x) (v .y) (v .bulge))
+
+-- the vertices below i are inside
+abbrev pub InsideBelow : List Float → ℕ → Type 0
+InsideBelow path i = (j : ℕ) → j < i → Inside (vertex path j)
+
+-- a yes says that all are
+pub record Tells (path : List Float) (r : Bool) : Type 0 where
+  pub all : T r → InsideBelow path (vertexCount path)
+
+pub none-yet : (path : List Float) → InsideBelow path 0
+none-yet path j l = absurd (omega arith)
+
+pub one-more : (path : List Float) (i : ℕ) (v : PlineVertex) (b : Bool) → b ≡ vertexInside (v .x) (v .y) (v .bulge) → v ≡ vertex path i
+    → not b ≡ false → InsideBelow path i → InsideBelow path (i + 1)
+one-more path i v b told read h below j l = go (eq-or-lt-of-le (close j i l))
+  where
+    close : (j i : ℕ) → j < i + 1 → j ≤ i
+    close j i l = omega arith
+
+    here : Inside (vertex path i)
+    here = subst Inside read (subst T told (not-denied b h))
+
+    go : (j ≡ i) ⊎ (j < i) → Inside (vertex path j)
+    go (inl e) = subst (λ (k : ℕ). Inside (vertex path k)) (sym e) here
+    go (inr less) = below j less
+
+pub inside-fine : (f : Checked) (path : List Float) (owner : ℕ) → InsideBelow path (vertexCount path) → f ≡ checkVertices f path owner
+unfolding checkVertices ofVertex
+inside-fine f path owner all =
+    sym (fine-right f)
+    ∙ ap (later f) (sym (fine-all (ofVertex path owner) (vertexCount path)
+    (λ i l. let v = vertex path i in all-passed (v .x) (v .y) (v .bulge) owner i (all i l))))

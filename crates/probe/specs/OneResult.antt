@@ -1,0 +1,9 @@
+-- What a call promises that hands numbers over settles its result: the count returned, and the contents of the slice.
+use Prim.Native.Nat.{ℕ}
+use mathlib.Core.Path.{_≡_, sym, _∙_}
+use mathlib.Core.List.{List}
+use lib.Ieee.{Float}
+use Rattle.probe.specs.Numbers.{Given}
+
+pub given-one-result : {numbers old a b : List Float} {r s : ℕ} → Given numbers r old a → Given numbers s old b → (r ≡ s) × (a ≡ b)
+given-one-result p q = (p .told ∙ sym (q .told), p .holds ∙ sym (q .holds))
