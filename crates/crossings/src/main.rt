@@ -1,4 +1,5 @@
-// Lists where the two paths of a layout meet: the layout's text from standard input, the listing's to standard output.
+// Lists where the two paths of a layout meet: it reads the layout's text from standard input and writes the listing's text to
+// standard output.
 ghost use Prim.Native.Nat.{_≤_};
 ghost use lib.ListN.{length};
 use answer_lines::Written;
@@ -10,7 +11,7 @@ struct Input {
 }
 
 fn main() {
-    // one byte more than a text may have, so that a longer one is told
+    // one byte more than a text may have, so that a longer text is noticed
     let mut text = [0u8; 16385];
     let input = read_text(&mut text);
     if input.failed {
@@ -21,7 +22,7 @@ fn main() {
     answer(&text[..n]);
 }
 
-// Reads until the slice is full or the input ends; a read that fails is told apart from the end.
+// Reads until the slice is full or the input ends. `failed` says that a read failed, which is not the end of the input.
 fn read_text(text: &mut [u8]) -> Input
     ensures { λ r. ⌜ r .bytes ≤ length (now (text .exit)) ⌝ }
 {
@@ -49,7 +50,7 @@ fn read_text(text: &mut [u8]) -> Input
     }
 }
 
-// Writes the answer to a text. There is room for the longest one, so the other ends are not met.
+// Writes the answer to a text. There is room for the longest answer, so the last line is never reached.
 fn answer(text: &[u8]) {
     let mut out = [0u8; 65664];
     let written = layout_listing::list_layout(text, &mut out);
