@@ -1,6 +1,6 @@
 // How two line segments meet. A parameter t gives the point p0 + t * (p1 - p0) of its segment.
 pub enum LineLineIntr {
-    // Parallel and not on one line, or apart where one or both are points.
+    // Parallel and apart, on one line or not. A segment that is a point counts as parallel.
     NoIntersect,
     // The two share one point.
     TrueIntersect { seg1_t: f64, seg2_t: f64 },
