@@ -29,15 +29,3 @@ module _ (f : Format) (x y : Float) (p n q k : ℕ) (a : Diff x p n 1) (b : Diff
   div-below l = by-sign true (k - q) (omega arith) (size-below y q k 1 l b)
 
 -- ---- how near: any quotient with a numerator up to 2 ^ prec is finite and near; up to 2 ^ k in size, within 2 ^ k / 2 ^ (prec + 1)
-pub quotient-near : (f : Format) (r : Float) (P N D : ℕ) → Rounded f r P N D → 0 < D → P ≤ N + 2 ^ prec f → N ≤ P + 2 ^ prec f
-    → Near (2 ^ low f) r P N D (2 ^ prec f) (2 ^ suc (prec f))
-quotient-near f r P N D h pos u l =
-    let wide : 2 ^ prec f ≤ 2 ^ prec f * D = times (2 ^ prec f) D pos in
-    rounded-near f r P N D (prec f) h pos (omega arith) (omega arith) (room f)
-  where
-    times : (a d : ℕ) → 0 < d → a ≤ a * d
-    times a d h = let w : 1 * a ≤ d * a = mul-le-mul-right a h in omega arith
-
-    room : (f : Format) → prec f ≤ emax f
-    room binary32 = lit≤ tt
-    room binary64 = lit≤ tt

@@ -49,13 +49,6 @@ pub record PathFine (path : List Float) (closed : Bool) : Type 0 where
   pub arcs : (i : ℕ) → i < segmentCount path closed → ArcFine (segmentFrom path i .v1) (segmentFrom path i .v2)
 
 -- ---- exactly these pass
-pub shape-fine : (path : List Float) (owner : ℕ) → (shape path owner ≡ Fine) ↔ (refused path ≡ false)
-unfolding refused
-shape-fine path owner =
-    let exact = table.shape path owner .fine in
-    let both = neither (broken path) (tooLong path) in
-    (λ e. both .1 (exact .0 e), λ e. exact .1 (both .0 e))
-
 pub arc-fine : (a b : PlineVertex) (owner index : ℕ) → (arcChord a b owner index ≡ Fine) ↔ ArcFine a b
 unfolding arcChord
 arc-fine a b owner index =
