@@ -1,16 +1,15 @@
 -- A quotient of whole numbers N / D, rounded once: it is finite; it does not cross a whole number, so it lies from 0 to 1 where
 -- N / D does; and it is off by at most half a last place. N is p - n and D is q - k, in floats x and y.
 use mathlib.Core.Path.{_≡_}
-use Prim.Native.Nat.{ℕ, suc, _+_, _-_, _*_, _^_, _≤_, _<_}
-use native.Mathlib.Nat.{zero-lt-suc, mul-le-mul-right}
+use Prim.Native.Nat.{ℕ, _+_, _-_, _*_, _<_}
+use native.Mathlib.Nat.{zero-lt-suc}
 use native.Mathlib.Omega.{arith}
 use mathlib.Core.Bool.{Bool, true, false}
-use lib.Ieee.{Float, Format, prec, emax, low, div, binary32, binary64}
+use lib.Ieee.{Float, Format, div}
 use lib.Ieee.Exact.{HasValue}
-use lib.Dec.{lit≤}
 use Rattle.float_laws.specs.Signed.{Diff, size-above, size-below}
 use Rattle.float_laws.specs.Rounded.{Rounded, div-rounded, signed-by}
-use Rattle.float_laws.specs.Roundings.{rounded-at, Near, rounded-near}
+use Rattle.float_laws.specs.Roundings.{rounded-at}
 
 -- ---- one rounding of (p - n) / (q - k), over a divisor above zero: a divisor below zero turns the numerator's sign
 module _ (f : Format) (x y : Float) (p n q k : ℕ) (a : Diff x p n 1) (b : Diff y q k 1) where

@@ -5,26 +5,12 @@
 -- of the exact value and half a unit.
 use mathlib.Core.Path.{_≡_, refl, sym, ap, _∙_, subst}
 use Prim.Native.Nat.{ℕ, zero, suc, _+_, _-_, _*_, _^_, _≤_, _<_}
-use native.Mathlib.Nat.{
-  mul-pos,
-  mul-le-mul-left,
-  mul-le-mul-right,
-  le-of-mul-le-mul-right,
-  zero-lt-suc,
-  zero-mul,
-  le-trans,
-  le-of-eq,
-  le-antisymm,
-  lt-of-le-of-lt,
-  not-le-of-lt,
-  lt-of-not-le,
-  pow-succ',
-}
+use native.Mathlib.Nat.{mul-pos, mul-le-mul-left, mul-le-mul-right, le-of-mul-le-mul-right, zero-lt-suc, zero-mul, le-trans, le-of-eq, lt-of-le-of-lt, not-le-of-lt, lt-of-not-le, pow-succ'}
 use native.Mathlib.Omega.{arith}
 use mathlib.Core.Bool.{Bool, true, false, not, cond, true≢false}
 use lib.Dec.{T, ltb, ltb→lt, nltb→le, lit≤}
 use lib.Pow.{pow-add, pow-pos, pow-lt}
-use lib.Ieee.{Float, nan, inf, fin, Format, prec, emax, low, round, units, odd, fits, isNan, neg, lt, le, binary32, binary64}
+use lib.Ieee.{Float, nan, inf, fin, Format, prec, emax, low, round, units, odd, fits, neg, lt, le, binary32, binary64}
 use lib.Ieee.Digits.{back}
 use lib.Arith.{le→nltb}
 use lib.Ieee.Bits.{cond-no}
@@ -33,23 +19,11 @@ use lib.Ieee.Back.{round-whole}
 use lib.Ieee.Fits.{round-is, round-fits, neg-fits}
 use lib.Ieee.Scale.{grid, overflow, finite, round-same}
 use Rattle.float_laws.specs.Best.{Held, held-pow, grid-le, grid-ge}
-use Rattle.float_laws.specs.Count.{Counted, counted, round-count, round-real}
-use Rattle.float_laws.specs.Signed.{
-  Diff,
-  SizeOf,
-  ups,
-  downs,
-  diff-of,
-  own-diff,
-  diff-same,
-  diff-at,
-  diff-finite,
-  units-of,
-  neg-diff,
-}
+use Rattle.float_laws.specs.Count.{Counted, counted, round-count}
+use Rattle.float_laws.specs.Signed.{Diff, SizeOf, ups, downs, diff-of, own-diff, diff-same, diff-finite, neg-diff}
 use Rattle.float_laws.specs.Patterns.{odd-neg}
 use Rattle.float_laws.specs.Order.{le-diff}
-use Rattle.float_laws.specs.Chains.{not-both, le-neg, between-finite}
+use Rattle.float_laws.specs.Chains.{not-both, le-neg}
 use Rattle.float_laws.specs.Near as off
 use Rattle.float_laws.specs.Rounded.{Rounded}
 

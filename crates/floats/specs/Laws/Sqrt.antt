@@ -6,29 +6,7 @@
 use mathlib.Core.Path.{_≡_, refl, sym, ap, _∙_, subst}
 use mathlib.Core.Logic.{_⊎_, inl, inr}
 use Prim.Native.Nat.{ℕ, zero, suc, _+_, _-_, _*_, _^_, _≤_, _<_}
-use native.Mathlib.Nat.{
-  add-comm,
-  mul-pos,
-  mul-one,
-  le-of-mul-le-mul-right,
-  lt-of-mul-lt-mul-right,
-  zero-lt-suc,
-  mul-le-mul,
-  mul-le-mul-left,
-  mul-le-mul-right,
-  mul-lt-mul-of-pos-right,
-  mul-assoc,
-  one-mul,
-  eq-or-lt-of-le,
-  le-trans,
-  le-of-eq,
-  le-of-lt,
-  le-of-suc-le-suc,
-  lt-irrefl,
-  lt-of-le-of-lt,
-  lt-of-lt-of-le,
-  lt-of-not-le,
-}
+use native.Mathlib.Nat.{mul-pos, mul-one, le-of-mul-le-mul-right, lt-of-mul-lt-mul-right, zero-lt-suc, mul-le-mul, mul-le-mul-left, mul-le-mul-right, mul-lt-mul-of-pos-right, mul-assoc, one-mul, eq-or-lt-of-le, le-trans, le-of-eq, le-of-lt, le-of-suc-le-suc, lt-irrefl, lt-of-le-of-lt, lt-of-lt-of-le, lt-of-not-le}
 use native.Mathlib.Omega.{arith}
 use mathlib.Core.Bool.{Bool, true, false, not}
 use lib.Dec.{T, leb, leb→le, nleb→lt, lit≤}

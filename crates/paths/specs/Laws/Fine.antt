@@ -18,15 +18,13 @@ use Rattle.checks.specs.Fault.{at}
 use Rattle.checks.specs.Limit
 use Rattle.checks.specs.First.{first}
 use Rattle.checks.specs.Laws.Later.{then-fine, alone-fine, unless-fine}
-use Rattle.checks.specs.Laws.Fine.{neither, chord-fine}
+use Rattle.checks.specs.Laws.Fine.{chord-fine}
 use Rattle.checks.specs.Laws.Chains as chains
 use Rattle.paths.specs.declared.path.Segment.{Segment}
 use Rattle.paths.specs.Path.{vertexCount, vertex}
-use Rattle.paths.specs.Shape.{broken, tooLong, refused, shape}
 use Rattle.paths.specs.Segments.{segmentCount, segmentFrom}
 use Rattle.checks.specs.Arc.{arcChord}
 use Rattle.paths.specs.Check.{ofVertex, ofSegment, vertexChecks, arcChecks, checkPath}
-use Rattle.paths.specs.PathRefusals as table
 use Rattle.paths.specs.Laws.Along.{along-fine}
 use Rattle.paths.specs.Laws.Segments.{count-within, after-within}
 

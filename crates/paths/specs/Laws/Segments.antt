@@ -7,12 +7,11 @@ use Prim.Native.Nat.{ℕ, _+_, _-_, _≤_, _<_}
 use native.Mathlib.Omega.{arith}
 use lib.Dec.{ltb}
 use lib.Ieee.{Float}
-use borrow.Author.Tests.{ltb-true, ltb-false, lt-ltb, le-ltb}
+use borrow.Author.Tests.{ltb-true, ltb-false}
 use Rattle.checks.specs.Laws.Fine.{neither}
-use Rattle.paths.specs.declared.path.SegmentAt.the-variants.{Nothing, At}
 use Rattle.paths.specs.Path.{most, vertexCount}
 use Rattle.paths.specs.Shape.{broken, tooLong, refused}
-use Rattle.paths.specs.Segments.{segmentCount, after, segmentFrom, segment}
+use Rattle.paths.specs.Segments.{segmentCount, after}
 
 pub count-within : (path : List Float) (closed : Bool) → segmentCount path closed ≤ vertexCount path
 unfolding segmentCount
