@@ -1,5 +1,4 @@
--- A quotient of whole numbers N / D, rounded once: it is finite; it does not cross a whole number, so it lies from 0 to 1 where
--- N / D does; and it is off by at most half a last place. N is p - n and D is q - k, in floats x and y.
+-- A quotient of two floats that are whole numbers p - n and q - k: one rounding of the exact quotient, by the divisor's sign.
 use mathlib.Core.Path.{_≡_}
 use Prim.Native.Nat.{ℕ, _+_, _-_, _*_, _<_}
 use native.Mathlib.Nat.{zero-lt-suc}
@@ -26,5 +25,3 @@ module _ (f : Format) (x y : Float) (p n q k : ℕ) (a : Diff x p n 1) (b : Diff
 
   pub div-below : q < k → Rounded f (div f x y) n p (k - q)
   div-below l = by-sign true (k - q) (omega arith) (size-below y q k 1 l b)
-
--- ---- how near: any quotient with a numerator up to 2 ^ prec is finite and near; up to 2 ^ k in size, within 2 ^ k / 2 ^ (prec + 1)
