@@ -15,12 +15,11 @@ use lib.Ieee.Exact.{HasValue}
 use lib.Ieee.Order.{le-of-values}
 use Rattle.float_laws.specs.Signed.{own-diff, diff-finite}
 use Rattle.floats.specs.Ops.{_≼_, f0}
-use Rattle.floats.specs.F64
 use Rattle.floats.specs.Laws.Sqrt.{sqrt-is}
 use Rattle.plane.specs.declared.pline_vertex.PlineVertex.{PlineVertex}
 use Rattle.plane.specs.PlineVertex.{pos, bulgeIsZero}
 use Rattle.plane.specs.Vector2 as vector2
-use Rattle.checks.specs.declared.fault.Item.the-variants.{Epsilon, Chord}
+use Rattle.checks.specs.declared.fault.Item.the-variants.{Chord}
 use Rattle.checks.specs.declared.fault.Place.{Place}
 use Rattle.checks.specs.declared.fault.Checked.{Checked}
 use Rattle.checks.specs.declared.fault.Checked.the-variants.{Fine}

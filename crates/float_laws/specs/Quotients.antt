@@ -1,16 +1,14 @@
--- A quotient of whole numbers N / D, rounded once: it is finite; it does not cross a whole number, so it lies from 0 to 1 where
--- N / D does; and it is off by at most half a last place. N is p - n and D is q - k, in floats x and y.
+-- A quotient of two floats that are whole numbers p - n and q - k: one rounding of the exact quotient, by the divisor's sign.
 use mathlib.Core.Path.{_≡_}
-use Prim.Native.Nat.{ℕ, suc, _+_, _-_, _*_, _^_, _≤_, _<_}
-use native.Mathlib.Nat.{zero-lt-suc, mul-le-mul-right}
+use Prim.Native.Nat.{ℕ, _+_, _-_, _*_, _<_}
+use native.Mathlib.Nat.{zero-lt-suc}
 use native.Mathlib.Omega.{arith}
 use mathlib.Core.Bool.{Bool, true, false}
-use lib.Ieee.{Float, Format, prec, emax, low, div, binary32, binary64}
+use lib.Ieee.{Float, Format, div}
 use lib.Ieee.Exact.{HasValue}
-use lib.Dec.{lit≤}
 use Rattle.float_laws.specs.Signed.{Diff, size-above, size-below}
 use Rattle.float_laws.specs.Rounded.{Rounded, div-rounded, signed-by}
-use Rattle.float_laws.specs.Roundings.{rounded-at, Near, rounded-near}
+use Rattle.float_laws.specs.Roundings.{rounded-at}
 
 -- ---- one rounding of (p - n) / (q - k), over a divisor above zero: a divisor below zero turns the numerator's sign
 module _ (f : Format) (x y : Float) (p n q k : ℕ) (a : Diff x p n 1) (b : Diff y q k 1) where
@@ -27,17 +25,3 @@ module _ (f : Format) (x y : Float) (p n q k : ℕ) (a : Diff x p n 1) (b : Diff
 
   pub div-below : q < k → Rounded f (div f x y) n p (k - q)
   div-below l = by-sign true (k - q) (omega arith) (size-below y q k 1 l b)
-
--- ---- how near: any quotient with a numerator up to 2 ^ prec is finite and near; up to 2 ^ k in size, within 2 ^ k / 2 ^ (prec + 1)
-pub quotient-near : (f : Format) (r : Float) (P N D : ℕ) → Rounded f r P N D → 0 < D → P ≤ N + 2 ^ prec f → N ≤ P + 2 ^ prec f
-    → Near (2 ^ low f) r P N D (2 ^ prec f) (2 ^ suc (prec f))
-quotient-near f r P N D h pos u l =
-    let wide : 2 ^ prec f ≤ 2 ^ prec f * D = times (2 ^ prec f) D pos in
-    rounded-near f r P N D (prec f) h pos (omega arith) (omega arith) (room f)
-  where
-    times : (a d : ℕ) → 0 < d → a ≤ a * d
-    times a d h = let w : 1 * a ≤ d * a = mul-le-mul-right a h in omega arith
-
-    room : (f : Format) → prec f ≤ emax f
-    room binary32 = lit≤ tt
-    room binary64 = lit≤ tt

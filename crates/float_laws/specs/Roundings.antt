@@ -5,26 +5,12 @@
 -- of the exact value and half a unit.
 use mathlib.Core.Path.{_≡_, refl, sym, ap, _∙_, subst}
 use Prim.Native.Nat.{ℕ, zero, suc, _+_, _-_, _*_, _^_, _≤_, _<_}
-use native.Mathlib.Nat.{
-  mul-pos,
-  mul-le-mul-left,
-  mul-le-mul-right,
-  le-of-mul-le-mul-right,
-  zero-lt-suc,
-  zero-mul,
-  le-trans,
-  le-of-eq,
-  le-antisymm,
-  lt-of-le-of-lt,
-  not-le-of-lt,
-  lt-of-not-le,
-  pow-succ',
-}
+use native.Mathlib.Nat.{mul-pos, mul-le-mul-left, mul-le-mul-right, le-of-mul-le-mul-right, zero-lt-suc, zero-mul, le-trans, le-of-eq, lt-of-le-of-lt, not-le-of-lt, lt-of-not-le, pow-succ'}
 use native.Mathlib.Omega.{arith}
 use mathlib.Core.Bool.{Bool, true, false, not, cond, true≢false}
 use lib.Dec.{T, ltb, ltb→lt, nltb→le, lit≤}
 use lib.Pow.{pow-add, pow-pos, pow-lt}
-use lib.Ieee.{Float, nan, inf, fin, Format, prec, emax, low, round, units, odd, fits, isNan, neg, lt, le, binary32, binary64}
+use lib.Ieee.{Float, nan, inf, fin, Format, prec, emax, low, round, units, odd, fits, neg, lt, le, binary32, binary64}
 use lib.Ieee.Digits.{back}
 use lib.Arith.{le→nltb}
 use lib.Ieee.Bits.{cond-no}
@@ -33,23 +19,11 @@ use lib.Ieee.Back.{round-whole}
 use lib.Ieee.Fits.{round-is, round-fits, neg-fits}
 use lib.Ieee.Scale.{grid, overflow, finite, round-same}
 use Rattle.float_laws.specs.Best.{Held, held-pow, grid-le, grid-ge}
-use Rattle.float_laws.specs.Count.{Counted, counted, round-count, round-real}
-use Rattle.float_laws.specs.Signed.{
-  Diff,
-  SizeOf,
-  ups,
-  downs,
-  diff-of,
-  own-diff,
-  diff-same,
-  diff-at,
-  diff-finite,
-  units-of,
-  neg-diff,
-}
+use Rattle.float_laws.specs.Count.{Counted, counted, round-count}
+use Rattle.float_laws.specs.Signed.{Diff, SizeOf, ups, downs, diff-of, own-diff, diff-same, diff-finite, neg-diff}
 use Rattle.float_laws.specs.Patterns.{odd-neg}
 use Rattle.float_laws.specs.Order.{le-diff}
-use Rattle.float_laws.specs.Chains.{not-both, le-neg, between-finite}
+use Rattle.float_laws.specs.Chains.{not-both, le-neg}
 use Rattle.float_laws.specs.Near as off
 use Rattle.float_laws.specs.Rounded.{Rounded}
 
@@ -77,9 +51,6 @@ rounded-at f r P N c P' N' c' C C' e h = go (h .s) (h .size) (h .is) (h .exact)
 -- ---- a value of the format, and no NaN
 pub rounded-fits : (f : Format) (r : Float) (P N c : ℕ) → Rounded f r P N c → T (fits f r)
 rounded-fits f r P N c h = subst (λ (v : Float). T (fits f v)) (sym (h .is)) (round-fits f (h .s) (h .size) c)
-
-pub rounded-real : (f : Format) (r : Float) (P N c : ℕ) → Rounded f r P N c → isNan r ≡ false
-rounded-real f r P N c h = ap isNan (h .is) ∙ round-real f (h .s) (h .size) c
 
 -- in units, where it does not pass the format's end
 in-units : (f : Format) (r : Float) (P N c : ℕ) (h : Rounded f r P N c) → grid f (h .size) c < overflow f
@@ -241,19 +212,6 @@ module _ (f : Format) (r : Float) (P N c : ℕ) (h : Rounded f r P N c) (C : 0 <
   rounded-above t = lt-of-not-le (λ (l : P * d + k * c ≤ q * c + N * d). not-both r y (rounded-le f r P N c h C y q k d D fit v l) t)
 
 -- ---- a value of the format is exact
--- if the exact value is that of a float y, so is r's
-pub rounded-value : (f : Format) (r : Float) (P N c : ℕ) → Rounded f r P N c → 0 < c → (y : Float) (q k d : ℕ) → 0 < d → T (fits f y)
-    → Diff y q k d → P * d + k * c ≡ q * c + N * d → Diff r q k d
-rounded-value f r P N c h C y q k d D fit v e =
-    let least = rounded-le f r P N c h C y q k d D fit v (le-of-eq e) in
-    let most = rounded-ge f r P N c h C y q k d D fit v (le-of-eq (sym e)) in
-    let finite-y = diff-finite y q k d v in
-    let u = units-of f r (between-finite y r y finite-y finite-y most least) (rounded-fits f r P N c h) in
-    let L = pow-pos (low f) in
-    let up = le-diff r y (u .p) (u .n) (2 ^ low f) q k d L D (u .is) v .0 least in
-    let dn = le-diff y r q k d (u .p) (u .n) (2 ^ low f) D L v (u .is) .0 most in
-    diff-at r (u .p) (u .n) (2 ^ low f) q k d L (u .is) (le-antisymm up dn)
-
 -- ---- whole numbers are exact
 
 -- the exact value is the whole number q - k, of a size up to 2 ^ prec
@@ -395,42 +353,3 @@ pub record NearBy (digits L : ℕ) (r : Float) (P N c B : ℕ) : Type 0 where
   pub is : Diff r p n L
   pub most : 2 ^ digits * (2 * (p * c + N * L)) ≤ 2 ^ digits * (2 * (P * L + n * c)) + 2 * (B * L) + 2 ^ digits * c
   pub least : 2 ^ digits * (2 * (P * L + n * c)) ≤ 2 ^ digits * (2 * (p * c + N * L)) + 2 * (B * L) + 2 ^ digits * c
-
-pub rounded-relative : (f : Format) (r : Float) (P N c B : ℕ) → Rounded f r P N c → 0 < c → P ≤ N + B → N ≤ P + B
-    → B ≤ 2 ^ emax f * c → NearBy (prec f) (2 ^ low f) r P N c B
-rounded-relative f r P N c B h C u l fine =
-    let L = 2 ^ low f in
-    let G = grid f (h .size) c in
-    let X-le : h .size ≤ B = size-le (h .s) (h .size) P N B (h .exact) u l in
-    let K = low f + emax f in
-    let in-K : h .size * L ≤ 2 ^ K * c = scale (h .size) L (2 ^ emax f) (2 ^ K) (pow-add 2 (low f) (emax f)) (le-trans X-le fine) in
-    let most : G ≤ 2 ^ K = grid-le f (h .size) c (2 ^ K) C (held-pow f K) in-K in
-    let end : G < overflow f = lt-of-le-of-lt most (pow-lt last) in
-    let o = off.round-relative f (h .size) c C in
-    let b = both (h .s) (h .size) G L (2 ^ prec f) (h .exact) X-le (o .above) (o .below) in
-    record {
-      p = ups (h .s) G;
-      n = downs (h .s) G;
-      is = own-diff r (h .s) G L (in-units f r P N c h end);
-      most = b .0;
-      least = b .1;
-    }
-  where
-    scale : (X L E K : ℕ) → K ≡ L * E → X ≤ E * c → X * L ≤ K * c
-    scale X L E K e h = omega (arith, mul-le-mul-right L h, ap (λ (z : ℕ). z * c) e)
-
-    last : low f + emax f < low f + suc (emax f)
-    last = omega arith
-
-    both : (s : Bool) (X G L p : ℕ) → SizeOf s X P N → X ≤ B
-        → p * (2 * (X * L)) ≤ p * (2 * (G * c)) + 2 * (X * L) + p * c → p * (2 * (G * c)) ≤ p * (2 * (X * L)) + 2 * (X * L) + p * c
-        → (p * (2 * (ups s G * c + N * L)) ≤ p * (2 * (P * L + downs s G * c)) + 2 * (B * L) + p * c)
-        × (p * (2 * (P * L + downs s G * c)) ≤ p * (2 * (ups s G * c + N * L)) + 2 * (B * L) + p * c)
-    both true X G L p x m a b =
-        let y : p * ((X + P) * L) ≡ p * (N * L) = ap (λ (z : ℕ). p * (z * L)) x in
-        let w : X * L ≤ B * L = mul-le-mul-right L m in
-        (omega arith, omega arith)
-    both false X G L p x m a b =
-        let y : p * ((X + N) * L) ≡ p * (P * L) = ap (λ (z : ℕ). p * (z * L)) x in
-        let w : X * L ≤ B * L = mul-le-mul-right L m in
-        (omega arith, omega arith)

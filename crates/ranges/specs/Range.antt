@@ -9,5 +9,5 @@ use Rattle.plane.specs.Fuzzy.{fuzzyInRangeEps}
 -- lines 121-124, 161-162, 175-176: t times the segment's length is compared with 0 and that length
 unfoldable pub onSegment : Float → Vector2 → Float → Bool
 onSegment t segment eps =
-    let length = vector2.length segment in
-    fuzzyInRangeEps (t ⊗ length) f0 length eps
+    let segmentLength = vector2.length segment in
+    fuzzyInRangeEps (t ⊗ segmentLength) f0 segmentLength eps

@@ -24,28 +24,28 @@ const STEP: f64 = 1.0 / 32.0;
 
 // Whether the square of a segment's length and epsilon are of usual size.
 pub fn usual(square: f64, eps: f64) -> bool
-    ensures { λ r. ⌜ r ≡ Within.usual square eps ⌝ }
+    ensures { λ r. ⌜ r ≡ OnSegment.usual square eps ⌝ }
 {
     ((eps >= EPS_LEAST) & (eps <= THOUSANDTH)) & ((square >= THOUSANDTH) & (square <= SQUARE_MOST))
 }
 
 // Whether t is clearly inside a segment of usual length.
 fn inside(t: f64) -> bool
-    ensures { λ r. ⌜ r ≡ Within.inside t ⌝ }
+    ensures { λ r. ⌜ r ≡ OnSegment.inside t ⌝ }
 {
     (t >= 0.0) & (t <= BEFORE_END)
 }
 
 // Whether t is clearly outside a segment of usual length.
 fn outside(t: f64) -> bool
-    ensures { λ r. ⌜ r ≡ Within.outside t ⌝ }
+    ensures { λ r. ⌜ r ≡ OnSegment.outside t ⌝ }
 {
     (t >= AFTER_END) | (t <= -STEP)
 }
 
 // Whether the parameter t lies on a segment, given as a vector. It compares lengths along the segment, so that epsilon is a
 // distance.
-fn on_segment_length(t: f64, segment: Vector2, eps: f64) -> bool
+fn on_segment_by_length(t: f64, segment: Vector2, eps: f64) -> bool
     ensures { λ r. ⌜ r ≡ Range.onSegment t segment eps ⌝ }
 {
     let length = segment.length();
@@ -57,7 +57,7 @@ pub fn on_segment(t: f64, segment: Vector2, eps: f64) -> bool
     ensures { λ r. ⌜ r ≡ Range.onSegment t segment eps ⌝ }
 {
     if !usual(segment.length_squared(), eps) {
-        return within_length(t, segment, eps);
+        return on_segment_by_length(t, segment, eps);
     }
     if inside(t) {
         return true;
@@ -65,5 +65,5 @@ pub fn on_segment(t: f64, segment: Vector2, eps: f64) -> bool
     if outside(t) {
         return false;
     }
-    within_length(t, segment, eps)
+    on_segment_by_length(t, segment, eps)
 }

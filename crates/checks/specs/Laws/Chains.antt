@@ -1,6 +1,6 @@
 -- Lists of checks, one after another; and which numbers pass the checks of a point, a vertex and a circle.
 use mathlib.Core.Path.{_≡_, sym, ap, _∙_}
-use mathlib.Core.Logic.{_↔_, Iff·rfl, Iff·trans}
+use mathlib.Core.Logic.{_↔_, Iff·trans}
 use mathlib.Core.List.{List, [], _∷_, _++_}
 use Prim.Native.Nat.{ℕ}
 use lib.Ieee.{Float}
@@ -12,7 +12,7 @@ use Rattle.checks.specs.Limit
 use Rattle.checks.specs.Each
 use Rattle.checks.specs.First.{first}
 use Rattle.checks.specs.Lists.{pointChecks, vertexChecks, circleChecks}
-use Rattle.checks.specs.Laws.Later.{fine-left, fine-right, later-assoc, same-fine, then-fine, alone-fine}
+use Rattle.checks.specs.Laws.Later.{fine-left, later-assoc, same-fine, then-fine, alone-fine}
 use Rattle.checks.specs.Laws.Fine.{Within, Between, coordinate-fine, bulge-fine, radius-fine, center-fine}
 
 -- ---- as lists

@@ -33,8 +33,3 @@ again (OneIntersect point) = refl
 again (TwoIntersects point1 point2) = refl
 again (OverlappingLines point1 point2) = refl
 again (OverlappingArcs point1 point2) = refl
-
--- two answers with one class and the same points are one answer
-pub told-apart : (r s : PlineSegIntr)
-    → classOf r ≡ classOf s → point1Of r ≡ point1Of s → point2Of r ≡ point2Of s → r ≡ s
-told-apart r s class point1 point2 = cc (again r, again s)

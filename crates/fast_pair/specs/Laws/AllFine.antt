@@ -14,7 +14,7 @@ use Rattle.plane.specs.Vector2 as vector2
 use Rattle.plane.specs.declared.pline_vertex.PlineVertex.{PlineVertex}
 use Rattle.checks.specs.declared.fault.Checked.{Checked}
 use Rattle.checks.specs.declared.fault.Checked.the-variants.{Fine}
-use Rattle.checks.specs.Fault.{at, later}
+use Rattle.checks.specs.Fault.{later}
 use Rattle.checks.specs.Limit
 use Rattle.checks.specs.Each
 use Rattle.checks.specs.Arc.{arcChord}

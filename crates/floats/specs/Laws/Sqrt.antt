@@ -6,29 +6,7 @@
 use mathlib.Core.Path.{_≡_, refl, sym, ap, _∙_, subst}
 use mathlib.Core.Logic.{_⊎_, inl, inr}
 use Prim.Native.Nat.{ℕ, zero, suc, _+_, _-_, _*_, _^_, _≤_, _<_}
-use native.Mathlib.Nat.{
-  add-comm,
-  mul-pos,
-  mul-one,
-  le-of-mul-le-mul-right,
-  lt-of-mul-lt-mul-right,
-  zero-lt-suc,
-  mul-le-mul,
-  mul-le-mul-left,
-  mul-le-mul-right,
-  mul-lt-mul-of-pos-right,
-  mul-assoc,
-  one-mul,
-  eq-or-lt-of-le,
-  le-trans,
-  le-of-eq,
-  le-of-lt,
-  le-of-suc-le-suc,
-  lt-irrefl,
-  lt-of-le-of-lt,
-  lt-of-lt-of-le,
-  lt-of-not-le,
-}
+use native.Mathlib.Nat.{mul-pos, mul-one, le-of-mul-le-mul-right, lt-of-mul-lt-mul-right, zero-lt-suc, mul-le-mul, mul-le-mul-left, mul-le-mul-right, mul-lt-mul-of-pos-right, mul-assoc, one-mul, eq-or-lt-of-le, le-trans, le-of-eq, le-of-lt, le-of-suc-le-suc, lt-irrefl, lt-of-le-of-lt, lt-of-lt-of-le, lt-of-not-le}
 use native.Mathlib.Omega.{arith}
 use mathlib.Core.Bool.{Bool, true, false, not}
 use lib.Dec.{T, leb, leb→le, nleb→lt, lit≤}
@@ -307,25 +285,6 @@ root-zero f (fin t (suc m) e) s c d C h = absurd (never (suc m * up e * c) (down
     never a w l e = omega arith
 
 -- ---- greater numbers have no lesser roots
-pub root-mono : (f : Format) (x y : Float) (A B c d : ℕ) → T (fits f x) → T (fits f y)
-    → (a : Root (prec f) (2 ^ low f) A c x) (b : Root (prec f) (2 ^ low f) B d y)
-    → 0 < c → 0 < d → A * d ≤ B * c → a .R ≤ b .R
-root-mono f x y A B c d s t a b C D l = le-of-suc-le-suc (lt-of-not-le clash)
-  where
-    held-root : (A c : ℕ) (x : Float) → T (fits f x) → (a : Root (prec f) (2 ^ low f) A c x) → Held (prec f) (a .R)
-    held-root A c x t a = held-of f x false (a .R) t (a .value) .0
-
-    never : (S M p q : ℕ) → S * c < 4 * (p * M) → 4 * (q * M) < S * d → p * d ≤ q * c → ⊥
-    never S M p q u w l =
-        omega (arith, mul-lt-mul-of-pos-right u D, mul-lt-mul-of-pos-right w C, mul-le-mul-right M l)
-
-    clash : suc (b .R) ≤ a .R → ⊥
-    clash g =
-        let u = a .before (b .R) (held-root B d y t b) g in
-        let w = b .after (a .R) (held-root A c x s a) g in
-        never ((b .R + a .R) * (b .R + a .R)) (2 ^ low f * 2 ^ low f) A B u
-        (subst (λ (z : ℕ). 4 * (B * (2 ^ low f * 2 ^ low f)) < z * z * d) (add-comm (a .R) (b .R)) w) l
-
 -- ---- magnitudes: a number of at most 2 ^ K units has a root of at most 2 ^ J, if K + low is at most twice J
 pub root-within : (f : Format) (x : Float) (X K J : ℕ) → T (fits f x) → HasValue x false X (2 ^ low f) → X ≤ 2 ^ K → K + low f ≤ J + J
     → Within f J (rootOf f x)

@@ -18,7 +18,7 @@ use Rattle.grid.specs.Floats.Small.{Vec, perp}
 use Rattle.grid.specs.Floats.Zero.{Eps}
 use Rattle.grid.specs.Floats.Length.{gap, square, IsZero, Long, long}
 use Rattle.grid.specs.Floats.Reach.{Reaches}
-use Rattle.grid.specs.Floats.Range.{onSegment-yes, within-says}
+use Rattle.grid.specs.Floats.Range.{within-yes, within-says}
 use Rattle.grid.specs.Floats.Ratio.{Ratio, ratio}
 
 -- ---- segments with a perp dot other than zero are no points

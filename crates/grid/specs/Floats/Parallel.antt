@@ -26,7 +26,7 @@ use Rattle.grid.specs.Floats.Small.{Small, Vec, vec-sub}
 use Rattle.grid.specs.Floats.Zero.{Eps, near-zero}
 use Rattle.grid.specs.Floats.Length.{gap, level, square, side-x, side-y, IsZero, Long, long}
 use Rattle.grid.specs.Floats.Reach.{on-axis}
-use Rattle.grid.specs.Floats.Range.{onSegment-yes, within-says}
+use Rattle.grid.specs.Floats.Range.{within-yes, within-says}
 use Rattle.grid.specs.Floats.Ratio.{wider, Ratio, ratio}
 use Rattle.grid.specs.Floats.Crossing.{Inside}
 use Rattle.grid.specs.Floats.Span.{Risen, risen}

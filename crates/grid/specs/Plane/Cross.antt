@@ -150,11 +150,6 @@ module _ (v1 v2 u1 u2 : Spot) (slant : ¬ Parallel v1 v2 u1 u2) where
         (place-u v1 v2 u1 u2 P (pos s) (pos s') t t' on-v on-u)),
   )
 
-  pub between-shared : Between (steps-v v1 v2 u1 u2) (base v1 v2 u1 u2) → Between (steps-u v1 v2 u1 u2) (base v1 v2 u1 u2)
-      → Share v1 v2 u1 u2
-  between-shared h k =
-      (meeting, (placed-segment meeting v1 v2 _ meeting-v h, placed-segment meeting u1 u2 _ meeting-u k))
-
   -- ---- the lines cross in no other point
   pub crossing-is : (P : Point) → Crossing v1 v2 u1 u2 P
       → (P .x *ℤ pos (base v1 v2 u1 u2) ≡ meeting .x *ℤ pos (P .over))

@@ -7,7 +7,6 @@ use Prim.Native.Nat.{ℕ, _<_, _≤_}
 use native.Mathlib.Omega.{arith}
 use lib.Ieee.{Float}
 use Rattle.checks.specs.declared.fault.Checked.the-variants.{Fine}
-use Rattle.checks.specs.Fault.{at}
 use Rattle.checks.specs.Each
 use Rattle.checks.specs.Calls.{checkPlineSeg}
 use Rattle.crossing.specs.PlineSeg.{plineSeg}

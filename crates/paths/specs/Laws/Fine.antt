@@ -19,15 +19,13 @@ use Rattle.checks.specs.Fault.{at}
 use Rattle.checks.specs.Limit
 use Rattle.checks.specs.First.{first}
 use Rattle.checks.specs.Laws.Later.{then-fine, alone-fine, unless-fine}
-use Rattle.checks.specs.Laws.Fine.{neither, chord-fine}
+use Rattle.checks.specs.Laws.Fine.{chord-fine}
 use Rattle.checks.specs.Laws.Chains as chains
 use Rattle.paths.specs.declared.path.Segment.{Segment}
 use Rattle.paths.specs.Path.{vertexCount, vertex}
-use Rattle.paths.specs.Shape.{broken, tooLong, refused, shape}
 use Rattle.paths.specs.Segments.{segmentCount, segmentFrom}
 use Rattle.checks.specs.Arc.{arcChord}
 use Rattle.paths.specs.Check.{ofVertex, ofSegment, vertexChecks, arcChecks, checkPath}
-use Rattle.paths.specs.PathRefusals as table
 use Rattle.paths.specs.Laws.Along.{along-fine}
 use Rattle.paths.specs.Laws.Segments.{count-within, after-within}
 
@@ -50,13 +48,6 @@ pub record PathFine (path : List Float) (closed : Bool) : Type 0 where
   pub arcs : (i : ℕ) → i < segmentCount path closed → ArcFine (segmentFrom path i .v1) (segmentFrom path i .v2)
 
 -- ---- exactly these pass
-pub shape-fine : (path : List Float) (owner : ℕ) → (shape path owner ≡ Fine) ↔ (refused path ≡ false)
-unfolding refused
-shape-fine path owner =
-    let exact = table.shape path owner .fine in
-    let both = neither (broken path) (tooLong path) in
-    (λ e. both .1 (exact .0 e), λ e. exact .1 (both .0 e))
-
 pub arc-fine : (a b : PlineVertex) (owner index : ℕ) → (arcChord a b owner index ≡ Fine) ↔ ArcFine a b
 unfolding arcChord
 arc-fine a b owner index =

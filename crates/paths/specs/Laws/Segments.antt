@@ -7,12 +7,11 @@ use Prim.Native.Nat.{ℕ, _+_, _-_, _≤_, _<_}
 use native.Mathlib.Omega.{arith}
 use lib.Dec.{ltb}
 use lib.Ieee.{Float}
-use borrow.Author.Tests.{ltb-true, ltb-false, lt-ltb, le-ltb}
+use borrow.Author.Tests.{ltb-true, ltb-false}
 use Rattle.checks.specs.Laws.Fine.{neither}
-use Rattle.paths.specs.declared.path.SegmentAt.the-variants.{Nothing, At}
 use Rattle.paths.specs.Path.{most, vertexCount}
 use Rattle.paths.specs.Shape.{broken, tooLong, refused}
-use Rattle.paths.specs.Segments.{segmentCount, after, segmentFrom, segment}
+use Rattle.paths.specs.Segments.{segmentCount, after}
 
 pub count-within : (path : List Float) (closed : Bool) → segmentCount path closed ≤ vertexCount path
 unfolding segmentCount
@@ -46,17 +45,3 @@ few-segments path closed = go (refused path) (few-vertices path) (ltb (vertexCou
     go false few true c n e = omega arith
     go false few false true n e = omega (arith, few refl, e)
     go false few false false n e = omega (arith, few refl, e)
-
-pub segment-at : (path : List Float) (closed : Bool) (i : ℕ) → i < segmentCount path closed
-    → segment path closed i ≡ At (segmentFrom path i)
-unfolding segment
-segment-at path closed i h = simp (lt-ltb _ _ h)
-
-pub segment-none : (path : List Float) (closed : Bool) (i : ℕ) → segmentCount path closed ≤ i → segment path closed i ≡ Nothing
-unfolding segment
-segment-none path closed i h = simp (le-ltb _ _ h)
-
--- the last segment of a closed path runs back to vertex 0
-pub after-last : (path : List Float) (i : ℕ) → i + 1 ≡ vertexCount path → after path i ≡ 0
-unfolding after
-after-last path i e = simp (le-ltb (i + 1) (vertexCount path) (omega (arith, e)))

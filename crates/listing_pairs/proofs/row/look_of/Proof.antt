@@ -6,7 +6,6 @@ use Rattle.arcs.specs.declared.pline_seg_intr.PlineSegIntr.{PlineSegIntr}
 use Rattle.crossing.specs.PlineSegIntr.{classOf}
 use Rattle.answers.specs.declared.class_and_points.ClassAndPoints.{ClassAndPoints}
 use Rattle.answers.specs.ClassAndPoints.{classAndPoints}
-use Rattle.listing_pairs.specs.declared.row.Row.{Row}
 use Rattle.listing_pairs.specs.declared.row.Look.{Look}
 use Rattle.listing_pairs.specs.declared.row.Look.the-variants.{Nothing, Made}
 use Rattle.listing_pairs.specs.Row.{row, unlessApart, lookOf}

@@ -1,4 +1,4 @@
--- `ranges::range::onSegment` meets its contract: where t is clearly inside or outside, the law of `Laws/Within` says
+-- `ranges::range::on_segment` meets its contract: where t is clearly inside or outside, the law of `Laws/Within` says
 -- what the length would; elsewhere the length is asked.
 use mathlib.Core.Path.{sym}
 use lib.Dec.{T}
@@ -7,8 +7,8 @@ use borrow.Author.Needs.{needs}
 use borrow.Author.Tests.{not-false}
 use Rattle.plane.specs.Vector2 as vector2
 use Rattle.ranges.specs.Workings.OnSegment.{usual, within-inside, within-outside}
-use Rattle.ranges.proofs.range.onSegment.Statement.{statement}
-use Rattle.ranges.proofs.range.onSegment.Tie as tie
+use Rattle.ranges.proofs.range.on_segment.Statement.{statement}
+use Rattle.ranges.proofs.range.on_segment.Tie as tie
 
 -- the sizes are usual, as the first test found
 sizes : (c : tie.Else1) → let a = c .before .before .before .args in
