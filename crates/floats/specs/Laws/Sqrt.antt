@@ -1,8 +1,7 @@
 -- The correctly rounded root, for other proofs: the root of A / c is a count R of the format's units, and R * R is compared with
--- A / c times the square of the units, multiplied out. Three facts: it does not cross a value of the format, its error is about
--- one part in 2 ^ prec, and greater numbers have no lesser roots. The argument for the second: the values next above and next
--- below R are in the format too, one last place away. The halfway point to each lies beyond the exact root, and the last place is
--- at most one part in 2 ^ (prec - 1) of R.
+-- A / c times the square of the units, multiplied out. Two facts: it does not cross a value of the format, and its error is about
+-- one part in 2 ^ prec. The argument for the second: the values next above and next below R are in the format too, one last place
+-- away. The halfway point to each lies beyond the exact root, and the last place is at most one part in 2 ^ (prec - 1) of R.
 use mathlib.Core.Path.{_≡_, refl, sym, ap, _∙_, subst}
 use mathlib.Core.Logic.{_⊎_, inl, inr}
 use Prim.Native.Nat.{ℕ, zero, suc, _+_, _-_, _*_, _^_, _≤_, _<_}
@@ -284,7 +283,6 @@ root-zero f (fin t (suc m) e) s c d C h = absurd (never (suc m * up e * c) (down
     never : (a w : ℕ) → 0 < a → a ≡ 0 * w → ⊥
     never a w l e = omega arith
 
--- ---- greater numbers have no lesser roots
 -- ---- magnitudes: a number of at most 2 ^ K units has a root of at most 2 ^ J, if K + low is at most twice J
 pub root-within : (f : Format) (x : Float) (X K J : ℕ) → T (fits f x) → HasValue x false X (2 ^ low f) → X ≤ 2 ^ K → K + low f ≤ J + J
     → Within f J (rootOf f x)
