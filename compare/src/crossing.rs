@@ -1,4 +1,4 @@
-//! The kernels and the pair call beside the Rust's: answers, refusals, and what is written into the lent slice.
+//! The kernels and the pair call compared with the Rust's: answers, refusals, and what is written into the lent slice.
 
 mod bench;
 mod calls;
@@ -27,9 +27,9 @@ const KINDS: [&str; 4] = [
     ", two arcs",
 ];
 
-/// Compares every call until each has answered on `2 * count` inputs, the pair call on a quarter of that for each kind of pair;
-/// then on `count / 4` inputs of all bit patterns, as many beside a limit, and at every limit. Answers how many differences there
-/// were.
+/// Compares every call until each has answered on `2 * count` inputs, the pair call on a quarter of that for each kind of pair.
+/// Then compares on `count / 4` inputs of all bit patterns, on as many beside a limit, and at every limit. Answers how many
+/// differences there were.
 pub fn check(count: u64, seed: u64) -> u64 {
     let mut rng = Rng::new(seed);
     let mut scores = Scores::new();
@@ -40,7 +40,7 @@ pub fn check(count: u64, seed: u64) -> u64 {
     for kind in [Kind::Beside, Kind::Patterns] {
         for _ in 0..count / 4 {
             let mut pair = Pair::draw(kind, &mut rng);
-            // else the epsilon, which is looked at first, would hide nearly every other fault
+            // else the epsilon, which is checked first, would hide nearly every other fault
             if rng.one_in(2) {
                 pair.epsilon = epsilon(&mut rng);
             }
@@ -53,7 +53,7 @@ pub fn check(count: u64, seed: u64) -> u64 {
     scores.report()
 }
 
-/// Some 500 inputs of a call to record: accepted ones mostly, the others beside a limit, of all bit patterns, or at a limit.
+/// Some 500 inputs of a call to record: mostly accepted ones; the others are beside a limit, of all bit patterns, or at a limit.
 pub fn sample(call: &Call, seed: u64) -> Vec<Numbers> {
     const PARTS: [(Kind, usize); 3] = [
         (Kind::Accepted, 320),
@@ -103,7 +103,7 @@ impl Scores {
             || self.pairs.iter().any(|score| score.answered < most / 4)
     }
 
-    /// Makes every call that has not answered often enough.
+    /// Makes every call that has not yet answered often enough.
     fn compare(&mut self, pair: &Pair, rng: &mut Rng, most: u64) {
         for score in &mut self.kernels {
             if score.answered < most {

@@ -1,4 +1,4 @@
-//! Nanoseconds a call of the kernels and of the pair call, ours with its checks beside the Rust's without, on the same inputs.
+//! Nanoseconds for each call of the kernels and of the pair call: ours with its checks, the Rust's without, on the same inputs.
 
 use std::hint::black_box;
 
@@ -53,7 +53,7 @@ fn timed(row: Row, call: &Call, inputs: &[Numbers]) {
     );
 }
 
-/// Half of the pairs at random, and half with the segment of the other path that is nearest to the first.
+/// Half of the pairs are random. In the other half, the second segment is the one of the other path that is nearest to the first.
 fn of_sheet(sheet: &Sheet, epsilon: f64, rng: &mut Rng) -> Vec<Numbers> {
     let [first, second] = sheet.segments(1024, rng);
     let mut inputs = Vec::new();

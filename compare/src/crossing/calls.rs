@@ -1,4 +1,4 @@
-//! The calls to compare: which numbers of a pair each is made on, when it is refused, ours, and the Rust's.
+//! The calls to compare: on which numbers of a pair each is made, when it is refused, our answer, and the Rust's.
 
 use std::hint::black_box;
 
@@ -25,7 +25,7 @@ pub struct Call {
     pub operands: fn(&Pair, &mut Rng) -> Numbers,
     /// The refusal that is expected.
     pub fault: fn(&[f64]) -> Option<u64>,
-    /// What the Rust answers: the number of the case, and the values that it carries.
+    /// What the Rust answers: the number of the case, and its values.
     pub text: fn(&[f64]) -> (u64, Numbers),
     /// Our answer, with its values in a lent slice.
     pub ours: fn(&[f64], &mut [f64]) -> u64,
@@ -33,11 +33,11 @@ pub struct Call {
     pub bare: fn(&[f64]),
 }
 
-/// What is returned where a number is refused: this and the refusal's number.
+/// What a call returns if a number is refused: this plus the refusal's number.
 pub const REFUSED: u64 = 256;
 
 impl Call {
-    /// What the call is to return, and the values of an answer.
+    /// What the call should return, and the values of an answer.
     pub fn expected(&self, numbers: &[f64]) -> (u64, Numbers) {
         match (self.fault)(numbers) {
             Some(refusal) => (REFUSED + refusal, [].into()),
@@ -79,7 +79,7 @@ const CIRCLES: Order = &[
     (5, Look::Center),
 ];
 
-/// Not the bulges of v2 and u2.
+/// Without the bulges of v2 and u2.
 const SEGMENTS: Order = &[
     (12, Look::Epsilon),
     (0, Look::Coordinate),
@@ -113,7 +113,7 @@ pub static CALLS: [Call; 4] = [
         name: "line_circle_intr",
         classes: &["none", "tangent", "two"],
         operands: |p, rng| {
-            // the line beside the arc, where there is one of each
+            // the line first and then the arc, if there is one of each
             let (line, arc) = if is_line(p.u) { (p.u, p.v) } else { (p.v, p.u) };
             let [radius, x, y] = circle(arc, rng);
             let (from, to) = (line.from.at, line.to.at);
@@ -171,7 +171,8 @@ pub fn at(n: &[f64], i: usize) -> Vector2 {
     Vector2::new(n[i], n[i + 1])
 }
 
-/// The kernel that a pair of segments comes down to, by its number in the list, and its operands. A kernel's operands are so already.
+/// The kernel that decides a pair of segments, by its number in the list, and its operands. Operands of a kernel are taken as
+/// they are.
 pub fn kernel_of(n: &[f64]) -> (usize, Numbers) {
     let line = |bulge: f64| bulge.abs() < 1e-8;
     let circle = |i: usize| {
@@ -216,8 +217,8 @@ fn both(s: Segment) -> [f64; 6] {
     [a.at.x, a.at.y, a.bulge, b.at.x, b.at.y, b.bulge]
 }
 
-/// Radius and centre of an arc's circle; of a line, a circle about its start through its end. Now and then one number is another
-/// that a circle may have.
+/// Radius and centre of an arc's circle; for a line, the circle around its start through its end. Now and then one number is
+/// replaced by another that a circle may have.
 fn circle(s: Segment, rng: &mut Rng) -> [f64; 3] {
     let vertex = |v: Vertex| PlineVertex::new(v.at.x, v.at.y, v.bulge);
     let mut circle = if is_line(s) {

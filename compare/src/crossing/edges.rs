@@ -1,10 +1,10 @@
-//! Inputs on the edges: where a call, or a shortcut of ours, compares two numbers that are all but equal. Just below and just above
-//! an edge a shortcut goes one way and the other, and the answer must be the Rust's all the same.
+//! Inputs on the edges: a call, or a quick test of ours, compares two numbers that are nearly equal. Just below an edge and just
+//! above it a quick test says different things, and the answer must still be the Rust's.
 //!
 //! An edge is an entry of a table: its name, a draw of ways that lead over it, and the two numbers that are compared. A way is an
-//! input of which one number moves; where the comparison turns round is searched down to two neighbouring floats, and the inputs
-//! are those, some steps from them, and some with last bits of other numbers changed. On which side an input is, is worked out in
-//! Rust by the same formula, and the run fails if a side of an edge has too few.
+//! input of which one number moves. The place where the comparison changes is searched down to two neighbouring floats; the
+//! inputs are these two, some a few steps away, and some with the last bits of other numbers changed. Rust computes by the same
+//! formula on which side an input is, and the run fails if a side of an edge has too few inputs.
 
 mod chords;
 mod circles;
@@ -22,10 +22,10 @@ use crate::numbers::{Numbers, MOST};
 use crate::rng::Rng;
 use way::Way;
 
-/// An input is beside an edge if the two numbers differ by at most so much of the edge's size: some 1e-9.
+/// An input is beside an edge if the two numbers differ by at most this part of the edge's size: some 1e-9.
 const NEAR: f64 = 1.0 / (1u64 << 30) as f64;
-/// Of one in so many ways over an edge some inputs are also listed; of more where a listing decides by what it keeps, and where one
-/// side is refused, since these are fewer pairs.
+/// One in this many ways over an edge also has some of its inputs listed. There are more where a listing decides by what it
+/// keeps, and where one side is refused, since these give fewer pairs.
 const LISTED: usize = 12;
 const LISTED_BY_WHAT_IS_KEPT: usize = 3;
 const LISTED_WHERE_REFUSED: usize = 2;
@@ -34,24 +34,24 @@ const LISTED_WHERE_REFUSED: usize = 2;
 const VERTEX: usize = 3;
 const SEGMENT: usize = 6;
 
-/// What two numbers are compared of an input.
+/// The two numbers of an input that are compared.
 type Compared = Box<dyn Fn(&[f64]) -> Beside>;
 
 pub struct Edge {
     draw: Box<dyn Fn(&mut Rng) -> Way>,
-    /// Of an edge at which more than one comparison turns round, all of them, each with its name.
+    /// All comparisons that change at this edge, each with its name.
     compared: Vec<(String, Compared)>,
-    /// Whether beyond the edge an input is refused. Elsewhere refused inputs do not count.
+    /// Whether inputs beyond the edge are refused. At other edges refused inputs do not count.
     refuses: bool,
-    /// Whether the kernels take part: they know no chords.
+    /// Whether the kernels take part: they have no chords.
     by_kernels: bool,
-    /// Of how many ways one is listed too.
+    /// One in this many ways is listed too.
     listed_of: usize,
-    /// Of how many inputs a side one must come up in a listing too; none is asked for.
+    /// One in this many inputs of a side must come up in a listing too; `None` asks for none.
     listed_least: Option<u64>,
 }
 
-/// A number, what it is compared with, and the size by which their difference is judged.
+/// A number, the number that it is compared with, and the size by which their difference is judged.
 pub struct Beside {
     number: f64,
     edge: f64,
@@ -74,7 +74,7 @@ impl Edge {
         }
     }
 
-    /// Where another comparison turns round at the same place but for some last bits.
+    /// Another comparison that changes at the same place, except for some last bits.
     fn and(mut self, name: impl Into<String>, beside: impl Fn(&[f64]) -> Beside + 'static) -> Edge {
         self.compared.push((name.into(), Box::new(beside)));
         self
@@ -87,7 +87,7 @@ impl Edge {
         }
     }
 
-    /// Where a glance decides that comes first in the pair call and in a listing, but in no kernel.
+    /// A quick test decides, which comes first in the pair call and in a listing, but in no kernel.
     fn at_a_glance(self) -> Edge {
         Edge {
             by_kernels: false,
@@ -96,7 +96,7 @@ impl Edge {
         }
     }
 
-    /// Where a listing decides by what it keeps of each segment: half as many pairs are listed as are given to the pair call.
+    /// A listing decides by what it keeps of each segment: half as many pairs are listed as go to the pair call.
     fn by_what_is_kept(self) -> Edge {
         Edge {
             by_kernels: false,
@@ -120,7 +120,7 @@ impl Edge {
 }
 
 impl Beside {
-    /// Two numbers of the edge's own size.
+    /// Two numbers; the larger magnitude is the size.
     fn new(number: f64, edge: f64) -> Beside {
         let size = number.abs().max(edge.abs());
         Beside { number, edge, size }
@@ -130,7 +130,7 @@ impl Beside {
         Beside { number, edge, size }
     }
 
-    /// Below the edge, at it, above it; none if not near, or no number.
+    /// 0 below the edge, 1 at it, 2 above it; `None` if it is not near, or no number.
     fn side(&self) -> Option<usize> {
         let near = (self.number - self.edge).abs() <= NEAR * self.size;
         let order = self.number.partial_cmp(&self.edge)?;
@@ -151,8 +151,8 @@ fn table() -> Vec<Edge> {
     .collect()
 }
 
-/// Compares the calls on `count` inputs an edge, half of them just below it and half just above, and on some more. Answers how many
-/// differences there were; a side with too few inputs is one.
+/// Compares the calls on `count` inputs for each edge, half of them just below it and half just above, and on some more. Answers
+/// how many differences there were; a side with too few inputs counts as one.
 pub fn check(count: u64, seed: u64) -> u64 {
     let mut rng = Rng::new(seed);
     let table = table();
@@ -173,7 +173,7 @@ struct Run<'a> {
     sides: Vec<[u64; 3]>,
     ways: usize,
     listings: u64,
-    /// Pairs in them, and how many of these are below, at and above, by the first comparison.
+    /// The pairs in listings, and how many of them are below, at and above, by the first comparison.
     listed: u64,
     listed_sides: [u64; 3],
     wrong_listings: u64,
@@ -194,7 +194,7 @@ impl Run<'_> {
         }
     }
 
-    /// Most ways give twenty-four inputs; a table that draws past its edge ends all the same.
+    /// Most ways give twenty-four inputs. A table that misses its edge ends all the same.
     fn until(mut self, half: u64, rng: &mut Rng) -> Self {
         for _ in 0..half {
             if self.least() >= half {
@@ -202,7 +202,7 @@ impl Run<'_> {
             }
             let way = (self.edge.draw)(rng);
             let (_, beside) = &self.edge.compared[self.ways % self.edge.compared.len()];
-            // an input at the edge is found with those below it, or with those above
+            // an input at the edge counts with those below it, or with those above
             let with_equal = rng.one_in(2);
             let below = |n: &[f64]| {
                 let Beside { number, edge, .. } = beside(n);
@@ -221,7 +221,7 @@ impl Run<'_> {
         self
     }
 
-    /// How many inputs the side has that has least, by calls or, times what is asked for, in listings.
+    /// How many inputs the side with the fewest has: in calls, or in listings, times what is asked for.
     fn least(&self) -> u64 {
         let least = |[below, _, above]: &[u64; 3]| *below.min(above);
         let called = self.sides.iter().map(least).min().unwrap_or(0);
@@ -231,7 +231,7 @@ impl Run<'_> {
         }
     }
 
-    /// A pair goes to the pair call, or by turns to the kernel that it comes down to.
+    /// A pair goes to the pair call, or in turns to the kernel that decides it.
     fn compare(&mut self, numbers: &Numbers, turn: usize) {
         let by_turn = !self.edge.by_kernels || (self.ways + turn / 2) % 2 == 0;
         let by_pair = numbers.len() == MOST && by_turn;
@@ -250,8 +250,8 @@ impl Run<'_> {
         }
     }
 
-    /// Lists some inputs of a way: all first segments are about alike, and all second ones, so that most pairs are beside the edge.
-    /// Where one side is refused, an input is listed by itself.
+    /// Lists some inputs of a way: all first segments are nearly alike, and all second ones, so that most pairs are beside the
+    /// edge. If one side is refused, each input is listed by itself.
     fn list(&mut self, inputs: &[Numbers]) {
         let Edge {
             refuses,
@@ -274,7 +274,7 @@ impl Run<'_> {
         let (pairs, wrong) = listings::wrong_on_pairs(&inputs, turn % 2 == 0);
         self.listings += 1;
         self.listed += pairs;
-        // of a listing that is refused no pair is looked at
+        // a refused listing looks at no pair
         if pairs > 0 || refuses {
             self.count_listed(&inputs);
         }
@@ -286,7 +286,7 @@ impl Run<'_> {
         }
     }
 
-    /// Each segment of the first path meets each of the second, by the first input's epsilon.
+    /// Each segment of the first path is paired with each of the second, with the first input's epsilon.
     fn count_listed(&mut self, inputs: &[Numbers]) {
         let (_, beside) = &self.edge.compared[0];
         let path = |first: usize| -> Vec<f64> {
@@ -340,14 +340,16 @@ impl Run<'_> {
     }
 }
 
-/// Gives the second vertices the bulges that lead back, so that in a path of such pairs every segment is about alike, or its reverse.
+/// Gives the second vertices the bulges that lead back, so that in a path of such pairs all segments are nearly alike, or each
+/// other's reverse.
 fn go_back(pair: &mut Numbers) {
     for bulge in [2, SEGMENT + 2] {
         pair.put(bulge + VERTEX, -pair[bulge]);
     }
 }
 
-/// The operands of this kernel, by its number: those that it has, or that a pair comes down to. NaNs if a pair comes down to another.
+/// The operands of this kernel, by its number: its own, or those of a pair that it decides. NaNs if another kernel decides the
+/// pair.
 fn operands(kernel: usize, numbers: &[f64]) -> Numbers {
     match kernel_of(numbers) {
         (which, operands) if which == kernel => operands,

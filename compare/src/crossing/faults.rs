@@ -1,6 +1,6 @@
-//! The first number of a call that is refused, and by which refusal: from the scope's table, in its order, and from nothing else.
+//! The first number of a call that is refused, and by which refusal: from the scope's table and order, and from nothing else.
 
-/// What a number is looked at for.
+/// The check of a number.
 #[derive(Clone, Copy)]
 pub enum Look {
     Epsilon,
@@ -12,7 +12,7 @@ pub enum Look {
     Center,
 }
 
-/// A call's numbers by their indices, in the order in which they are looked at.
+/// A call's numbers by their indices, in the order of their checks.
 pub type Order = &'static [(usize, Look)];
 
 pub fn two_to(power: i32) -> f64 {

@@ -1,4 +1,4 @@
-//! Inputs at the limits and beyond them: each number of a call in its turn, two at once, and chords.
+//! Inputs at the limits and beyond them: each number of a call by itself, two at once, and chords.
 
 use super::calls::Call;
 use super::faults::two_to;
@@ -6,7 +6,7 @@ use crate::inputs::{Kind, Pair, Point};
 use crate::numbers::Numbers;
 use crate::rng::Rng;
 
-/// Each limit with either sign and the floats next to it, and what is no finite number.
+/// Each limit with either sign and the floats next to it, and NaNs and infinities.
 pub fn specials() -> Vec<f64> {
     let limits = [
         1_048_576.0,
@@ -22,7 +22,7 @@ pub fn specials() -> Vec<f64> {
     ];
     let beside = |x: f64| [x.to_bits() - 1, x.to_bits(), x.to_bits() + 1].map(f64::from_bits);
     let mut all: Vec<f64> = limits.into_iter().flat_map(beside).collect();
-    // no number: quiet and signalling, smallest and largest
+    // NaNs: quiet and signalling, smallest and largest
     let patterns = [
         0,
         1,
@@ -44,7 +44,7 @@ pub fn one_at_a_time(numbers: &Numbers, specials: &[f64], mut then: impl FnMut(&
     }
 }
 
-/// Every two places with a special number each: the first fault is the answer.
+/// Every two places with a special number each: the first fault must be the answer.
 pub fn two_at_once(
     numbers: &Numbers,
     specials: &[f64],
@@ -59,7 +59,7 @@ pub fn two_at_once(
     }
 }
 
-/// A pair with a chord, or two, as short as an arc's may be, or the next float to that, and a bulge that hardly makes an arc.
+/// A pair with one or two chords as short as an arc's may be, or the next float, and a bulge that just makes an arc.
 pub fn short_chords(rng: &mut Rng) -> Pair {
     let mut pair = Pair::draw(Kind::Accepted, rng);
     for segment in [&mut pair.v, &mut pair.u] {

@@ -1,4 +1,4 @@
-//! Compares one call after the other, and counts what was met: answers by class, refusals by number, and differences.
+//! Compares one call after the other, and counts what came up: answers by class, refusals by number, and differences.
 
 use std::fmt::Display;
 
@@ -7,7 +7,7 @@ use crate::lent::Lent;
 use crate::numbers::{hex, same, Numbers};
 
 const SHOWN: u64 = 5;
-/// What is returned where the room for an answer is too small.
+/// What a call returns if the room for an answer is too small.
 pub const NO_ROOM: u64 = 512;
 const PLACES: usize = 4;
 
@@ -36,13 +36,13 @@ impl Score {
         }
     }
 
-    /// Makes the call on these numbers, ours and the Rust's, with a lent slice of the next length.
+    /// Makes our call and the Rust's on these numbers, with a lent slice of the next length.
     pub fn compare(&mut self, numbers: &Numbers) {
         let room = self.room();
         self.compare_in(room, numbers);
     }
 
-    /// The same with a slice that an answer fits into. Says whether it is answered.
+    /// The same with a slice that has room for an answer. Says whether there is one.
     pub fn in_full(&mut self, numbers: &Numbers) -> bool {
         let before = self.answered;
         self.compare_in(PLACES, numbers);
@@ -77,7 +77,7 @@ impl Score {
         true
     }
 
-    /// Four places or five; in one turn of sixteen fewer.
+    /// Four places or five; in one of sixteen calls fewer.
     fn room(&mut self) -> usize {
         self.turn += 1;
         if self.turn % 16 == 0 {
@@ -104,12 +104,12 @@ impl Score {
         self.differences
     }
 
-    /// Whether the call was made at all.
+    /// Whether the call was made.
     pub fn is_met(&self) -> bool {
         self.answered + self.refusals.iter().sum::<u64>() > 0
     }
 
-    /// The call's answers by class, those that came up.
+    /// The call's answers by class, for those that came up.
     pub fn met(&self) -> String {
         format!("{} ({})", self.call.name, self.classes(1))
     }
@@ -141,7 +141,7 @@ impl Score {
     }
 }
 
-/// Whether these are the values, and +0 in the places that are left.
+/// Whether these are the values, and +0 in the other places.
 fn filled(ours: &[f64], values: &[f64]) -> bool {
     let (front, rest) = ours.split_at(values.len());
     same(front, values) && rest.iter().all(|x| x.to_bits() == 0)

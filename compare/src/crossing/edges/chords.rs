@@ -1,5 +1,5 @@
-//! Arcs whose chord is as short as an arc's may be: 2^-40, or 2^-80 by its self dot, which is what a shortcut looks at. Below it they
-//! are refused.
+//! Arcs whose chord is as short as an arc's may be: 2^-40, or 2^-80 by its dot product with itself, which the quick test
+//! compares. Below that they are refused.
 
 use cavalier_contours::core::math::Vector2;
 
@@ -33,7 +33,8 @@ pub fn edges() -> Vec<Edge> {
         .collect()
 }
 
-/// A pair with a chord of 2^-40 near the origin, where floats are fine enough for it; the other segment is any accepted one, or near.
+/// A pair with a chord of 2^-40 near the origin, where floats are fine enough for it. The other segment is any accepted one, or a
+/// near one.
 fn short(which: usize, rng: &mut Rng) -> Way {
     let mut pair = Pair::draw(Kind::Accepted, rng);
     let shortest = two_to(-40);

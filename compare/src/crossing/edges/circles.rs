@@ -1,7 +1,7 @@
-//! Two circles, given as such and as those of arcs: where they hardly touch from outside or inside, or hardly have one centre.
+//! Two circles, given as circles or as those of arcs: they just touch from outside or inside, or their centres just count as one.
 //!
-//! That the radii and epsilon together are at least epsilon, which a shortcut asks, always holds of accepted circles: the least
-//! radius is not lost in a sum with the largest epsilon. What is nearest to it are the smallest circles, an epsilon apart.
+//! A quick test needs the radii plus epsilon to be at least epsilon. This always holds for accepted circles: the least radius is
+//! not lost in a sum with the largest epsilon. The smallest circles, an epsilon apart, come nearest to that limit.
 
 use super::{operands, some_epsilon, Beside, Edge, Way};
 use crate::crossing::calls::{at, CALLS};
@@ -12,7 +12,7 @@ use crate::inputs::{Pair, Point, Segment};
 use crate::numbers::Numbers;
 use crate::rng::Rng;
 
-/// How two circles stand to each other: their radii, the distance of their centres, and epsilon; and how far a number moves.
+/// Two circles: their radii, the distance of their centres, epsilon, and how far a number moves.
 #[derive(Clone, Copy)]
 struct Stand {
     radii: [f64; 2],
@@ -21,9 +21,9 @@ struct Stand {
     step: f64,
 }
 
-/// What the kernel works out of two circles, in its own operations.
+/// What the kernel computes from two circles, in its own operations.
 struct Circles {
-    /// The square of the distance of the centres, and the distance.
+    /// The squared distance of the centres, and the distance.
     d2: f64,
     d: f64,
     sum: f64,
@@ -188,13 +188,13 @@ fn smallest(rng: &mut Rng) -> Stand {
     }
 }
 
-/// One in the other, touching it but for so many epsilons outwards, or inwards if below zero.
+/// One inside the other, touching it, moved by this many epsilons outwards, or inwards if below zero.
 fn nested(outwards: f64, rng: &mut Rng) -> Stand {
     let first = radius(rng);
     let any = rng.between(0.01, 0.95);
     let second = first * rng.pick(&[0.5, 0.25, 1.75, any, any]);
     let difference = (first - second).abs();
-    // not so wide that one centre is told for two
+    // not so wide that two centres count as one
     let epsilon = some_epsilon(rng).min(difference / 4.0);
     Stand {
         radii: [first, second],
@@ -204,7 +204,7 @@ fn nested(outwards: f64, rng: &mut Rng) -> Stand {
     }
 }
 
-/// Centres an epsilon apart, or less and radii that differ by one.
+/// Centres an epsilon apart; or nearer, with radii that differ by an epsilon.
 fn about_one_centre(centres: bool, rng: &mut Rng) -> Stand {
     let epsilon = some_epsilon(rng);
     let first = radius(rng).max(3.0 * epsilon);
@@ -228,7 +228,7 @@ fn about_one_centre(centres: bool, rng: &mut Rng) -> Stand {
     }
 }
 
-/// Where the first circle's centre is: mostly near the origin, where floats are finer than the circles.
+/// The centre of the first circle: mostly near the origin, where floats are finer than the circles.
 fn centre(size: f64, rng: &mut Rng) -> Point {
     let far = rng.pick(&[0.0, 0.0, size, 100.0]);
     near(Point::default(), far, rng)
@@ -287,7 +287,7 @@ fn arcs(stand: Stand, rng: &mut Rng) -> Way {
     some_number(Pair { v, u, epsilon }, step, [2, 8], rng)
 }
 
-/// An arc that mostly holds this direction, and now and then ends in it.
+/// An arc that mostly contains this direction, and now and then ends in it.
 pub fn arc_about(circle: &Circle, way: Point, rng: &mut Rng) -> Segment {
     let turned = |t: f64| {
         let (a, b) = ((1.0 - t * t) / (1.0 + t * t), 2.0 * t / (1.0 + t * t));
@@ -302,7 +302,7 @@ pub fn arc_about(circle: &Circle, way: Point, rng: &mut Rng) -> Segment {
     either_way(circle.arc(turned(-back), turned(on)), rng)
 }
 
-/// A coordinate moves by so much, or one of these bulges by a part of itself.
+/// A coordinate moves by this much, or one of these bulges by a part of itself.
 pub fn some_number(pair: Pair, step: f64, bulges: [usize; 2], rng: &mut Rng) -> Way {
     let numbers = (CALLS[PAIRS].operands)(&pair, rng);
     if rng.one_in(8) {

@@ -1,7 +1,7 @@
-//! Numbers of a pair beside the limits of what is accepted, to which the pair call holds them by comparisons alone. Beyond a limit
-//! they are refused; beyond the limit of a line's bulge a chord is, if it is too short for an arc.
+//! Numbers of a pair beside the limits of what is accepted, which the pair call tests by comparisons alone. Beyond a limit they
+//! are refused; beyond the limit of a line's bulge the chord is refused, if it is too short for an arc.
 //!
-//! What is no finite number has no neighbours to search for: `crossing/limits.rs` has it in each place.
+//! A NaN or an infinity has no neighbours to search for: `crossing/limits.rs` puts them in each place.
 
 use super::{Beside, Edge, Way};
 use crate::crossing::calls::CALLS;
@@ -14,7 +14,7 @@ use crate::inputs::values::{
 use crate::inputs::{Kind, Pair, Point};
 use crate::rng::Rng;
 
-/// The places of a pair's numbers. The bulges of the second vertices are nobody's.
+/// The places of a pair's numbers. The bulges of the second vertices have no effect.
 const COORDINATES: [(&str, usize); 8] = [
     ("v1's x", 0),
     ("v1's y", 1),
@@ -54,7 +54,7 @@ pub fn edges() -> Vec<Edge> {
         .collect()
 }
 
-/// A pair with the number at this place beside a limit, of either sign, but for epsilon, which has none.
+/// A pair with the number at this place beside a limit, with either sign; epsilon has no sign.
 fn edge(name: String, place: usize, limit: f64, pair: fn(&mut Rng) -> Pair) -> Edge {
     let draw = move |rng: &mut Rng| {
         let pair = pair(rng);

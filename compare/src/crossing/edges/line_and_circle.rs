@@ -1,8 +1,8 @@
-//! A line and a circle, given as such and as an arc's: where the line is hardly far from the circle, hardly touches it, or hardly
-//! ends on it.
+//! A line and a circle, given as a circle or as an arc's: the line is just far from the circle, just touches it, or just ends on
+//! it.
 //!
-//! Of the two comparisons that tell a line to be far, the one of the root's guess with the root always comes out alike: the guess
-//! has a margin of one part in 512. Neither can the numbers be too large for it: a slope is at most some 2^48.
+//! The test that a line is far has two comparisons. The one of the guess with the root always says the same: the guess has a
+//! margin of one part in 512. Nor can its numbers be too large: a slope is at most some 2^48.
 
 use cavalier_contours::core::math::{line_circle_intr, LineCircleIntr, Vector2};
 
@@ -18,14 +18,14 @@ use crate::inputs::{Pair, Point, Segment};
 use crate::numbers::Numbers;
 use crate::rng::Rng;
 
-/// What the kernel works out of a line and a circle, in its own operations.
+/// What the kernel computes from a line and a circle, in its own operations.
 struct Meeting {
     from: Vector2,
     to: Vector2,
     center: Vector2,
     radius: f64,
     epsilon: f64,
-    /// The line is a * x + b * y + c = 0 about the circle's centre.
+    /// The line is a * x + b * y + c = 0, relative to the circle's centre.
     a: f64,
     b: f64,
     c: f64,
@@ -68,14 +68,15 @@ impl Meeting {
         self.radius + self.epsilon
     }
 
-    /// What the shortcut holds |c| against: a guess above the root times a number above the reach.
+    /// The number with which the kernel's quick test compares |c|: a guess above the root times a number above the reach.
     fn guess(&self) -> f64 {
         let sides = self.a.abs() + self.b.abs();
         let root = (sides + self.square() / sides) * (513.0 / 1024.0);
         self.reach() * (129.0 / 128.0) * root
     }
 
-    /// What the glance holds |c| against: likewise, with a better guess. It tells nothing of a line that is a point.
+    /// The number with which the pair's quick test compares |c|: the same, with a better guess. For a line that is a point it
+    /// says no.
     fn glanced(&self) -> f64 {
         let q = self.square();
         let sides = self.a.abs() + self.b.abs();
@@ -92,7 +93,7 @@ impl Meeting {
         self.b == 0.0
     }
 
-    /// The parameter of a point where the line meets the circle: the one nearer to a given one.
+    /// The parameter of a point where the line meets the circle: the one nearer to the given one.
     fn t_near(&self, given: f64) -> f64 {
         let answer = line_circle_intr(self.from, self.to, self.radius, self.center, self.epsilon);
         match answer {
@@ -142,7 +143,7 @@ pub fn edges() -> Vec<Edge> {
         )
     };
     let mut all: Vec<Edge> = ENTRIES.iter().map(edge).collect();
-    // which no shortcut is about
+    // no quick test is about this
     let touching = Edge::new(
         "distance at r",
         |rng| drawn(|radius, _, _| radius, rng),
@@ -152,7 +153,7 @@ pub fn edges() -> Vec<Edge> {
         },
     );
     all.push(touching);
-    // the shortcut's own limit, where no line is far
+    // the quick test's own limit, where no line is far
     let through = Edge::new("|c| at 2^-100", through_centre, |n| {
         Beside::new(Meeting::of(n).c.abs(), two_to(-100))
     });
@@ -202,7 +203,7 @@ fn order(line_first: bool) -> &'static str {
     }
 }
 
-/// The meeting of a pair of segments in this order. Of another pair it is beside no edge.
+/// The meeting of a pair of segments in this order. Any other pair is beside no edge.
 fn in_order(line_first: bool, n: &[f64]) -> Option<Meeting> {
     (line_first == (n[2].abs() < 1e-8)).then(|| Meeting::of(n))
 }
@@ -226,7 +227,7 @@ fn at_a_glance(upright: bool, line_first: bool) -> Edge {
     edge.by_what_is_kept()
 }
 
-/// A line beside an arc that is upright but for the default epsilon, and one that is a point but for the epsilon.
+/// Two lines beside an arc: one that is just not upright by the default epsilon, and one that is just not a point by the epsilon.
 fn near_zero(line_first: bool) -> [Edge; 2] {
     let upright = Edge::new(
         format!("|dx| at 1e-8, {}", order(line_first)),
@@ -261,7 +262,7 @@ fn some_circle(rng: &mut Rng) -> Circle {
     Circle { center, radius }
 }
 
-/// A line across this way from the centre, so far from it, about where it is nearest.
+/// A line across this direction, this far from the centre, around its nearest point.
 fn line_at(circle: &Circle, way: Point, far: f64, rng: &mut Rng) -> [Point; 2] {
     let nearest = circle.center.along(way, far);
     let size = circle.radius * rng.pick(&[0.1, 1.0, 1.0, 10.0]);
@@ -323,7 +324,7 @@ fn ordered(line_first: bool, line: Segment, arc: Segment, epsilon: f64) -> (Pair
     (Pair { v, u, epsilon }, bulge)
 }
 
-/// A line so far from an arc's circle that the glance hardly tells it to be beside.
+/// A line so far from an arc's circle that the quick test only just says yes.
 fn glanced(upright: bool, line_first: bool, rng: &mut Rng) -> Way {
     let circle = some_circle(rng);
     let epsilon = some_epsilon(rng);
@@ -346,7 +347,7 @@ fn glanced(upright: bool, line_first: bool, rng: &mut Rng) -> Way {
     if !upright {
         return some_number(pair, step, [bulge; 2], rng);
     }
-    // an end of the line that moves may make it slanted
+    // if an end of the line moves, the line may become slanted
     let numbers = (CALLS[PAIRS].operands)(&pair, rng);
     let first = bulge - 2;
     match rng.below(8) {
@@ -355,7 +356,7 @@ fn glanced(upright: bool, line_first: bool, rng: &mut Rng) -> Way {
     }
 }
 
-/// A way from a centre to a line that is not upright, but now and then all but that.
+/// A direction from a centre to a line that is not upright, but now and then nearly is.
 fn across_slanted(rng: &mut Rng) -> Point {
     if rng.one_in(8) {
         return Point {
@@ -371,7 +372,7 @@ fn across_slanted(rng: &mut Rng) -> Point {
     }
 }
 
-/// A line along an axis, all but through the circle's centre at the origin.
+/// A line along an axis, nearly through the circle's centre at the origin.
 fn through_centre(rng: &mut Rng) -> Way {
     let radius = power(rng, -8, 14);
     let (from, to) = (rng.between(-2.0, 2.0) * radius, radius * power(rng, -4, 4));
@@ -387,11 +388,11 @@ fn through_centre(rng: &mut Rng) -> Way {
     Way::in_parts(numbers, place, 0.5)
 }
 
-/// A line that is upright but for the least that makes a slope, through a circle or beside it.
+/// A line that is upright except for the least that makes a slope, through a circle or beside it.
 fn hardly_upright(rng: &mut Rng) -> Way {
     let circle = some_circle(rng);
     let epsilon = some_epsilon(rng).min(1e-5);
-    // the line's numbers are small where floats must be fine
+    // the line's numbers are small: floats must be fine there
     let x = rng.pick(&[0.0, 1e-9, 1e-8, -3e-8]);
     let to = x + rng.sign() * 1e-8;
     let [y, end] = [0; 2].map(|_| rng.between(-2.0, 2.0) * circle.radius);
@@ -427,7 +428,8 @@ fn upright_beside_arc(line_first: bool, rng: &mut Rng) -> Way {
     Way::new(numbers, 8 - bulge + rng.pick(&[0, 3]), 1e-9)
 }
 
-/// A line whose longer side is an epsilon, about where its distance from the centre decides: on the circle or an epsilon beside it.
+/// A line whose longer side is an epsilon, at a place where its distance from the centre decides: on the circle or an epsilon
+/// beside it.
 fn point_beside_arc(line_first: bool, rng: &mut Rng) -> Way {
     let epsilon = some_epsilon(rng);
     let drawn = some_circle(rng);
@@ -454,7 +456,7 @@ fn point_beside_arc(line_first: bool, rng: &mut Rng) -> Way {
     Way::new(numbers, place, epsilon / 64.0)
 }
 
-/// A line whose crossing of the circle is at a parameter, for its length and the epsilon.
+/// A line that crosses the circle at the parameter that `t` gives for its length and the epsilon.
 fn ending(t: impl Fn(f64, f64) -> f64, rng: &mut Rng) -> Way {
     let circle = some_circle(rng);
     let epsilon = some_epsilon(rng);

@@ -1,7 +1,7 @@
-//! Two lines: where the crossing's parameters lie beside an end, or beside what a shortcut takes for clearly on the segment or off
-//! it; and where a segment or an epsilon is hardly of the sizes that a shortcut is made for.
+//! Two lines: the crossing's parameters lie beside an end, or beside the limits of the quick test for clearly on the segment or
+//! off it; or a segment or an epsilon is just of usual size.
 //!
-//! The shortcut's other limit of a segment's self dot, 2^50, lies beyond what accepted coordinates reach: 2^43.
+//! The quick test's other limit on the square of a segment's length, 2^50, lies beyond what accepted coordinates reach: 2^43.
 
 use cavalier_contours::core::math::{parametric_from_point, Vector2};
 
@@ -15,7 +15,7 @@ use crate::inputs::{Pair, Point, Segment};
 use crate::numbers::Numbers;
 use crate::rng::Rng;
 
-/// The ends of a segment, and from where on a parameter is clearly on it or off it.
+/// The ends of a segment, and the limits beyond which a parameter is clearly on it or off it.
 pub const PARAMETERS: [(&str, f64); 5] = [
     ("-1/32", -1.0 / 32.0),
     ("0", 0.0),
@@ -92,7 +92,7 @@ pub fn edges() -> Vec<Edge> {
     all
 }
 
-/// The glance asks for no quotient n / d but holds n against d's product with a limit, either above both limits' products or below.
+/// The quick test needs no quotient n / d: it compares n with both limits times d, and says yes if n is above both or below both.
 fn at_a_glance() -> Vec<Edge> {
     let limits = [PARAMETERS[0], PARAMETERS[4]];
     let mut all = Vec::new();
@@ -116,8 +116,8 @@ fn at_a_glance() -> Vec<Edge> {
     all
 }
 
-/// What is near zero by an epsilon: the ways' product, of either sign, in the pair call, where it decides before a glance does;
-/// what parallel lines are apart; and a line that is a point.
+/// What is near zero by an epsilon: the product of the two ways, with either sign, in the pair call, where it decides before the
+/// quick test; the distance of parallel lines; and a line that is a point.
 fn near_zero() -> impl Iterator<Item = Edge> {
     let signs = [(1.0, "v perp u at eps"), (-1.0, "v perp u at -eps")];
     let product = signs.map(|(sign, name)| {
@@ -186,7 +186,7 @@ fn of_points() -> impl Iterator<Item = Edge> {
     clear.into_iter().chain([before, behind])
 }
 
-/// What the kernel works out of two lines, in its own operations.
+/// What the kernel computes from two lines, in its own operations.
 struct Lines {
     starts: [Vector2; 2],
     ends: [Vector2; 2],
@@ -210,7 +210,7 @@ impl Lines {
         self.ways[0].perp_dot(self.ways[1])
     }
 
-    /// The way of the first segment, or of the second, and from one start to the other.
+    /// The product of a segment's way, the first's or the second's, and the way from one start to the other.
     fn with_w(&self, which: usize) -> f64 {
         let w = self.starts[0] - self.starts[1];
         self.ways[which].perp_dot(w)
@@ -221,13 +221,13 @@ impl Lines {
         self.with_w(1 - which) / self.perp()
     }
 
-    /// Whether a shortcut may decide by it: the segment and epsilon are of usual sizes.
+    /// Whether a quick test may decide: the segment and epsilon are of usual size.
     fn is_usual(&self, which: usize) -> bool {
         let is_long = self.ways[which].length_squared() >= two_to(-10);
         is_long && self.epsilon <= two_to(-10)
     }
 
-    /// The parameter where a shortcut may decide by it. Else it is beside no edge.
+    /// The parameter if a quick test may decide. Otherwise it is beside no edge.
     fn usual_t(&self, which: usize) -> f64 {
         if self.is_usual(which) {
             self.t(which)
@@ -236,7 +236,7 @@ impl Lines {
         }
     }
 
-    /// The same as two numbers, not divided, and only of lines that are not parallel.
+    /// The same as two numbers, not divided, and only for lines that are not parallel.
     fn usual_quotient(&self, which: usize) -> (f64, f64) {
         let d = self.perp();
         if self.is_usual(which) && d.abs() >= self.epsilon {
@@ -246,7 +246,7 @@ impl Lines {
         }
     }
 
-    /// How far parallel lines are apart, times a segment's length. Of lines that are not parallel it is beside no edge.
+    /// The distance of parallel lines times a segment's length. For lines that are not parallel it is beside no edge.
     fn apart(&self, which: usize) -> f64 {
         if self.perp().abs() < self.epsilon {
             self.with_w(which)
@@ -255,7 +255,7 @@ impl Lines {
         }
     }
 
-    /// A segment is a point if its longer side is below epsilon. Of lines that are not parallel nobody asks.
+    /// A segment is a point if its longer side is below epsilon. It matters only for parallel lines.
     fn longer_side(&self, which: usize) -> f64 {
         let way = self.ways[which];
         if self.perp().abs() < self.epsilon {
@@ -269,7 +269,7 @@ impl Lines {
         self.ways[which].length()
     }
 
-    /// The parameter of the segment that is a point on the other one, and the other one's length.
+    /// The parameter, on the other segment, of the segment that is a point, and the other segment's length.
     fn t_of_point(&self) -> (f64, f64) {
         let is_point = self.starts[0].fuzzy_eq_eps(self.ends[0], self.epsilon);
         let (point, other) = if is_point { (0, 1) } else { (1, 0) };
@@ -285,7 +285,7 @@ struct Ways {
     ways: [Point; 2],
 }
 
-/// Of usual sizes: on a grid on which 32nds are exact, along an axis and a power of two long, of short steps as in a coil, or any.
+/// Of usual sizes: on a grid with exact 32nds, along an axis with a power of two as length, in short steps as in a coil, or any.
 fn ways(rng: &mut Rng) -> Ways {
     let point = |x: f64, y: f64| Point { x, y };
     match rng.below(4) {
@@ -330,7 +330,7 @@ fn ways(rng: &mut Rng) -> Ways {
 }
 
 impl Ways {
-    /// A line along each way, which cross at these parameters of the two.
+    /// A line along each way; they cross at these parameters.
     fn crossed(&self, t: [f64; 2], epsilon: f64, rng: &mut Rng) -> Numbers {
         let place = self.from.along(self.ways[0], t[0]);
         let u1 = place.along(self.ways[1], -t[1]);
@@ -344,7 +344,7 @@ fn numbers(v: Segment, u: Segment, epsilon: f64, rng: &mut Rng) -> Numbers {
     (CALLS[PAIRS].operands)(&Pair { v, u, epsilon }, rng)
 }
 
-/// Where the crossing lies on the segment that the edge is not about: mostly on it, so that the other one decides.
+/// The crossing's parameter on the segment that the edge is not about: mostly on it, so that the other one decides.
 fn other_t(rng: &mut Rng) -> f64 {
     match rng.below(8) {
         0 => rng.pick(&PARAMETERS).1 + nudge(1e-12, rng),
@@ -354,7 +354,7 @@ fn other_t(rng: &mut Rng) -> f64 {
     }
 }
 
-/// The parameters of the two, of which one is given.
+/// The parameters on both segments; one is given.
 fn with_other(which: usize, t: f64, rng: &mut Rng) -> [f64; 2] {
     let other = other_t(rng);
     if which == 0 {
@@ -387,7 +387,7 @@ fn by_epsilon(which: usize, behind: bool, rng: &mut Rng) -> Way {
     some_coordinate(numbers, length, rng)
 }
 
-/// A parameter at which much is decided: beside an end, or an epsilon away from one, or beside what is clear.
+/// A parameter at which much is decided: beside an end, or an epsilon away from one, or beside a limit of what is clear.
 fn deciding_t(length: f64, epsilon: f64, rng: &mut Rng) -> f64 {
     let away = epsilon / length;
     match rng.below(4) {
@@ -411,8 +411,8 @@ fn hardly_usual(which: usize, rng: &mut Rng) -> Way {
     Way::new(numbers, place, length / 8.0)
 }
 
-/// An epsilon hardly of a usual size, beside a segment that mostly is so too: of length 2^-5, or the next greater ones, the largest
-/// usual epsilon reaches just as far as a shortcut takes for unclear.
+/// An epsilon just of usual size, beside a segment that mostly is too. At the length 2^-5, or a little more, the largest usual
+/// epsilon reaches exactly as far as the quick test leaves open.
 fn by_size_of_epsilon(exponent: i32, rng: &mut Rng) -> Way {
     let mut ways = ways(rng);
     let epsilon = two_to(exponent);
@@ -427,8 +427,8 @@ fn by_size_of_epsilon(exponent: i32, rng: &mut Rng) -> Way {
     Way::in_parts(numbers, EPSILON, 1.0 / 64.0)
 }
 
-/// The crossing lies where a parameter is just clear, the segment's length half of the time as short as a usual one's, with the
-/// largest usual epsilon: there what is clear begins where the segment ends.
+/// The crossing lies where a parameter is just clear. Half of the time the segment is as short as usual ones are and the epsilon
+/// the largest usual one: there the clear part begins where the segment ends.
 fn clearly_off(which: usize, t: f64, sign: f64, rng: &mut Rng) -> Way {
     let mut ways = ways(rng);
     let mut epsilon = some_epsilon(rng).min(two_to(-10));
@@ -463,7 +463,7 @@ fn nearly_parallel(sign: f64, rng: &mut Rng) -> Way {
     Way::new(numbers, rng.pick(&COORDINATES), 2.0 * aside.abs())
 }
 
-/// Two lines of one way, of which the one that is given is apart from the other by an epsilon, divided by its length.
+/// Two lines of one way. The given one is an epsilon, divided by its length, away from the other.
 fn parallel(which: usize, rng: &mut Rng) -> Way {
     let epsilon = some_epsilon(rng);
     let size = power(rng, -3, 6);
@@ -483,7 +483,7 @@ fn parallel(which: usize, rng: &mut Rng) -> Way {
     Way::new(numbers, rng.pick(&COORDINATES), epsilon / size / 8.0)
 }
 
-/// A line whose longer side is an epsilon, about another one.
+/// A line whose longer side is an epsilon, near another one.
 fn hardly_a_line(which: usize, rng: &mut Rng) -> Way {
     let epsilon = some_epsilon(rng);
     let any = rng.unit();
@@ -510,7 +510,7 @@ fn hardly_a_line(which: usize, rng: &mut Rng) -> Way {
     Way::new(numbers, COORDINATES[place], epsilon / 64.0)
 }
 
-/// A line, and one that is a point but for less than an epsilon, at a parameter of the first.
+/// A line, and one that is a point, shorter than an epsilon, at a parameter of the first.
 fn point_on_line(t: impl Fn(f64, f64) -> f64, rng: &mut Rng) -> Way {
     let ways = ways(rng);
     let epsilon = some_epsilon(rng);
@@ -523,7 +523,7 @@ fn point_on_line(t: impl Fn(f64, f64) -> f64, rng: &mut Rng) -> Way {
     let u = line(place, end, rng);
     let (first, second, at) = if rng.one_in(2) { (v, u, 4) } else { (u, v, 0) };
     let numbers = numbers(first, second, epsilon, rng);
-    // the point's longer coordinate, which the parameter is taken by
+    // the point's coordinate along the longer axis, from which the parameter comes
     let along_y = usize::from(way.x.abs() < way.y.abs());
     Way::new(numbers, COORDINATES[at + along_y], length / 64.0)
 }

@@ -1,4 +1,4 @@
-//! The way over an edge: an input of which one number moves, and the inputs about the place where a comparison turns round.
+//! A way over an edge: an input of which one number moves, and the inputs around the place where a comparison changes.
 
 use crate::numbers::{Numbers, MOST};
 use crate::rng::Rng;
@@ -21,11 +21,11 @@ impl Way {
         Way { numbers, place, by }
     }
 
-    /// Twenty-four inputs about the place where a comparison turns round, none if it does not.
+    /// Twenty-four inputs around the place where a comparison changes; none if it does not.
     pub fn over(&self, holds: impl Fn(&[f64]) -> bool, rng: &mut Rng) -> Vec<Numbers> {
         let at = |rank: i64| self.numbers.with(self.place, of_rank(rank));
         let middle = self.numbers[self.place];
-        // most are drawn near to it already
+        // most are drawn near that place already
         let found = [self.by / (1 << 24) as f64, self.by]
             .into_iter()
             .find_map(|by| {
@@ -64,7 +64,7 @@ impl Way {
     }
 }
 
-/// The same numbers but for some last bits. Zeros stay, and so do bulges that make a line, or all but do.
+/// The same numbers except for some last bits. Zeros stay, and so do bulges that make a line or nearly do.
 fn shaken(numbers: Numbers, rng: &mut Rng) -> Numbers {
     const STEPS: [i64; 8] = [-2, -1, -1, 0, 0, 1, 1, 2];
     let is_bulge = |place: usize| numbers.len() == MOST && place % 3 == 2;
@@ -114,7 +114,7 @@ mod tests {
         }
     }
 
-    /// The first two inputs are neighbours on either side of the place, near or far as it is.
+    /// The first two inputs are neighbours on either side of the place, whether it is near or far.
     #[test]
     fn the_turn_is_found() {
         let edge = 0.1;
