@@ -1,5 +1,5 @@
-//! Whole-path listings beside a listing that is written here from the scope's prose, over the Rust's pair function: rows, counts,
-//! refusals and their order, and every place of the lent slices.
+//! Whole-path listings compared with a listing that is written here from the scope's prose, over the Rust's pair function: rows,
+//! counts, refusals and their order, and every place of the lent slices.
 
 mod bench;
 mod damage;
@@ -30,12 +30,12 @@ use crate::rng::Rng;
 /// Whether each of two paths is closed.
 const FLAGS: [[bool; 2]; 4] = [[false, false], [false, true], [true, false], [true, true]];
 
-/// From this count on, the largest listings there are take part.
+/// From this count on, the largest possible listings take part.
 const FULL: u64 = 1 << 20;
 
-/// Compares the listings on small paths of every size with every room, on layouts with chosen numbers of rows, on layouts with one
-/// fault and with two; on `count / 16` pairs of segments, and on random layouts until `count` pairs were looked at. Answers how
-/// many differences there were, and kinds of input that never occurred.
+/// Compares the listings on small paths of every size with every room, on layouts with chosen numbers of rows, and on layouts
+/// with one fault and with two; on `count / 16` pairs of segments; and on random layouts until `count` pairs were looked at.
+/// Answers how many differences there were, plus the kinds of input that never occurred.
 pub fn check(count: u64, seed: u64) -> u64 {
     let full = count >= FULL;
     let mut run = Run {
@@ -62,9 +62,9 @@ pub fn check(count: u64, seed: u64) -> u64 {
     run.scores.iter().map(Score::report).sum()
 }
 
-/// Lists pairs of segments, given as the pair call takes them, with the first one's epsilon: all first segments as one path and all
-/// second ones as another, or all in one path; in exactly the room that it needs. Answers how many pairs were looked at, and what is not
-/// as the model has it, if anything is.
+/// Lists pairs of segments, given as for the pair call, with the epsilon of the first: all first segments as one path and all
+/// second ones as another, or all in one path, with exactly the room needed. Answers how many pairs were looked at, and what
+/// differs from the model, if anything.
 pub fn wrong_on_pairs(pairs: &[Numbers], in_one: bool) -> (u64, Option<String>) {
     let vertices = |places: [usize; 2]| -> Vec<Vertex> {
         let vertex = |n: &Numbers, i: usize| shapes::vertex(n[i], n[i + 1], n[i + 2]);
@@ -140,7 +140,7 @@ impl Run {
         }
     }
 
-    /// Paths of few vertices, open and closed, beside each other, in every room up to one row more than needed.
+    /// Paths of few vertices, open and closed, in every pairing, with every room up to one row more than needed.
     fn sizes(&mut self) {
         for first in 0..6 {
             for second in 0..6 {
@@ -165,7 +165,7 @@ impl Run {
         }
     }
 
-    /// Chosen numbers of rows, in rooms about them and about those at which an implementation may change its way.
+    /// Chosen numbers of rows, with room for about as many, and for about as many as where the code takes another way.
     fn row_counts(&mut self) {
         for rows in [1, 2047, 2048, 2049, 4290] {
             let (first, second) = shapes::crossed(rows, 46);
@@ -184,7 +184,7 @@ impl Run {
         }
     }
 
-    /// As many vertices as a path may have, and one more, beside a short path and after it; and the same with a fault far behind.
+    /// As many vertices as a path may have, and one more, before a short path and after it; and the same with a fault far behind.
     fn long_paths(&mut self) {
         for (vertices, flags) in [4096, 4097].into_iter().flat_map(|n| FLAGS.map(|f| (n, f))) {
             let rng = &mut self.rng;
@@ -213,8 +213,8 @@ impl Run {
         }
     }
 
-    /// Open and closed paths, with one fault and with two. Four vertices or more have a first, an inner and a last segment; a
-    /// single one has no segment, but its numbers are looked at.
+    /// Open and closed paths, with one fault and with two. Four vertices or more have a first, an inner and a last segment. A
+    /// single vertex has no segment, but its numbers are checked.
     fn damaged(&mut self) {
         for flags in FLAGS {
             let many = 4 + self.rng.below(3) as usize;
@@ -230,7 +230,7 @@ impl Run {
         }
     }
 
-    /// A pair of segments, of those that the pair call is compared on, as two paths or in one.
+    /// A pair of segments, drawn as for the pair call, as two paths or in one.
     fn pairs(&mut self) {
         let pair = Pair::draw(Kind::Accepted, &mut self.rng);
         let closed = [0; 2].map(|_| self.rng.one_in(4));
@@ -251,7 +251,8 @@ impl Run {
         }
     }
 
-    /// The largest paths there are, closed, in exactly the room that they need: round coils, one that reaches into the other.
+    /// The largest possible paths, closed, with exactly the room that they need: round coils, one of which reaches into the
+    /// other.
     fn largest(&mut self) {
         let coil = shapes::short_steps(4096);
         let by = Point { x: 120.0, y: 5.0 };

@@ -1,4 +1,5 @@
-//! Nanoseconds a pair of whole listings: ours beside a plain loop in Rust with the same checks, on the same layouts, by turns.
+//! Nanoseconds for each pair of whole listings: ours, and a plain loop in Rust with the same checks, on the same layouts, in
+//! turns.
 
 use std::hint::black_box;
 
@@ -15,9 +16,9 @@ use crate::inputs::{Point, Vertex};
 use crate::numbers::same;
 use crate::rng::Rng;
 
-/// A listing of fewer pairs than this is made so often that a round has as many.
+/// A listing of fewer pairs than this is repeated until a round has as many.
 const A_ROUND: u64 = 1 << 17;
-/// Where the epsilon matters little.
+/// For layouts on which the epsilon matters little.
 const EPSILON: f64 = 1e-5;
 
 pub fn run() {
@@ -69,7 +70,8 @@ pub fn run() {
     }
 }
 
-/// A coil of lines and quarter arcs in turns, with the outline of a pocket about a corner of it, with another coil, and by itself.
+/// A coil of lines and quarter arcs in turns: with the outline of a pocket around one of its corners, with another coil, and by
+/// itself.
 fn real_coil() {
     let winding = coil(2000, 0.5, 0.25);
     let corner = winding[0].at;
@@ -130,7 +132,7 @@ fn anywhere(rng: &mut Rng) -> Layout {
     }
 }
 
-/// Slices with room for so many rows.
+/// Slices with room for this many rows.
 struct Lent {
     indices: Vec<u64>,
     points: Vec<f64>,
@@ -176,8 +178,8 @@ fn timed(name: &str, layout: &Layout, epsilon: f64, call: Call) {
     assert!(lent.is(&lent_too), "{name}: the two differ");
 }
 
-/// The listing as one would write it in Rust: the checks once a path, then one loop in the other, with rows written as they come.
-/// So it does not keep the slices as they were if there are too many of them.
+/// The listing as one would write it in Rust: the checks once for each path, then two nested loops that write rows as they come.
+/// So if there are too many rows, it does not leave the slices unchanged.
 #[inline(never)]
 fn plain(listed: Listed, epsilon: f64, lent: Rows) -> u64 {
     if let Some(fault) = listed.faults(epsilon).next() {

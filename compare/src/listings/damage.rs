@@ -12,7 +12,7 @@ use crate::rng::Rng;
 #[derive(Clone, Copy)]
 enum Damage {
     Epsilon(f64),
-    /// A number more or two than whole vertices have.
+    /// One or two numbers more than whole vertices have.
     Longer {
         path: usize,
         by: usize,
@@ -26,7 +26,7 @@ enum Damage {
         at: usize,
         number: f64,
     },
-    /// A segment from the origin, so long, along an axis.
+    /// A segment from the origin along an axis, of this length.
     Chord {
         path: usize,
         segment: usize,
@@ -78,7 +78,7 @@ fn numbers(layout: &mut Layout, path: usize) -> &mut Vec<f64> {
     &mut if path == 0 { first } else { second }.numbers
 }
 
-/// A small accepted layout, of so many vertices a path.
+/// A small accepted layout with this many vertices in each path.
 pub fn accepted(vertices: [usize; 2], closed: [bool; 2], rng: &mut Rng) -> Layout {
     let [first, second] = [0, 1].map(|path| {
         let vertices = on_grid(vertices[path], 3, rng);
@@ -92,7 +92,7 @@ pub fn accepted(vertices: [usize; 2], closed: [bool; 2], rng: &mut Rng) -> Layou
     }
 }
 
-/// Every limit, its neighbours, NaNs and infinities in every place; each chord about the shortest that an arc may have.
+/// Every limit, its neighbours, NaNs and infinities in every place; each chord near the shortest that an arc may have.
 pub fn one_at_a_time(layout: &Layout) -> Vec<Layout> {
     let mut all = Vec::new();
     for special in specials() {
@@ -121,8 +121,8 @@ pub fn one_at_a_time(layout: &Layout) -> Vec<Layout> {
     all.iter().map(damaged).collect()
 }
 
-/// Every two of: a number refused for each reason that its place has, a chord too short, a length, the epsilon. The first in the
-/// scope's order is to be told.
+/// Every two of these: a number refused for each reason that its place has, a chord too short, a length, the epsilon. The first
+/// in the scope's order must be the answer.
 pub fn two_at_once(layout: &Layout, rng: &mut Rng) -> Vec<Layout> {
     let all = faults(layout, rng);
     let before = |i: usize| all[..i].iter().map(move |other| (i, other));
@@ -159,7 +159,7 @@ fn places(layout: &Layout) -> impl Iterator<Item = (usize, usize)> {
     (0..2).flat_map(move |path| (0..lengths[path]).map(move |at| (path, at)))
 }
 
-/// Every vertex that a segment starts at, were both paths closed.
+/// Every vertex at which a segment would start if both paths were closed.
 fn segments(layout: &Layout) -> impl Iterator<Item = (usize, usize)> {
     places(layout)
         .filter(|(_, at)| at % 3 == 0)

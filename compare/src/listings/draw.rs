@@ -1,4 +1,4 @@
-//! Random layouts: two paths that stand to each other as they do on a sheet, or as nobody would cut them.
+//! Random layouts: two paths placed as on a real sheet, or as nobody would cut them.
 
 use super::layout::{Drawn, Layout};
 use super::shapes::{
@@ -8,7 +8,7 @@ use crate::inputs::values::{epsilon, nudge, whole};
 use crate::inputs::{Pair, Point, Segment, Vertex};
 use crate::rng::Rng;
 
-/// Up to some 80 segments a path, and now and then 200.
+/// Up to some 80 segments in each path, and now and then 200.
 pub fn draw(rng: &mut Rng) -> Layout {
     let epsilon = epsilon(rng);
     let mut closed = [rng.one_in(3), rng.one_in(3)];
@@ -91,7 +91,7 @@ fn either_way(path: Vec<Vertex>, closed: bool, rng: &mut Rng) -> Drawn {
     Drawn::new(&path, closed)
 }
 
-/// Both as they are, or both turned, enlarged and moved alike.
+/// Both unchanged, or both turned, enlarged and moved in the same way.
 fn somewhere(first: Vec<Vertex>, second: Vec<Vertex>, rng: &mut Rng) -> (Vec<Vertex>, Vec<Vertex>) {
     if rng.one_in(2) {
         return (first, second);
@@ -104,7 +104,7 @@ fn somewhere(first: Vec<Vertex>, second: Vec<Vertex>, rng: &mut Rng) -> (Vec<Ver
         y: rng.between(-far, far),
     };
     let place = |path: Vec<Vertex>| placed(&path, turn, size, by);
-    // what was drawn up to the limits already stays where it is
+    // what was drawn up to the limits stays where it is
     let fits = |path: &[Vertex]| path.iter().all(|v| v.at.x.abs() + v.at.y.abs() < 10_000.0);
     if fits(&first) && fits(&second) {
         (place(first), place(second))
@@ -119,7 +119,7 @@ fn some_coil(rng: &mut Rng) -> Vec<Vertex> {
     coil(size(rng, 80), pitch, radius)
 }
 
-/// A coil and another, or the same, moved by parts of the pitch or of the epsilon.
+/// A coil and another one, or the same, moved by parts of the pitch or of the epsilon.
 fn two_coils(epsilon: f64, rng: &mut Rng) -> (Vec<Vertex>, Vec<Vertex>) {
     let first = some_coil(rng);
     let second = if rng.one_in(2) {
@@ -143,7 +143,7 @@ fn two_coils(epsilon: f64, rng: &mut Rng) -> (Vec<Vertex>, Vec<Vertex>) {
     (first, second)
 }
 
-/// A coil, and a circle or a polygon about a vertex of it.
+/// A coil, and a circle or a polygon around one of its vertices.
 fn coil_and_pad(epsilon: f64, rng: &mut Rng) -> (Vec<Vertex>, Vec<Vertex>) {
     let coil = some_coil(rng);
     let mut center = rng.pick(&coil).at;
@@ -172,7 +172,7 @@ fn coil_and_meander(rng: &mut Rng) -> (Vec<Vertex>, Vec<Vertex>) {
     (some_coil(rng), placed(&meander, (1.0, 0.0), 1.0, by))
 }
 
-/// One on the other, or across it.
+/// Two meanders, one on top of the other or across it.
 fn two_meanders(epsilon: f64, rng: &mut Rng) -> (Vec<Vertex>, Vec<Vertex>) {
     let (first, second) = (some_meander(rng), some_meander(rng));
     let turn = rng.pick(&[(1.0, 0.0), (0.0, 1.0), (0.8, 0.6)]);

@@ -1,4 +1,4 @@
-//! The model on what the scope states, and on listings that one can work out by hand.
+//! The model on what the scope states, and on listings that one can compute by hand.
 
 use super::layout::Drawn;
 use super::model::{row_room, Fault, Listed, Listing, Place, Rows};
@@ -23,7 +23,7 @@ fn arc(from: [f64; 2], to: [f64; 2], bulge: f64) -> Drawn {
     path(&[[from[0], from[1], bulge], [to[0], to[1], 0.0]], false)
 }
 
-/// The rows, or the refusal, in a room for so many.
+/// The rows, or the refusal, with room for this many rows.
 fn listing(listed: Listed, epsilon: f64, room: usize) -> Result<Rows, Fault> {
     let listing = Listing::new(listed, epsilon);
     match listing.fault(room) {
@@ -51,7 +51,7 @@ fn refusal(result: Result<Rows, Fault>) -> u64 {
     result.err().map_or(0, |fault| fault.number)
 }
 
-/// The one row of two single segments, or that there is none.
+/// The one row of two single segments, or none.
 fn pair(v: &Drawn, u: &Drawn, epsilon: f64) -> Option<(u64, Vec<f64>)> {
     let rows = mutual(v, u, epsilon, 1).expect("accepted");
     assert_eq!(rows.pairs, 1);
@@ -98,7 +98,7 @@ fn one_pair_one_row() {
     assert_eq!(told(&rows), [([0, 0], 2, vec![2.0, 0.0])]);
 }
 
-/// A square and a bar across it: the first path's index outermost, both rising.
+/// A square and a bar across it: rows are ordered by the first path's index, then by the second's.
 #[test]
 fn order_of_rows() {
     let square = [
@@ -141,7 +141,7 @@ fn closing_segment() {
     assert_eq!((closed.pairs, told(&closed)), (2, expected.to_vec()));
 }
 
-/// n segments have n (n - 1) / 2 pairs, without the n - 1 of neighbours, and one more if closed.
+/// n segments have n (n - 1) / 2 pairs, less the n - 1 pairs of neighbours, and less one more if closed.
 #[test]
 fn pairs_looked_at() {
     let corners = [
@@ -229,7 +229,7 @@ fn limits() {
     assert_eq!(refusal(mutual(&many(4097), &few, EPSILON, 0)), 7);
 }
 
-/// A single vertex has no segments, but its numbers are looked at; and an open path's last bulge is.
+/// A single vertex has no segments, but its numbers are checked; so is the last bulge of an open path.
 #[test]
 fn numbers_of_no_segment() {
     assert_eq!(refusal(own(&path(&[[0.0, 0.0, 2.0]], false), 0)), 3);
@@ -242,7 +242,7 @@ fn numbers_of_no_segment() {
     assert_eq!(refusal(own(&path(&ends, false), 0)), 0);
 }
 
-/// Faults are taken away one after the other, and the next in the scope's order shows.
+/// Faults are removed one after the other, and each time the next in the scope's order shows.
 #[test]
 fn order_of_refusals() {
     let bad = [
@@ -334,7 +334,7 @@ fn rooms() {
     assert_eq!(refusal(mutual(&first, &away, EPSILON, 0)), 0);
 }
 
-/// Layouts that are made to have so many rows have them.
+/// Layouts that are made to have this many rows have them.
 #[test]
 fn chosen_numbers_of_rows() {
     for (rows, across) in [

@@ -1,4 +1,4 @@
-//! Kinds of input that a run must have met, told from the input itself and not from how it was drawn.
+//! Kinds of input that a run must have met. They are read from the input itself, not from how it was drawn.
 
 use super::layout::Call;
 use super::lent::{Old, Room};
@@ -7,11 +7,11 @@ use super::model::{row_room, Fault, Path, Place};
 /// A call as it was made.
 pub struct Case<'a> {
     pub paths: &'a [Path<'a>],
-    /// The first two faults, but for too little row room.
+    /// The first two faults, without too little room for rows.
     pub faults: &'a [Fault],
-    /// The fault that is told, if the counts have room.
+    /// The fault that is answered, if the counts have room.
     pub fault: Option<Fault>,
-    /// The rows of the listing if it is not refused for another reason than room.
+    /// The rows of the listing, unless it is refused for another reason than room.
     pub rows: usize,
     pub room: Room,
     pub old: Old,
@@ -26,7 +26,7 @@ impl Case<'_> {
         self.room.counts >= 2 && self.fault.is_none()
     }
 
-    /// Whether nothing is wrong but perhaps the row room.
+    /// Whether nothing is wrong except perhaps the room for rows.
     fn has_rows(&self, rows: usize) -> bool {
         self.room.counts >= 2 && self.faults.is_empty() && self.rows == rows
     }
@@ -42,11 +42,11 @@ struct Kind {
 
 pub struct Kinds(Vec<Kind>);
 
-/// The row counts about which an implementation may change its way.
+/// The row counts around which the code takes another way.
 const TURNS: [usize; 3] = [2047, 2048, 2049];
 
 impl Kinds {
-    /// Those that a call must meet: only a full run lists as many pairs as there can be.
+    /// The kinds that a call must meet: only a full run lists as many pairs as there can be.
     pub fn of(call: Call, full: bool) -> Kinds {
         let mut kinds = Kinds(Vec::new());
         let paths = if call == Call::Own { 1 } else { 2 };

@@ -1,4 +1,4 @@
-//! What a listing is made of: two drawn paths and an epsilon, and which call is made on them.
+//! The parts of a listing: two drawn paths and an epsilon, and which call is made on them.
 
 use super::model::{Listed, Path};
 use crate::capi::{vj_mutual, vj_self, Rows};
@@ -47,7 +47,7 @@ pub enum Call {
 pub const CALLS: [Call; 3] = [Call::Mutual, Call::Twice, Call::Own];
 
 impl Call {
-    /// What is listed of two paths: where the first is lent twice, it is so with the flag of each.
+    /// What is listed of two paths. If the first is lent twice, it has the flag of each.
     pub fn of<'a>(self, first: Path<'a>, second: Path<'a>) -> Listed<'a> {
         let again = Path {
             closed: second.closed,

@@ -1,5 +1,5 @@
-//! The memory that is lent to a listing: paths among numbers that are none of theirs, and slices whose old contents are known, so
-//! that afterwards every place is held to what it should be.
+//! The memory that is lent to a listing: paths with other numbers around them, and slices whose old contents are known, so that
+//! afterwards every place can be compared with what it should be.
 
 use super::layout::Drawn;
 use super::model::{Path, Row, Rows};
@@ -11,7 +11,7 @@ use crate::rng::Rng;
 /// Places before a lent slice and behind it: whole vertices, and whole rows of either kind.
 const GUARD: usize = 24;
 
-/// A path with NaNs on either side: whoever reads one of them answers otherwise.
+/// A path with NaNs on either side: a call that reads one of them answers something else.
 pub struct LentPath {
     memory: Vec<f64>,
     closed: bool,
@@ -33,7 +33,7 @@ impl LentPath {
         }
     }
 
-    /// Whether it is still what was drawn.
+    /// Whether it still holds what was drawn.
     pub fn is(&self, drawn: &Drawn) -> bool {
         let bits = |numbers: &[f64]| -> Vec<u64> { numbers.iter().map(|x| x.to_bits()).collect() };
         bits(&self.memory) == bits(&LentPath::new(drawn).memory)
@@ -53,7 +53,7 @@ pub struct Room {
 pub enum Old {
     /// Signalling NaNs, no two the same.
     Nans,
-    /// Zeros of either sign by turns.
+    /// Zeros of either sign in turns.
     Zeros,
     /// Random bits, from a seed.
     Bits(u64),
@@ -70,9 +70,9 @@ impl Old {
     }
 }
 
-/// What a call is to do.
+/// What a call should do.
 pub enum Expected<'a> {
-    /// The counts have no room: before everything else.
+    /// The counts have no room: this comes before everything else.
     NoRoom,
     Refused(u64),
     Answered(&'a Rows),
@@ -106,7 +106,7 @@ impl Lent {
         }
     }
 
-    /// What is not as expected, if anything is: the number returned, or a place of a slice, or one beside it.
+    /// What is not as expected, if anything: the returned number, or a place of a slice, or a place beside it.
     pub fn wrong(&self, told: u64, expected: &Expected) -> Option<String> {
         let (returned, rows) = match expected {
             Expected::NoRoom => (NO_ROOM, None),
@@ -151,7 +151,7 @@ impl Lent {
         None
     }
 
-    /// A place that is not as it was, but for the first so many of the slice.
+    /// A place that has changed, after the first so many of the slice.
     fn touched<T>(
         &self,
         name: &str,
@@ -166,7 +166,7 @@ impl Lent {
     }
 }
 
-/// Whether this is the row, with +0 in the places that its points leave.
+/// Whether this is the row, with +0 in the places that its points do not need.
 fn is_row(row: &Row, indices: &[u64], points: &[f64]) -> bool {
     let (given, absent) = points.split_at(row.given);
     indices == [row.indices[0], row.indices[1], row.class]
@@ -184,7 +184,7 @@ mod tests {
         counts: 3,
     };
 
-    /// A point that is no number, one in a place of zero, and two places left.
+    /// A row of one point, whose x is a NaN and whose y is zero, and two unused places.
     fn rows() -> Rows {
         let row = Row {
             indices: [3, 5],
@@ -198,7 +198,7 @@ mod tests {
         }
     }
 
-    /// What a right call leaves, and then what is done to it.
+    /// What a right call leaves, and then a change to it.
     fn answered(spoil: impl Fn(capi::Rows)) -> Option<String> {
         let mut lent = Lent::new(ROOM, Old::Nans);
         let slices = lent.slices();
@@ -229,7 +229,7 @@ mod tests {
         for place in 0..ROOM.counts {
             assert!(answered(|lent| lent.counts[place] += 1).is_some());
         }
-        // an absent number is +0, and another NaN than the old one is a change
+        // an unused number is +0, and another NaN than the old one is a change
         assert!(answered(|lent| lent.points[3] = -0.0).is_some());
         assert!(answered(|lent| lent.points[8] = f64::NAN).is_some());
     }

@@ -1,5 +1,5 @@
-//! Whole-path listings as the scope's prose has them: which pairs are looked at, which make a row, what is refused and in which
-//! order. How a pair meets is the Rust's own answer; what a number is refused for is the table's, as for the pair call.
+//! Whole-path listings as in the scope's prose: which pairs are looked at, which make a row, what is refused and in which order.
+//! How a pair meets is the Rust's own answer; why a number is refused comes from the table, as for the pair call.
 
 use cavalier_contours::polyline::{pline_seg_intr, PlineSegIntr, PlineVertex};
 
@@ -18,7 +18,7 @@ impl Path<'_> {
         self.numbers.len() / 3
     }
 
-    /// One fewer than vertices if it is open, as many if it is closed; a single vertex makes none.
+    /// One fewer than vertices if the path is open, as many if it is closed; a single vertex has none.
     pub fn segments(self) -> usize {
         match self.vertices() {
             0 | 1 => 0,
@@ -32,21 +32,21 @@ impl Path<'_> {
         PlineVertex::new(n[0], n[1], n[2])
     }
 
-    /// Where segment i begins and ends: the last one of a closed path ends at vertex 0.
+    /// Where segment i starts and ends: the last one of a closed path ends at vertex 0.
     pub fn segment(self, i: usize) -> (PlineVertex, PlineVertex) {
         let next = if i + 1 == self.vertices() { 0 } else { i + 1 };
         (self.vertex(i), self.vertex(next))
     }
 }
 
-/// What is listed: two paths' crossings, or those of one path with itself.
+/// What is listed: the crossings of two paths, or of one path with itself.
 #[derive(Clone, Copy)]
 pub enum Listed<'a> {
     Mutual(Path<'a>, Path<'a>),
     Own(Path<'a>),
 }
 
-/// A pair that meets: its indices, its class, and the coordinates of its points, two numbers or four, with +0 behind.
+/// A pair that meets: its indices, its class, and the coordinates of its points, two or four numbers, followed by +0.
 pub struct Row {
     pub indices: [u64; 2],
     pub class: u64,
@@ -61,13 +61,13 @@ pub struct Rows {
     pub pairs: u64,
 }
 
-/// A listing for any room: the first two faults, or else the rows.
+/// A listing for any room: the first two faults, or the rows if there are none.
 pub struct Listing {
     pub faults: Vec<Fault>,
     pub rows: Rows,
 }
 
-/// A refusal's number, and what it was given for. Only the number is told.
+/// A refusal's number, and the reason. Only the number is answered.
 #[derive(Clone, Copy, Debug, PartialEq)]
 pub struct Fault {
     pub number: u64,
@@ -103,7 +103,8 @@ impl<'a> Listed<'a> {
         }
     }
 
-    /// The faults in the scope's order, of which the first is told. The row room is left out: it comes last, after these.
+    /// The faults in the scope's order; the first is the answer. Too little room for rows is left out: it comes last, after
+    /// these.
     pub fn faults(self, epsilon: f64) -> impl Iterator<Item = Fault> + 'a {
         let each = move || self.paths().into_iter().enumerate();
         let shapes = each().filter_map(|(at, path)| shape(path, at));
@@ -179,7 +180,7 @@ impl Listing {
         Listing { faults, rows }
     }
 
-    /// The fault that is told if there is room for so many rows. More rows than that are the last in order.
+    /// The fault that is answered if there is room for this many rows. Too many rows are the last in order.
     pub fn fault(&self, room: usize) -> Option<Fault> {
         let number = 8;
         let place = Place::Room;
@@ -200,7 +201,7 @@ fn epsilon_fault(epsilon: f64) -> Option<Fault> {
     Some(Fault { number, place })
 }
 
-/// A length that is no whole vertices, or else too many of them.
+/// A length that is no multiple of 3, or else too many vertices.
 fn shape(path: Path, at: usize) -> Option<Fault> {
     let number = if path.numbers.len() % 3 != 0 {
         6
@@ -213,7 +214,7 @@ fn shape(path: Path, at: usize) -> Option<Fault> {
     Some(Fault { number, place })
 }
 
-/// Every vertex in order, each x, y, bulge: the last bulge of an open path too, though it is no segment's.
+/// Every vertex in order, each x, y, bulge: also the last bulge of an open path, though it belongs to no segment.
 fn numbers(path: Path<'_>, at: usize) -> impl Iterator<Item = Fault> + '_ {
     const LOOKS: [Look; 3] = [Look::Coordinate, Look::Coordinate, Look::Bulge];
     path.numbers.iter().enumerate().filter_map(move |(i, x)| {

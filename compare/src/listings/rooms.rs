@@ -1,10 +1,10 @@
-//! Lengths of the slices that are lent for the rows, about what they need.
+//! Lengths of the slices that are lent for the rows, near what they need.
 
 use super::lent::{Old, Room};
 use crate::rng::Rng;
 
 impl Room {
-    /// Exactly what so many rows need.
+    /// Exactly what this many rows need.
     pub fn of(rows: usize) -> Room {
         Room {
             indices: 3 * rows,
@@ -13,7 +13,7 @@ impl Room {
         }
     }
 
-    /// Room for so many rows, whichever slice decides it, with places beyond the whole rows or without.
+    /// Room for this many rows, whichever slice decides it, with or without places beyond the whole rows.
     fn uneven(rows: usize, rng: &mut Rng) -> Room {
         let Room {
             mut indices,
@@ -40,7 +40,7 @@ impl Room {
         }
     }
 
-    /// Mostly enough for so many rows, and otherwise one row short, or any number of them.
+    /// Mostly enough for this many rows; otherwise one row short, or room for any number of rows.
     pub fn draw(rows: usize, rng: &mut Rng) -> Room {
         let room = match rng.below(8) {
             0 => rows.saturating_sub(1),
@@ -57,7 +57,7 @@ impl Room {
         (0..rows + 2).flat_map(each).collect()
     }
 
-    /// None, one, about what is needed, and about the numbers at which an implementation may change its way.
+    /// None, one, about what is needed, and about the numbers at which the code takes another way.
     pub fn about(rows: usize, rng: &mut Rng) -> Vec<Room> {
         let near = |rows: usize| rows.saturating_sub(2)..rows + 3;
         let rooms = [0, 1].into_iter().chain(near(rows)).chain(near(2048));

@@ -1,5 +1,5 @@
-//! Holds one call after the other to the model, and counts what was met: rows by class, refusals by number and place, kinds of
-//! input, and differences.
+//! Compares one call after the other with the model, and counts what came up: rows by class, refusals by number and place, kinds
+//! of input, and differences.
 
 use super::kinds::{Case, Kinds};
 use super::layout::{ours, Call, Layout};
@@ -22,7 +22,7 @@ pub struct Score {
     differences: u64,
 }
 
-/// A layout with what the model makes of it: worked out once, for any number of calls.
+/// A layout with the model's listing of it, computed once for any number of calls.
 pub struct Known<'a> {
     layout: &'a Layout,
     call: Call,
@@ -48,7 +48,7 @@ impl<'a> Known<'a> {
         self.listing.rows.pairs
     }
 
-    /// The fault that decides in this room if the counts have room, and what the call is to do.
+    /// The fault that decides with this room, if the counts have room, and what the call should do.
     fn expected(&self, room: Room) -> (Option<Fault>, Expected<'_>) {
         let fault = self.listing.fault(row_room(room.indices, room.points));
         let expected = match fault {
@@ -59,7 +59,7 @@ impl<'a> Known<'a> {
         (fault, expected)
     }
 
-    /// Makes the call with slices of these lengths and these old contents, and says what is not as expected, if anything is.
+    /// Makes the call with slices of these lengths and these old contents, and says what is not as expected, if anything.
     pub fn wrong(&self, room: Room, old: Old) -> Option<String> {
         let layout = self.layout;
         let (first, second) = (LentPath::new(&layout.first), LentPath::new(&layout.second));
@@ -144,7 +144,7 @@ impl Score {
         }
     }
 
-    /// Prints the counts, and answers how many differences there were; a kind of input that never occurred is one.
+    /// Prints the counts, and answers how many differences there were; a kind of input that never occurred counts as one.
     pub fn report(&self) -> u64 {
         let rows = CLASSES.iter().zip(&self.classes).skip(1);
         let rows: Vec<String> = rows

@@ -1,6 +1,6 @@
 //! Paths as they are cut, and others: coils, meanders, pads, walks of arcs, random vertices on a coarse grid.
 //!
-//! As everywhere here, no function is used whose last bit a machine may choose.
+//! As everywhere here, no function is used whose last bit depends on the machine.
 
 use crate::inputs::values::{arc_bulge, bulge, coordinate, whole, LINE_LIMIT, SMALLEST};
 use crate::inputs::{Point, Vertex};
@@ -16,7 +16,7 @@ fn quarter() -> f64 {
     2f64.sqrt() - 1.0
 }
 
-/// So many segments, lines and quarter arcs by turns, winding inwards to the left about the origin.
+/// This many segments, lines and quarter arcs in turns, winding inwards to the left around the origin.
 pub fn coil(segments: usize, pitch: f64, radius: f64) -> Vec<Vertex> {
     let sides = segments / 2 + 1;
     let longest = pitch * (sides / 2 + 2) as f64;
@@ -57,7 +57,7 @@ pub fn circle(center: Point, radius: f64, way: f64) -> Vec<Vertex> {
     vec![end(-1.0), end(1.0)]
 }
 
-/// A small polygon, to be closed: three to eight corners on a square about the centre.
+/// A small polygon, to be closed: three to eight corners on a square around the centre.
 pub fn polygon(center: Point, size: f64, rng: &mut Rng) -> Vec<Vertex> {
     const AROUND: [(f64, f64); 8] = [
         (1.0, 0.0),
@@ -89,8 +89,8 @@ pub fn arcs(vertices: usize, step: f64, rng: &mut Rng) -> Vec<Vertex> {
     (0..vertices).map(|_| next()).collect()
 }
 
-/// To and fro over a sheet of 1,000 by 1,000, `side` segments across and `side` of such lines, `off` lines away from the edge, no
-/// vertex quite in its place.
+/// To and fro over a sheet of 1,000 by 1,000: `side` segments across and `side` such lines, `off` lines away from the edge, with
+/// every vertex a little off its place.
 pub fn to_and_fro(side: usize, off: f64, bulged: bool, rng: &mut Rng) -> Vec<Vertex> {
     let cell = 1000.0 / side as f64;
     let mut next = |i: usize| {
@@ -112,7 +112,7 @@ pub fn to_and_fro(side: usize, off: f64, bulged: bool, rng: &mut Rng) -> Vec<Ver
     (0..side * side).map(&mut next).collect()
 }
 
-/// A round coil in short lines, some 50 a turn, so many in all.
+/// A round coil in short lines, some 50 for each turn, this many in all.
 pub fn short_steps(vertices: usize) -> Vec<Vertex> {
     let t = 1.0 / 16.0;
     let (a, b) = ((1.0 - t * t) / (1.0 + t * t), 2.0 * t / (1.0 + t * t));
@@ -183,7 +183,7 @@ pub fn reversed(path: &[Vertex]) -> Vec<Vertex> {
     (0..path.len()).rev().map(other).collect()
 }
 
-/// Makes a line of each arc whose chord is too short, the closing one too.
+/// Makes a line of each arc whose chord is too short, also of the closing one.
 pub fn mended(mut path: Vec<Vertex>) -> Vec<Vertex> {
     let n = path.len();
     for i in 0..n {
@@ -195,18 +195,18 @@ pub fn mended(mut path: Vec<Vertex>) -> Vec<Vertex> {
     path
 }
 
-/// Two meanders, one with `across` fingers across the other's, that cross in so many points and do not meet otherwise.
+/// Two meanders that cross at this many points and do not meet otherwise; one has `across` fingers across the other's.
 pub fn crossed(rows: usize, across: usize) -> (Vec<Vertex>, Vec<Vertex>) {
     let (whole, rest) = (rows / across, rows % across);
     let mut upright = meander(whole + 1, (across + 1) as f64, 1.0, false);
-    // the first finger reaches down to the rest only
+    // the first finger reaches down only to the rest
     upright[0].at.y = (across - rest) as f64 + 0.5;
     let lying = meander(across, (whole + 2) as f64, 1.0, false);
     let lay = |v: &Vertex| vertex(v.at.y - 1.0, v.at.x + 1.0, v.bulge);
     (upright, lying.iter().map(lay).collect())
 }
 
-/// The same two joined to one path, around everything, so that nothing more meets but neighbours.
+/// The same two joined to one path, around everything, so that otherwise only neighbours meet.
 pub fn crossed_by_itself(rows: usize, across: usize) -> Vec<Vertex> {
     let (mut path, lying) = crossed(rows, across);
     let last = path[path.len() - 1].at;

@@ -1,10 +1,10 @@
-//! Layouts that are timed: two paths spread over a sheet, or wound as coils in short steps, all of lines or all of arcs each.
+//! Layouts that are timed: two paths spread over a sheet, or wound as coils in short steps; each path is all lines or all arcs.
 
 use super::shapes::{placed, short_steps, to_and_fro};
 use crate::inputs::{Point, Segment, Vertex};
 use crate::rng::Rng;
 
-/// Both are told: the one that layouts are cut with, and the Rust's usual one.
+/// Both are timed: the one with which layouts are cut, and the Rust's usual one.
 pub const EPSILONS: [f64; 2] = [1.0 / 1024.0, 1e-5];
 
 pub struct Sheet {
@@ -34,7 +34,7 @@ pub const SHEETS: [Sheet; 8] = [
 ];
 
 impl Sheet {
-    /// Two paths of so many vertices, to be closed if they are spread.
+    /// Two paths with this many vertices, to be closed if they are spread.
     pub fn paths(&self, vertices: usize, rng: &mut Rng) -> [Vec<Vertex>; 2] {
         if self.is_coil {
             let [first, second] = self.arcs.map(|arcs| wound(vertices, arcs));
@@ -54,7 +54,7 @@ impl Sheet {
         [first, second]
     }
 
-    /// The segments of both, but for closing ones.
+    /// The segments of both paths, without closing ones.
     pub fn segments(&self, vertices: usize, rng: &mut Rng) -> [Vec<Segment>; 2] {
         let segment = |ends: &[Vertex]| Segment {
             from: ends[0],
@@ -79,7 +79,7 @@ fn whole(path: &[Vertex]) -> Vec<Vertex> {
 
 /// A round coil in short steps, which are lines or the arcs of its turns.
 fn wound(vertices: usize, arcs: bool) -> Vec<Vertex> {
-    // some 50 steps a turn: a quarter of the angle of each has about this tangent
+    // some 50 steps for each turn: a quarter of the angle of each has about this tangent
     let bulge = if arcs { 1.0 / 32.0 } else { 0.0 };
     let step = |v: Vertex| Vertex { bulge, ..v };
     short_steps(vertices).into_iter().map(step).collect()

@@ -1,4 +1,4 @@
-//! Where refusals were given: by which number, for which number of which vertex, for which segment, of which path.
+//! Where refusals came up: with which number, for which number of which vertex, for which segment, of which path.
 
 use std::collections::BTreeMap;
 
@@ -54,7 +54,7 @@ impl At {
     }
 }
 
-/// How often each refusal was given at each site. All that can be are there from the start.
+/// How often each refusal came up at each site. All possible sites are there from the start.
 pub struct Sites(BTreeMap<(u64, Site), u64>);
 
 impl Sites {
@@ -62,7 +62,7 @@ impl Sites {
         let paths = if call == Call::Mutual { 2 } else { 1 };
         let mut all = vec![(4, Site::Epsilon)];
         if call == Call::Twice {
-            // the only fault that the first one does not have: open there, closed here
+            // the only fault that the first path does not have: it is open there and closed here
             let (path, closed, at) = (1, true, At::Last);
             all.push((5, Site::Chord { path, closed, at }));
         }
