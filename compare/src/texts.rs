@@ -1,5 +1,5 @@
-//! The text program beside a model that is written here from the scope's prose, over the listing's model and so over the Rust's
-//! pair function: its whole output to texts of the right form and to damaged ones.
+//! The text program compared with a model that is written here from the scope's prose, over the listing's model and so over the
+//! Rust's pair function: its whole output for texts of the right form and for damaged ones.
 
 mod damage;
 mod draw;
@@ -29,8 +29,8 @@ const SMALL: [&[u8]; 2] = [
 ];
 
 /// Runs the program on two small texts with every damage of one byte in every place, and with every byte in some places, and on
-/// very long texts; then on `count` texts, of which half were drawn to be of the right form and half were damaged. Answers how many
-/// differences there were, and kinds of text that never occurred.
+/// very long texts; then on `count` texts, half of the right form and half damaged. Answers how many differences there were, plus
+/// the kinds of text that never occurred.
 pub fn check(program: &str, count: u64, seed: u64) -> Result<u64, String> {
     let mut run = Run {
         score: Score::new(Program::new(program)?),
@@ -59,7 +59,8 @@ impl Run {
         self.score.compare(group, text, way)
     }
 
-    /// Each byte removed, doubled, swapped with the next, changed, another put before it; each front part.
+    /// Each byte removed, doubled, swapped with the next, changed, or with another byte before it; and each front part of the
+    /// text.
     fn each_place(&mut self) -> Result<(), String> {
         let group = self
             .score
@@ -87,7 +88,7 @@ impl Run {
         Ok(())
     }
 
-    /// Each value of a byte in the place of a digit, a minus, a space, a newline.
+    /// Each value of a byte in the place of a digit, a minus, a space and a newline.
     fn each_byte(&mut self) -> Result<(), String> {
         let group = self.score.group("every byte in some places", Some(10));
         let text = SMALL[1];
@@ -101,7 +102,7 @@ impl Run {
         Ok(())
     }
 
-    /// About as many bytes as a text may have, and more than a pipe holds, a text of the right form at their front.
+    /// About as many bytes as a text may have, and more than a pipe holds, with a text of the right form at the front.
     fn each_length(&mut self) -> Result<(), String> {
         let group = self.score.group("very long", Some(10));
         for bytes in [-1, 0, 1, 2, 30_000, 90_000] {
@@ -129,7 +130,7 @@ impl Run {
         Ok(())
     }
 
-    /// Damaged texts: small ones, and now and then one of those above.
+    /// Damaged texts: small ones, and now and then one of the above.
     fn damaged(&mut self, count: u64) -> Result<(), String> {
         let groups = DAMAGES.map(|damage| (self.score.group(damage.name, Some(10)), damage.make));
         for (group, make) in groups.into_iter().cycle().take(count as usize) {

@@ -1,4 +1,4 @@
-//! Texts that are damaged, each in one way. Some are of the right form all the same: the model tells.
+//! Damaged texts, each damaged in one way. Some still have the right form: the model says which.
 
 use std::ops::Range;
 
@@ -208,27 +208,27 @@ pub const DAMAGES: [Damage; 35] = [
 /// The bytes of a text that is of the right form.
 pub const FORM: &[u8] = b"0123456789- \n";
 
-/// Others that a reader may take for one of them.
+/// Other bytes that a reader may mistake for one of them.
 pub const OTHERS: &[u8] = &[
     0, b'\t', 0x0b, 0x0c, b'\r', b'+', b',', b'.', b'/', b':', b'_', b'a', b'o', b'O', b'l', b'p',
     0x7f, 0x80, 0x85, 0x8a, 0xa0, 0xad, 0xb0, 0xb9, 0xff,
 ];
 
-/// The text, and behind it as much of the filler as makes so many bytes.
+/// The text, followed by as much of the filler as makes this many bytes.
 pub fn lengthened(text: &[u8], bytes: usize, filler: &[u8]) -> Vec<u8> {
     let more = bytes.saturating_sub(text.len());
     let filler = filler.iter().cycle().take(more);
     text.iter().chain(filler).copied().collect()
 }
 
-/// Two neighbours, the first of which is not the last byte, in the other order.
+/// Two neighbouring bytes swapped; the first is not the last byte of the text.
 pub fn swapped(text: &[u8], at: usize) -> Vec<u8> {
     let mut text = text.to_vec();
     text.swap(at, at + 1);
     text
 }
 
-/// With these bytes in place of some.
+/// The text with these bytes in the place of some.
 pub fn replaced(text: &[u8], range: Range<usize>, by: &[u8]) -> Vec<u8> {
     [&text[..range.start], by, &text[range.end..]].concat()
 }

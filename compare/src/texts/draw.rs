@@ -1,4 +1,4 @@
-//! Texts of the right form: layouts drawn at random, and with chosen sizes, numbers and rows.
+//! Texts of the right form: random layouts, and layouts with chosen sizes, numbers and rows.
 
 use super::model::{BULGE, COORDINATE, MOST_VERTICES};
 use super::sheet::{bulge, mended, nearest, number, of_numbers, sign, whole, Place, Sheet};
@@ -11,9 +11,9 @@ use crate::rng::Rng;
 pub struct Kind {
     pub name: &'static str,
     pub draw: fn(&mut Rng) -> Sheet,
-    /// Drawn once in so many rounds.
+    /// Drawn once in this many rounds.
     pub rounds: u64,
-    /// The refusal that must be among the answers, or else a listing must.
+    /// The refusal that must be among the answers; if none is given, a listing must be.
     pub must: Option<u64>,
 }
 
@@ -43,7 +43,7 @@ pub const KINDS: [Kind; 11] = [
     },
 ];
 
-/// The scope's example, and the two texts on which the Rust and the scope's first prose part.
+/// The scope's example, and the two texts on which the Rust and the scope's first prose differ.
 fn stated(rng: &mut Rng) -> Sheet {
     match rng.below(3) {
         0 => example(),
@@ -59,7 +59,7 @@ fn example() -> Sheet {
     Sheet::new(vec![[0, 0, 0], [4, 0, 0]], vec![[2, -2, 0], [2, 2, 0]])
 }
 
-/// A small one, for texts that are damaged.
+/// A small layout, for texts that are damaged.
 pub fn small(rng: &mut Rng) -> Sheet {
     match rng.below(6) {
         0 => example(),
@@ -90,7 +90,7 @@ fn of_each_class(rng: &mut Rng) -> Sheet {
     )
 }
 
-/// Few vertices, of which one alone makes no segment.
+/// Few vertices; a single one has no segment.
 fn few(rng: &mut Rng) -> Sheet {
     let mut path = |_| {
         let vertices = rng.below(5) as usize;
@@ -130,7 +130,7 @@ fn at_limits(rng: &mut Rng) -> Sheet {
     Sheet::new(path(0), path(1)).map(mended)
 }
 
-/// Much touches and overlaps: up to so many rows that they have no room.
+/// Much touches and overlaps: there may be more rows than there is room for.
 fn coarse(rng: &mut Rng) -> Sheet {
     let most = rng.pick(&[12, 24, 40, 256]);
     let reach = rng.pick(&[2, 3, 5, 12, 100]);
@@ -159,8 +159,8 @@ fn any_counts(rng: &mut Rng) -> Sheet {
     Sheet::new(path(0), path(1)).map(mended)
 }
 
-/// As many vertices as there may be, and each number as long as it can be written: so no text of the right form is longer. Short
-/// steps upwards beside each other, which meet here and there; now and then all over the place.
+/// As many vertices as there may be, each number as long as it can be written: no text of the right form is longer. The paths are
+/// short steps upwards beside each other, which meet here and there; now and then they are all over the place.
 pub fn longest(rng: &mut Rng) -> Sheet {
     let wild = rng.one_in(4);
     let beside = rng.below(60) as i64;
@@ -180,8 +180,8 @@ pub fn longest(rng: &mut Rng) -> Sheet {
     Sheet::new(path(0), path(1)).map(mended)
 }
 
-/// A line that ends a little more or less than the epsilon beside another one or beside an arc; or an arc about as flat as the
-/// epsilon on its chord's line. Turned by quarters, and either way round.
+/// A line that ends a little more or less than the epsilon beside another line or an arc; or an arc about as flat as the epsilon,
+/// and a line along its chord. Turned by quarters, in either direction.
 fn about_epsilon(rng: &mut Rng) -> Sheet {
     let [first, second] = if rng.one_in(2) {
         beside_line(rng)
@@ -206,7 +206,7 @@ fn about_epsilon(rng: &mut Rng) -> Sheet {
     }
 }
 
-/// The second line ends beside the first one, away from it by the reciprocal of its length: the epsilon is 1/1024.
+/// The second line ends beside the first one, at a distance of 1 / its length: the epsilon is 1/1024.
 fn beside_line(rng: &mut Rng) -> [[Place; 2]; 2] {
     let long = 1024 + rng.pick(&[0, 1, 20]) * number(1, rng);
     let aside = rng.pick(&[0, 0, 1, -4]);
@@ -214,7 +214,7 @@ fn beside_line(rng: &mut Rng) -> [[Place; 2]; 2] {
     [[[0, 0, 0], [long, 1, 0]], beside]
 }
 
-/// An arc is as high above its chord as half the chord times the bulge.
+/// The height of an arc above its chord is half the chord times the bulge.
 fn about_flat_arc(rng: &mut Rng) -> [[Place; 2]; 2] {
     let (chord, bulge) = rng.pick(&[(128, 1), (64, 2), (16, 8), (2, 64), (1024, 1), (1, 128)]);
     let chord = chord + rng.pick(&[0, 0, 1, -1]);
@@ -259,7 +259,7 @@ fn chosen_rows(rng: &mut Rng) -> Sheet {
     }
 }
 
-/// Goes on from the last vertex, away from the other path, to the most vertices there may be.
+/// Continues from the last vertex, away from the other path, up to the most vertices.
 fn fill(path: &mut Vec<Place>, axis: usize) {
     let mut last = path[path.len() - 1];
     let away = if last[axis] > 0 { 1 } else { -1 };
@@ -269,7 +269,8 @@ fn fill(path: &mut Vec<Place>, axis: usize) {
     }
 }
 
-/// A vertex comes twice, the first time with an arc's bulge; or, which is no arc, the path's last time.
+/// A vertex stands twice, the first time with an arc's bulge. Or it stands twice at the end of the path, with the bulge at the
+/// last one, which is no arc.
 fn short_arc(rng: &mut Rng) -> Sheet {
     let mut sheet = match rng.below(3) {
         0 => coarse(rng),

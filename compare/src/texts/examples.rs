@@ -1,4 +1,4 @@
-//! The model on the scope's example and on texts that one can work out by hand.
+//! The model on the scope's example and on texts that one can compute by hand.
 
 use super::model::{answer, paths};
 
@@ -41,7 +41,7 @@ fn classes() {
     let half = "-1 0 65536\n1 0 0\n";
     let row = |first: &str, second: &str| {
         let printed = printed(&format!("2 2\n{first}{second}"));
-        // the sign of a zero is not settled by hand
+        // the sign of a zero is not computed by hand
         printed.replace("8000000000000000", ZERO)
     };
     let expected = |class: &str, points: &[&str]| {
@@ -60,7 +60,7 @@ fn classes() {
     assert_eq!(i, expected("arcs", &ends));
 }
 
-/// The two texts on which the scope's first prose and the Rust part, with the Rust's bits.
+/// The two texts on which the scope's first prose and the Rust differ, with the Rust's bits.
 #[test]
 fn partings() {
     let parameter = printed("2 2\n0 -1 0\n-1 1 0\n0 0 16384\n0 -1 0\n");
@@ -113,7 +113,7 @@ fn broken_forms() {
         assert!(paths(text.as_bytes()).is_none(), "{text:?}");
         assert_eq!(printed(text), "refused 10\n", "{text:?}");
     }
-    // a byte of the example that is left out, or comes twice, leaves another text or none
+    // if a byte of the example is left out or stands twice, the text means something else or nothing
     let whole = paths(EXAMPLE.as_bytes());
     for at in 0..EXAMPLE.len() {
         let without = format!("{}{}", &EXAMPLE[..at], &EXAMPLE[at + 1..]);
@@ -144,7 +144,7 @@ fn limits() {
     assert_eq!(printed(&points(1, 257)), "refused 10\n");
 }
 
-/// The form first, then short arcs, then too many rows. The last bulge of an open path is no segment's.
+/// The form comes first, then short arcs, then too many rows. The last bulge of an open path belongs to no segment.
 #[test]
 fn order_of_refusals() {
     let points = "0 0 0\n".repeat(255);

@@ -1,4 +1,4 @@
-//! Kinds of text that a run must have met, told from the text and its answer and not from how it was drawn.
+//! Kinds of text that a run must have met. They are read from the text and its answer, not from how it was drawn.
 
 use super::model::{paths, Answer, BULGE, CLASSES, COORDINATE, MOST_BYTES, MOST_ROWS};
 use crate::listings::layout::Drawn;
@@ -10,7 +10,7 @@ pub struct Case<'a> {
     pub in_pieces: bool,
 }
 
-/// A case with what is asked of it more than once.
+/// A case, with what is needed of it more than once.
 struct Seen<'a> {
     case: &'a Case<'a>,
     paths: [Drawn; 2],
@@ -47,7 +47,7 @@ impl Seen<'_> {
         matches!(place, Some(Place::Chord { path, .. }) if path == which)
     }
 
-    /// Whether a path ends in a vertex twice, with a bulge at the last one only: it is no segment's.
+    /// Whether a path ends with the same vertex twice, with a bulge only at the last one: it belongs to no segment.
     fn ends_in_bulge(&self) -> bool {
         self.paths.iter().any(|path| match path.numbers[..] {
             [.., x, y, b, x2, y2, b2] => x == x2 && y == y2 && b == 0.0 && b2 != 0.0,

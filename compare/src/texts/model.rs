@@ -1,5 +1,5 @@
-//! The text program as the scope's prose has it: what a text must look like, and what is printed. Which rows there are, and what
-//! else is refused, is the listing's model.
+//! The text program as in the scope's prose: what a text must look like, and what is printed. The listing's model says which rows
+//! there are, and what else is refused.
 
 use crate::listings::layout::Drawn;
 use crate::listings::model::{Listed, Listing, Row, Rows};
@@ -23,7 +23,7 @@ pub enum Answer {
     Made(Listing),
 }
 
-/// What is answered to a text. That its form is broken comes before every other refusal.
+/// The answer to a text. A broken form comes before every other refusal.
 pub fn answer(text: &[u8]) -> Answer {
     let Some([first, second]) = paths(text) else {
         return Answer::Broken;
@@ -33,7 +33,7 @@ pub fn answer(text: &[u8]) -> Answer {
 }
 
 impl Answer {
-    /// The refusal's number, if it is one.
+    /// The refusal's number, if the answer is one.
     pub fn refused(&self) -> Option<u64> {
         match self {
             Answer::Broken => Some(BROKEN),
@@ -41,7 +41,7 @@ impl Answer {
         }
     }
 
-    /// The rows of an accepted text, those of one with too many too.
+    /// The rows of an accepted text, also of one with too many rows.
     pub fn rows(&self) -> &[Row] {
         match self {
             Answer::Broken => &[],
@@ -102,14 +102,14 @@ fn vertex(line: &[u8]) -> Option<[i64; 3]> {
     (x <= COORDINATE && y <= COORDINATE && bulge <= BULGE).then_some(vertex)
 }
 
-/// So many whole numbers, one space between.
+/// This many whole numbers, with one space between.
 fn numbers<const N: usize>(line: &[u8]) -> Option<[i64; N]> {
     let words = line.split(|byte| *byte == b' ');
     let numbers: Vec<i64> = words.map(number).collect::<Option<_>>()?;
     numbers.try_into().ok()
 }
 
-/// Digits, with a minus before them or not: no leading zero, and no minus zero. What is too long to be within any limit is none.
+/// Digits, with or without a minus before them: no leading zero, and no minus zero. None if it is too long for every limit.
 fn number(word: &[u8]) -> Option<i64> {
     const MOST_DIGITS: usize = 15;
     let (digits, sign) = match word.strip_prefix(b"-") {

@@ -1,4 +1,4 @@
-//! Runs the program on a text, and holds what it prints to what is expected.
+//! Runs the program on a text, and compares its output with what is expected.
 
 use std::io::{self, ErrorKind, Read, Write};
 use std::path::{Path, PathBuf};
@@ -12,7 +12,7 @@ use crate::numbers::same;
 #[derive(Clone, Copy)]
 pub enum Way {
     AtOnce,
-    /// In so many pieces, with a pause after each, so that it cannot be read at once.
+    /// In this many pieces, with a pause after each, so that it cannot be read at once.
     InPieces(usize),
 }
 
@@ -26,7 +26,7 @@ impl Program {
         full.map(Program).map_err(|why| format!("{path}: {why}"))
     }
 
-    /// Its whole standard output. It must end by itself, and not by a failure.
+    /// Its whole standard output. The program must end by itself, without a failure.
     pub fn run(&self, text: &[u8], way: Way) -> Result<Vec<u8>, String> {
         self.piped(text, way)
             .map_err(|why| format!("{}: {why}", self.0.display()))
@@ -40,7 +40,7 @@ impl Program {
         let input = child.stdin.take().expect("piped");
         let mut output = child.stdout.take().expect("piped");
         let mut printed = Vec::new();
-        // by turns the two could wait for each other
+        // one after the other, the two could wait for each other
         thread::scope(|scope| {
             let feeding = scope.spawn(|| feed(input, text, way));
             output.read_to_end(&mut printed)?;
@@ -54,7 +54,7 @@ impl Program {
     }
 }
 
-/// Writes the text and closes the pipe. A program that knows its answer need not read the rest.
+/// Writes the text and closes the pipe. A program that knows its answer does not have to read the rest.
 fn feed(mut input: impl Write, text: &[u8], way: Way) -> io::Result<()> {
     let written = match way {
         Way::AtOnce => input.write_all(text),
@@ -74,12 +74,12 @@ fn feed(mut input: impl Write, text: &[u8], way: Way) -> io::Result<()> {
     }
 }
 
-/// How an output stands to the expected one.
+/// How an output compares with the expected one.
 #[derive(Debug, PartialEq)]
 pub enum Verdict {
     /// Byte for byte.
     Same,
-    /// But for the sign of a zero, or for which NaN it is.
+    /// The same except for the sign of a zero, or for which NaN it is.
     SameNumbers,
     Different,
 }
@@ -102,7 +102,7 @@ pub fn judge(printed: &[u8], expected: &str) -> Verdict {
     }
 }
 
-/// Indices and class alike, and after them as many floats, each equal or a NaN in both.
+/// The same indices and class, and as many floats after them, each equal or a NaN in both.
 fn same_row(ours: &[u8], expected: &[u8]) -> bool {
     const FRONT: usize = 3;
     let words = |line: &[u8]| -> Vec<Vec<u8>> {

@@ -1,4 +1,4 @@
-//! Holds one run of the program after the other to the model, and counts what was met: by how the text came about and by its
+//! Compares one run of the program after the other with the model, and counts what came up: by how the text was made and by its
 //! answer, rows by class, and differences.
 
 use super::kinds::{Case, Kinds};
@@ -6,10 +6,10 @@ use super::model::{answer, CLASSES};
 use super::program::{judge, Program, Verdict, Way};
 
 const SHOWN: u64 = 5;
-/// The refusals that a text can reach.
+/// The refusals that a text can get.
 pub const REFUSALS: [u64; 3] = [10, 5, 8];
 
-/// Texts that came about in one way.
+/// Texts that were made in one way.
 pub struct Group {
     name: String,
     /// What must be among its answers: a refusal, or a listing.
@@ -83,7 +83,7 @@ impl Score {
         }
     }
 
-    /// Begins a group, and answers its index.
+    /// Starts a group, and answers its index.
     pub fn group(&mut self, name: impl Into<String>, must: Option<u64>) -> usize {
         self.groups.push(Group::new(name, must));
         self.groups.len() - 1
@@ -136,7 +136,7 @@ impl Score {
         }
     }
 
-    /// Prints the counts, and answers how many differences there were; what never occurred is one.
+    /// Prints the counts, and answers how many differences there were; what never occurred counts as one.
     pub fn report(&self) -> u64 {
         for group in &self.groups {
             println!("texts, {}: {}", group.name, group.answers());

@@ -1,4 +1,4 @@
-//! Layouts in whole numbers, as a text has them.
+//! Layouts in whole numbers, as in a text.
 
 use super::model::{BULGE, COORDINATE};
 use crate::inputs::Vertex;
@@ -33,7 +33,7 @@ impl Sheet {
     }
 }
 
-/// A whole number of this magnitude at most.
+/// A whole number, at most `most` in magnitude.
 pub fn number(most: i64, rng: &mut Rng) -> i64 {
     rng.below(2 * most as u64 + 1) as i64 - most
 }
@@ -46,7 +46,7 @@ pub fn sign(rng: &mut Rng) -> i64 {
     }
 }
 
-/// A line's mostly, else an arc's: a quarter or half of a circle, of the least bulge, or any.
+/// Mostly a line's, else an arc's: a quarter or half of a circle, the least bulge, or any.
 pub fn bulge(rng: &mut Rng) -> i64 {
     match rng.below(8) {
         0 => sign(rng) * 27146,
@@ -57,7 +57,7 @@ pub fn bulge(rng: &mut Rng) -> i64 {
     }
 }
 
-/// The nearest whole numbers to an enlarged path's.
+/// The whole numbers nearest to those of an enlarged path.
 pub fn whole(path: &[Vertex], size: f64) -> Vec<Place> {
     path.iter().map(|v| nearest(*v, size)).collect()
 }

@@ -1,4 +1,4 @@
-//! The stored layouts: texts, and beside each the whole output that the model gives it, for a gate that has no Rust.
+//! The stored layouts: texts, and for each the whole output that the model gives, for a gate without Rust.
 
 use std::collections::BTreeSet;
 use std::fs;
@@ -7,8 +7,8 @@ use std::path::{Path, PathBuf};
 use super::model::{answer, CLASSES};
 use super::score::REFUSALS;
 
-/// Writes NAME.out for each NAME.txt of the folder, and answers how many there are. Fails where no text has a row of some class, or
-/// none is refused by a number that a text can reach.
+/// Writes NAME.out for each NAME.txt of the folder, and answers how many there are. Fails if some class has no row in any text,
+/// or if some refusal that a text can get never comes up.
 pub fn write(folder: &Path) -> Result<usize, String> {
     let texts = texts(folder).map_err(|why| format!("{}: {why}", folder.display()))?;
     let mut classes = BTreeSet::new();
