@@ -1,5 +1,5 @@
-//! Segments of a lent path, asked of the path itself and of a view of it, and the second call of a listing, beside a model that
-//! is written here from the scope's prose. It needs no Rust text.
+//! Segments of a lent path, from the path itself and from a view of it, and the second call of a listing, compared with a model
+//! that is written here from the scope's prose. It needs no Rust text.
 
 mod draw;
 mod lent;
@@ -22,11 +22,11 @@ const STORED: &str = concat!(env!("CARGO_MANIFEST_DIR"), "/../layouts");
 
 /// Our functions.
 pub struct Ours {
-    /// Segment i of a path, by name; it goes into a slice, and how many numbers were written is returned.
+    /// Segment i of a path, by name. It goes into a slice, and the call returns how many numbers were written.
     segment: [(&'static str, Ask); 2],
-    /// How many segments a view tells.
+    /// How many segments a view has.
     count: fn(&[f64], bool) -> usize,
-    /// The front part of float rows, in a slice likewise.
+    /// The front part of float rows, also in a slice.
     filled: Fill,
 }
 
@@ -43,7 +43,7 @@ pub const OURS: Ours = Ours {
 };
 
 /// Compares each function on the stored layouts, on chosen lengths and on random inputs, `count / 4` in all. Answers how many
-/// differences there were, and kinds of input that never occurred.
+/// differences there were, plus the kinds of input that never occurred.
 pub fn check(count: u64, seed: u64) -> u64 {
     of(&OURS, Path::new(STORED), count / 4, seed)
 }
@@ -88,7 +88,7 @@ impl Run {
     }
 
     /// Every index of every stored path and two beyond, open and closed; every count of the rows of every stored answer and two
-    /// beyond. Answers 1 if there is nothing stored, and 0 else.
+    /// beyond. Answers 1 if nothing is stored, else 0.
     fn stored(&mut self, folder: &Path) -> u64 {
         let Stored { paths, rows } = match stored::read(folder) {
             Ok(found) => found,

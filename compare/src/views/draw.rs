@@ -6,16 +6,16 @@ use crate::rng::Rng;
 
 /// A path of up to this many vertices is asked for each of its segments.
 const SHORT: usize = 24;
-/// Once in so many draws the path is about as long as one may be, and the rows are many.
+/// Once in this many draws the path is about as long as a path may be, and the rows are many.
 const LONG_ONE_IN: u64 = 128;
 
-/// Every short length, and every one about the longest path's.
+/// Every short length, and every length near that of the longest path.
 pub fn lengths() -> impl Iterator<Item = usize> {
     let most = MOST_VERTICES * VERTEX;
     (0..16).chain(most - VERTEX..=most + 2 * VERTEX)
 }
 
-/// A path of any numbers and of any length, in one draw of four no whole number of vertices long.
+/// A path of any numbers and any length; in one of four draws the length is no multiple of 3.
 pub fn path(rng: &mut Rng) -> Vec<f64> {
     let vertices = if rng.one_in(LONG_ONE_IN) {
         MOST_VERTICES - 2 + below(5, rng)
@@ -30,8 +30,8 @@ pub fn path(rng: &mut Rng) -> Vec<f64> {
     numbers(vertices * VERTEX + more, rng)
 }
 
-/// Each index of a short path and one beyond its vertices; of a long one those about both ends, and some inside. Always the
-/// greatest, and some far beyond: any, and those whose place in the slice would wrap round.
+/// Each index of a short path and one beyond its vertices; for a long one those near both ends, and some inside. Always the
+/// greatest number, and some far beyond: any, and those whose place in the slice would wrap round.
 pub fn indices(vertices: usize, rng: &mut Rng) -> Vec<usize> {
     let mut all: Vec<usize> = if vertices <= SHORT {
         (0..=vertices + 1).collect()
@@ -44,7 +44,7 @@ pub fn indices(vertices: usize, rng: &mut Rng) -> Vec<usize> {
     all
 }
 
-/// Rows of any numbers, in one draw of four with a part of a row behind.
+/// Rows of any numbers; in one of four draws a part of a row follows.
 pub fn rows(rng: &mut Rng) -> Vec<f64> {
     let most = if rng.one_in(LONG_ONE_IN) { 2048 } else { 12 };
     let more = if rng.one_in(4) {
@@ -55,7 +55,7 @@ pub fn rows(rng: &mut Rng) -> Vec<f64> {
     numbers(below(most + 1, rng) * ROW + more, rng)
 }
 
-/// No row, all, one fewer, one and two more, some inside, and far beyond as with indices.
+/// No row, all, one fewer, one and two more, some inside, and far beyond as for indices.
 pub fn counts(whole: usize, rng: &mut Rng) -> Vec<usize> {
     let mut all = vec![0, whole, whole.saturating_sub(1), whole + 1, whole + 2];
     all.extend([0; 2].map(|_| below(whole + 1, rng)));
@@ -63,15 +63,15 @@ pub fn counts(whole: usize, rng: &mut Rng) -> Vec<usize> {
     all
 }
 
-/// The greatest number; any; and one that comes down to a place inside if it is multiplied by `width` and wraps round.
+/// The greatest number; any; and one that, multiplied by `width`, wraps round to a place inside.
 fn beyond(width: usize, inside: usize, rng: &mut Rng) -> [usize; 3] {
     let around = (usize::MAX / width + 1).saturating_mul(1 + below(width - 1, rng));
     let wraps = around.saturating_add(below(inside + 1, rng));
     [usize::MAX, rng.bits() as usize, wraps]
 }
 
-/// How long the lent slice is, for an answer of at most so many numbers: all of them fit, whatever is right, so that no wrong
-/// answer goes unseen for lack of room; in one draw of eight it is shorter.
+/// How long the lent slice is, for an answer of at most this many numbers. All of them fit, whatever is right, so that a wrong
+/// answer is not hidden by too little room; in one of eight draws the slice is shorter.
 pub fn room(most: usize, rng: &mut Rng) -> usize {
     if most > 0 && rng.one_in(8) {
         below(most, rng)
@@ -84,7 +84,7 @@ pub fn numbers(count: usize, rng: &mut Rng) -> Vec<f64> {
     (0..count).map(|_| f64::from_bits(any(rng))).collect()
 }
 
-/// All bits, or a class's.
+/// All bits, or those of a class.
 fn any(rng: &mut Rng) -> u64 {
     if rng.one_in(2) {
         return rng.bits();

@@ -1,8 +1,8 @@
-//! Numbers to lend, with others before and behind them, of which is known afterwards which have changed.
+//! Numbers to lend, with others before and behind them; afterwards it shows which have changed.
 
 /// Places before a lent slice and behind it: whole vertices and whole rows.
 const GUARD: usize = 24;
-/// The first of the numbers beside a slice. No two are the same, so that whoever reads one answers otherwise.
+/// The first of the numbers beside a slice. No two are the same, so that a call that reads one answers something else.
 const BESIDE: u64 = 0x4a5a_c3c3_0000_0000;
 
 pub struct Lent {
@@ -22,7 +22,7 @@ impl Lent {
         Lent { memory, before }
     }
 
-    /// So many places to write to, each with a number of its own.
+    /// This many places to write to, each with a different number.
     pub fn room(places: usize) -> Lent {
         let numbers: Vec<f64> = (0..places)
             .map(|place| f64::from_bits(BESIDE + (2 * GUARD + place) as u64))

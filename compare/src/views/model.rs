@@ -1,4 +1,4 @@
-//! A lent path's segments and the filled part of rows, as the scope's prose has them.
+//! A lent path's segments and the filled part of rows, as in the scope's prose.
 
 /// x, y and bulge.
 pub const VERTEX: usize = 3;
@@ -36,7 +36,7 @@ pub fn empty(path: &[f64]) -> Option<Empty> {
     }
 }
 
-/// All segments in order: from each vertex to the next one, and of a closed path from the last one back to the first.
+/// All segments in order: from each vertex to the next, and in a closed path also from the last one back to the first.
 pub fn segments(path: &[f64], closed: bool) -> Vec<Segment> {
     if empty(path).is_some() {
         return Vec::new();
@@ -56,7 +56,7 @@ pub fn segments(path: &[f64], closed: bool) -> Vec<Segment> {
     all
 }
 
-/// The first so many rows; the empty part if there are not as many whole ones.
+/// The first so many rows; the empty part if there are fewer whole rows.
 pub fn filled(points: &[f64], rows: usize) -> Vec<f64> {
     let whole: Vec<&[f64]> = points.chunks_exact(ROW).collect();
     match whole.get(..rows) {

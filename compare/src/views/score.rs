@@ -1,4 +1,4 @@
-//! Holds one call after the other to the model, and counts what kinds of input were met, told from the input itself.
+//! Compares one call after the other with the model, and counts the kinds of input that came up, read from the input itself.
 
 use super::draw::room;
 use super::lent::Lent;
@@ -47,7 +47,7 @@ impl Segments {
         self.kinds.all()
     }
 
-    /// Asks for segment i of a lent path, of which the model has these.
+    /// Asks for segment i of a lent path. `all` has the model's segments.
     pub fn compare(&mut self, path: &Lent, closed: bool, i: usize, all: &[Segment], rng: &mut Rng) {
         let expected = all.get(i).map_or(&[][..], |segment| segment);
         let mut out = Lent::room(room(SEGMENT, rng));
@@ -128,8 +128,8 @@ impl Filled {
     }
 }
 
-/// Whether the numbers were written if they fit, and nothing else was. Numbers are handed on as they are: a zero keeps its sign.
-/// Of a NaN no bits are promised.
+/// Whether the numbers were written if they fit, and nothing else was. Numbers are passed on unchanged: a zero keeps its sign.
+/// The bits of a NaN are not promised.
 fn is_given(out: &Lent, told: usize, numbers: &[f64]) -> bool {
     let numbers = if out.slice().len() < numbers.len() {
         &[]
@@ -143,7 +143,7 @@ fn is_given(out: &Lent, told: usize, numbers: &[f64]) -> bool {
             .is_some_and(|ours| ours.iter().zip(numbers).all(same))
 }
 
-/// How often each kind was met. All that there are stand here from the start.
+/// How often each kind came up. All possible kinds are there from the start.
 struct Kinds {
     name: &'static str,
     met: Vec<(&'static str, u64)>,

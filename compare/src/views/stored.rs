@@ -5,7 +5,7 @@ use std::path::{Path, PathBuf};
 
 use super::model::{ROW, VERTEX};
 
-/// A text has bulges in this part of 1.
+/// Bulges in a text are in units of 1 / this.
 const BULGE: f64 = 65_536.0;
 
 #[derive(Default)]
@@ -14,7 +14,7 @@ pub struct Stored {
     pub rows: Vec<Vec<f64>>,
 }
 
-/// Of each text of the folder, in the order of their names, both paths; and of each answer its rows. Those refused have none.
+/// Both paths of each text of the folder, in the order of their names, and the rows of each answer. A refused text has none.
 pub fn read(folder: &Path) -> Result<Stored, String> {
     let mut found = Stored::default();
     for file in files(folder).map_err(|why| format!("{}: {why}", folder.display()))? {
@@ -38,7 +38,7 @@ fn files(folder: &Path) -> std::io::Result<Vec<PathBuf>> {
     Ok(files)
 }
 
-/// The two paths, if the text is two counts and as many whole numbers as these say. What else may be wrong with it is no matter.
+/// The two paths, if the text is two counts and as many whole numbers as they say. Other faults of the text do not matter here.
 fn paths(text: &str) -> Option<[Vec<f64>; 2]> {
     let words = text.split_whitespace();
     let numbers: Option<Vec<i32>> = words.map(|word| word.parse().ok()).collect();
@@ -54,7 +54,7 @@ fn paths(text: &str) -> Option<[Vec<f64>; 2]> {
     Some([path(&places[..first]), path(&places[first..])])
 }
 
-/// The points of each line after the first, absent ones +0; nothing of a refusal.
+/// The points of each line after the first, with +0 for those that the class lacks; nothing for a refusal.
 fn rows(answer: &str) -> Option<Vec<f64>> {
     if answer.starts_with("refused") {
         return None;

@@ -1,10 +1,10 @@
-//! Wrong functions, each of which the comparison must tell, and a right one, which it must pass.
+//! Wrong functions, which the comparison must notice, and a right one, which must pass.
 
 use super::*;
 
 const INPUTS: u64 = 1 << 12;
 
-/// Numbers handed over as the library does.
+/// Numbers written as the library does.
 fn give(numbers: &[f64], out: &mut [f64]) -> usize {
     if out.len() < numbers.len() {
         return 0;
