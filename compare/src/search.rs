@@ -1,5 +1,5 @@
-//! Tries to break what is promised of lines on the grid: the judge in whole numbers, against the proved library and, where it is
-//! compiled in, the Rust text.
+//! Tries to break the promise on grid lines: the judge in whole numbers judges the proved library and, where it is compiled in,
+//! the Rust text.
 
 mod draw;
 mod judge;
@@ -14,7 +14,7 @@ use draw::{Pair, KINDS};
 use judge::Told;
 use report::Report;
 
-/// Judges the answers to `count` pairs, as many of each kind. Answers how many broke a sentence.
+/// Judges the answers to `count` pairs, as many of each kind. Answers how many broke a sentence of the promise.
 pub fn run(count: u64, seed: u64) -> u64 {
     judge_all(&callers(), count, seed)
 }
@@ -57,7 +57,7 @@ fn text(numbers: [f64; 13]) -> Told {
     Told { class, values }
 }
 
-/// What a call takes: a zero has either sign, and each bulge is a line's; those of the second ends count for nothing.
+/// The numbers of a call: a zero has either sign, and each bulge is a line's; the bulges of the second ends have no effect.
 fn numbers(pair: &Pair, rng: &mut Rng) -> [f64; 13] {
     const LINES: [f64; 4] = [0.0, -0.0, 9.9e-9, -9.9e-9];
     let mut coordinate = |n: i64| match n {

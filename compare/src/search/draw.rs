@@ -1,4 +1,4 @@
-//! Pairs of grid lines to try: of each kind those on which a slip would show.
+//! Pairs of grid lines to try; each kind would show a certain slip.
 
 use super::judge::Epsilon;
 use super::plane::{Segment, Spot};
@@ -7,7 +7,7 @@ use crate::rng::Rng;
 /// The grid's limit.
 const FAR: i64 = 1 << 20;
 
-/// Two lines and an epsilon, as a call takes it and as the judge does.
+/// Two lines and an epsilon, once as for a call and once as for the judge.
 #[derive(Clone, Copy, Debug)]
 pub struct Pair {
     pub v: Segment,
@@ -84,7 +84,7 @@ fn signed(rng: &mut Rng, most: i64) -> i64 {
     rng.below(2 * most as u64 + 1) as i64 - most
 }
 
-/// From `-most` to `most`, each length of number as likely.
+/// From `-most` to `most`; every count of digits is equally likely.
 fn spread(rng: &mut Rng, most: i64) -> i64 {
     let bits = 1 + rng.below(21) as u32;
     signed(rng, most.min((1 << bits) - 1))
@@ -125,7 +125,7 @@ fn small(rng: &mut Rng, _: Epsilon) -> (Segment, Segment) {
     (segment(rng, most), segment(rng, most))
 }
 
-/// Each end of u a step or a few beside v's, or beside a point of its line.
+/// Each end of u is a few steps beside an end of v, or beside a point of v's line.
 fn near_parallel(rng: &mut Rng, _: Epsilon) -> (Segment, Segment) {
     let v = segment(rng, FAR);
     let [a, b] = v;
@@ -145,7 +145,7 @@ fn near_parallel(rng: &mut Rng, _: Epsilon) -> (Segment, Segment) {
     (v, [beside(p, rng), beside(q, rng)])
 }
 
-/// A way that is the multiple of no other, so that a line along it meets the grid at whole multiples only.
+/// A way that is a multiple of no other, so that a line along it meets the grid only at whole multiples.
 fn way(rng: &mut Rng, most: i64) -> (i64, i64) {
     loop {
         let (x, y) = (spread(rng, most), spread(rng, most));
@@ -194,7 +194,7 @@ fn collinear(rng: &mut Rng, _: Epsilon) -> (Segment, Segment) {
     }
 }
 
-/// As collinear, but u on the next line of the grid beside v's, or a later one.
+/// As collinear, but u lies on the next grid line beside v's, or on a later one.
 fn parallel(rng: &mut Rng, epsilon: Epsilon) -> (Segment, Segment) {
     let (v, u) = collinear(rng, epsilon);
     let (dx, dy) = (v[1].x - v[0].x, v[1].y - v[0].y);
@@ -247,14 +247,14 @@ fn zero_length(rng: &mut Rng, epsilon: Epsilon) -> (Segment, Segment) {
     ([p, p], if rng.one_in(8) { [at, at] } else { u })
 }
 
-/// v ends beside u, less than a few epsilons from it: it stops short of u, or goes that much through it.
+/// v ends beside u, less than a few epsilons from it: it stops short of u, or goes a little through it.
 fn beyond(rng: &mut Rng, epsilon: Epsilon) -> (Segment, Segment) {
     let (dx, dy) = match way(rng, FAR) {
         (x, y) if x.abs() >= y.abs() => (x.abs(), y),
         (x, y) => (x, y.abs()),
     };
     let (x, y) = beside_by_one(dx, dy);
-    // a step to the side is 1 / length of the way, so so many make up to three epsilons
+    // a step to the side is 1 / length of the way, so this many make up to three epsilons
     let longest = dx.abs().max(dy.abs());
     let most = (3 * epsilon.num * longest as u128) >> epsilon.down;
     let steps = signed(rng, most as i64 + 1);
@@ -289,7 +289,7 @@ fn beyond(rng: &mut Rng, epsilon: Epsilon) -> (Segment, Segment) {
     small(rng, epsilon)
 }
 
-/// Coordinates at the limit or one below, at 0 or 1, now and then any.
+/// Coordinates at the limit or one below it, at 0 or 1, now and then any.
 fn at_limit(rng: &mut Rng, _: Epsilon) -> (Segment, Segment) {
     let one = |rng: &mut Rng| {
         let size = match rng.below(8) {
@@ -348,7 +348,7 @@ mod tests {
         }
     }
 
-    /// Each kind meets often what it is there for.
+    /// Each kind often meets the case for which it is there.
     #[test]
     fn kinds_do_what_they_say() {
         let mut rng = Rng::new(6);

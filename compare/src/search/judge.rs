@@ -1,5 +1,5 @@
-//! What is promised of two lines of the grid (`crates/grid/specs/Promise.antt`), held against an answer. Whole numbers only: a float
-//! of the answer is taken apart first.
+//! Judges an answer by the promise for two grid lines (`crates/grid/specs/Promise.antt`). It uses whole numbers only: a float of
+//! the answer is first split into a whole number and a power of two.
 
 use super::number::Number;
 use super::plane::{crossing, reaches, share, share_more, Point, Segment, Spot};
@@ -17,7 +17,7 @@ pub struct Epsilon {
     pub down: u32,
 }
 
-/// What the pair call told: its class and the values that go with it, or a refusal's number beyond every class.
+/// What the pair call answered: its class and its values, or a refusal's number, which is beyond every class.
 #[derive(Clone, Copy, Debug, PartialEq)]
 pub struct Told {
     pub class: u64,
@@ -35,8 +35,8 @@ pub enum Broken {
     Inexact,
 }
 
-/// What an answer that keeps the promise showed: how far its point lies from the crossing, for lines that have one, and whether it
-/// was given without a shared point.
+/// What an answer that keeps the promise shows: how far its point lies from the crossing, if the lines have one, and whether
+/// there is no shared point.
 #[derive(Clone, Copy, Debug, Default)]
 pub struct Kept {
     pub off: Option<[Off; 2]>,
@@ -57,7 +57,7 @@ impl Off {
         self.apart.times(parts).over(self.whole)
     }
 
-    /// Whether it is more than so many millionths of 2^-30.
+    /// Whether it is more than this many millionths of 2^-30.
     pub fn more_than(self, millionths: u64) -> bool {
         let least = self.whole.times(Wide::from(u128::from(millionths) + 1));
         self.apart.times(Wide::from(1_000_000 << 30)) >= least

@@ -1,8 +1,8 @@
-//! A float taken apart: a whole number over a power of two.
+//! A float as a whole number over a power of two.
 
 use super::wide::Wide;
 
-/// `size / 2^down`, with a minus where `negative`.
+/// `size / 2^down`, with a minus if `negative`.
 #[derive(Clone, Copy, Debug, PartialEq, Eq)]
 pub struct Number {
     pub negative: bool,
@@ -11,7 +11,7 @@ pub struct Number {
 }
 
 impl Number {
-    /// None for a NaN or an infinity, and for what is no answer on the grid: above 2^64, or with digits below 2^-160.
+    /// None for a NaN or an infinity, and for a number that is no answer on the grid: above 2^64, or with digits below 2^-160.
     pub fn of(x: f64) -> Option<Number> {
         let bits = x.to_bits();
         let (field, digits) = (

@@ -1,5 +1,5 @@
-//! Two segments on the grid, judged by whole numbers alone: do they share a point, or more than one, and where do their lines cross?
-//! By the sides on which points lie, not by the quotients that the kernel works with.
+//! Two segments on the grid, judged by whole numbers alone: do they share a point, or more than one, and where do their lines
+//! cross? It uses the sides on which points lie, not the quotients of the kernel.
 
 /// A point of the grid.
 #[derive(Clone, Copy, Debug, PartialEq, Eq)]
@@ -18,7 +18,7 @@ pub struct Point {
     pub over: u128,
 }
 
-/// Twice the area of the triangle: above 0 where c lies left of the way from a to b.
+/// Twice the area of the triangle: above 0 if c lies left of the way from a to b.
 fn side([a, b]: Segment, c: Spot) -> i128 {
     let [ax, ay, bx, by, cx, cy] = [a.x, a.y, b.x, b.y, c.x, c.y].map(i128::from);
     (bx - ax) * (cy - ay) - (by - ay) * (cx - ax)
@@ -32,7 +32,7 @@ fn lies_on([a, b]: Segment, c: Spot) -> bool {
     side([a, b], c) == 0 && between(a.x, b.x, c.x) && between(a.y, b.y, c.y)
 }
 
-/// Whether the segments share a point: an end of one lies on the other, or each has its ends on either side of the other.
+/// Whether the segments share a point: an end of one lies on the other, or each has its ends on different sides of the other.
 pub fn share(v: Segment, u: Segment) -> bool {
     let parted = |s: Segment, [a, b]: Segment| side(s, a).signum() * side(s, b).signum() < 0;
     v.iter().any(|&end| lies_on(u, end))
@@ -40,7 +40,7 @@ pub fn share(v: Segment, u: Segment) -> bool {
         || parted(v, u) && parted(u, v)
 }
 
-/// Whether they share more than one: they lie on one line, and on its longer axis more than an end of each falls on the other.
+/// Whether they share more than one point: they lie on one line, and along its longer axis they overlap in more than an end.
 pub fn share_more(v: Segment, u: Segment) -> bool {
     let [a, b] = v;
     if a == b || u[0] == u[1] || side(v, u[0]) != 0 || side(v, u[1]) != 0 {
@@ -52,7 +52,7 @@ pub fn share_more(v: Segment, u: Segment) -> bool {
     v_low.max(u_low) < v_high.min(u_high)
 }
 
-/// Where the lines cross; none if they are parallel, as a segment without length is to every other.
+/// Where the lines cross; none if they are parallel. A segment without length is parallel to every other.
 pub fn crossing(v: Segment, u: Segment) -> Option<Point> {
     // along v the side of u changes evenly, and at the crossing it is 0
     let (before, behind) = (side(u, v[0]), side(u, v[1]));

@@ -10,7 +10,7 @@ struct Counts {
     none: u64,
     one: u64,
     lines: u64,
-    /// Of `one`: without a shared point.
+    /// Of `one`: those without a shared point.
     beyond: u64,
     broken: u64,
 }

@@ -1,4 +1,4 @@
-//! Natural numbers of up to 448 bits: exact products and comparisons of what no machine word holds.
+//! Natural numbers of up to 448 bits: exact products and comparisons of numbers too large for a machine word.
 
 use std::cmp::Ordering;
 
@@ -80,7 +80,7 @@ impl Wide {
         Wide(sum)
     }
 
-    /// The whole part of this over `other`, where it is below 2^63.
+    /// The whole part of this over `other`, if it is below 2^63.
     pub fn over(self, other: Wide) -> u64 {
         let mut quotient = 0;
         for bit in (0..63).rev() {
