@@ -1,4 +1,4 @@
-//! The functions of `plane` beside the Rust's: the text's own, and the stand-ins' where the text lacks them.
+//! The functions of `plane` compared with the Rust's: the text's own, and the stand-ins' where the text lacks them.
 
 mod calls;
 
@@ -30,7 +30,7 @@ pub fn check(count: u64, seed: u64) -> u64 {
     tallies.iter().map(Tally::report).sum()
 }
 
-/// How many of `count` inputs are of the kind.
+/// How many of `count` inputs are of this kind.
 fn share(kind: Kind, count: u64) -> u64 {
     match kind {
         Kind::Accepted => count / 4,
@@ -67,7 +67,7 @@ fn compare(call: &Call, pair: &Pair, turn: u64, tally: &mut Tally) {
     }
 }
 
-/// How long the lent slice is, for an answer of so many numbers: in one turn of eight too short.
+/// How long the lent slice is for an answer of this many numbers: too short in one of eight turns.
 fn room(numbers: usize, turn: u64) -> usize {
     let turn = turn as usize;
     if turn % 8 == 0 {

@@ -1,4 +1,4 @@
-//! The calls to compare: which numbers of a pair each is made on, ours, and the Rust's.
+//! The calls to compare: on which numbers of a pair each is made, our answer, and the Rust's.
 
 use cavalier_contours::core::math::{
     dist_squared, min_max, parametric_from_point, point_from_parametric, Vector2,
@@ -19,7 +19,7 @@ pub struct Call {
     pub ours: Ours,
 }
 
-/// How our answer comes: by value, or in a lent slice of which the call tells how many numbers it wrote.
+/// How our answer comes: by value, or in a lent slice, where the call returns how many numbers it wrote.
 pub enum Ours {
     Test(fn(&[f64]) -> bool),
     Number(fn(&[f64]) -> f64),
