@@ -1,5 +1,5 @@
-//! Links the proved static libraries, which `rt staticlib capi` and `rt staticlib probe` write: the product, and what only the
-//! comparison calls.
+//! Links the proved static libraries, which `rt staticlib capi` and `rt staticlib probe` write: the product, and the functions
+//! that only the comparison calls.
 
 use std::env;
 use std::path::PathBuf;

@@ -1,5 +1,5 @@
-//! Finds the Rust text: in the folder that CAVALIER_SRC names, or else beside the repository. A relative path starts at the
-//! repository's root.
+//! Finds the Rust text: in the folder that CAVALIER_SRC names, or else beside the repository. A relative path starts at the root
+//! of the repository.
 
 use std::env;
 use std::path::PathBuf;

@@ -1,5 +1,5 @@
-//! Nanoseconds of processor time a call, ours beside the machine's own or the Rust's, through one driver and on the same inputs: by
-//! turns, the least of each over some rounds.
+//! Nanoseconds of processor time for each call: ours and the machine's own or the Rust's, through one driver and on the same
+//! inputs. The two take turns, and the least time of each over some rounds counts.
 
 use std::hint::black_box;
 use std::time::Duration;
@@ -10,7 +10,8 @@ use crate::clock;
 use crate::rng::Rng;
 
 const PAIRS: usize = 4096;
-/// Rounds are short, so that both sides find the machine in the same state: at least so many, and more while there is time.
+/// Rounds are short, so that both sides find the machine in the same state. There are at least this many, and more while there is
+/// time.
 const ROUNDS: usize = 5;
 const SPENT: Duration = Duration::from_millis(250);
 
@@ -93,7 +94,7 @@ impl Row<'_> {
         Row { epsilon, ..self }
     }
 
-    /// Times both by turns, each so often that a round has at least so many calls or pairs, and prints the line.
+    /// Times both in turns, and prints the line. Each is repeated so often that a round has at least this many calls or pairs.
     pub fn timed(self, a_round: u64, mut ours: impl FnMut(), mut other: impl FnMut()) {
         let times = (a_round / self.on).max(1);
         let one = |pass: &mut dyn FnMut()| {
@@ -132,14 +133,14 @@ fn throughput(pairs: &[(f64, f64)], call: impl Fn(f64, f64) -> f64) {
     );
 }
 
-/// Each call waits for the one before: its answer's last bit goes into the operand's.
+/// Each call waits for the one before: the last bit of its answer goes into the operand.
 fn latency(pairs: &[(f64, f64)], call: impl Fn(f64, f64) -> f64) {
     black_box(pairs.iter().fold(0, |last, &(x, y)| {
         call(f64::from_bits(x.to_bits() ^ (last & 1)), y).to_bits()
     }));
 }
 
-// The machine's own, called and not put in place, as ours are.
+// The machine's own, called and not inlined, as ours are.
 
 #[inline(never)]
 fn machine_sqrt(x: f64) -> f64 {

@@ -1,6 +1,6 @@
 //! The proved library, as `include/vonjekona.h` declares it.
 //!
-//! Each call is safe: it takes and gives numbers, asks nothing of them, and always returns.
+//! Each call is safe: it takes and gives numbers, accepts any of them, and always returns.
 
 unsafe extern "C" {
     pub safe fn vj_abs(x: f64) -> f64;
@@ -101,7 +101,7 @@ mod raw {
     }
 }
 
-// SAFETY, of each call below: start and length are those of a slice that is lent for as long as the call runs.
+// SAFETY, of each call below: start and length are those of a slice that is lent while the call runs.
 
 /// Two lines' ends, x before y, and an epsilon.
 #[cfg(feature = "rust-text")]
@@ -142,7 +142,7 @@ pub struct Rows<'a> {
     pub counts: &'a mut [u64],
 }
 
-/// Two paths, each with whether it is closed, and an epsilon.
+/// Two paths, each with a flag that says whether it is closed, and an epsilon.
 #[cfg(feature = "rust-text")]
 pub fn vj_mutual(first: (&[f64], bool), second: (&[f64], bool), epsilon: f64, rows: Rows) -> u64 {
     let Rows {
@@ -169,7 +169,7 @@ pub fn vj_mutual(first: (&[f64], bool), second: (&[f64], bool), epsilon: f64, ro
     }
 }
 
-/// A path with whether it is closed, and an epsilon.
+/// A path with a flag that says whether it is closed, and an epsilon.
 #[cfg(feature = "rust-text")]
 pub fn vj_self(path: (&[f64], bool), epsilon: f64, rows: Rows) -> u64 {
     let Rows {

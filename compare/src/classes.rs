@@ -95,7 +95,7 @@ pub fn magnitude(class: Class, rng: &mut Rng) -> u64 {
     }
 }
 
-/// The pattern with a sign: set where `negative` says so.
+/// The pattern with its sign bit set if `negative`.
 pub fn signed(magnitude: u64, negative: bool) -> u64 {
     if negative {
         magnitude | SIGN
@@ -109,8 +109,8 @@ pub fn is_nan(pattern: u64) -> bool {
     pattern & !SIGN > INFINITY
 }
 
-/// The digits `m` (above 0, below 2^53) at a random exponent with `m`'s own parity, or with the other where `odd` is 1:
-/// so the root of a square stays exact, and that of a number beside a midpoint's square stays beside one.
+/// The digits `m` (above 0, below 2^53) at a random exponent with the parity of `m`, or the other parity if `odd` is 1. So the
+/// root of a square stays exact, and the root of a number beside a midpoint's square stays beside one.
 fn scaled(m: u64, odd: u64, rng: &mut Rng) -> u64 {
     let pattern = (m as f64).to_bits();
     let drawn = 2 + rng.below(2044);
@@ -121,7 +121,7 @@ fn scaled(m: u64, odd: u64, rng: &mut Rng) -> u64 {
 fn square(rng: &mut Rng) -> u64 {
     let length = 1 + rng.below(26);
     let root = rng.below(1 << length).max(1);
-    // A small pattern is its own count of units of 2^-1074, and that is a power of four.
+    // A small pattern counts units of 2^-1074, which is a power of four.
     if rng.one_in(8) {
         return root * root;
     }
@@ -138,10 +138,10 @@ fn midpoint(rng: &mut Rng) -> u64 {
     scaled(m, odd, rng) - 1 + rng.below(3)
 }
 
-/// A number whose root is as near to a midpoint as a root can be, or a few times that far.
+/// A number whose root is as near to a midpoint as a root can be, or a few times as far.
 ///
-/// Let s = 2r + 1 and s*s = c modulo 2^55, c = 4k + 1 and k small. Then x = (s*s - c) / 4 has 53 digits and
-/// zeros after them, and its root is r + 1/2 less c / (4s), about c * 2^-56.
+/// Let s = 2r + 1 and s*s = c modulo 2^55, with c = 4k + 1 and a small k. Then x = (s*s - c) / 4 has 53 digits and zeros after
+/// them, and its root is r + 1/2 less c / (4s), about c * 2^-56.
 fn near_midpoint(rng: &mut Rng) -> u64 {
     let size = 1 + rng.below(20);
     let k = 2 * rng.below(1 << size) as i64;
@@ -162,7 +162,7 @@ fn near_midpoint(rng: &mut Rng) -> u64 {
     scaled(m, odd, rng)
 }
 
-/// The first 53 digits of a number of 105 or 106, and whether 53 were cut off, an odd count.
+/// The first 53 digits of a number of 105 or 106 digits, and whether 53 were cut off, which is an odd count.
 fn cut(x: u128) -> (u64, u64) {
     let odd = u64::from(x >> 105 == 1);
     ((x >> (52 + odd)) as u64, odd)
@@ -172,7 +172,7 @@ fn cut(x: u128) -> (u64, u64) {
 mod tests {
     use super::*;
 
-    /// Twice the root's distance from its midpoint, exactly: x against (r + 1/2)^2 for r the root cut to 53 digits.
+    /// Twice the root's distance from its midpoint, exactly: x compared with (r + 1/2)^2, where r is the root cut to 53 digits.
     #[test]
     fn near_midpoint_is_near() {
         let mut rng = Rng::new(1);

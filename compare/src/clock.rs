@@ -1,4 +1,4 @@
-//! The processor time of this thread. Other work on the machine may slow it down, but is not counted in it.
+//! The processor time of this thread. Other work on the machine may slow the thread down, but its time is not counted.
 
 use std::time::Duration;
 

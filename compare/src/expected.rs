@@ -1,5 +1,5 @@
-//! What the four float functions answer on patterns: from this machine and Rust's `std` where these settle it, and where
-//! they leave it open (a NaN's bits, the sign of a zero) from the rule, written here on bits.
+//! What the four float functions answer on patterns: from this machine and Rust's `std`, and from the scope's rule, written here
+//! on bits, where these leave it open (a NaN's bits, the sign of a zero).
 
 use crate::classes::{is_nan, SIGN};
 
@@ -27,7 +27,7 @@ pub fn max(a: u64, b: u64) -> u64 {
     open(a, b).unwrap_or_else(|| f64::from_bits(a).max(f64::from_bits(b)).to_bits())
 }
 
-/// The answer of `min` and `max` where Rust leaves it open: two NaNs, two zeros.
+/// The answer of `min` and `max` if Rust leaves it open: two NaNs, two zeros.
 fn open(a: u64, b: u64) -> Option<u64> {
     if is_nan(a) && is_nan(b) {
         Some(NAN)

@@ -6,18 +6,18 @@ use crate::expected;
 use crate::rng::Rng;
 use crate::tally::Tally;
 
-/// A function of one operand, ours in both forms beside what is expected of it.
+/// A function of one operand: ours in both forms, and what is expected of it.
 pub struct Unary {
     name: &'static str,
     name_bits: &'static str,
     on_bits: extern "C" fn(u64) -> u64,
     on_f64: extern "C" fn(f64) -> f64,
     pub expected: fn(u64) -> u64,
-    /// One operand in so many is below zero.
+    /// One operand in this many is below zero.
     pub negative_one_in: u64,
 }
 
-/// A function of two operands, likewise.
+/// A function of two operands, the same.
 pub struct Binary {
     name: &'static str,
     name_bits: &'static str,
@@ -109,7 +109,7 @@ fn shown(operands: &[u64], ours: u64, expected: u64) -> String {
     )
 }
 
-/// Whether two patterns are one number's: any two NaNs are, and the zeros are told apart.
+/// Whether two patterns are the same number's: any two NaNs are; +0 and -0 are not.
 fn same_number(a: u64, b: u64) -> bool {
     a == b || is_nan(a) && is_nan(b)
 }
@@ -117,7 +117,7 @@ fn same_number(a: u64, b: u64) -> bool {
 /// How the operands of a pair are drawn.
 #[derive(Clone, Copy)]
 pub enum PairKind {
-    /// Each of its class, by itself.
+    /// Each of its own class, independently.
     Apart(Class, Class),
     Same(Class),
     /// The same magnitude, with opposite signs.

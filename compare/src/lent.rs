@@ -1,4 +1,4 @@
-//! A slice to lend, with bytes before and behind it, that tells afterwards what was written.
+//! A slice to lend, with bytes before and behind it, that shows afterwards what was written.
 
 /// A pattern that no answer has.
 const UNTOUCHED: u64 = 0x7ff4_a5a5_5a5a_c3c3;

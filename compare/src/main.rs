@@ -1,4 +1,4 @@
-//! Holds the proved library to Rust and to this machine.
+//! Compares the proved library with Rust and with this machine.
 
 #[cfg(feature = "rust-text")]
 mod answer;

@@ -12,7 +12,7 @@ pub struct Numbers {
 }
 
 impl Numbers {
-    /// The same but for the number at `place`.
+    /// The same except for the number at `place`.
     pub fn with(mut self, place: usize, number: f64) -> Numbers {
         self.put(place, number);
         self
@@ -39,7 +39,7 @@ impl Deref for Numbers {
     }
 }
 
-/// Whether each number may stand for the other: zeros of either sign are equal, and so are any two NaNs.
+/// Whether the numbers are the same: zeros of either sign are equal, and so are any two NaNs.
 pub fn same(ours: &[f64], expected: &[f64]) -> bool {
     let one = |(a, b): (&f64, &f64)| a == b || a.is_nan() && b.is_nan();
     ours.len() == expected.len() && ours.iter().zip(expected).all(one)

@@ -1,4 +1,4 @@
-//! The scope's rules that the Rust text overrules, and the smallest inputs on which the two part: both are run, and each must
+//! The scope's rules that the Rust text overrules, and the smallest inputs on which the two differ: both are run, and each must
 //! give the numbers that are stated for it.
 
 use cavalier_contours::core::math::{parametric_from_point, Vector2};
@@ -94,7 +94,7 @@ fn p(x: f64, y: f64) -> Vector2 {
     Vector2::new(x, y)
 }
 
-/// By y if p0.x is near p1.x by the epsilon, else by x.
+/// From y if p0.x is near p1.x by the epsilon, else from x.
 fn parameter(p0: Vector2, p1: Vector2, q: Vector2) -> f64 {
     if (p0.x - p1.x).abs() < EPSILON {
         (q.y - p0.y) / (p1.y - p0.y)

@@ -1,7 +1,7 @@
-//! The functions of `plane`, the segments of a path, and the filled part of rows, as crate `probe` exports them. They are for
-//! comparison only: no header of the product declares them.
+//! The functions of `plane`, the segments of a path, and the filled part of rows, as crate `probe` exports them. They are only
+//! for the comparison: no header of the product declares them.
 
-// Each is safe: it takes and gives numbers, asks nothing of them, and always returns.
+// Each call is safe: it takes and gives numbers, accepts any of them, and always returns.
 unsafe extern "C" {
     pub safe fn vjp_fuzzy_eq_zero_eps(a: f64, eps: f64) -> bool;
     pub safe fn vjp_fuzzy_eq_zero(a: f64) -> bool;
@@ -92,7 +92,7 @@ mod raw {
     }
 }
 
-// SAFETY, of each call below: start and length are those of a slice that is lent for as long as the call runs.
+// SAFETY, of each call below: start and length are those of a slice that is lent while the call runs.
 
 pub fn vjp_add(x1: f64, y1: f64, x2: f64, y2: f64, out: &mut [f64]) -> usize {
     unsafe { raw::vjp_add(x1, y1, x2, y2, out.as_mut_ptr(), out.len()) }
@@ -128,13 +128,13 @@ pub fn vjp_seg_arc_radius_and_center(
     unsafe { raw::vjp_seg_arc_radius_and_center(x1, y1, bulge1, x2, y2, bulge2, start, room) }
 }
 
-/// A path with whether it is closed, and an index.
+/// A path with a flag that says whether it is closed, and an index.
 pub fn vjp_segment(path: &[f64], closed: bool, i: usize, out: &mut [f64]) -> usize {
     let (start, room) = (out.as_mut_ptr(), out.len());
     unsafe { raw::vjp_segment(path.as_ptr(), path.len(), closed, i, start, room) }
 }
 
-/// The same, asked of a view of the path.
+/// The same for a view of the path.
 pub fn vjp_view_segment(path: &[f64], closed: bool, i: usize, out: &mut [f64]) -> usize {
     let (start, room) = (out.as_mut_ptr(), out.len());
     unsafe { raw::vjp_view_segment(path.as_ptr(), path.len(), closed, i, start, room) }

@@ -1,8 +1,8 @@
-//! The recorded list that the program `replay` is run on: a line for each call, its operands and the answer expected.
+//! The recorded list on which the program `replay` is run: a line for each call, with its operands and the expected answer.
 //!
-//! A line is the call's name of four letters, then numbers of 16 lower-case hex digits: operands and answers. First come the
-//! four float functions, with two operands (a function of one has zeros for the second) and the answer. Then come the Rust
-//! text's own answers, which can be made only where the text is.
+//! A line is the call's name of four letters, then numbers of 16 lower-case hex digits: operands and answers. First come the four
+//! float functions, with two operands (zeros for the second if the function has one) and the answer. Then come the answers of the
+//! Rust text, which can be made only where the text is.
 
 use std::fs;
 use std::io;
@@ -82,7 +82,7 @@ fn text(lines: &mut Vec<String>) {
         (Kind::Beside, 60),
         (Kind::Patterns, 120),
     ];
-    // Which NaN a sum or product gives is left open, so that a NaN has one spelling here.
+    // Which NaN a sum or product gives is left open, so every NaN is written in one way here.
     let settled = |x: &f64| if x.is_nan() { f64::from_bits(NAN) } else { *x };
     for (call, name) in crate::plane::TEXT.iter().zip(NAMES) {
         let mut rng = Rng::new(SEED);
@@ -101,7 +101,7 @@ fn text(_lines: &mut Vec<String>) {
     println!("rust text not compiled in: none of its answers were recorded");
 }
 
-/// The kernels and the pair call: operands, then what is returned, and an answer's four values.
+/// The kernels and the pair call: operands, then the returned number, and the four values of an answer.
 #[cfg(feature = "rust-text")]
 fn crossing(lines: &mut Vec<String>) {
     use crate::crossing::{sample, CALLS};

@@ -1,4 +1,4 @@
-//! Random numbers from a fixed seed, so that every run looks at the same inputs.
+//! Random numbers from a fixed seed, so that every run has the same inputs.
 
 /// SplitMix64: 64 bits of state, each output a mix of the next multiple of an odd constant.
 pub struct Rng(u64);

@@ -17,7 +17,7 @@ impl Tally {
         }
     }
 
-    /// Counts one comparison; where it came out as a difference, `what` says of which operands, and how.
+    /// Counts one comparison. If it is a difference, `what` says for which operands, and how.
     pub fn add(&mut self, same: bool, what: impl FnOnce() -> String) {
         self.compared += 1;
         if same {

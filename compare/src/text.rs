@@ -1,5 +1,5 @@
-//! The Rust text on the examples that the scope states: that the text runs here as its authors meant it, before anything
-//! of ours is held to it.
+//! The Rust text on the examples that the scope states: it shows that the text runs here as its authors meant it, before anything
+//! of ours is compared with it.
 
 use cavalier_contours::core::math::{
     circle_circle_intr, dist_squared, line_circle_intr, line_line_intr, min_max,
@@ -11,7 +11,7 @@ use crate::answer::Answer;
 
 const EPSILON: f64 = 1e-5;
 
-/// Runs the examples, and answers how many come out other than stated.
+/// Runs the examples, and answers how many give another answer than stated.
 pub fn check() -> u64 {
     let examples: Vec<Example> = [kernels(), pairs(), plane_functions()]
         .into_iter()
@@ -82,8 +82,8 @@ fn pair(v: Segment, u: Segment, epsilon: f64) -> Answer {
     pline_seg_intr(v1, v2, u1, u2, epsilon).into()
 }
 
-/// Examples D to L: the pair call. Then the two inputs on which the text parts from the prose about it: in the component
-/// that a parameter is taken by, and in the order of an arc's operations.
+/// Examples D to L: the pair call. Then the two inputs on which the text differs from the prose about it: in the component from
+/// which a parameter comes, and in the order of an arc's operations.
 fn pairs() -> Vec<Example> {
     let half = [-1.0, 0.0, 1.0, 0.0, 1.0];
     let line = [0.0, 0.0, 4.0, 0.0, 0.0];
@@ -149,7 +149,7 @@ fn pairs() -> Vec<Example> {
     ]
 }
 
-/// The functions on points and segments, on numbers that come out exact.
+/// The functions on points and segments, on numbers whose results are exact.
 fn plane_functions() -> Vec<Example> {
     let numbers = |values: &[f64]| Answer::new("numbers", values);
     let (least, most) = min_max(2.0, 1.0);

@@ -1,6 +1,6 @@
-//! The Rust text of cavalier_contours 0.9.0 that is at hand, compiled unchanged, in the modules that it names itself by.
+//! The Rust text of cavalier_contours 0.9.0 that is at hand, compiled unchanged, in modules with the names that it uses itself.
 //!
-//! What the text imports and does not hold stands in `stand_ins`.
+//! `stand_ins` has what the text imports and does not contain.
 
 mod stand_ins;
 

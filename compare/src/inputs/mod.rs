@@ -1,6 +1,6 @@
 //! Inputs for everything that takes points, vertices, segments or pairs of segments: four vertices and an epsilon each.
 //!
-//! They use no function whose last bit a machine may choose (no sine), so that a seed gives the same inputs everywhere.
+//! They use no function whose last bit depends on the machine (no sine), so that a seed gives the same inputs everywhere.
 
 pub mod shapes;
 pub mod values;
@@ -40,7 +40,7 @@ pub struct Pair {
 pub enum Kind {
     /// Within the accepted ranges, structured or random.
     Accepted,
-    /// Accepted but for one number, which is at a limit or one float beside it.
+    /// Accepted except for one number, which is at a limit or one float beside it.
     Beside,
     /// All bit patterns.
     Patterns,
@@ -107,7 +107,7 @@ impl Pair {
         }
     }
 
-    /// Whether no number of it is refused.
+    /// Whether none of its numbers is refused.
     pub fn is_accepted(&self) -> bool {
         let epsilon = self.epsilon >= SMALLEST && self.epsilon <= LARGEST_EPSILON;
         epsilon && self.v.is_accepted() && self.u.is_accepted()
@@ -163,7 +163,7 @@ fn beside(rng: &mut Rng) -> Pair {
     pair
 }
 
-/// Each number by itself, of all bits or of a class; now and then one is another's equal.
+/// Each number independently, of all bits or of a class; now and then one equals another.
 fn patterns(rng: &mut Rng) -> Pair {
     let mut pair = Pair::default();
     for number in pair.numbers() {

@@ -1,4 +1,4 @@
-//! Pairs of segments that stand to each other in every way that the crossing functions tell apart.
+//! Pairs of segments in every position that the crossing functions distinguish.
 
 use super::values::{arc_bulge, bulge, coordinate, epsilon, line_bulge, nudge, power, whole};
 use super::{Pair, Point, Segment, Vertex};
@@ -29,7 +29,7 @@ pub fn draw(rng: &mut Rng) -> Pair {
     Pair { v, u, epsilon }
 }
 
-/// The same segment, or the same run from its other end. The last bulge is nobody's.
+/// The same segment, or the same one from its other end. The last bulge has no effect.
 pub fn either_way(s: Segment, rng: &mut Rng) -> Segment {
     let unused = bulge(rng);
     if rng.one_in(2) {
@@ -64,7 +64,7 @@ fn anywhere(rng: &mut Rng) -> Segment {
     arc(from, to, bulge(rng))
 }
 
-/// Small whole coordinates, on which much meets exactly, and zeros of either sign.
+/// Small whole coordinates, on which much meets exactly, and zeros with either sign.
 fn on_grid(rng: &mut Rng) -> Segment {
     let [from, to] = [0; 2].map(|_| Point {
         x: rng.sign() * whole(rng, 3),
@@ -82,7 +82,7 @@ pub fn near(center: Point, size: f64, rng: &mut Rng) -> Point {
     }
 }
 
-/// A segment of a random size at a random place, the size half of the time a usual one.
+/// A segment of a random size at a random place; half of the time the size is a usual one.
 fn placed(bulge: f64, rng: &mut Rng) -> Segment {
     let size = if rng.one_in(2) {
         rng.pick(&[1.0, 10.0, 1000.0])
@@ -105,7 +105,7 @@ fn together(rng: &mut Rng) -> (Segment, Segment) {
     (v, arc(from, to, bulge(rng)))
 }
 
-/// One end in common or two, but for a move.
+/// One shared end or two, up to a small move.
 fn shared_ends(epsilon: f64, rng: &mut Rng) -> (Segment, Segment) {
     let (v, mut u) = together(rng);
     u.from.at = moved(v.from.at, epsilon, rng);
@@ -122,7 +122,7 @@ fn moved(p: Point, epsilon: f64, rng: &mut Rng) -> Point {
     }
 }
 
-/// Two lines on one line: overlapping, touching, apart or, but for a move, nearly parallel.
+/// Two segments of one line: overlapping, touching, apart or, after a small move, nearly parallel.
 fn collinear(epsilon: f64, rng: &mut Rng) -> (Segment, Segment) {
     let mut v = placed(line_bulge(rng), rng);
     match rng.below(4) {
@@ -210,7 +210,7 @@ pub fn unit(rng: &mut Rng) -> Point {
     }
 }
 
-/// An arc, and a line that touches its circle but for a move.
+/// An arc, and a line that touches its circle, up to a small move.
 fn tangent_line(epsilon: f64, rng: &mut Rng) -> (Segment, Segment) {
     let v = placed(arc_bulge(rng), rng);
     let circle = Circle::of(v);
@@ -239,7 +239,7 @@ fn secant(epsilon: f64, rng: &mut Rng) -> (Segment, Segment) {
     (v, line(from, far, rng))
 }
 
-/// Two arcs of one circle but for a move: overlapping, touching or apart.
+/// Two arcs of one circle, up to a small move: overlapping, touching or apart.
 fn same_circle(epsilon: f64, rng: &mut Rng) -> (Segment, Segment) {
     let v = placed(arc_bulge(rng), rng);
     let mut u = Circle::of(v).some_arc(rng);
@@ -258,7 +258,7 @@ fn same_circle(epsilon: f64, rng: &mut Rng) -> (Segment, Segment) {
     (v, u)
 }
 
-/// Arcs about one centre but for a move, with radii that are equal, nearly so or not at all.
+/// Arcs with one centre, up to a small move, with radii that are equal, nearly equal or different.
 fn concentric(epsilon: f64, rng: &mut Rng) -> (Segment, Segment) {
     let v = placed(arc_bulge(rng), rng);
     let Circle { center, radius } = Circle::of(v);
@@ -271,7 +271,7 @@ fn concentric(epsilon: f64, rng: &mut Rng) -> (Segment, Segment) {
     (v, Circle { center, radius }.some_arc(rng))
 }
 
-/// Arcs of two circles that touch from outside or inside but for a move, or cross in a place of the first one.
+/// Arcs of two circles that touch from outside or inside, up to a small move, or cross at a place of the first one.
 fn touching_circles(epsilon: f64, rng: &mut Rng) -> (Segment, Segment) {
     let circle = Circle::of(placed(arc_bulge(rng), rng));
     let way = unit(rng);
@@ -299,7 +299,7 @@ fn way_times(way: Point, by: f64) -> Point {
     }
 }
 
-/// A chord near the shortest that an arc may have, and a segment about it.
+/// A chord near the shortest that an arc may have, and a segment near it.
 fn tiny(rng: &mut Rng) -> (Segment, Segment) {
     let from = near(Point::default(), rng.pick(&[0.0, 1e-9, 1.0]), rng);
     let to = from.along(unit(rng), power(rng, -40, -16));
@@ -309,7 +309,7 @@ fn tiny(rng: &mut Rng) -> (Segment, Segment) {
     (v, arc(a, b, bulge(rng)))
 }
 
-/// A segment, and a line that is a single point but for a move: on the segment's chord or circle, or at an end.
+/// A segment, and a line that is a single point, up to a small move: on the segment's chord or circle, or at an end.
 fn point(epsilon: f64, rng: &mut Rng) -> (Segment, Segment) {
     let v = placed(bulge(rng), rng);
     let place = match rng.below(4) {

@@ -97,8 +97,8 @@ pub fn epsilon(rng: &mut Rng) -> f64 {
     }
 }
 
-/// A move that a comparison by this epsilon just allows or just forbids: none, some eighths of the epsilon, or all of it to a
-/// few last bits.
+/// A move that a comparison with this epsilon just allows or just forbids: none, some eighths of the epsilon, or all of it up to
+/// a few last bits.
 pub fn nudge(epsilon: f64, rng: &mut Rng) -> f64 {
     match rng.below(4) {
         0 => 0.0,
@@ -108,12 +108,12 @@ pub fn nudge(epsilon: f64, rng: &mut Rng) -> f64 {
     }
 }
 
-/// A whole number of magnitude up to `most`.
+/// A whole number, at most `most` in magnitude.
 pub fn whole(rng: &mut Rng, most: u64) -> f64 {
     rng.below(2 * most + 1) as f64 - most as f64
 }
 
-/// A number from 2^`low` up to 2^`high`, each power of two as often as another.
+/// A number from 2^`low` up to 2^`high`; every power of two is equally likely.
 pub fn power(rng: &mut Rng, low: i32, high: i32) -> f64 {
     let exponent = low + rng.below((high - low) as u64) as i32;
     f64::from_bits(((1023 + exponent) as u64) << 52 | rng.below(1 << 52))

@@ -1,4 +1,4 @@
-//! Comparisons that allow for a given epsilon, or for the default one.
+//! Comparisons with a given epsilon, or with the default one.
 
 /// Near zero: |a| < eps. Near equal: |a - b| < eps. The default epsilon is 1e-8.
 pub trait FuzzyEq: Sized {

@@ -1,5 +1,5 @@
-//! Stand-ins for what the text imports and does not hold, written from the scope's rules. A rule is quoted at each place
-//! that the crossing functions come by; the rest is there so that the text compiles.
+//! Stand-ins for what the text imports and does not contain, written from the scope's rules. A rule is quoted wherever the
+//! crossing functions use it; the rest is there so that the text compiles.
 
 pub mod fuzzy;
 pub mod num_traits;

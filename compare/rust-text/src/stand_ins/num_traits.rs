@@ -1,4 +1,4 @@
-//! What the text uses of the crate `num_traits`: numbers of one kind. f64 alone is one here.
+//! What the text uses of the crate `num_traits`: numbers of one kind. Here only f64 is one.
 
 pub mod real {
     use std::ops::{Add, Div, Mul, Neg, Sub};

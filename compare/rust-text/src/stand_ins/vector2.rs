@@ -39,7 +39,7 @@ impl<T: Real> Vector2<T> {
         self.dot(self)
     }
 
-    /// Length: the square root of the self dot.
+    /// Length: the square root of the dot product with itself.
     pub fn length(self) -> T {
         self.dot(self).sqrt()
     }
