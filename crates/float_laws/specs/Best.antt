@@ -1,7 +1,7 @@
--- `round` gives the nearest value of its format: no other value that the format holds is nearer to the fraction.
--- Everything is counted in units of the format's smallest value, and multiplied out, so it is about whole numbers only.
--- The argument: the rounded number is the closest multiple of the last place kept (Half.antt). A value of the format either is a
--- multiple of that place too, or it lies below the power of two at which the place begins, and that power is a multiple of the place.
+-- `round` gives the nearest value of its format: no other value of the format is nearer to the fraction. Everything is counted in
+-- units of the format's smallest value and multiplied out, so it is about whole numbers only. The argument: the rounded number is
+-- the closest multiple of the last kept place (Half.antt). Another value of the format either is a multiple of that place too, or
+-- it lies below the power of two at which the place begins, which is a multiple of the place.
 use mathlib.Core.Path.{_≡_, sym, ap, _∙_, subst}
 use mathlib.Core.Logic.{_⊎_, inl, inr}
 use Prim.Native.Nat.{ℕ, suc, zero-le, _+_, _-_, _*_, _/_, _^_, _≤_, _<_}
@@ -32,7 +32,7 @@ use lib.Ieee.Order.{drop, kept}
 use lib.Ieee.Scale.{grid}
 use Rattle.float_laws.specs.Half.{Half, closest-half}
 
--- a count that a format of p digits holds, whatever its range
+-- a count with at most p digits, whatever its range
 pub record Held (p Y : ℕ) : Type 0 where
   pub y : ℕ
   pub j : ℕ
@@ -46,7 +46,7 @@ held-pow f i = record { y = 1; j = i; few = one f; is = sym (one-mul (2 ^ i)) }
     one binary32 = omega arith
     one binary64 = omega arith
 
--- R is the count of p digits that is nearest to n / den: the point halfway to any other, Y, does not lie beyond the fraction
+-- R is the count of p digits that is nearest to n / den: the point halfway to any other count Y does not lie beyond the fraction
 pub record Best (p n den R : ℕ) : Type 0 where
   pub below : (Y : ℕ) → Held p Y → Y < R → (Y + R) * den ≤ 2 * n
   pub above : (Y : ℕ) → Held p Y → R < Y → 2 * n ≤ (Y + R) * den
@@ -96,7 +96,7 @@ module _ (p n den : ℕ) (P : 2 ≤ p) (D : 0 < den) where
   half : Half n (den * 2 ^ place) rounded
   half = closest-half n (den * 2 ^ place) unit-pos
 
-  -- the kept number is at least every t whose multiple of the place the fraction has reached
+  -- the kept number is at least every t such that t places do not exceed the fraction
   reach : (t : ℕ) → t * 2 ^ place * den ≤ n → t ≤ rounded
   reach t a = go (2 ^ place) unit-pos half a
     where
@@ -105,7 +105,7 @@ module _ (p n den : ℕ) (P : 2 ≤ p) (D : 0 < den) where
           let over : t * (den * u) < (rounded + 1) * (den * u) = omega (arith, h .above) in
           le-of-suc-le-suc (lt-of-mul-lt-mul-right (den * u) {m = t} {n = suc rounded} (omega arith))
 
-  -- a value with a lower last place lies below 2 ^ (p - 1) places, which the fraction has reached
+  -- a value with a lower last place lies below 2 ^ (p - 1) places, which do not exceed the fraction
   module _ (Y : ℕ) (h : Held p Y) (l : h .j < place) where
     abbrev first : ℕ
     first = 2 ^ (p - 1)

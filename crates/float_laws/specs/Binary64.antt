@@ -1,5 +1,5 @@
--- The laws at binary64, for proofs that count. Its unit, 2 ^ -1074, makes a number of 324 digits, which `omega` refuses: here it is
--- a shut name, of which it is known that it is above zero.
+-- The laws at binary64, for proofs that count. Its unit, 2 ^ -1074, gives a number of 324 digits, which `omega` refuses. So here
+-- it is an opaque name, known only to be above zero.
 use mathlib.Core.Path.{_≡_, refl, sym, ap, subst}
 use Prim.Native.Nat.{ℕ, _+_, _-_, _*_, _^_, _≤_, _<_}
 use native.Mathlib.Nat.{mul-pos, mul-le-mul-right, lt-of-mul-lt-mul-right}
@@ -38,8 +38,8 @@ zero-finite = diff-finite (ofBits binary64 0) 0 0 unit zero-is
 pub units64 : (x : Float) → T (finite x) → T (fits binary64 x) → Units unit x
 units64 x t h = subst (λ (L : ℕ). Units L x) (sym unit-is) (units-of binary64 x t h)
 
--- what is not below zero makes a product that is not, and takes nothing away as a summand: the exact results say so, and their
--- roundings do not cross a float
+-- if both factors are not below zero, neither is the product; and adding such a number takes nothing away. The exact results say
+-- so, and rounding does not cross a float
 pub mul-least : (x y : Float) (p n q : ℕ) → Diff x p n unit → Diff y q 0 unit → n ≤ p → T (le (ofBits binary64 0) (mul binary64 x y))
 mul-least x y p n q a b l =
     rounded-ge binary64 (mul binary64 x y) _ _ (unit * unit) (mul-rounded binary64 x y p n q 0 unit unit unit-pos unit-pos a b)

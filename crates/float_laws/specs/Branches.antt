@@ -1,5 +1,5 @@
--- What a branch picks, for `search` to walk a chain of tests: into the test that holds, and past each that does not. And what a
--- call denied.
+-- What a branch picks, so that `search` can follow a chain of tests: into the test that holds, and past each that does not. And
+-- what follows if a call says no.
 use Prim.Native.Nat.{ℕ, _≤_, _<_}
 use mathlib.Core.Path.{_≡_}
 use mathlib.Core.Bool.{Bool, true, false, cond, not, _&&_, _||_}
@@ -14,7 +14,7 @@ module _ {A : Type 0} (test : Bool) (x y r : A) where
   pub fails : test ≡ false → r ≡ y → r ≡ cond test x y
   fails h e = rw h e
 
--- by what a call said of the test
+-- from what a call said of the test
 module _ {A : Type 0} (test said : Bool) (x y r : A) where
   pub said-so : said ≡ test → said ≡ true → r ≡ x → r ≡ cond test x y
   said-so is h e = rw (← is, h) e
@@ -22,7 +22,7 @@ module _ {A : Type 0} (test said : Bool) (x y r : A) where
   pub said-not : said ≡ test → said ≡ false → r ≡ y → r ≡ cond test x y
   said-not is h e = rw (← is, h) e
 
--- two worked-out numbers compared
+-- a comparison of two computed numbers
 module _ {A : Type 0} (a b s t : Float) (x y r : A) where
   pub less : s ≡ a → t ≡ b → lt s t ≡ true → r ≡ x → r ≡ cond (lt a b) x y
   less p q h e = rw (← p, ← q, h) e
@@ -43,7 +43,7 @@ module _ {A : Type 0} (n k : ℕ) (x y r : A) where
 
 pub ruleset branches = (holds, fails, said-so, said-not, less, not-less, other, below, above)
 
--- two tests that the definition asks at once: one in the other in the code, or both denied
+-- two tests that the definition joins: nested in the code, or both say no
 module _ {A : Type 0} (t u a b : Bool) (x y r : A) where
   pub both : a ≡ t → b ≡ u → a ≡ true → b ≡ true → r ≡ x → r ≡ cond (t && u) x y
   both p q h k e = rw (← p, ← q, h, k) e

@@ -1,4 +1,4 @@
--- Chains of comparisons, for all floats: where a NaN stands no comparison says yes, and an infinity lies beyond every finite float.
+-- Chains of comparisons, for all floats: with a NaN no comparison says yes, and an infinity lies beyond every finite float.
 use mathlib.Core.Path.{refl}
 use Prim.Native.Nat.{ℕ, _+_, _*_, _≤_, _<_}
 use native.Mathlib.Nat.{mul-le-mul-right, mul-lt-mul-of-pos-right, lt-of-mul-lt-mul-right}
@@ -16,7 +16,7 @@ use Rattle.float_laws.specs.Order.{lt-diff, le-diff}
 pub written-diff : (s : Bool) (m : ℕ) (e : ℤ) → Diff (fin s m e) (ups s (m * up e)) (downs s (m * up e)) (down e)
 written-diff s m e = own-diff (fin s m e) s (m * up e) (down e) (refl, refl)
 
--- ---- what is at least x is not below it
+-- ---- if y is at least x, it is not below x
 pub not-both : (x y : Float) → T (le x y) → T (lt y x) → ⊥
 unfolding le
 not-both nan y h k = h
@@ -128,7 +128,7 @@ between-finite (fin s m e) (inf false) (inf t) a c h g = absurd c
 between-finite (fin s m e) (inf false) (fin t n d) a c h g = absurd g
 between-finite (fin s m e) (fin t n d) z a c h g = tt
 
--- what is at least a finite float is finite or infinity; what is at most one is finite or minus infinity
+-- a float that is at least a finite one is finite or infinity; one that is at most a finite one is finite or minus infinity
 pub from-above : (P : Float → Type 0) (x y : Float) → T (finite x) → T (le x y) → P (inf false) → (T (finite y) → P y) → P y
 unfolding le
 from-above P nan y a h i f = absurd a
@@ -147,7 +147,7 @@ from-below P (inf true) (fin t n d) a h i f = i
 from-below P (inf false) (fin t n d) a h i f = absurd h
 from-below P (fin s m e) y a h i f = f tt
 
--- what lies above anything is finite or infinity
+-- a float above any other is finite or infinity
 pub above-any : (P : Float → Type 0) (x y : Float) → T (lt x y) → P (inf false) → (T (finite y) → P y) → P y
 unfolding lt
 above-any P nan y h i f = absurd h

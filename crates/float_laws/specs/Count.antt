@@ -1,5 +1,5 @@
--- A finite float as a sign and a count of the format's smallest value: HasValue x s A (2 ^ low f). What the bit pattern of a value
--- is follows from these two numbers, so two values of the format with the same sign and count are the same float.
+-- A finite float as a sign and a count of the format's smallest value: HasValue x s A (2 ^ low f). These two numbers fix the bit
+-- pattern of a value, so two values of the format with the same sign and count are the same float.
 use mathlib.Core.Path.{_≡_, refl, sym, ap, _∙_, subst}
 use mathlib.Core.Logic.{_⊎_, inl, inr}
 use Prim.Native.Nat.{ℕ, zero, suc, _+_, _-_, _*_, _/_, _%_, _^_, _≤_, _<_}
@@ -84,8 +84,8 @@ count-unique f x y s A p q h k =
     ∙ ap (ofBits f) (toBits-count f x s A h ∙ sym (toBits-count f y s A k))
     ∙ ofBits-toBits f y q
 
--- w * 2 ^ g, where w has as many digits as the format keeps: the exponent's field is one more than g, and a carry into the
--- next power of two is a carry into the field
+-- w * 2 ^ g, if w has as many digits as the format keeps: the exponent's field is g plus one, and a carry into the next power of
+-- two is a carry into the field
 pub bits-at : (f : Format) (w g : ℕ) → hid f ≤ w → w ≤ 2 * hid f → bitsOf f false (w * 2 ^ g) ≡ g * hid f + w
 bits-at f w g lo hi = go (prec f - 1) (pred (prec f) (two f)) lo (eq-or-lt-of-le hi)
   where
@@ -159,7 +159,7 @@ ofBits-count f x t X H =
 
 -- ---- every finite value of the format has a count
 
--- m * 2 ^ e counts m, moved up
+-- m * 2 ^ e counts m, shifted up
 moved : (l m : ℕ) (e : ℤ) → down e ≤ 2 ^ l → (j : ℕ) × (m * up e * 2 ^ l ≡ m * 2 ^ j * down e)
 moved l m (pos a) h =
     (a + l, mul-assoc m (2 ^ a) (2 ^ l) ∙ ap (λ (z : ℕ). m * z) (sym (pow-add 2 a l)) ∙ sym (mul-one (m * 2 ^ (a + l))))
@@ -172,7 +172,7 @@ moved l m (negsuc a) h =
           ∙ sym (mul-assoc m (2 ^ (l - suc a)) (2 ^ suc a)),
     )
 
--- the sign, the count, that the format's digits hold it, and that it is below the format's end
+-- the sign, the count, that it has few enough digits, and that it is below the format's greatest value
 pub record Counted (f : Format) (x : Float) : Type 0 where
   pub s : Bool
   pub count : ℕ
@@ -216,7 +216,7 @@ counted f (fin s (suc m) e) h t =
         let wide : A * d < l * E * d = omega (arith, mul-lt-mul-of-pos-right h L) in
         lt-of-mul-lt-mul-right d wide
 
--- ---- what `round` makes, with its sign
+-- ---- what `round` gives, with its sign
 pub round-count : (f : Format) (s : Bool) (a c : ℕ) → grid f a c < overflow f → HasValue (round f s a c) s (grid f a c) (2 ^ low f)
 round-count f s a c h =
     subst (λ (z : Float). HasValue z s (grid f a c) (2 ^ low f)) (sym (round-is f s a c))
@@ -239,7 +239,7 @@ units-real f s q k = go (ltb (q * 2 ^ k) (overflow f)) (odd (suc (prec f)) s q k
 pub round-real : (f : Format) (s : Bool) (a b : ℕ) → isNan (round f s a b) ≡ false
 round-real f s a b = ap isNan (round-is f s a b) ∙ units-real f s _ _
 
--- ---- the count is one number, so what `counted` knows of it holds of any
+-- ---- there is only one count, so what `counted` knows of it holds for any
 pub same-count : (x : Float) (s t : Bool) (A B c : ℕ) → HasValue x s A c → HasValue x t B c → A ≡ B
 same-count nan s t A B c h k = absurd h
 same-count (inf u) s t A B c h k = absurd h

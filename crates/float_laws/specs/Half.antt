@@ -1,4 +1,4 @@
--- Rounding a fraction a / b to the nearest whole number, `closest a b`: it is off by at most a half, and a whole number that is
+-- Rounding a fraction a / b to the nearest whole number, `closest a b`: its error is at most a half, and a whole number that is
 -- nearer than a half is the one. Over whole numbers, multiplied out.
 use mathlib.Core.Path.{_≡_, subst}
 use Prim.Native.Nat.{ℕ, zero, suc, _+_, _*_, _/_, _%_, _≤_, _<_, compare, Ordering, Ordering·lt, Ordering·eq, Ordering·gt}
@@ -50,7 +50,7 @@ pub closest-half : (a b : ℕ) → 0 < b → Half a b (closest a b)
 closest-half a b B =
     half-of a b (a / b) (a % b) (compare (a % b * 2) b) (div-add-mod' a b) (mod-lt a B) (compared (a % b * 2) b)
 
--- a w whose multiple is nearer than half of b is the closest
+-- a w with w * b nearer than half of b is the closest
 pub closest-by : (a b w : ℕ) → 0 < b → 2 * (w * b) < 2 * a + b → 2 * a < 2 * (w * b) + b → closest a b ≡ w
 closest-by a b w B h k = go (closest a b) (closest-half a b B)
   where

@@ -1,6 +1,7 @@
--- Floor by floor: powers and rounding of whole numbers; a float as a count of its format's units; as a signed fraction, with its order;
--- each operation as one rounding, and what is known of a rounding; whole numbers, quotients and magnitudes; all this at binary64.
--- And, for the walk of any function, what a branch picks.
+-- Laws on the kit's floats, each file using those before it: powers and rounding of whole numbers; a float as a count of its
+-- format's units; a float as a signed fraction, with its order; each operation as one rounding, and what is known of a rounding;
+-- whole numbers, quotients and magnitudes; all this at binary64. Branches and Tests are for the proof of any function. A reader
+-- need not believe them: they are proved.
 pub mod Branches
 pub mod Tests
 pub mod Powers

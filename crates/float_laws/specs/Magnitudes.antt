@@ -1,6 +1,6 @@
--- Magnitudes that survive rounding: if |x| ≤ 2 ^ i and |y| ≤ 2 ^ j units, then the rounded x * y, x + y, x - y and x / y are finite
--- and obey the bound of the exact result, since a rounding does not cross a power of two. Within f K x counts in units of the
--- format's smallest value: a bound of 2 ^ a itself is Within f (a + low f).
+-- Magnitudes that survive rounding: if |x| ≤ 2 ^ i and |y| ≤ 2 ^ j units, then the rounded x * y, x + y, x - y and x / y are
+-- finite and keep the bound of the exact result, since rounding does not cross a power of two. Within f K x counts in units of
+-- the format's smallest value: a bound of 2 ^ a itself is Within f (a + low f).
 use mathlib.Core.Path.{_≡_, sym, ap, _∙_}
 use Prim.Native.Nat.{ℕ, suc, _+_, _*_, _^_, _≤_, _<_}
 use native.Mathlib.Nat.{mul-pos, mul-le-mul, mul-le-mul-right, le-trans, le-of-eq, zero-lt-suc, pow-succ'}
@@ -28,7 +28,7 @@ within-finite f K x w = diff-finite x _ _ (2 ^ low f) (in-diff f K x w)
 pub within-up : (f : Format) (i j : ℕ) (x : Float) → i ≤ j → Within f i x → Within f j x
 within-up f i j x l w = record { s = w .s; count = w .count; value = w .value; le = le-trans (w .le) (pow-mono l) }
 
--- without a change, but for the sign
+-- unchanged, except for the sign
 pub neg-within : (f : Format) (K : ℕ) (x : Float) → Within f K x → Within f K (neg x)
 neg-within f K x w =
     record { s = not (w .s); count = w .count; value = neg-value x (w .s) (w .count) (2 ^ low f) (w .value); le = w .le }

@@ -1,6 +1,6 @@
--- How far `round` is from its fraction. Counted in units of the format's smallest value, the fraction is n / den and the rounded
--- number G. It is off by at most half of the last place kept; so by at most a 2 ^ prec th of the fraction, or half a unit where no
--- digit was dropped; and by at most half the last place of any power of two that the fraction does not exceed.
+-- The error of `round`. Counted in units of the format's smallest value, the fraction is n / den and the rounded number G. The
+-- error is at most half of the last kept place; so at most one part in 2 ^ prec of the fraction, or half a unit if no digit was
+-- dropped; and at most half the last place of any power of two that the fraction does not exceed.
 use mathlib.Core.Path.{_≡_, refl, sym, ap}
 use mathlib.Core.Logic.{_⊎_, inl, inr}
 use Prim.Native.Nat.{ℕ, zero, suc, _+_, _-_, _*_, _/_, _^_, _≤_, _<_}
@@ -44,7 +44,7 @@ pub round-half : (f : Format) (num den : ℕ) → 0 < den
 round-half f num den D = half-place (prec f) (num * 2 ^ low f) den D
 
 -- ---- a part of the fraction
--- where digits are dropped, 2 ^ (p - 1) places of the last one kept have been reached
+-- if digits are dropped, the fraction is at least 2 ^ (p - 1) times the last kept place
 reached : (p n den k : ℕ) → 2 ≤ p → 0 < den → drop p n den ≡ suc k → 2 ^ (p - 1) * 2 ^ suc k * den ≤ n
 reached p n den k two-up D e =
     let wide : p - 1 + suc k < size (n / den) = all (size (n / den)) e in
@@ -67,7 +67,7 @@ round-relative f num den D =
     P : ℕ
     P = 2 ^ prec f
 
-    -- the last place kept is one unit, or at most a 2 ^ (p - 1) th of the fraction
+    -- the last kept place is one unit, or at most one part in 2 ^ (p - 1) of the fraction
     place : (k : ℕ) → drop (prec f) (num * 2 ^ low f) den ≡ k → P * (2 ^ k * den) ≤ 2 * (num * 2 ^ low f) + P * den
     place zero e = omega arith
     place (suc k) e =

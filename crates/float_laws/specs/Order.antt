@@ -77,7 +77,7 @@ out-left a d e X c h = mul-right-comm a d c ∙ ap (λ (z : ℕ). z * d) h ∙ m
 out-right : (b d e Y c : ℕ) → b * c ≡ Y * d → b * e * c ≡ Y * (e * d)
 out-right b d e Y c h = mul-right-comm b e c ∙ ap (λ (z : ℕ). z * e) h ∙ mul-right-comm Y d e ∙ mul-assoc Y e d
 
--- `lt` and `eq` ask a test of two signs and two sizes, which is the same over every denominator
+-- `lt` and `eq` test two signs and two sizes, which is the same over every denominator
 module _ (compare : Float → Float → Bool) (test : Bool → ℕ → Bool → ℕ → Bool)
     (asks : (u v : Bool) (m n : ℕ) (e g : ℤ) → compare (fin u m e) (fin v n g) ≡ test u (m * up e * down g) v (n * up g * down e))
     (same : (s t : Bool) (a b c a' b' c' : ℕ) → 0 < c → 0 < c' → a * c' ≡ a' * c → b * c' ≡ b' * c → test s a t b ≡ test s a' t b')
@@ -96,7 +96,7 @@ module _ (compare : Float → Float → Bool) (test : Bool → ℕ → Bool → 
         ∙ same s t (a * down g) (b * down e) (down e * down g) X Y c (mul-pos (down-pos e) (down-pos g)) C
         (out-left a (down g) (down e) X c h) (out-right b (down g) (down e) Y c k)
 
-    -- and so by fractions, where the test says how their differences lie
+    -- and so by fractions, if the test says how their differences compare
     by-diff : (Lies : ℕ → ℕ → Type 0)
         → ((s t : Bool) (X Y p n q k : ℕ) → SizeOf s X p n → SizeOf t Y q k → T (test s X t Y) ↔ Lies (p + k) (q + n))
         → (x y : Float) (p n c q k d : ℕ) → 0 < c → 0 < d → Diff x p n c → Diff y q k d

@@ -1,4 +1,4 @@
--- Bit patterns: what the sign's bit does, and which patterns are NaNs.
+-- Bit patterns: what the sign bit does, and which patterns are NaNs.
 use mathlib.Core.Path.{_≡_, refl, sym, ap, _∙_}
 use Prim.Native.Nat.{ℕ, zero, suc, _+_, _*_, _/_, _%_, _≤_, _<_}
 use native.Mathlib.Nat.{add-mod-left, mul-add-mod-self-left, le-add-right}
@@ -8,7 +8,7 @@ use lib.Arith.{lt→nleb, le→nltb}
 use lib.Ieee.{Float, nan, inf, fin, Format, prec, low, neg, odd, hid, ones, top, ofFields, ofBits, nanBits, isNan}
 use lib.Ieee.Bits.{is-true, is-false, nanBits-above}
 
--- ---- the sign's bit negates
+-- ---- the sign bit negates
 pub odd-neg : (d : ℕ) (s : Bool) (q k l : ℕ) → neg (odd d s q k l) ≡ odd d (not s) q k l
 unfolding odd neg
 odd-neg d s zero k l = refl
@@ -39,13 +39,13 @@ sign-neg f b h =
     ∙ fields-neg f (b % top f / hid f) (b % hid f)
     ∙ ap (λ (s : Bool). neg (ofFields f s (b % top f / hid f) (b % hid f))) (sym plain)
 
--- a pattern without the sign's bit has no sign
+-- a pattern without the sign bit has no sign
 pub unsigned : (f : Format) (b : ℕ) → b < top f → ofBits f b ≡ ofFields f false (b % top f / hid f) (b % hid f)
 unfolding ofBits
 unsigned f b h =
     ap (λ (s : Bool). ofFields f s (b % top f / hid f) (b % hid f)) (is-false (leb (top f) b) (lt→nleb (top f) b h))
 
--- ---- a NaN's pattern is one above the infinity's, the sign aside
+-- ---- without the sign, a NaN's pattern is above that of infinity
 pub nan-above : (f : Format) (b : ℕ) → ones f * hid f < b % top f → nanBits f b ≡ true
 nan-above f b h = nanBits-above f b ∙ is-true _ (lt→ltb (ones f * hid f) (b % top f) h)
 

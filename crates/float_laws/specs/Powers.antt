@@ -1,4 +1,4 @@
--- Powers of two and the number of binary digits: small facts that the other files cite.
+-- Powers of two and the number of binary digits: small facts that the other files use.
 use mathlib.Core.Path.{_≡_, refl}
 use Prim.Native.Nat.{ℕ, suc, _-_, _*_, _^_, _≤_, _<_}
 use native.Mathlib.Nat.{le-antisymm, le-of-suc-le-suc, lt-irrefl, lt-of-lt-of-le, lt-of-not-le, not-le-of-lt}

@@ -1,4 +1,5 @@
--- A quotient of two floats that are whole numbers p - n and q - k: one rounding of the exact quotient, by the divisor's sign.
+-- A quotient of two floats that are whole numbers p - n and q - k: one rounding of the exact quotient, for either sign of the
+-- divisor.
 use mathlib.Core.Path.{_≡_}
 use Prim.Native.Nat.{ℕ, _+_, _-_, _*_, _<_}
 use native.Mathlib.Nat.{zero-lt-suc}
@@ -10,7 +11,7 @@ use Rattle.float_laws.specs.Signed.{Diff, size-above, size-below}
 use Rattle.float_laws.specs.Rounded.{Rounded, div-rounded, signed-by}
 use Rattle.float_laws.specs.Roundings.{rounded-at}
 
--- ---- one rounding of (p - n) / (q - k), over a divisor above zero: a divisor below zero turns the numerator's sign
+-- ---- one rounding of (p - n) / (q - k) over a divisor above zero; a divisor below zero turns the numerator's sign
 module _ (f : Format) (x y : Float) (p n q k : ℕ) (a : Diff x p n 1) (b : Diff y q k 1) where
   by-sign : (t : Bool) (D : ℕ) → 0 < D → HasValue y t D 1 → Rounded f (div f x y) (signed-by t p n) (signed-by t n p) D
   by-sign t D pos v =

@@ -1,5 +1,5 @@
 -- Every operation + - * / on finite floats is one rounding of the exact result: Rounded f r P N c says that r is (P - N) / c,
--- rounded once. What is known of a rounding (Roundings.antt) is then known of all four operations, by their exact results.
+-- rounded once. So what is known of a rounding (Roundings.antt) is known of all four operations, from their exact results.
 use mathlib.Core.Path.{_≡_, refl, sym, ap, _∙_, subst}
 use Prim.Native.Nat.{ℕ, zero, suc, _+_, _-_, _*_, _≤_, _<_}
 use native.Mathlib.Nat.{mul-pos, mul-comm, mul-assoc, mul-right-comm, mul-mul-mul-comm, zero-lt-suc}
@@ -190,7 +190,7 @@ module _ (f : Format) (x y : Float) (p n q k c d : ℕ) (C : 0 < c) (D : 0 < d) 
         exact = product-size (A .s) (B .s) (A .size) (B .size) p n q k (A .is) (B .is);
       }
 
--- x / y for a y of the size Y / d and the sign t: the sign goes to the numerator
+-- x / y, if y has the size Y / d and the sign t: the sign goes to the numerator
 abbrev pub signed-by : Bool → ℕ → ℕ → ℕ
 signed-by true p n = n
 signed-by false p n = p

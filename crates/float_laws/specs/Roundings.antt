@@ -1,8 +1,8 @@
--- What is known of a value r that is (P - N) / c, rounded once, and so of every result of + - * / (Rounded.antt). It is a value of
--- its format and no NaN. It does not cross a float: if the exact value is at most a float y, so is r. It is exact where the exact
--- value is a value of the format, and so where it is a whole number that the format counts without a gap. It is finite below the
--- format's end, and then it is off by at most half the last place of the power of two that bounds the exact value, and by a 2 ^ prec th
--- of the exact value and half a unit.
+-- What is known of a value r that is (P - N) / c, rounded once, and so of every result of + - * / (Rounded.antt). It is a value
+-- of its format and no NaN. It does not cross a float: if the exact value is at most a float y, so is r. It is exact if the exact
+-- value is a whole number of at most 2 ^ prec in size. It is finite below the format's greatest value; then its error is at most
+-- half the last place of the power of two that bounds the exact value, and at most one part in 2 ^ prec of the exact value plus
+-- half a unit.
 use mathlib.Core.Path.{_≡_, refl, sym, ap, _∙_, subst}
 use Prim.Native.Nat.{ℕ, zero, suc, _+_, _-_, _*_, _^_, _≤_, _<_}
 use native.Mathlib.Nat.{mul-pos, mul-le-mul-left, mul-le-mul-right, le-of-mul-le-mul-right, zero-lt-suc, zero-mul, le-trans, le-of-eq, lt-of-le-of-lt, not-le-of-lt, lt-of-not-le, pow-succ'}
@@ -52,7 +52,7 @@ rounded-at f r P N c P' N' c' C C' e h = go (h .s) (h .size) (h .is) (h .exact)
 pub rounded-fits : (f : Format) (r : Float) (P N c : ℕ) → Rounded f r P N c → T (fits f r)
 rounded-fits f r P N c h = subst (λ (v : Float). T (fits f v)) (sym (h .is)) (round-fits f (h .s) (h .size) c)
 
--- in units, where it does not pass the format's end
+-- in units, if it is not beyond the format's greatest value
 in-units : (f : Format) (r : Float) (P N c : ℕ) (h : Rounded f r P N c) → grid f (h .size) c < overflow f
     → HasValue r (h .s) (grid f (h .size) c) (2 ^ low f)
 in-units f r P N c h l =
@@ -91,7 +91,7 @@ rounded-within f r P N c K h C u l fine =
 
 -- ---- order: a rounding does not cross a value of the format
 
--- past the format's end it is an infinity
+-- beyond the format's greatest value it is an infinity
 units-end : (f : Format) (s : Bool) (q k : ℕ) → T (not (ltb (q * 2 ^ k) (overflow f))) → units f s q k ≡ inf s
 unfolding units
 units-end f s q k t = cond-no (ltb (q * 2 ^ k) (overflow f)) (odd (suc (prec f)) s q k (low f)) (inf s) t
@@ -122,7 +122,7 @@ module _ (f : Format) (r : Float) (P N c : ℕ) (h : Rounded f r P N c) (C : 0 <
   y-is : Diff y (ups (of-y .s) (of-y .count)) (downs (of-y .s) (of-y .count)) unit
   y-is = own-diff y (of-y .s) (of-y .count) unit (of-y .value)
 
-  -- the exact value beside y, in units
+  -- the exact value compared with y, in units
   y-le : P * d + k * c ≤ q * c + N * d → P * unit + downs (of-y .s) (of-y .count) * c ≤ ups (of-y .s) (of-y .count) * c + N * unit
   y-le l = move unit (ups (of-y .s) (of-y .count)) (downs (of-y .s) (of-y .count)) (diff-same y q k d _ _ unit D v y-is)
     where
@@ -135,7 +135,7 @@ module _ (f : Format) (r : Float) (P N c : ℕ) (h : Rounded f r P N c) (C : 0 <
   none zero l = refl
   none (suc B) l = let w : 0 < suc B * c = mul-pos (zero-lt-suc B) C in absurd (omega arith)
 
-  -- what is rounded does not cross y, by signs
+  -- rounding does not cross y, by signs
   under : (s t : Bool) (Z : ℕ) → Held (prec f) Z → SizeOf s exact-size P N → P * unit + downs t Z * c ≤ ups t Z * c + N * unit
       → (ups s made + downs t Z ≤ ups t Z + downs s made) × (s ≡ false → made ≤ Z)
   under false false Z z e l =
@@ -179,7 +179,7 @@ module _ (f : Format) (r : Float) (P N c : ℕ) (h : Rounded f r P N c) (C : 0 <
           (wide (ups (h .s) made) (downs (of-y .s) (of-y .count)) (ups (of-y .s) (of-y .count)) (downs (h .s) made) unit (side .0))
       go false fine end side = past (h .s) (side .1) (r-past (end tt)) (end tt)
 
--- turned round: what is rounded with the other sign
+-- the same with the other sign
 units-neg : (f : Format) (s : Bool) (q k : ℕ) → neg (units f s q k) ≡ units f (not s) q k
 unfolding units neg
 units-neg f s q k = go (ltb (q * 2 ^ k) (overflow f)) _ _ (odd-neg (suc (prec f)) s q k (low f))
@@ -204,14 +204,13 @@ module _ (f : Format) (r : Float) (P N c : ℕ) (h : Rounded f r P N c) (C : 0 <
   rounded-ge l =
       le-neg r y (rounded-le f (neg r) N P c (rounded-neg f r P N c h) C (neg y) k q d D (neg-fits f y fit) (neg-diff y q k d v) (omega arith))
 
-  -- and r is below y, or above it, only where the exact value is
+  -- and r is below y, or above it, only if the exact value is
   pub rounded-below : T (lt r y) → P * d + k * c < q * c + N * d
   rounded-below t = lt-of-not-le (λ (l : q * c + N * d ≤ P * d + k * c). not-both y r (rounded-ge l) t)
 
   pub rounded-above : T (lt y r) → q * c + N * d < P * d + k * c
   rounded-above t = lt-of-not-le (λ (l : P * d + k * c ≤ q * c + N * d). not-both r y (rounded-le f r P N c h C y q k d D fit v l) t)
 
--- ---- a value of the format is exact
 -- ---- whole numbers are exact
 
 -- the exact value is the whole number q - k, of a size up to 2 ^ prec
@@ -223,7 +222,7 @@ rounded-whole f r P N c q k h C e u l =
     let value = subst (λ (v : Float). HasValue v (w .s) (w .size) 1) (sym (w .is)) (round-whole f (w .s) (w .size) small) in
     diff-of r (w .s) (w .size) q k 1 value (w .exact)
 
--- ---- how far a rounding is off
+-- ---- the error of a rounding
 
 -- r is finite, and within e / g of (P - N) / c; its fraction is over L, the format's units
 pub record Near (L : ℕ) (r : Float) (P N c e g : ℕ) : Type 0 where
@@ -233,7 +232,7 @@ pub record Near (L : ℕ) (r : Float) (P N c e g : ℕ) : Type 0 where
   pub most : g * (p * c + N * L) ≤ g * (P * L + n * c) + e * (c * L)
   pub least : g * (P * L + n * c) ≤ g * (p * c + N * L) + e * (c * L)
 
--- the count that is made, beside the exact size X / c, at most 2 ^ k
+-- the rounded count, compared with the exact size X / c, at most 2 ^ k
 record Made (f : Format) (X c k : ℕ) : Type 0 where
   pub under : grid f X c < overflow f
   pub least : 2 ^ suc (prec f) * (X * 2 ^ low f) ≤ 2 ^ suc (prec f) * (grid f X c * c) + 2 ^ k * (c * 2 ^ low f)
@@ -326,7 +325,7 @@ rounded-size f r P N c s A k h C e l fine =
     one-size false true X A x a = omega arith
     one-size false false X A x a = omega arith
 
-    -- where the signs differ the value is zero
+    -- if the signs differ the value is zero
     none : (A : ℕ) → A ≡ 0 → grid f A c ≡ 0
     none A e =
         let held : Held (prec f) 0 = record { y = 0; j = 0; few = pow-pos (prec f); is = refl } in
@@ -346,7 +345,7 @@ rounded-size f r P N c s A k h C e l fine =
         let z : grid f A c ≡ 0 = none A (omega arith) in
         subst (λ (g : ℕ). Diff r 0 g (2 ^ low f)) (sym z) (subst (λ (g : ℕ). Diff r g 0 (2 ^ low f)) z d)
 
--- for any size up to B / c below the format's end: within B / c / 2 ^ prec and half a unit
+-- for any size up to B / c below the format's greatest value: within B / c / 2 ^ prec plus half a unit
 pub record NearBy (digits L : ℕ) (r : Float) (P N c B : ℕ) : Type 0 where
   pub p : ℕ
   pub n : ℕ

@@ -1,6 +1,6 @@
 -- A finite float as a signed fraction of natural numbers: Diff x p n c says that x is (p - n) / c, for a c above 0. Signed whole
--- numbers are written as differences since `omega` reads natural numbers only; the same value has many such fractions, and the
--- laws here go from one to another, and to the kit's sign and size (HasValue) and back.
+-- numbers are written as differences, since `omega` reads natural numbers only. The same value has many such fractions; the laws
+-- here lead from one to another, and to the kit's sign and size (HasValue) and back.
 use mathlib.Core.Path.{_≡_, refl, sym, ap, _∙_, subst}
 use Prim.Native.Nat.{ℕ, _+_, _-_, _*_, _^_, _≤_, _<_}
 use native.Mathlib.Nat.{add-mul, eq-of-mul-eq-mul-right, le-of-mul-le-mul-right, mul-sub, mul-comm}
@@ -89,7 +89,7 @@ size-above x p n c l v = let w = signed-of x p n c v in go (w .s) (w .size) (w .
     go true X h e = absurd (never X e)
     go false X h e = let same : X ≡ p - n = omega arith in subst (λ (z : ℕ). HasValue x false z c) same h
 
--- ---- finite floats, and no others, have such a fraction
+-- ---- a float has such a fraction exactly if it is finite
 pub diff-finite : (x : Float) (p n c : ℕ) → Diff x p n c → T (finite x)
 diff-finite nan p n c h = absurd h
 diff-finite (inf t) p n c h = absurd h

@@ -1,4 +1,4 @@
--- Tests, and what one of two says of both.
+-- Tests, and what one of two tests says of both.
 use mathlib.Core.Path.{_≡_, refl}
 use mathlib.Core.Bool.{Bool, true, false, _||_}
 use lib.Dec.{T}

@@ -1,5 +1,5 @@
--- Whole numbers in floats: + - * of whole numbers are exact where the result's size is at most 2 ^ prec, and a rounding of any
--- fraction does not cross such a whole number. A whole number is a difference of natural numbers: Diff x p n 1.
+-- Whole numbers in floats: + - * of whole numbers are exact if the result's size is at most 2 ^ prec, and rounding a fraction
+-- does not cross such a whole number. A whole number is a difference of natural numbers: Diff x p n 1.
 use Prim.Native.Nat.{ℕ, _+_, _-_, _*_, _^_, _≤_, _<_}
 use native.Mathlib.Nat.{zero-lt-suc}
 use native.Mathlib.Omega.{arith}
@@ -50,7 +50,7 @@ whole-float f q k u l = go (leb k q) (leb→le k q) (nleb→lt k q)
     go true over under = let w = over tt in signed false (q - k) (omega arith) (omega arith)
     go false over under = let w = under tt in signed true (k - q) (omega arith) (omega arith)
 
--- ---- so a rounding does not cross it: r is (p - n) / d
+-- ---- so rounding does not cross it: r is (p - n) / d
 module _ (f : Format) (r : Float) (P N c : ℕ) (h : Rounded f r P N c) (C : 0 < c)
     (p n d : ℕ) (D : 0 < d) (v : Diff r p n d)
     (q k : ℕ) (u : q ≤ k + 2 ^ prec f) (l : k ≤ q + 2 ^ prec f) where
@@ -61,7 +61,7 @@ module _ (f : Format) (r : Float) (P N c : ℕ) (h : Rounded f r P N c) (C : 0 <
       let m = le-diff r (w .y) p n d q k 1 D (zero-lt-suc 0) v (w .is) .0 t in
       omega arith
 
--- from above by turning the signs
+-- from above, with the signs turned
 pub least-whole : (f : Format) (r : Float) (P N c : ℕ) → Rounded f r P N c → 0 < c → (p n d : ℕ) → 0 < d → Diff r p n d
     → (q k : ℕ) → q ≤ k + 2 ^ prec f → k ≤ q + 2 ^ prec f → q * c + N ≤ P + k * c → q * d + n ≤ p + k * d
 least-whole f r P N c h C p n d D v q k u l e =
