@@ -1,4 +1,4 @@
--- A pair of grid lines is never refused: every number that the pair call looks at is fine, so it answers what was worked out.
+-- A pair of grid lines is never refused: every number that the pair call checks is fine, so it answers how the two meet.
 use mathlib.Core.Path.{_≡_, refl, sym, ap, _∙_, subst}
 use mathlib.Core.Bool.{Bool, true, false, cond, _&&_}
 use mathlib.Core.List.{List, _∷_}
@@ -141,7 +141,7 @@ unfolding fuzzyEqZeroEps
 bulge-within v t = below-near-zero (v .bulge) (subst (λ (x : Float). T (F64.abs (v .bulge) ≺ x)) near-zero t)
 
 -- ---- the pair call
--- a check that is fine, before others that are
+-- a check that is fine, before others that are fine
 fine : (c : Checked) (cs : List Checked) → c ≡ Fine → AllFine cs → AllFine (c ∷ cs)
 fine c cs e h = subst (λ (d : Checked). AllFine (d ∷ cs)) (sym e) (one h)
 

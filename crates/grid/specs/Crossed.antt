@@ -1,4 +1,4 @@
--- Grid segments that are not parallel: what the kernel's floats say in naturals (Floats/Crossing) is said of the meeting
+-- Grid segments that are not parallel: what the kernel's floats say in naturals (Floats/Crossing), stated for the meeting point
 -- (Plane/Cross).
 use mathlib.Core.Path.{_≡_, sym, ap, _∙_, subst}
 use Prim.Native.Nat.{ℕ, _+_, _*_, _^_, _≤_, _<_}
@@ -20,7 +20,7 @@ use Rattle.grid.specs.Floats.Point.{Beside}
 use Rattle.grid.specs.Floats.Crossing.{Inside}
 use Rattle.grid.specs.Joined.{At, size-gap, is-diff}
 
--- ---- naturals that are the same
+-- ---- equal naturals
 nearer : (j S S' D D' num den : ℕ) → S ≡ S' → D ≡ D' → j * j * S * (den * den) < 4 * (num * num * (D * D))
     → j * j * S' * (den * den) < 4 * (num * num * (D' * D'))
 nearer j S S' D D' num den e f h =

@@ -1,5 +1,5 @@
--- The line kernel's floats on the grid, said in whole numbers: laws for the promise's proof. Whole numbers, their tests and lengths; the
--- range test and the point at a parameter; lines that cross; lines that do not.
+-- The line kernel's floats on the grid, in whole numbers: laws for the proof of the promise. Whole numbers, their tests and
+-- lengths; the range test and the point at a parameter; lines that cross; lines that do not.
 pub mod Small
 pub mod Zero
 pub mod Length

@@ -1,5 +1,5 @@
--- Floats of the grid and whole numbers: what stands at a grid point as a difference of naturals (Floats/*) is that point's whole numbers
--- (Plane/*), its ways and products too.
+-- Floats of the grid and whole numbers: the difference of naturals for a float at a grid point (Floats/*) is the whole number of
+-- that point (Plane/*); the same for ways and products.
 use mathlib.Core.Path.{_≡_, sym, ap, _∙_, subst}
 use mathlib.Core.Logic.{inl, inr, _↔_}
 use mathlib.Core.Bool.{true, false}

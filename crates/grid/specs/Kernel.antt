@@ -1,5 +1,6 @@
--- The line kernel's answer on grid segments keeps the promise: on lines that cross by the meeting (Crossed), on parallel ones by
--- what they share (Level). v is the way from v1 to v2, u that from u1 to u2 and w that from u1 to v1; F, G and H are their numbers.
+-- The line kernel's answer on grid segments keeps the promise: for lines that cross by the meeting point (Crossed), for parallel
+-- ones by what they share (Level). v is the way from v1 to v2, u that from u1 to u2 and w that from u1 to v1; F, G and H are
+-- their numbers.
 use mathlib.Core.Path.{_≡_, sym, ap, subst}
 use mathlib.Core.Logic.{_⊎_, inl, inr, _↔_}
 use Prim.Native.Nat.{ℕ}
@@ -194,7 +195,7 @@ module _ (e : Float) (num den : ℕ) (h : Eps e num den)
   turned-over : {x y : Spot} → Same x y → Same y x
   turned-over (x, y) = (sym x, sym y)
 
-  -- neither is a point: by x, or by y with the axes exchanged
+  -- neither is a point: from x, or from y with the axes exchanged
   segments-told : Collinear p1 p2 q1 q2 → ¬ Same p1 p2
       → Spanned answer (H .x .p) (H .x .n) (vec-sub v2 u1 A2 B1 .x .p) (vec-sub v2 u1 A2 B1 .x .n) (G .x .p) (G .x .n)
       ⊎ Spanned answer (H .y .p) (H .y .n) (vec-sub v2 u1 A2 B1 .y .p) (vec-sub v2 u1 A2 B1 .y .n) (G .y .p) (G .y .n)

@@ -1,4 +1,4 @@
--- Parallel grid segments: what the kernel's floats say in naturals (Floats/Parallel) is said of what the segments share
+-- Parallel grid segments: what the kernel's floats say in naturals (Floats/Parallel), stated for what the segments share
 -- (Plane/Points, Plane/Overlap).
 use mathlib.Core.Path.{_≡_, sym, ap, _∙_, subst}
 use mathlib.Core.Logic.{_⊎_, inl, inr, _↔_}
@@ -45,7 +45,7 @@ not-zero z p n e h f = let s : p ≡ n = zero-at z p n e .0 f in omega arith
 
 -- ---- spans, in naturals
 module _ (a b : ℤ) (P0 N0 P1 N1 D : ℕ) (e : a ≡ diff P0 N0) (f : b ≡ diff P1 N1) where
-  -- of one of the two, told of its parts
+  -- a fact on one of the two, stated for its parts
   ends : (R : ℤ → Type 0) (Q : ℕ → ℕ → Type 0) → ((P N : ℕ) → R (diff P N) ↔ Q P N) → (R a ⊎ R b) ↔ (Q P0 N0 ⊎ Q P1 N1)
   ends R Q is = (to, back)
     where
@@ -95,7 +95,7 @@ module _ (a b : ℤ) (P0 N0 P1 N1 D : ℕ) (e : a ≡ diff P0 N0) (f : b ≡ dif
     more-high-is (inl h) = omega (arith, between .2)
     more-high-is (inr h) = omega (arith, between .3)
 
-    -- the lower is one of the two, and the upper is
+    -- the lower is one of the two, and so is the upper
     lower-of : (Q : ℕ → ℕ → Type 0) → Q Pl Nl → Q P0 N0 ⊎ Q P1 N1
     lower-of Q h = go which
       where
@@ -147,7 +147,7 @@ module _ (a b : ℤ) (P0 N0 P1 N1 D : ℕ) (e : a ≡ diff P0 N0) (f : b ≡ dif
           more-of (c .lower) (c .upper),
         ))
 
--- ---- a grid point beside a segment: one exactly if its place is from 0 to 1
+-- ---- a grid point beside a segment: it lies on it exactly if its place is from 0 to 1
 module _ (v1 v2 u1 u2 : Vector2) (r : LineLineIntr) (s t : Float) where
   point-answer : (m : ℤ) (k P N D : ℕ) → m ≡ diff P N → k ≡ D → PointOn r (TrueIntersect s t) P N D
       → ToldIf (Between m k) (lineLineOf r v1 v2 u1 u2)
@@ -165,7 +165,7 @@ module _ (v1 v2 u1 u2 : Vector2) (r : LineLineIntr) (s t : Float) where
           inr (pointFromParametric v1 v2 s, ap (λ (z : LineLineIntr). lineLineOf z v1 v2 u1 u2) x, there .1 y)
       go (inr (x, y)) = inl (ap (λ (z : LineLineIntr). lineLineOf z v1 v2 u1 u2) x, λ z. y (there .0 z))
 
-  -- along x: p1 lies at o from the start of a segment that goes d
+  -- along x: p1 lies at o from the start of a segment of the width d
   beside-told : (p1 p2 q1 q2 : Spot) → Same p1 p2 → cross (way q1 q2) (way q1 p1) ≡ pos 0
       → (dp dn op on : ℕ) → q2 .x -ℤ q1 .x ≡ diff dp dn → p1 .x -ℤ q1 .x ≡ diff op on
       → (place : Float) (k : Ratio 21 place op on dp dn)
@@ -178,7 +178,7 @@ module _ (v1 v2 u1 u2 : Vector2) (r : LineLineIntr) (s t : Float) where
       (point-answer (turned d o) (natAbs d) (k .P) (k .N) (gap dp dn)
       (place-at d o dp dn op on (k .P) (k .N) e f (k .place .some) (k .turned)) (size-gap d dp dn e) h)
 
-  -- by x, or by y with the axes exchanged
+  -- from x, or from y with the axes exchanged
   pub at-told : (e : Float) (a b c : Vector2) (A : Vec 20 a) (B : Vec 20 b) (C : Vec 20 c) (p1 p2 q1 q2 : Spot)
       → At 21 (vector2.sub b a) (vec-sub b a B A) (way q1 q2) → At 21 (vector2.sub c a) (vec-sub c a C A) (way q1 p1)
       → Same p1 p2 → cross (way q1 q2) (way q1 p1) ≡ pos 0 → PointAt e a b c A B C r (TrueIntersect s t)

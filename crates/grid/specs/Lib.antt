@@ -1,4 +1,5 @@
--- The promise on the plant's grid: its statement first, its proof last, and between them what the proof goes by.
+-- The promise on the plant's grid: first its statement (Promise), then what its proof uses, last the proof (Proved). A reader
+-- must believe only Promise.
 pub mod Promise
 pub mod Plane
 pub mod Floats

@@ -1,4 +1,5 @@
--- What is promised on the plant's grid: no touching pair of lines is missed. Said over whole numbers, and proved elsewhere.
+-- The promise on the plant's grid: no touching pair of lines is missed. It is stated over whole numbers here and proved in
+-- Proved.antt.
 use Prim.Native.Nat.{ℕ, _*_, _≤_, _<_}
 use mathlib.Core.Path.{_≡_}
 use mathlib.Core.Logic.{_≢_, _⊎_, _↔_}
@@ -20,8 +21,8 @@ use Rattle.listing_outcomes.specs.declared.answer.ListingAnswer.the-variants.{L
 use Rattle.listing_calls.specs.Listing.{mutualListing}
 use Rattle.listing_calls.specs.HasRow.{HasRow}
 
--- ---- numbers. ℤ has the whole numbers with a sign: `pos n` is n, `natAbs` the size. The float x is a / c: a finite float is
--- m * 2 ^ e, with a minus where s is true, and 2 ^ e is up e / down e.
+-- ---- numbers. ℤ has the whole numbers with a sign: `pos n` is n, and `natAbs` the size. `Is x a c` says that the float x is a /
+-- c. A finite float is m * 2 ^ e, with a minus if s is true, and 2 ^ e is up e / down e.
 abbrev pub signed : Bool → ℕ → ℤ
 signed false n = pos n
 signed true n = negℤ (pos n)
@@ -37,7 +38,8 @@ pub record Epsilon (e : Float) (num den : ℕ) : Type 0 where
   pub value : Is e (pos num) den
   pub range : (0 < den) × (den ≤ 1024 * num) × (2 * num ≤ den)
 
--- ---- points. Of the grid: whole coordinates. Any other: (x / over, y / over). The vertex v stands on the grid at p.
+-- ---- points. A point of the grid has whole coordinates; any other point is (x / over, y / over). `On v p` says that the vertex
+-- v stands on the grid at p.
 pub record Spot : Type 0 where
   pub x : ℤ
   pub y : ℤ
@@ -51,7 +53,7 @@ pub record Point : Type 0 where
 abbrev pub On : PlineVertex → Spot → Type 0
 On v p = Is (v .x) (p .x) 1 × (natAbs (p .x) ≤ 1048576) × Is (v .y) (p .y) 1 × (natAbs (p .y) ≤ 1048576)
 
--- ---- lines. P lies s / t of the way from a to b; it is on the segment from a to b if s goes from 0 to t.
+-- ---- lines. P lies s / t of the way from a to b. It is on the segment from a to b if s is from 0 to t.
 pub record Along (P : Point) (a b : Spot) (s : ℤ) (t : ℕ) : Type 0 where
   pub some : 0 < t
   pub at-x : P .x *ℤ pos t ≡ pos (P .over) *ℤ (a .x *ℤ pos t +ℤ (b .x -ℤ a .x) *ℤ s)
@@ -63,7 +65,8 @@ OnLine P a b = (s : ℤ) × (t : ℕ) × Along P a b s t
 abbrev pub OnSegment : Point → Spot → Spot → Type 0
 OnSegment P a b = (s : ℕ) × (t : ℕ) × (s ≤ t) × Along P a b (pos s) t
 
--- two points that differ; P is less than 2 * num / den from a, by squares; P is on the segment, or so near to one of its ends
+-- The points P and Q differ; P is less than 2 * num / den from a, by squares; P is on the segment, or that near to one of its
+-- ends.
 abbrev pub Differ : Point → Point → Type 0
 Differ P Q = (P .x *ℤ pos (Q .over) ≢ Q .x *ℤ pos (P .over)) ⊎ (P .y *ℤ pos (Q .over) ≢ Q .y *ℤ pos (P .over))
 
@@ -84,7 +87,8 @@ pub record NearExact (c : Float) (x : ℤ) (over : ℕ) : Type 0 where
   pub value : Is c a d
   pub near : natAbs (a *ℤ pos over -ℤ x *ℤ pos d) * 1073741824 ≤ d * over
 
--- ---- two segments, v1 to v2 and u1 to u2. One without length is parallel to every other. Their lines cross at P.
+-- ---- two segments, v1 to v2 and u1 to u2. A segment without length is parallel to every other. `Crossing P`: their lines cross
+-- at P.
 module _ (v1 v2 u1 u2 : Spot) where
   abbrev pub Shared : Point → Type 0
   Shared P = OnSegment P v1 v2 × OnSegment P u1 u2
@@ -101,7 +105,7 @@ module _ (v1 v2 u1 u2 : Spot) where
   abbrev pub Crossing : Point → Type 0
   Crossing P = OnLine P v1 v2 × OnLine P u1 u2
 
-  -- what is promised of an answer r: it is one of three classes, and the four sentences
+  -- what is promised of an answer r: it is one of three classes, and keeps the four sentences
   pub record Promised (num den : ℕ) (r : PlineSegIntr) : Type 0 where
     pub classes : (r ≡ NoIntersect) ⊎ ((p : Vector2) × (r ≡ OneIntersect p))
         ⊎ ((p : Vector2) × (q : Vector2) × (r ≡ OverlappingLines p q))
@@ -112,14 +116,14 @@ module _ (v1 v2 u1 u2 : Spot) where
     pub exact : (p : Vector2) → r ≡ OneIntersect p → ¬ Parallel
         → (P : Point) × Crossing P × NearExact (p .x) (P .x) (P .over) × NearExact (p .y) (P .y) (P .over)
 
--- ---- the promise: no pair of grid lines is refused, and what the pair call answers keeps these
+-- ---- the promise: no pair of grid lines is refused, and the pair call's answer keeps these
 abbrev pub Promise : Type 0
 Promise = (v1 v2 u1 u2 : PlineVertex) (p1 p2 q1 q2 : Spot) (e : Float) (num den : ℕ)
     → On v1 p1 → On v2 p2 → On u1 q1 → On u2 q2 → T (bulgeIsZero v1) → T (bulgeIsZero u1) → Epsilon e num den
     → (r : PlineSegIntr) × (plineSegIntr v1 v2 u1 u2 e ≡ Met r) × Promised p1 p2 q1 q2 num den r
 
--- ---- sentence 5. Segment k of a path is a line between grid points. Two such lines that share a point have a row where two paths
--- were listed and not refused.
+-- ---- sentence 5. Segment k of a path is a line between grid points. If two paths were listed and not refused, two such lines
+-- that share a point have a row.
 abbrev pub GridLine : List Float → ℕ → Spot → Spot → Type 0
 GridLine path k a b = let s = segmentFrom path k in On (s .v1) a × On (s .v2) b × T (bulgeIsZero (s .v1))
 

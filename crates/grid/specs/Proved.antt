@@ -1,4 +1,4 @@
--- The promise holds.
+-- The proof of the promise.
 use mathlib.Core.Path.{_≡_, refl, sym, subst}
 use Prim.Native.Nat.{ℕ, _<_}
 use native.Mathlib.Omega.{arith}
@@ -33,7 +33,7 @@ use Rattle.grid.specs.Floats.Small.{Vec, vec-sub, perp}
 use Rattle.grid.specs.Floats.Zero.{Eps}
 use Rattle.grid.specs.Floats.Ways.{goes-crossing, goes-parallel}
 
--- the kernel, by whether the lines are parallel
+-- the kernel, for lines that are parallel and for lines that are not
 module _ (e : Float) (num den : ℕ) (h : Eps e num den)
     (v1 v2 u1 u2 : Vector2) (A1 : Vec 20 v1) (A2 : Vec 20 v2) (B1 : Vec 20 u1) (B2 : Vec 20 u2)
     (p1 p2 q1 q2 : Spot) (a1 : At 20 v1 A1 p1) (a2 : At 20 v2 A2 p2) (b1 : At 20 u1 B1 q1) (b2 : At 20 u2 B2 q2) where
@@ -75,7 +75,7 @@ promise v1 v2 u1 u2 p1 p2 q1 q2 e num den a b c d line-v line-u small = (
   kept v1 v2 u1 u2 p1 p2 q1 q2 e num den a b c d line-v line-u small,
 )
 
--- ---- listings: a pair that shares a point is not NoIntersect, so its class has a row
+-- ---- listings: a pair that shares a point is not NoIntersect, so it has a row
 class-above : (r : PlineSegIntr) → (r ≡ NoIntersect → ⊥) → 0 < classOf r
 class-above NoIntersect h = absurd (h refl)
 class-above (TangentIntersect p) h = omega arith

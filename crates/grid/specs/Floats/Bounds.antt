@@ -1,5 +1,5 @@
--- Bounds in units: a float is no larger than a whole number that its exact value does not pass; it is near its exact value, with the
--- common unit cut; and a product with a length is no larger than the product of the bounds.
+-- Bounds in units: if the exact value does not exceed a whole number, the float does not either; the float is near its exact
+-- value, with the common unit cancelled; and a product with a length is no larger than the product of the bounds.
 use mathlib.Core.Path.{_≡_, ap}
 use Prim.Native.Nat.{ℕ, _+_, _*_, _^_, _≤_, _<_}
 use native.Mathlib.Nat.{mul-one, one-mul, mul-zero, add-zero, zero-add, mul-le-mul-left, mul-le-mul-right, le-of-mul-le-mul-right}
@@ -12,7 +12,7 @@ use Rattle.float_laws.specs.Whole.{most-whole, least-whole}
 use Rattle.float_laws.specs.Binary64.{unit, unit-pos}
 use Rattle.floats.specs.Ops.{_⊗_}
 
--- ---- (P - N) / D at most k in size, and so the float t that is its rounding
+-- ---- if (P - N) / D is at most k in size, so is the float t that rounds it
 pub bounded : (t : Float) (P N D : ℕ) → Rounded binary64 t P N D → 0 < D → (k : ℕ) → k ≤ 2 ^ 53 → P ≤ N + k * D → N ≤ P + k * D
     → (p n : ℕ) → Diff t p n unit
     → (p ≤ n + k * unit) × (n ≤ p + k * unit)
@@ -21,11 +21,11 @@ bounded t P N D r C k few u l p n d =
     let dn = least-whole binary64 t P N D r C p n unit unit-pos d 0 k (omega arith) (omega arith) (omega arith) in
     (omega arith, omega arith)
 
--- ---- a common unit, cut
+-- ---- a common unit cancels
 pub cut : (a b e L : ℕ) → 0 < L → 2 ^ 54 * (a * L) ≤ 2 ^ 54 * (b * L) + e * (L * L) → 2 ^ 54 * a ≤ 2 ^ 54 * b + e * L
 cut a b e L C h = le-of-mul-le-mul-right {m = 2 ^ 54 * a} {n = 2 ^ 54 * b + e * L} {k = L} (omega arith) C
 
--- near (P - N) / D, where D is k units: from above, and from below
+-- near (P - N) / D, if D is k units: from above, and from below
 pub near-over : (L k D e : ℕ) → 0 < L → D ≡ k * L → (r : Float) (P N : ℕ) (x : Near L r P N D e (2 ^ 54))
     → (2 ^ 54 * (x .p * k + N) ≤ 2 ^ 54 * (P + x .n * k) + e * (k * L))
     × (2 ^ 54 * (x .n * k + P) ≤ 2 ^ 54 * (N + x .p * k) + e * (k * L))
@@ -46,7 +46,7 @@ near-over L k D e C is r P N x = (
     turned : (p n P N B : ℕ) → 2 ^ 54 * (P + n) ≤ 2 ^ 54 * (p + N) + B → 2 ^ 54 * (n + P) ≤ 2 ^ 54 * (N + p) + B
     turned p n P N B h = omega arith
 
--- where D is one unit
+-- if D is one unit
 pub near-at : (L D e : ℕ) → 0 < L → D ≡ 1 * L → (r : Float) (P N : ℕ) (x : Near L r P N D e (2 ^ 54))
     → (2 ^ 54 * (x .p + N) ≤ 2 ^ 54 * (P + x .n) + e * L) × (2 ^ 54 * (x .n + P) ≤ 2 ^ 54 * (N + x .p) + e * L)
 near-at L D e C is r P N x = simp (mul-one, one-mul) at (near-over L 1 D e C is r P N x)
@@ -60,7 +60,7 @@ pub times-length : (x len : Float) (p n R : ℕ) → Diff x p n unit → Diff le
 times-length x len p n R d l =
     simp (mul-zero, add-zero, zero-add) at (mul-rounded binary64 x len p n R 0 unit unit unit-pos unit-pos d l)
 
--- at most k units by at most 2 ^ 22
+-- at most k units times at most 2 ^ 22
 pub by-length : (k p n L R : ℕ) → (p ≤ n + k * L) × (n ≤ p + k * L) → R ≤ 2 ^ 22 * L
     → (p * R ≤ n * R + k * 2 ^ 22 * (L * L)) × (n * R ≤ p * R + k * 2 ^ 22 * (L * L))
 by-length k p n L R (u, l) most = (

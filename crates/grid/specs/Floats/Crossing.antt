@@ -1,6 +1,6 @@
--- The line kernel on grid segments that are not parallel, in whole numbers: it answers TrueIntersect or FalseIntersect with two
--- parameters, each one rounding of an exact quotient over the perp dot; TrueIntersect if both exact parameters lie from 0 to 1, and
--- only if both lie less than two epsilons beyond their segment.
+-- The line kernel on grid segments that are not parallel, in whole numbers. It answers TrueIntersect or FalseIntersect with two
+-- parameters, each one rounding of an exact quotient over the perp dot. It answers TrueIntersect if both exact parameters lie
+-- from 0 to 1, and only if both lie less than two epsilons beyond their segment.
 use mathlib.Core.Path.{_≡_, refl, ap}
 use mathlib.Core.Logic.{_⊎_, inl, inr}
 use Prim.Native.Nat.{ℕ, _+_, _*_, _≤_}
@@ -21,7 +21,7 @@ use Rattle.grid.specs.Floats.Reach.{Reaches}
 use Rattle.grid.specs.Floats.Range.{within-yes, within-says}
 use Rattle.grid.specs.Floats.Ratio.{Ratio, ratio}
 
--- ---- segments with a perp dot other than zero are no points
+-- ---- if the perp dot is not zero, neither segment is a point
 no-point : (v u : Vector2) (A : Vec 21 v) (B : Vec 21 u) → (perp v u A B .p ≡ perp v u A B .n → ⊥) → IsZero v A → ⊥
 no-point v u A B h (e, f) = h (plain (A .x .p) (A .x .n) (A .y .p) (A .y .n) (B .x .p) (B .x .n) (B .y .p) (B .y .n) e f)
   where
@@ -29,7 +29,7 @@ no-point v u A B h (e, f) = h (plain (A .x .p) (A .x .n) (A .y .p) (A .y .n) (B 
     plain a b c d p n q k e f =
         omega (arith, ap (λ (z : ℕ). z * q) e, ap (λ (z : ℕ). z * k) e, ap (λ (z : ℕ). z * p) f, ap (λ (z : ℕ). z * n) f)
 
--- the perp dot of u and v is that of v and u, turned
+-- the perp dot of u and v is that of v and u with the other sign
 turned-perp : (v u : Vector2) (A : Vec 21 v) (B : Vec 21 u) → perp u v B A .p ≡ perp u v B A .n
     → perp v u A B .p ≡ perp v u A B .n
 turned-perp v u A B = plain (A .x .p) (A .x .n) (A .y .p) (A .y .n) (B .x .p) (B .x .n) (B .y .p) (B .y .n)
@@ -62,7 +62,7 @@ module _ (e : Float) (num den : ℕ) (h : Eps e num den) (v u w : Vector2) (A : 
   pub second : Ratio 44 t2 (perp v w A C .p) (perp v w A C .n) (perp v u A B .p) (perp v u A B .n)
   second = ratio 44 (vector2.perpDot v w) (vector2.perpDot v u) (perp v w A C) (perp v u A B) apart
 
-  -- the size of the perp dot, over which both parameters stand
+  -- the size of the perp dot, the divisor of both parameters
   abbrev pub base : ℕ
   base = gap (perp v u A B .p) (perp v u A B .n)
 

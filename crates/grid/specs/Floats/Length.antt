@@ -1,5 +1,5 @@
--- The length of a grid vector that is no point: the correctly rounded root of its exact self dot S. It is at least every whole
--- number whose square is at most S, at most 2 ^ 22, and its square is at least half of S.
+-- The length of a grid vector that is no point: the correctly rounded root of its exact dot product with itself, S. It is at
+-- least every whole number whose square is at most S, at most 2 ^ 22, and its square is at least half of S.
 use mathlib.Core.Path.{_≡_, refl, sym, ap, subst}
 use Prim.Native.Nat.{ℕ, zero, suc, _+_, _-_, _*_, _^_, _≤_, _<_}
 use native.Mathlib.Nat.{zero-lt-suc, mul-le-mul-left, mul-le-mul-right, le-of-mul-le-mul-left}
@@ -20,7 +20,7 @@ use Rattle.plane.specs.Vector2 as vector2
 use Rattle.plane.specs.declared.vector2.Vector2.{Vector2}
 use Rattle.grid.specs.Floats.Small.{Vec, dots}
 
--- ---- the self dot is the sum of two squares
+-- ---- the dot product with itself is the sum of two squares
 abbrev pub gap : ℕ → ℕ → ℕ
 gap p n = (p - n) + (n - p)
 
@@ -79,7 +79,7 @@ pub record Long (v : Vector2) (S : ℕ) : Type 0 where
 held-whole : (D : ℕ) → D ≤ 2 ^ 22 → Held 53 (D * unit)
 held-whole D l = record { y = D; j = low binary64; few = omega arith; is = ap (λ (z : ℕ). D * z) unit-is }
 
--- the root of the self dot, in units
+-- the root of the dot product with itself, in units
 root-at : (x : Float) (S : ℕ) → T (fits binary64 x) → 0 < S → HasValue x false S 1 → Root 53 unit S 1 (F64.rootOf binary64 x)
 root-at x S t P v =
     subst (λ (L : ℕ). Root 53 L S 1 (F64.rootOf binary64 x)) (sym unit-is) (root-of binary64 x S 1 t P (zero-lt-suc 0) v)

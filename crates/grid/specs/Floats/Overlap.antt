@@ -1,6 +1,6 @@
--- Grid segments on one line, in whole numbers. The ends of the first lie at (P0 - N0) / D and (P1 - N1) / D of the second, D being
--- a side of it. The kernel answers NoIntersect where both lie beyond 1 or both before 0, Overlapping where the segments share more
--- than a point, and TrueIntersect where they share one.
+-- Grid segments on one line, in whole numbers. The ends of the first lie at (P0 - N0) / D and (P1 - N1) / D of the second, where
+-- D is a side of it. The kernel answers NoIntersect if both lie beyond 1 or both before 0, Overlapping if the segments share more
+-- than a point, and TrueIntersect if they share one.
 use mathlib.Core.Path.{_≡_, refl, sym, _∙_, subst}
 use mathlib.Core.Logic.{_⊎_, inl, inr}
 use Prim.Native.Nat.{ℕ, _+_, _-_, _*_, _^_, _≤_, _<_, min}
@@ -30,7 +30,7 @@ use Rattle.grid.specs.Floats.Ratio.{Place, wider}
 use Rattle.grid.specs.Floats.Span.{Part, Risen, from-zero, to-one}
 use Rattle.grid.specs.Floats.Shared.{shared-none, shared-some}
 
--- ---- the three answers, by the lower end (Pl - Nl) / D and the upper one (Ph - Nh) / D
+-- ---- the three answers, from the lower end (Pl - Nl) / D and the upper end (Ph - Nh) / D
 pub record Clear (r : LineLineIntr) (Pl Nl Ph Nh D : ℕ) : Type 0 where
   pub is : r ≡ NoIntersect
   pub why : (Nl + D < Pl) ⊎ (Ph < Nh)
@@ -54,7 +54,7 @@ pub record Sharing (r : LineLineIntr) (Pl Nl Ph Nh D : ℕ) : Type 0 where
 abbrev pub Overlapped : LineLineIntr → ℕ → ℕ → ℕ → ℕ → ℕ → Type 0
 Overlapped r Pl Nl Ph Nh D = Clear r Pl Nl Ph Nh D ⊎ (Touching r Pl Nl Ph Nh D ⊎ Sharing r Pl Nl Ph Nh D)
 
--- they share one point: at the far end, at the near end, or all of a point
+-- they share one point: at the far end, at the near end, or they are points
 one-point : (Pl Nl Ph Nh D : ℕ) → 0 < D → Pl ≤ Nl + D → Nh ≤ Ph → Pl + Nh ≤ Ph + Nl → Pl - Nl ≡ min (Ph - Nh) D
     → (Pl ≡ Nl + D) ⊎ ((Ph ≡ Nh) ⊎ (Pl + Nh ≡ Ph + Nl))
 one-point Pl Nl Ph Nh D pos a b c q = go (eq-or-lt-of-le a) (eq-or-lt-of-le b)
@@ -64,7 +64,7 @@ one-point Pl Nl Ph Nh D pos a b c q = go (eq-or-lt-of-le a) (eq-or-lt-of-le b)
     go (inr x) (inl y) = inr (inl (sym y))
     go (inr x) (inr y) = inr (inr (omega arith))
 
--- they share more
+-- they share more than one
 more-points : (Pl Nl Ph Nh D : ℕ) → 0 < D → Pl ≤ Nl + D → Nh ≤ Ph → Pl + Nh ≤ Ph + Nl → (Pl - Nl ≡ min (Ph - Nh) D → ⊥)
     → (Pl < Nl + D) × (Nh < Ph) × (Pl + Nh < Ph + Nl)
 more-points Pl Nl Ph Nh D pos a b c q =
@@ -93,7 +93,7 @@ module _ (e : Float) (num den : ℕ) (h : Eps e num den)
       (before-start e num den h u S g t P N D (wider a) x)))
       (λ x. after-start e num den h u S g t P N D (wider a) (leb→le N P x))
 
-  -- ---- the test for a single point is exact, where the two pass
+  -- ---- the test for a single point is exact, if these two say yes
   pub single-test : (s : Span) (P0 N0 P1 N1 : ℕ) (r : Risen D few s P0 N0 P1 N1) → r .Pl ≤ r .Nl + D → r .Nh ≤ r .Ph
       → fuzzyEqZeroEps ((F64.min (s .t1) f1 ⊖ F64.max (s .t0) f0) ⊗ len) e ≡ eqb (r .Pl - r .Nl) (min (r .Ph - r .Nh) D)
   single-test s P0 N0 P1 N1 r lo hi = go (eq-or-lt-of-le low)

@@ -46,7 +46,7 @@ abs-gap i x A =
     same true X k = omega arith
     same false X k = omega arith
 
--- where c lies on the line from a to b: by x or by y
+-- where c lies on the line from a to b: from x or from y
 module _ (e : Float) (a b c : Vector2) (A : Vec 20 a) (B : Vec 20 b) (C : Vec 20 c) where
   abbrev U : Vec 21 (vector2.sub b a)
   U = vec-sub b a B A
@@ -54,7 +54,7 @@ module _ (e : Float) (a b c : Vector2) (A : Vec 20 a) (B : Vec 20 b) (C : Vec 20
   abbrev W : Vec 21 (vector2.sub c a)
   W = vec-sub c a C A
 
-  -- by the one axis or by the other, where the kernel's place is t
+  -- from one axis or from the other, if the kernel's place is t
   abbrev pub ByAxis : Float → Type 0
   ByAxis t = Ratio 21 t (W .x .p) (W .x .n) (U .x .p) (U .x .n) ⊎ Ratio 21 t (W .y .p) (W .y .n) (U .y .p) (U .y .n)
 
@@ -105,7 +105,7 @@ module _ (e : Float) (num den : ℕ) (h : Eps e num den) (u : Vector2) (A : Vec 
   length-is : Long u (square u A)
   length-is = long u A long-u
 
-  -- the range test says whether the exact place is from 0 to 1
+  -- the range test says yes exactly if the exact place is from 0 to 1
   pub point-test : (onSegment t u e ≡ true) ↔ Inside (a .P) (a .N) side-d
   point-test = (
     λ x. let r = within-says e num den h u (square u A) length-is t (a .P) (a .N) side-d (wider (a .place)) x in (
@@ -123,7 +123,7 @@ module _ (e : Float) (num den : ℕ) (h : Eps e num den) (u : Vector2) (A : Vec 
       go true x y = record { answer = inl (refl, x refl) }
       go false x y = record { answer = inr (refl, λ z. false≢true (y z)) }
 
--- the place of a point c on the segment from a to b, by x or by y, and what the kernel answers
+-- the place of a point c on the segment from a to b, from x or from y, and what the kernel answers
 abbrev pub PointAt : (e : Float) (a b c : Vector2) → Vec 20 a → Vec 20 b → Vec 20 c → LineLineIntr → LineLineIntr → Type 0
 PointAt e a b c A B C r met =
     let U = vec-sub b a B A in
@@ -177,7 +177,7 @@ module _ (e : Float) (num den : ℕ) (h : Eps e num den) (v1 u1 u2 w w2 u : Vect
             (rising (x ⊘ d) (z ⊘ d)) (i .P) (i .N) (j .P) (j .N) r;
       }
 
-  -- along x where the second segment has a width, else along y
+  -- along x if the second segment has a width, else along y
   pub overlap-spanned : Spanned (overlap v1 u1 u2 u (spanOf w w2 u e) e) (W .x .p) (W .x .n) (Z .x .p) (Z .x .n) (A .x .p) (A .x .n)
       ⊎ Spanned (overlap v1 u1 u2 u (spanOf w w2 u e) e) (W .y .p) (W .y .n) (Z .y .p) (Z .y .n) (A .y .p) (A .y .n)
   unfolding spanOf

@@ -1,7 +1,7 @@
--- The point at a parameter on a grid segment: each coordinate is within 1 / 2 ^ 30 of the exact x0 + (x1 - x0) * (P - N) / D, for a
--- parameter that is one rounding of (P - N) / D and lies less than two epsilons beyond the segment.
--- The argument: the quotient is off by 2 ^ -53, times a difference of at most 2 ^ 21; the product by 2 ^ -32; the sum, which is at
--- most 2 ^ 21 in size, by 2 ^ -33. Together that is five eighths of 2 ^ -30.
+-- The point at a parameter on a grid segment: each coordinate is within 1 / 2 ^ 30 of the exact x0 + (x1 - x0) * (P - N) / D, for
+-- a parameter that is one rounding of (P - N) / D and lies less than two epsilons beyond the segment. The argument: the error of
+-- the quotient is 2 ^ -53, times a difference of at most 2 ^ 21; that of the product is 2 ^ -32; that of the sum, which is at
+-- most 2 ^ 21 in size, is 2 ^ -33. Together that is five eighths of 2 ^ -30.
 use mathlib.Core.Path.{_≡_, refl, ap}
 use Prim.Native.Nat.{ℕ, _+_, _-_, _*_, _^_, _≤_, _<_}
 use native.Mathlib.Nat.{mul-le-mul, mul-le-mul-right, le-of-mul-le-mul-right, zero-lt-suc}
@@ -99,7 +99,7 @@ module _ (a b c d P N D L tp tn qp qn cp cn : ℕ) where
           → 2 ^ 30 * (cp * D + (b * D + (c * N + d * P)) * L) ≤ 2 ^ 30 * ((a * D + (c * P + d * N)) * L + cn * D) + 1 * (D * L)
       flat h = omega arith
 
--- so the exact sum is near the exact point, and no more than 2 ^ 21 in size
+-- so the exact sum is near the exact point, and at most 2 ^ 21 in size
 in-size : (m1 m2 m3 m4 n1 n2 n3 n4 q1 q2 a1 b1 w : ℕ)
     → 2 ^ 54 * (m1 + n1 + n2 + m2) ≤ 2 ^ 54 * (n3 + m3 + m4 + n4) + 2 ^ 22 * w
     → 2 ^ 54 * (q1 + m3 + m4) ≤ 2 ^ 54 * (m1 + m2 + q2) + 2 ^ 22 * w
@@ -126,7 +126,7 @@ sum-size a b c d P N D L tp tn qp qn C x y z =
     back-to h = omega arith
 
 -- ---- one coordinate
--- c is within 1 / 2 ^ 30 of x0 + dx * (P - N) / D, where x0 is a - b and dx is p - n
+-- c is within 1 / 2 ^ 30 of x0 + dx * (P - N) / D; x0 is a - b and dx is p - n
 abbrev pub Beside : Float → ℕ → ℕ → ℕ → ℕ → ℕ → ℕ → ℕ → Type 0
 Beside c a b p n P N D = Near unit c (a * D + (p * P + n * N)) (b * D + (p * N + n * P)) D 1 (2 ^ 30)
 
@@ -189,13 +189,13 @@ coordinate x0 dx t A B P N D r C u l hi lo =
     turned : (x y X Y L B : ℕ) → 2 ^ 30 * (y + X * L) ≤ 2 ^ 30 * (Y * L + x) + B → 2 ^ 30 * (X * L + y) ≤ 2 ^ 30 * (x + Y * L) + B
     turned x y X Y L B h = omega arith
 
--- ---- the exact point of a parameter in reach is no more than 2 ^ 20 + 1 in size: its coordinate goes from a - b to a1 - b1
+-- ---- the exact point of a parameter in reach is at most 2 ^ 20 + 1 in size: its coordinate runs from a - b to a1 - b1
 abbrev OfSize : ℕ → ℕ → ℕ → ℕ → ℕ → ℕ → ℕ → Type 0
 OfSize a b a1 b1 P N D =
     (a * D + ((a1 + b) * P + (b1 + a) * N) ≤ b * D + ((a1 + b) * N + (b1 + a) * P) + 1048577 * D)
     × (b * D + ((a1 + b) * N + (b1 + a) * P) ≤ a * D + ((a1 + b) * P + (b1 + a) * N) + 1048577 * D)
 
--- on the segment, s / D of the way: what is left is r / D
+-- on the segment, s / D of the way; the rest is r / D
 inside : (a b a1 b1 P N D s r : ℕ) → a ≤ 2 ^ 20 → b ≤ 2 ^ 20 → a1 ≤ 2 ^ 20 → b1 ≤ 2 ^ 20 → P ≡ N + s → D ≡ s + r
     → OfSize a b a1 b1 P N D
 inside a b a1 b1 P N D s r am bm cm dm e f =
@@ -222,7 +222,7 @@ past-start a b a1 b1 P N D s g am bm e u l f =
     let m4 = mul-le-mul-right D bm in
     (omega arith, omega arith)
 
--- beyond the end: before the start of the segment that goes back
+-- beyond the end: before the start of the segment in the other direction
 past-end : (a b a1 b1 P N D s g : ℕ) → a1 ≤ 2 ^ 20 → b1 ≤ 2 ^ 20 → P ≡ N + D + s → a1 + b ≤ b1 + a + g → b1 + a ≤ a1 + b + g
     → g * s < D
     → OfSize a b a1 b1 P N D

@@ -1,9 +1,9 @@
--- The range test of the line kernel: a parameter t, one rounding of (P - N) / D, on a grid vector v with the self dot S, by an
--- epsilon num / den. If the exact parameter lies from 0 to 1 the test says yes. If the test says yes, the exact point lies less
--- than two epsilons beyond the segment's end, by squares: (P - N - D)^2 * S / D^2 < 4 * num^2 / den^2, and so before its start.
--- The argument for the second: what is not rounded across is exact. t * length is below the float length + epsilon only if the
--- exact product of the two floats is; and the quotient t, the length and the sum are off by some 2 ^ -31 at most, epsilon being
--- 2 ^ -10.
+-- The range test of the line kernel: a parameter t, one rounding of (P - N) / D, on a grid vector v whose dot product with itself
+-- is S, with an epsilon num / den. If the exact parameter lies from 0 to 1, the test says yes. If the test says yes, the exact
+-- point lies less than two epsilons beyond the segment's end, by squares: (P - N - D)^2 * S / D^2 < 4 * num^2 / den^2. The same
+-- holds before its start. The argument for the second: rounding does not cross a float. t * length is below the float length +
+-- epsilon only if the exact product of the two floats is. And the errors of the quotient t, the length and the sum are at most
+-- some 2 ^ -31, while epsilon is at least 2 ^ -10.
 use mathlib.Core.Path.{_≡_, sym, ap, subst}
 use Prim.Native.Nat.{ℕ, _+_, _-_, _*_, _^_, _≤_, _<_}
 use native.Mathlib.Nat.{
@@ -75,7 +75,7 @@ eps-units e num den h =
     over : (num den E L : ℕ) → 0 < den → E * den ≡ num * L → 2 * num ≤ den → 2 * E ≤ L
     over num den E L D e l = le-of-mul-le-mul-right {m = 2 * E} {n = L} {k = den} (omega (arith, mul-le-mul-right L l)) D
 
--- ---- arithmetic. T is t in units, R the length, E the epsilon; the exact t is A / D, and a / D what it is more than b.
+-- ---- arithmetic. T is t in units, R the length, E the epsilon. The exact t is A / D, which exceeds b by a / D.
 far : (A D a b L R E T : ℕ) → 0 < D → A ≡ a + b * D
     → 2 ^ 54 * (A * L) ≤ 2 ^ 54 * (T * D) + 2 ^ 1 * (D * L)
     → 2 ^ 54 * (T * R) < 2 ^ 54 * ((b * R + E) * L) + 2 ^ 23 * (L * L)
@@ -149,7 +149,7 @@ module _ (e : Float) (num den : ℕ) (h : Eps e num den)
         let b = by-length (2 ^ 44) p n unit (g .R) (t-most p n d) (g .most) in
         near64 (t ⊗ len) _ _ (unit * unit) 66 product (mul-pos unit-pos unit-pos) (b .0) (b .1) (lit≤ tt)
 
-  -- length + epsilon, in units: the sum, off by at most 2 ^ -31
+  -- length + epsilon, in units: the sum, with an error of at most 2 ^ -31
   w-size : Sized unit (len ⊕ e) false (g .R + eu .E) unit (2 ^ 23) (2 ^ 54)
   w-size =
       sized64 (len ⊕ e) (g .R + eu .E) (0 + 0) unit false (g .R + eu .E) 23
@@ -200,8 +200,8 @@ module _ (e : Float) (num den : ℕ) (h : Eps e num den)
       less : (p n R W E L : ℕ) → 0 < L → p + 0 ≤ R + n → 2 ^ 54 * (R + E) ≤ 2 ^ 54 * W + 2 ^ 23 * L → L ≤ 1024 * E → p + 0 < W + n
       less p n R W E L Q x y z = omega arith
 
-  -- t is A / D in size, which is a / D more than b, and its product with the length is below b lengths and epsilon, but for a
-  -- rounding: then a / D of the length is less than two epsilons
+  -- t is A / D in size, which exceeds b by a / D. If its product with the length is below b lengths plus epsilon, except for
+  -- rounding, then a / D of the length is less than two epsilons
   in-reach : (s : Bool) (A a b : ℕ) → SizeOf s A P N → A ≡ a + b * D → b ≤ 1
       → ((T : ℕ) → Diff t (ups s T) (downs s T) unit
       → 2 ^ 54 * (T * g .R) < 2 ^ 54 * ((b * g .R + eu .E) * unit) + 2 ^ 23 * (unit * unit))
@@ -237,7 +237,7 @@ module _ (e : Float) (num den : ℕ) (h : Eps e num den)
           absurd (never (k .count) (g .R) (eu .E) unit unit-pos (hi tt) (k .least) (under (k .count) (k .is)) long-enough
           (eu .most))
 
-  -- where it is a / D more than 1, the point lies less than two epsilons beyond the end
+  -- if it exceeds 1 by a / D, the point lies less than two epsilons beyond the end
   pub beyond-end : T (fuzzyLtEps (t ⊗ len) len e) → Beyond S num den D (N + D) P
   beyond-end x a q = in-reach false (a + D) a 1 (omega arith) (omega arith) (omega arith) under
     where
@@ -278,7 +278,7 @@ module _ (e : Float) (num den : ℕ) (h : Eps e num den)
       some : (E L : ℕ) → 0 < L → L ≤ 1024 * E → 0 + 0 < E + 0
       some E L Q x = omega arith
 
-  -- where it is a / D below 0, the point lies less than two epsilons before the start
+  -- if it is below 0 by a / D, the point lies less than two epsilons before the start
   pub before-start : T (fuzzyGtEps (t ⊗ len) f0 e) → Beyond S num den D P N
   before-start x a q = in-reach true a a 0 q (omega arith) (omega arith) under
     where
@@ -307,7 +307,7 @@ module _ (e : Float) (num den : ℕ) (h : Eps e num den)
   unfolding onSegment fuzzyInRangeEps
   within-yes x y = is-true _ (and-i (fuzzyGtEps (t ⊗ len) f0 e) (fuzzyLtEps (t ⊗ len) len e) (after-start x) (before-end y))
 
-  -- a yes is right but for less than two epsilons
+  -- a yes is right, except for less than two epsilons
   pub within-says : onSegment t v e ≡ true → Reaches S num den P N D
   unfolding onSegment fuzzyInRangeEps
   within-says x =

@@ -1,4 +1,4 @@
--- A quotient of two whole numbers of the grid, as one rounding of (P - N) / D with D above zero: D is the divisor's size, and where
+-- A quotient of two whole numbers of the grid, as one rounding of (P - N) / D with D above zero: D is the divisor's size, and if
 -- the divisor is below zero the numerator's sign is turned.
 use mathlib.Core.Path.{_≡_, refl, sym, subst}
 use mathlib.Core.Logic.{_⊎_, inl, inr}
@@ -30,7 +30,7 @@ at-most k P N D l d = omega (arith, mul-le-mul-left k d)
 pub wider : {t : Float} {P N D : ℕ} → Place 21 t P N D → Place 44 t P N D
 wider a = record { rounded = a .rounded; some = a .some; P-le = omega (arith, a .P-le); N-le = omega (arith, a .N-le) }
 
--- P - N is x, with the sign of d turned over to it
+-- P - N is x, with its sign turned if d is below zero
 abbrev pub Turned : ℕ → ℕ → ℕ → ℕ → ℕ → ℕ → Type 0
 Turned P N xp xn dp dn = ((dn ≤ dp) × (P ≡ xp) × (N ≡ xn)) ⊎ ((dp ≤ dn) × (P ≡ xn) × (N ≡ xp))
 

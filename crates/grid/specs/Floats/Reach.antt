@@ -1,5 +1,5 @@
--- A parameter in reach of a segment: (P - N) / D lies less than two epsilons beyond the end or before the start, by squares. It is
--- then less than 1 away along each side, and by whole numbers on the segment where D is a side of it.
+-- A parameter in reach of a segment: (P - N) / D lies less than two epsilons beyond the end or before the start, by squares. Then
+-- it is less than 1 away along each side. If D is a side of the segment, it moves in whole numbers, so it is on the segment.
 use mathlib.Core.Path.{_≡_, refl, ap}
 use Prim.Native.Nat.{ℕ, zero, suc, _+_, _-_, _*_, _≤_, _<_}
 use native.Mathlib.Nat.{mul-le-mul, mul-le-mul-left, mul-le-mul-right, lt-of-mul-lt-mul-right}
@@ -10,7 +10,7 @@ use lib.Ieee.{Float}
 use Rattle.floats.specs.Laws.Isqrt.{sq-lt}
 use Rattle.grid.specs.Floats.Zero.{Eps}
 
--- a / D of the way along a vector with the self dot S is less than 2 * num / den
+-- a / D of the way along a vector whose dot product with itself is S is less than 2 * num / den
 abbrev pub Less : ℕ → ℕ → ℕ → ℕ → ℕ → Type 0
 Less S num den D a = a * a * S * (den * den) < 4 * (num * num * (D * D))
 
@@ -25,7 +25,7 @@ pub record Reaches (S num den P N D : ℕ) : Type 0 where
 
 -- ---- how far a parameter in reach of q goes
 module _ (e : Float) (num den : ℕ) (h : Eps e num den) (S D : ℕ) (C : 0 < D) where
-  -- times a side of the segment, less than 1 beyond
+  -- times a side of the segment, it is less than 1 beyond
   pub short : (g : ℕ) → g * g ≤ S → (q p : ℕ) → Beyond S num den D q p → g * (p - q) < D
   short g l q p x = go (leb p q) (leb→le p q) (nleb→lt p q)
     where
@@ -45,7 +45,7 @@ module _ (e : Float) (num den : ℕ) (h : Eps e num den) (S D : ℕ) (C : 0 < D)
       go true lo hi = let w = lo tt in none (p - q) (omega arith)
       go false lo hi = let w = hi tt in let k : p - q + q ≡ p = omega arith in step (p - q) (x (p - q) k)
 
-  -- over a side of the segment the parameter moves by whole numbers, so it is on the segment: at most q
+  -- over a side of the segment the parameter moves in whole numbers, so it is on the segment: at most q
   pub on-axis : D * D ≤ S → (q p : ℕ) → Beyond S num den D q p → p ≤ q
   on-axis side q p x = let e : p - q ≡ 0 = none (p - q) (short D side q p x) in omega arith
     where

@@ -1,5 +1,5 @@
--- Parameters of a whole number over a side D, as the overlap case uses them: floats are in the order of their exact values; the
--- greater of one and 0, and the lesser of one and 1, are near the exact ones cut off.
+-- Parameters of a whole number over a side D, for the overlap case: floats have the order of their exact values; the greater of
+-- one and 0, and the lesser of one and 1, are near the exact ones, cut off in the same way.
 use mathlib.Core.Path.{_≡_, refl, sym, subst}
 use mathlib.Core.Logic.{_⊎_, inl, inr}
 use Prim.Native.Nat.{ℕ, _+_, _-_, _*_, _^_, _≤_, _<_, min}
@@ -24,11 +24,11 @@ one-is : Diff f1 unit 0 unit
 unfolding ofBits
 one-is = omega arith
 
--- the float x is m / D, off by at most 2 ^ -54
+-- the float x is m / D, with an error of at most 2 ^ -54
 abbrev pub Part : ℕ → Float → ℕ → Type 0
 Part D x m = Sized unit x false m D (2 ^ 0) (2 ^ 54)
 
--- of two parameters the one is the lower and the other the upper
+-- which of two parameters is the lower, and which the upper
 abbrev pub Which : ℕ → ℕ → ℕ → ℕ → ℕ → ℕ → ℕ → ℕ → Type 0
 Which P0 N0 P1 N1 Pl Nl Ph Nh =
     ((Pl ≡ P0) × (Nl ≡ N0) × (Ph ≡ P1) × (Nh ≡ N1)) ⊎ ((Pl ≡ P1) × (Nl ≡ N1) × (Ph ≡ P0) × (Nh ≡ N0))
@@ -125,7 +125,7 @@ module _ (D : ℕ) (few : D ≤ 2 ^ 21) where
   inside : (t : Float) (P N A : ℕ) → Place 21 t P N D → A + N ≡ P → A ≤ D → Part D t A
   inside t P N A a e l = sized64 t P N D false A 0 (a .rounded) (a .some) e (omega arith) (lit≤ tt)
 
-  -- t, or c where the test says no: where p is at most q it says no, and else yes
+  -- t, or c if the test says no: it says no if p is at most q, else yes
   cut-off : (t c : Float) (test : Bool) (A p q : ℕ) → (p ≤ q → (T test → ⊥) × Part D c A) → (q < p → T test × Part D t A)
       → Part D (cond test t c) A
   cut-off t c test A p q out in-range = go test (leb p q) (leb→le p q) (nleb→lt p q) out in-range

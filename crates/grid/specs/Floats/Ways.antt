@@ -1,6 +1,6 @@
--- Which way the line kernel goes on grid segments, in whole numbers: to the crossing where the perp dot is not zero; else one of
--- five ways, each with its answer and under the exact condition under which the kernel goes that way. v runs from v1 to v2, u from
--- u1 to u2, w from u1 to v1 and w2 from u1 to v2.
+-- Which way the line kernel takes on grid segments, in whole numbers: the crossing if the perp dot is not zero; else one of five
+-- ways, each with its answer and with the exact condition under which the kernel takes it. v runs from v1 to v2, u from u1 to u2,
+-- w from u1 to v1 and w2 from u1 to v2.
 use mathlib.Core.Path.{_≡_, refl, sym, ap, _∙_, subst}
 use mathlib.Core.Logic.{_⊎_, inl, inr}
 use Prim.Native.Nat.{ℕ, _+_}
@@ -43,7 +43,7 @@ module _ (e : Float) (num den : ℕ) (h : Eps e num den) where
   abbrev same-y : (a b : Vector2) → Vec 20 a → Vec 20 b → Bool
   same-y a b A B = eqb (A .y .p + B .y .n) (A .y .n + B .y .p)
 
-  -- grid points are near each other exactly where they are one
+  -- grid points are near each other exactly if they are the same
   pub same-point : (a b : Vector2) (A : Vec 20 a) (B : Vec 20 b) → IsZero (vector2.sub a b) (vec-sub a b A B)
       → vector2.fuzzyEqEps a b e ≡ true
   same-point a b A B z =
@@ -111,7 +111,7 @@ module _ (e : Float) (num den : ℕ) (h : Eps e num den) where
     zero-u : fuzzyEqZeroEps (vector2.perpDot u w) e ≡ eqb (off-u .p) (off-u .n)
     zero-u = near-zero e num den h 44 (vector2.perpDot u w) off-u
 
-    -- by the perp dot of the two segments
+    -- with the perp dot of the two segments
     pub goes-crossing : (across .p ≡ across .n → ⊥) → lineLine v1 v2 u1 u2 e ≡ crossing v u w (vector2.perpDot v u) e
     unfolding lineLine
     goes-crossing x =
@@ -124,7 +124,7 @@ module _ (e : Float) (num den : ℕ) (h : Eps e num den) where
         ap (λ (z : Bool). cond (not z) (crossing v u w (vector2.perpDot v u) e) (parallel v1 v2 u1 u2 v u w e))
         (on zero-across x)
 
-    -- the five ways of parallel ones
+    -- the five ways of parallel segments
     abbrev ways : Bool → Bool → Bool → Bool → LineLineIntr
     ways a b c d =
         cond (not a || not b)

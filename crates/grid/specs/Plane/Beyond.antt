@@ -1,5 +1,5 @@
--- How far a point of a segment's line lies from the segment's ends, by squares: m / over of the way from a to b, it is the length
--- times m / over from a, and the length times (m - over) / over from b.
+-- How far a point of a segment's line lies from the segment's ends, by squares: m / over of the way from a to b, it is m / over
+-- times the length from a, and (m - over) / over times the length from b.
 use mathlib.Core.Path.{_≡_, refl, sym, ap, _∙_, subst}
 use mathlib.Core.Logic.{_⊎_, inl, inr}
 use mathlib.Core.List.{[], _∷_}
@@ -48,7 +48,7 @@ from-end c a b o m h =
     combine (c ∷ a ∷ b ∷ o ∷ m ∷ []) (C ⊟ B ⊠ O) ((B ⊟ A) ⊠ (M ⊟ O)) (num 1) C (A ⊠ O ⊞ (B ⊟ A) ⊠ M) h tt
 
 module _ (P : Point) (a b : Spot) (m : ℤ) (num den : ℕ) (h : Placed P a b m) where
-  -- c is an end of it, and n / over of the way leads from c to P
+  -- c is an end of the segment, and n / over of the way leads from c to P
   close : (c : Spot) (n : ℤ) → P .x -ℤ c .x *ℤ pos (P .over) ≡ (b .x -ℤ a .x) *ℤ n
       → P .y -ℤ c .y *ℤ pos (P .over) ≡ (b .y -ℤ a .y) *ℤ n
       → long a b * (natAbs n * natAbs n) * (den * den) < 2 * num * P .over * (2 * num * P .over)
@@ -58,7 +58,7 @@ module _ (P : Point) (a b : Spot) (m : ℤ) (num den : ℕ) (h : Placed P a b m)
       subst (λ (z : ℤ). (z *ℤ pos (den * den)) <ℤ pos (2 * num * P .over * (2 * num * P .over)))
       (sym (squares (b .x -ℤ a .x) (b .y -ℤ a .y) n (P .x -ℤ c .x *ℤ o) (P .y -ℤ c .y *ℤ o) at-x at-y)) (below _ _ l)
 
-  -- on the segment, or before its start, or past its end: then the distance from that end is to be shown
+  -- on the segment, or before its start, or past its end: then the distance from that end remains to be shown
   pub reached : (m <ℤ pos 0 → long a b * (natAbs m * natAbs m) * (den * den) < 2 * num * P .over * (2 * num * P .over))
       → (pos (P .over) <ℤ m → long a b * (natAbs (m -ℤ pos (P .over)) * natAbs (m -ℤ pos (P .over))) * (den * den)
       < 2 * num * P .over * (2 * num * P .over))

@@ -1,5 +1,6 @@
--- Two segments that are not parallel: their lines cross in one point, the meeting, which lies steps-v / base of the way along v and
--- steps-u / base of the way along u. They share a point exactly if both places are from 0 to 1, and never more than one.
+-- Two segments that are not parallel: their lines cross at one point, the meeting point, which lies steps-v / base of the way
+-- along v and steps-u / base of the way along u. They share a point exactly if both places are from 0 to 1, and never more than
+-- one.
 use mathlib.Core.Path.{_≡_, refl, ap, _∙_, subst}
 use mathlib.Core.Logic.{inl, inr}
 use mathlib.Core.List.{[], _∷_}
@@ -17,7 +18,7 @@ use Rattle.grid.specs.Plane.Sides.{across, across-parallel, first, secon
 abbrev pub Between : ℤ → ℕ → Type 0
 Between m k = (pos 0 ≤ℤ m) × (m ≤ℤ pos k)
 
--- s / t from 0 to 1 is m / k
+-- s / t is from 0 to 1 and equals m / k
 pub between : (m : ℤ) (k s t : ℕ) → 0 < t → s ≤ t → pos s *ℤ pos k ≡ m *ℤ pos t → Between m k
 between m k s t T l h =
     let least : (pos 0 *ℤ pos t) ≤ℤ (pos s *ℤ pos k) = pos-le (0 * t) (s * k) .1 (omega arith) in
@@ -27,7 +28,7 @@ between m k s t T l h =
       cancel-le m (pos k) t T (subst (λ (z : ℤ). z ≤ℤ (pos k *ℤ pos t)) h most),
     )
 
--- one place from either start, with the sign of d carried over
+-- one place from either start, with the sign of d moved to the numerator
 turned-sum : (d x p n a q m : ℤ) → x *ℤ d +ℤ p *ℤ n ≡ a *ℤ d +ℤ q *ℤ m
     → x *ℤ pos (natAbs d) +ℤ p *ℤ turned d n ≡ a *ℤ pos (natAbs d) +ℤ q *ℤ turned d m
 turned-sum (pos k) x p n a q m h = h
@@ -54,7 +55,7 @@ cramer x y vx vy a b ux uy =
     let all = x ∷ y ∷ vx ∷ vy ∷ a ∷ b ∷ ux ∷ uy ∷ [] in
     (solve all (X ⊠ D ⊞ VX ⊠ N) (A ⊠ D ⊞ UX ⊠ M) tt, solve all (Y ⊠ D ⊞ VY ⊠ N) (B ⊠ D ⊞ UY ⊠ M) tt)
 
--- a coordinate c / q that is s / t of the way p from x, where s / t is m / k
+-- a coordinate c / q that is s / t of the way p from x, if s / t is m / k
 same-place : (c x p s m : ℤ) (q t k : ℕ) → 0 < t → c *ℤ pos t ≡ pos q *ℤ (x *ℤ pos t +ℤ p *ℤ s) → s *ℤ pos k ≡ m *ℤ pos t
     → c *ℤ pos k ≡ (x *ℤ pos k +ℤ p *ℤ m) *ℤ pos q
 same-place c x p s m q t k H h e =
@@ -64,7 +65,7 @@ same-place c x p s m q t k H h e =
     (combine2 (c ∷ x ∷ p ∷ s ∷ m ∷ pos q ∷ pos t ∷ pos k ∷ []) (C ⊠ K ⊠ R) ((X ⊠ K ⊞ P ⊠ M) ⊠ Q ⊠ R)
     K (C ⊠ R) (Q ⊠ (X ⊠ R ⊞ P ⊠ S)) (Q ⊠ P) (S ⊠ K) (M ⊠ R) h e tt)
 
--- two ratios that are one third
+-- two ratios that equal a third are equal
 same-ratio : (a b c : ℤ) (p q k : ℕ) → 0 < k → a *ℤ pos k ≡ c *ℤ pos p → b *ℤ pos k ≡ c *ℤ pos q → a *ℤ pos q ≡ b *ℤ pos p
 same-ratio a b c p q k H h e =
     let A = var 0 in let B = var 1 in let C = var 2 in let P = var 3 in let Q = var 4 in let K = var 5 in
@@ -75,7 +76,7 @@ same-ratio a b c p q k H h e =
 on-line : (P : Point) (a b : Spot) → OnSegment P a b → OnLine P a b
 on-line P a b (s, t, l, h) = (pos s, t, h)
 
--- ---- the place of the meeting
+-- ---- the place of the meeting point
 abbrev pub base : Spot → Spot → Spot → Spot → ℕ
 base v1 v2 u1 u2 = natAbs (across v1 v2 u1 u2)
 
@@ -150,7 +151,7 @@ module _ (v1 v2 u1 u2 : Spot) (slant : ¬ Parallel v1 v2 u1 u2) where
         (place-u v1 v2 u1 u2 P (pos s) (pos s') t t' on-v on-u)),
   )
 
-  -- ---- the lines cross in no other point
+  -- ---- the lines cross at no other point
   pub crossing-is : (P : Point) → Crossing v1 v2 u1 u2 P
       → (P .x *ℤ pos (base v1 v2 u1 u2) ≡ meeting .x *ℤ pos (P .over))
       × (P .y *ℤ pos (base v1 v2 u1 u2) ≡ meeting .y *ℤ pos (P .over))

@@ -1,5 +1,5 @@
--- What an answer must show so that the promise is kept: with lines that cross, by the meeting; with parallel ones, by what is shared.
--- What is left after this is about the floats that the answer was worked out with.
+-- What must be shown of an answer so that it keeps the promise: for lines that cross, by the meeting point; for parallel ones, by
+-- what they share. The rest of the proof is about the floats from which the answer was computed.
 use mathlib.Core.Path.{_≡_, refl, subst}
 use mathlib.Core.Logic.{_⊎_, inl, inr, _↔_}
 use Prim.Native.Nat.{ℕ}
@@ -25,7 +25,7 @@ use Rattle.grid.specs.Plane.Spots.{Same, flip, share-swapped, share-more
 use Rattle.grid.specs.Plane.Spans.{Meet, MeetMore, size, mark}
 use Rattle.grid.specs.Plane.Overlap.{overlap, overlap-more}
 
--- ---- answers are told apart
+-- ---- different answers are not equal
 none-or-one : (r : PlineSegIntr) (p q o : Vector2) → (r ≡ NoIntersect) ⊎ (r ≡ OneIntersect o) → r ≡ OverlappingLines p q → ⊥
 none-or-one r p q o (inl e) f = let z : _≡_ {A = ℕ} 0 1 = cc in omega arith
 none-or-one r p q o (inr e) f = let z : _≡_ {A = ℕ} 0 1 = cc in omega arith
@@ -36,7 +36,7 @@ not-one r p e f = let z : _≡_ {A = ℕ} 0 1 = cc in omega arith
 same-one : (o p : Vector2) → OneIntersect o ≡ OneIntersect p → o ≡ p
 same-one o p e = cc
 
--- ---- lines that cross: none where a place is not from 0 to 1, or one near to the meeting, which is near to both
+-- ---- lines that cross: none if a place is not from 0 to 1; or one point near the meeting point, which is near both segments
 module _ (v1 v2 u1 u2 : Spot) (slant : ¬ Parallel v1 v2 u1 u2) (num den : ℕ) where
   pub slanted-none : (Between (steps-v v1 v2 u1 u2) (base v1 v2 u1 u2) → Between (steps-u v1 v2 u1 u2) (base v1 v2 u1 u2) → ⊥)
       → Promised v1 v2 u1 u2 num den NoIntersect
@@ -76,7 +76,7 @@ module _ (v1 v2 u1 u2 : Spot) (slant : ¬ Parallel v1 v2 u1 u2) (num den : ℕ) 
         );
       }
 
--- ---- parallel lines: none where nothing is shared, one where one point is, lines where more are
+-- ---- parallel lines: none if nothing is shared, one if one point is, lines if more are
 abbrev pub Tells : Type 0 → Type 0 → PlineSegIntr → Type 0
 Tells A B r =
     ((r ≡ NoIntersect) × (¬ A))
@@ -86,13 +86,13 @@ Tells A B r =
 abbrev pub Told : Spot → Spot → Spot → Spot → PlineSegIntr → Type 0
 Told v1 v2 u1 u2 r = Tells (Share v1 v2 u1 u2) (ShareMore v1 v2 u1 u2) r
 
--- the same of what says the same
+-- the same for equivalent statements
 told-of : {A B C D : Type 0} (r : PlineSegIntr) → A ↔ C → B ↔ D → Tells C D r → Tells A B r
 told-of r some more (inl (e, n)) = inl (e, λ s. n (some .0 s))
 told-of r some more (inr (inl (p, e, m, n))) = inr (inl (p, e, some .1 m, λ s. n (more .0 s)))
 told-of r some more (inr (inr (p, q, e, m))) = inr (inr (p, q, e, more .1 m))
 
--- so u and v may change places, and the axes may
+-- so u and v may be exchanged, and so may the axes
 pub told-swapped : (v1 v2 u1 u2 : Spot) (r : PlineSegIntr) → Told u1 u2 v1 v2 r → Told v1 v2 u1 u2 r
 told-swapped v1 v2 u1 u2 r = told-of r (share-swapped v1 v2 u1 u2) (share-more-swapped v1 v2 u1 u2)
 
@@ -132,7 +132,7 @@ parallel-kept v1 v2 u1 u2 num den r par (inr (inr (p, q, e, s))) =
       exact = λ o f slant. absurd (slant par);
     }
 
--- ---- parallel lines that are not one
+-- ---- parallel lines that are not one line
 pub apart-told : (v1 v2 u1 u2 : Spot) (r : PlineSegIntr) → Parallel v1 v2 u1 u2 → ¬ Collinear v1 v2 u1 u2 → r ≡ NoIntersect
     → Told v1 v2 u1 u2 r
 apart-told v1 v2 u1 u2 r par n e = inl (e, λ s. n (share-collinear v1 v2 u1 u2 par s))
@@ -146,7 +146,7 @@ pub spans-told : (v1 v2 u1 u2 : Spot) (r : PlineSegIntr) → Collinear v1 v2 u1 
     → Told v1 v2 u1 u2 r
 spans-told v1 v2 u1 u2 r c long slant = told-of r (overlap v1 v2 u1 u2 c slant) (overlap-more v1 v2 u1 u2 c slant long)
 
--- ---- on one line, one without length or both: one exactly if the point lies on the other
+-- ---- on one line, one or both without length: one exactly if the point lies on the other
 abbrev pub ToldIf : Type 0 → PlineSegIntr → Type 0
 ToldIf A r = ((r ≡ NoIntersect) × (¬ A)) ⊎ ((p : Vector2) × (r ≡ OneIntersect p) × A)
 
@@ -157,7 +157,7 @@ told-if r some once (inr (p, e, h)) = inr (inl (p, e, some .1 h, once))
 pub both-told : (v1 v2 u1 u2 : Spot) (r : PlineSegIntr) → Same v1 v2 → Same u1 u2 → ToldIf (Same v1 u1) r → Told v1 v2 u1 u2 r
 both-told v1 v2 u1 u2 r sv su = told-if r (both-points v1 v2 u1 u2 sv su) (point-once v1 v2 u1 u2 sv)
 
--- the first, by its place along x
+-- the first, from its place along x
 pub point-told : (v1 v2 u1 u2 : Spot) (r : PlineSegIntr) → Same v1 v2 → ((u2 .x -ℤ u1 .x) ≡ pos 0 → ⊥)
     → cross (way u1 u2) (way u1 v1) ≡ pos 0
     → ToldIf (Between (mark u1 u2 v1) (size u1 u2)) r

@@ -10,7 +10,7 @@ use lib.IntN.{ℤ, pos, negsuc, negℤ, natAbs, _-ℤ_, _*ℤ_}
 use lib.Signed.{ltZ, _≤ℤ_, _<ℤ_, ltZ-yes, ltZ-no}
 use Rattle.grid.specs.Plane.Whole.{whole, naturals, gain, loss}
 
--- ---- a factor above 0 goes, and comes
+-- ---- a factor above 0 cancels, and can be added
 pub cancel : (a b : ℤ) (t : ℕ) → 0 < t → a *ℤ pos t ≡ b *ℤ pos t → a ≡ b
 cancel a b t h = rw (← whole a, ← whole b) (simp naturals (go (gain a) (loss a) (gain b) (loss b)))
   where
@@ -34,7 +34,7 @@ lt-or-le a b = go (ltZ a b) (λ t. ltZ-yes t) (λ t. ltZ-no t)
     go true below up = inl (below tt)
     go false below up = inr (up tt)
 
--- of two pairs of ways the first holds in one, if the second does not in both
+-- in each of two cases there are two ways: if the second way cannot hold in both cases, the first holds in one
 pub either : {A B C D : Type 0} → A ⊎ B → C ⊎ D → (B → D → ⊥) → A ⊎ C
 either (inl a) m n = inl a
 either (inr b) (inl c) n = inr c
@@ -53,7 +53,7 @@ pub natural : (a : ℤ) → pos 0 ≤ℤ a → (n : ℕ) × (a ≡ pos n)
 natural (pos n) h = (n, refl)
 natural (negsuc n) h = absurd (h .le)
 
--- ---- the sign of d, carried over to a: a / d is turned d a / natAbs d
+-- ---- the sign of d, moved to a: a / d is turned d a / natAbs d
 abbrev pub turned : ℤ → ℤ → ℤ
 turned (pos k) a = a
 turned (negsuc k) a = negℤ a
@@ -74,7 +74,7 @@ turned-eq (negsuc k) a s t h = sym (back s (negsuc k)) ∙ ap negℤ h ∙ neg-l
     neg-left : (a t : ℤ) → negℤ (a *ℤ t) ≡ negℤ a *ℤ t
     neg-left a t = rw (← whole a, ← whole t) (simp naturals (omega arith))
 
--- the same by cases: d is not below 0 and nothing is turned, or it is below 0 and all is
+-- the same by cases: d is not below 0 and nothing is turned, or it is below 0 and everything is
 pub record Plain (d : ℤ) : Type 0 where
   pub least : pos 0 ≤ℤ d
   pub size : pos (natAbs d) ≡ d
@@ -114,7 +114,7 @@ inside d z h = go (sign d) h
     go (inr k) (inl h) = put (negℤ z) (negℤ d) (k .turn z) (k .size) (down d z (k .most) h)
     go (inr k) (inr h) = put (negℤ z) (negℤ d) (k .turn z) (k .size) (over d z h)
 
--- a factor that is not 0 goes
+-- a factor that is not 0 cancels
 pub cancel-any : (a b d : ℤ) → (d ≡ pos 0 → ⊥) → a *ℤ d ≡ b *ℤ d → a ≡ b
 cancel-any a b d n h = go (sign d)
   where
@@ -127,7 +127,7 @@ cancel-any a b d n h = go (sign d)
         cancel a b (natAbs d) (size-pos d n)
         (ap (λ (z : ℤ). a *ℤ z) (k .size) ∙ back a d ∙ ap negℤ h ∙ sym (back b d) ∙ ap (λ (z : ℤ). b *ℤ z) (sym (k .size)))
 
--- what is turned alike is the same
+-- numbers that are equal when turned are equal
 pub turned-same : (d x y a : ℤ) → turned d (x -ℤ a) ≡ turned d (y -ℤ a) → x ≡ y
 turned-same d x y a h = go (sign d)
   where

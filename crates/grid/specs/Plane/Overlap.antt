@@ -1,6 +1,6 @@
--- Two segments on one line, measured on u along the x axis, for a u that is not upright (else the axes change places): they share
--- a point exactly if the spans meet, and more than one exactly if the spans meet in more than one. What they share is found at
--- their ends.
+-- Two segments on one line, measured on u along the x axis, if u is not upright (else the axes are exchanged): they share a point
+-- exactly if the spans meet, and more than one exactly if the spans meet in more than one. What they share is found at their
+-- ends.
 use mathlib.Core.Path.{_≡_, refl, sym, ap, subst}
 use mathlib.Core.Logic.{_⊎_, inl, inr, _↔_}
 use mathlib.Core.List.{[], _∷_}
@@ -54,7 +54,7 @@ use Rattle.grid.specs.Plane.Spans.{
   before-start,
 }
 
--- ---- what is shared says that the spans meet
+-- ---- if a point is shared, the spans meet
 pub shared-meet : (v1 v2 u1 u2 : Spot) → Share v1 v2 u1 u2 → Meet (mark u1 u2 v1) (mark u1 u2 v2) (size u1 u2)
 shared-meet v1 v2 u1 u2 (P, (p, q)) =
     let h = seen v1 v2 u1 u2 P p q in (
@@ -134,7 +134,7 @@ between-ends v1 v2 u1 u2 p h k = inside (v2 .x -ℤ v1 .x) (p .x -ℤ v1 .x) (go
     go (inr e) =
         inr (down (v1 .x) (v2 .x) (u1 .x) (p .x) (after _ _ (e .turn _) (e .turn _)) (not-after _ _ (e .turn _) (e .turn _)))
 
--- ---- spans that meet say what is shared
+-- ---- if the spans meet, a point is shared
 -- before 0, from 0 to k, or past k
 abbrev Where : ℤ → ℕ → Type 0
 Where m k = (m <ℤ pos 0) ⊎ Between m k ⊎ (pos k <ℤ m)
@@ -237,7 +237,7 @@ meet-shared v1 v2 u1 u2 c slant (lo, hi) =
               (le-of-lt (pos 0) (mark u1 u2 v1) (past-zero (size u1 u2) (mark u1 u2 v1) g)),
         )
 
--- ---- and in more than one
+-- ---- and more than one
 pos-lt : (k : ℕ) → 0 < k → pos 0 <ℤ pos k
 pos-lt k h = simp naturals (omega arith)
 
@@ -252,7 +252,7 @@ module _ (v1 v2 u1 u2 : Spot) (c : Collinear v1 v2 u1 u2) (slant : (u2 .x -ℤ u
     (rising : mark u1 u2 v1 <ℤ mark u1 u2 v2)
     (early : mark u1 u2 v1 <ℤ pos (size u1 u2))
     (late : pos 0 <ℤ mark u1 u2 v2) where
-  -- the first that is shared: v's start, or u's where v begins before it; it comes before v's end and before u's
+  -- the first shared point: v's start, or u's if v starts before it; it comes before v's end and before u's
   lower : (p : Spot) × Shared v1 v2 u1 u2 (spot p) × (mark u1 u2 p <ℤ mark u1 u2 v2) × (mark u1 u2 p <ℤ pos (size u1 u2))
   lower = go (lt-or-le (mark u1 u2 v1) (pos 0))
     where
@@ -286,7 +286,7 @@ apart-on-axis v1 v2 u1 u2 flat slant e =
     (num 1) (wedge (leg start-v end-v) (leg start-u end-u)) (num 0) (leg start-u end-u .y) (start-v .x) (end-v .x) flat e tt in
     (e, equal-of-sub (v1 .y) (v2 .y) (cancel-any (v1 .y -ℤ v2 .y) (pos 0) (u2 .x -ℤ u1 .x) slant none))
 
--- one of two that is below k, or above 0
+-- one of the two is below k, or above 0
 least-below : (a b k : ℤ) → a <ℤ b → (a <ℤ k) ⊎ (b <ℤ k) → a <ℤ k
 least-below a b k l (inl m) = m
 least-below a b k l (inr m) = lt-trans a b k l m

@@ -1,5 +1,5 @@
--- The same in naturals, for floats whose values are differences p - n: signs and sizes of differences, places from 0 to 1, distances
--- beyond an end and from the meeting, and a float's value.
+-- The same in naturals, for floats whose values are differences p - n: signs and sizes of differences, places from 0 to 1,
+-- distances beyond an end and from the meeting point, and a float's value.
 use mathlib.Core.Path.{_≡_, refl, sym, subst}
 use mathlib.Core.Logic.{_↔_}
 use mathlib.Core.Bool.{true, false}
@@ -19,7 +19,7 @@ pub gain-loss : (z : ℤ) → gain z + loss z ≡ natAbs z
 gain-loss (pos k) = omega arith
 gain-loss (negsuc k) = omega arith
 
--- (a - b) / (p - n), where p is above n and where it is below
+-- (a - b) / (p - n), if p is above n and if it is below
 pub turned-up : (p n a b : ℕ) → n ≤ p → turned (diff p n) (diff a b) ≡ diff a b
 turned-up p n a b h = go (diff p n) (parts p n)
   where
@@ -127,7 +127,7 @@ within-parts c x k p n d P N is D e up low =
         subst (λ (z : ℤ). natAbs z * 1073741824 ≤ d * k) (sym e)
         (size (p * k + N * d) (n * k + P * d) (d * k) (omega arith) (omega arith))
 
--- ---- the value of a float m * 2 ^ e, over c: its size beside the difference
+-- ---- the value of a float m * 2 ^ e, over c: its size and the difference
 pub is-plus : (m p n c : ℕ) (e : ℤ) → Is (fin false m e) (diff p n) c ↔ (m * up e * c + n * down e ≡ p * down e)
 is-plus m p n c e = simp naturals (λ h. omega arith, λ h. omega arith)
 

@@ -1,5 +1,6 @@
--- Parallel segments that share a point lie on one line, also where they change places, or the axes do. Where the first has no
--- length, or neither has, sharing is that one grid point lies on the other. Then they never share more than that point.
+-- Parallel segments that share a point lie on one line, also if the segments or the axes are exchanged. If the first has no
+-- length, or neither has, to share a point means that one grid point lies on the other segment. Then they never share more than
+-- that point.
 use mathlib.Core.Path.{_≡_, sym, _∙_}
 use mathlib.Core.Logic.{_↔_}
 use mathlib.Core.List.{[], _∷_}
@@ -64,7 +65,7 @@ share-collinear v1 v2 u1 u2 par (P, ((s, t, l, on-v), (s', t', l', on-u))) =
           (place-u v1 v2 u1 u2 P (pos s) (pos s') t t' on-v on-u) flat;
     }
 
--- ---- v has no length, and lies on the line of u, which is not upright: they share v where its place along x is from 0 to 1
+-- ---- v has no length and lies on the line of u, which is not upright: they share v exactly if its place along x is from 0 to 1
 module _ (v1 v2 u1 u2 : Spot) (still : Same v1 v2) where
   pub point-share : ((u2 .x -ℤ u1 .x) ≡ pos 0 → ⊥) → cross (way u1 u2) (way u1 v1) ≡ pos 0
       → Share v1 v2 u1 u2 ↔ Between (mark u1 u2 v1) (size u1 u2)
@@ -94,8 +95,8 @@ both-points v1 v2 u1 u2 sv su = (meet, λ e. (spot v1, (start-on v1 v2, spot-lie
           cancel (v1 .y) (u1 .y) (P .over) (P .positive) (sym (v .1) ∙ u .1),
         )
 
--- ---- u and v change places, and the axes do
--- a product that is 0 is 0 with its factors exchanged, and with one of them turned round
+-- ---- u and v are exchanged, and the axes are
+-- a product that is 0 stays 0 if its factors are exchanged, and if one of them is turned round
 turned-cross : (p q : Spot) → cross p q ≡ pos 0 → cross q p ≡ pos 0
 turned-cross p q h =
     combine (corners p q p q []) (wedge end-v start-v) (num 0) (neg (num 1)) (wedge start-v end-v) (num 0) h tt

@@ -1,6 +1,6 @@
--- Equations between sums of products of whole numbers, worked out: an expression is multiplied out and its terms are gathered, and if
--- nothing is left of the difference of two, they are equal whatever the numbers are. `solve` is used as
--- `solve (a ∷ b ∷ []) (x0 ⊠ x1) (x1 ⊠ x0) refl`.
+-- Equations between sums of products of whole numbers, by computation: both sides are multiplied out and their terms collected.
+-- If the difference has no terms left, the two are equal for all numbers. `solve` is used as `solve (a ∷ b ∷ []) (x0 ⊠ x1) (x1 ⊠
+-- x0) refl`.
 use mathlib.Core.Path.{_≡_, refl, sym, ap, _∙_}
 use mathlib.Core.Bool.{Bool, true, false, cond, _&&_}
 use mathlib.Core.List.{List, [], _∷_}
@@ -10,7 +10,7 @@ use lib.Dec.{T, leb, ltb, eqb, eqb→eq}
 use lib.IntN.{ℤ, pos, negsuc, negℤ, _+ℤ_, _-ℤ_, _*ℤ_}
 use Rattle.grid.specs.Plane.Whole.{whole, naturals}
 
--- ---- the laws that it rests on
+-- ---- the laws that it uses
 pub mul-assoc : (a b c : ℤ) → a *ℤ b *ℤ c ≡ a *ℤ (b *ℤ c)
 mul-assoc a b c = rw (← whole a, ← whole b, ← whole c) (simp naturals (omega arith))
 
@@ -140,7 +140,7 @@ gone (term (pos zero) m p) = gone p
 gone (term (pos (suc c)) m p) = false
 gone (term (negsuc c) m p) = false
 
--- ---- what terms are worth
+-- ---- the value of terms
 module _ (ρ : List ℤ) where
   prod : List ℕ → ℤ
   prod [] = pos 1
@@ -260,7 +260,7 @@ module _ (ρ : List ℤ) where
   worth-gone (term (pos (suc c)) m p) t = absurd t
   worth-gone (term (negsuc c) m p) t = absurd t
 
--- ---- an expression of which nothing is left is 0 whatever the numbers are, and two of which the difference is 0 are equal
+-- ---- an expression without terms is 0 for all numbers, and two expressions whose difference is 0 are equal
 vanishes : (ρ : List ℤ) (e : Expr) → T (gone (norm e)) → value ρ e ≡ pos 0
 vanishes ρ e t = sym (worth-norm ρ e) ∙ worth-gone ρ (norm e) t
 
@@ -270,7 +270,8 @@ solve ρ e f t = equal-of-sub (value ρ e) (value ρ f) (vanishes ρ (e ⊟ f) t
 pub sub-of-equal : (a b : ℤ) → a ≡ b → a -ℤ b ≡ pos 0
 sub-of-equal a b h = ap (λ (z : ℤ). z -ℤ b) h ∙ solve (b ∷ []) (var 0 ⊟ var 0) (num 0) tt
 
--- ---- the same with what is known: e ≡ f follows from l ≡ r if e - f is c * (l - r), and from two such if it is the sum of both
+-- ---- the same with known facts: e ≡ f follows from l ≡ r if e - f is c * (l - r), and from two such facts if it is the sum of
+-- both
 multiple : (ρ : List ℤ) (c l r : Expr) → value ρ l ≡ value ρ r → value ρ (c ⊠ (l ⊟ r)) ≡ pos 0
 multiple ρ c l r h =
     ap (λ (z : ℤ). value ρ c *ℤ z) (sub-of-equal (value ρ l) (value ρ r) h) ∙ mul-zero (value ρ c)

@@ -1,6 +1,6 @@
--- The products that the kernel divides, over whole numbers. With v the way from v1 to v2, u the way from u1 to u2 and w the way from
--- u1 to v1: across is v × u, v's place is (u × w) / across, and u's place is (v × w) / across. Whatever lies on both lines lies
--- there, so where across is 0 both products are.
+-- The products that the kernel divides, over whole numbers. v is the way from v1 to v2, u the way from u1 to u2 and w the way
+-- from u1 to v1. Then across is v × u, v's place is (u × w) / across, and u's place is (v × w) / across. A point of both lines
+-- lies there, so if across is 0 both products are 0.
 use mathlib.Core.Path.{_≡_}
 use mathlib.Core.List.{List, [], _∷_}
 use Prim.Native.Nat.{ℕ, _<_}
@@ -25,7 +25,7 @@ first v1 v2 u1 u2 = cross (way u1 u2) (way u1 v1)
 abbrev pub second : Spot → Spot → Spot → Spot → ℤ
 second v1 v2 u1 u2 = cross (way v1 v2) (way u1 v1)
 
--- parallel is that the ways' product is 0
+-- parallel means that the product of the ways is 0
 pub parallel-across : (v1 v2 u1 u2 : Spot) → Parallel v1 v2 u1 u2 → across v1 v2 u1 u2 ≡ pos 0
 parallel-across v1 v2 u1 u2 = sub-of-equal _ _
 

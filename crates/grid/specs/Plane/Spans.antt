@@ -1,5 +1,5 @@
--- Two segments on one line, measured on u along the x axis: u goes from 0 to size, v from start to stop. They share a point exactly if
--- these spans meet, and more than one exactly if they meet in more than one.
+-- Two segments on one line, measured on u along the x axis: u runs from 0 to size, v from start to stop. They share a point
+-- exactly if these spans meet, and more than one exactly if they meet in more than one.
 use mathlib.Core.Path.{_≡_, refl, sym, ap, _∙_, subst}
 use mathlib.Core.Logic.{_⊎_, inl, inr}
 use mathlib.Core.List.{[], _∷_}
@@ -23,8 +23,8 @@ Meet a b k = ((a ≤ℤ pos k) ⊎ (b ≤ℤ pos k)) × ((pos 0 ≤ℤ a) ⊎ (p
 abbrev pub MeetMore : ℤ → ℤ → ℕ → Type 0
 MeetMore a b k = ((a <ℤ pos k) ⊎ (b <ℤ pos k)) × ((pos 0 <ℤ a) ⊎ (pos 0 <ℤ b))
 
--- ---- what a point s / t along v, with r the rest of s to t, and s' / t' along u says of the spans
--- turned as d is
+-- ---- what a point s / t along v and s' / t' along u says of the spans; r is the rest of s to t
+-- with the sign of d moved
 turned-place : (d w w2 r s t' m : ℤ) → (w *ℤ r +ℤ w2 *ℤ s) *ℤ t' ≡ d *ℤ m
     → (turned d w *ℤ r +ℤ turned d w2 *ℤ s) *ℤ t' ≡ pos (natAbs d) *ℤ m
 turned-place (pos k) w w2 r s t' m h = h
@@ -56,7 +56,7 @@ all-past a b k r s s' t' e ka kb K T' =
     let less : t' * (k * (s + r)) ≤ s' * (k * (s + r)) = omega arith in
     le-of-mul-le-mul-right less (mul-pos K T')
 
--- both beyond k: there is none
+-- both beyond k: there is no such point
 none-past : (a b k r s s' t' : ℕ) → (a * r + b * s) * t' ≡ k * (s' * (s + r)) → k < a → k < b → s' ≤ t' → 0 < t' → 0 < s + r → ⊥
 none-past a b k r s s' t' e ka kb l T' H =
     let p : suc k * r ≤ a * r = mul-le-mul-right r ka in
@@ -158,7 +158,7 @@ module _ (u1 u2 : Spot) (P : Point) (a b : ℤ) (k : ℕ) (h : Seen u1 u2 P a b 
           none-past (x .0) (y .0) k (h .r) (h .s) (h .s') (h .t') (up-place (x .0) (y .0) (x .1) (y .1)) (x .2) (y .2)
           (h .within) (h .on-u .some) (h .some)
 
-  -- where they meet in u's end at most, the point is that end
+  -- if they meet at most in u's end, the point is that end
   pub past-end : 0 < k → pos k ≤ℤ a → pos k ≤ℤ b → IsSpot P u2
   past-end K l m =
       let x = from k a l in

@@ -1,5 +1,5 @@
--- Grid points on segments: an end lies on its segment, a segment's ends may change places, the axes may change places, a segment
--- without length has one point, and a grid point on a segment's line lies on the segment exactly if it does on the x axis.
+-- Grid points on segments: an end lies on its segment; a segment's ends may be exchanged, and so may the axes; a segment without
+-- length has one point; and a grid point on a segment's line lies on the segment exactly if it does so on the x axis.
 use mathlib.Core.Path.{_≡_, refl, ap, subst}
 use mathlib.Core.Logic.{inl, inr, _↔_}
 use mathlib.Core.List.{[], _∷_}
@@ -62,7 +62,7 @@ pub share-more-reversed : (v1 v2 u1 u2 : Spot) → ShareMore v2 v1 u1 u2 → Sha
 share-more-reversed v1 v2 u1 u2 (P, Q, apart, (p, p'), (q, q')) =
     (P, Q, apart, (reverse P v2 v1 p, p'), (reverse Q v2 v1 q, q'))
 
--- ---- u and v change places
+-- ---- u and v are exchanged
 pub share-swapped : (v1 v2 u1 u2 : Spot) → Share v1 v2 u1 u2 ↔ Share u1 u2 v1 v2
 share-swapped v1 v2 u1 u2 = (swap v1 v2 u1 u2, swap u1 u2 v1 v2)
   where
@@ -75,7 +75,7 @@ share-more-swapped v1 v2 u1 u2 = (swap v1 v2 u1 u2, swap u1 u2 v1 v2)
     swap : (a b c d : Spot) → ShareMore a b c d → ShareMore c d a b
     swap a b c d (P, Q, apart, (p, p'), (q, q')) = (P, Q, apart, (p', p), (q', q))
 
--- ---- the axes change places
+-- ---- the axes are exchanged
 abbrev pub flip : Spot → Spot
 flip a = record { x = a .y; y = a .x }
 
@@ -127,7 +127,7 @@ only-spot P a b (ex, ey) (s, t, l, h) = (
   stays (P .y) (a .y) (b .y) (pos s) (P .over) t (h .some) (h .at-y) ey,
 )
 
--- so have points at an end
+-- the same for points at an end
 pub is-start : (P : Point) (a b : Spot) (t : ℕ) → Along P a b (pos 0) t → IsSpot P a
 is-start P a b t h = (
   at-none (P .x) (a .x) (b .x) (P .over) t (h .some) (h .at-x),
@@ -164,7 +164,7 @@ spot-lies P p a b (ex, ey) (s, t, l, h) = (
   },
 )
 
--- one grid point is not apart from itself
+-- a grid point does not differ from itself
 same-spot : (c d a : ℤ) (p q : ℕ) → c ≡ a *ℤ pos p → d ≡ a *ℤ pos q → c *ℤ pos q ≡ d *ℤ pos p
 same-spot c d a p q h k =
     let C = var 0 in let D = var 1 in let A = var 2 in let P = var 3 in let Q = var 4 in
@@ -174,7 +174,7 @@ pub spot-once : (P Q : Point) (a : Spot) → IsSpot P a → IsSpot Q a → ¬ Di
 spot-once P Q a h k (inl n) = n (same-spot (P .x) (Q .x) (a .x) (P .over) (Q .over) (h .0) (k .0))
 spot-once P Q a h k (inr n) = n (same-spot (P .y) (Q .y) (a .y) (P .over) (Q .over) (h .1) (k .1))
 
--- ---- a grid point p beside a segment from a to b that is not upright: on its line, and on the x axis from 0 to 1 of the way
+-- ---- a grid point p and a segment from a to b that is not upright: on its line, and on the x axis from 0 to 1 of the way
 pub record Level (a b p : Spot) : Type 0 where
   pub on-line : cross (way a b) (way a p) ≡ pos 0
   pub on-axis : Between (turned (b .x -ℤ a .x) (p .x -ℤ a .x)) (natAbs (b .x -ℤ a .x))

@@ -1,5 +1,6 @@
--- Whole numbers with a sign, for proofs: each is a difference of two naturals, `diff p n` is p - n, and sums, products and the order
--- of differences are those of naturals. So an equation or an order of whole numbers is one of naturals, which `omega` works out.
+-- Whole numbers with a sign, for proofs: each is a difference of two naturals. `diff p n` is p - n, and sums, products and the
+-- order of differences are those of naturals. So an equation or an order of whole numbers becomes one of naturals, which `omega`
+-- decides.
 use mathlib.Core.Path.{_≡_, refl, ap}
 use mathlib.Core.Logic.{_↔_}
 use mathlib.Core.Bool.{Bool, true, false, not, cond}
@@ -18,7 +19,7 @@ abbrev pub loss : ℤ → ℕ
 loss (pos k) = 0
 loss (negsuc k) = suc k
 
--- two whole numbers with the same difference of parts are one
+-- two whole numbers with the same difference of parts are equal
 pub equal : (a b : ℤ) → gain a + loss b ≡ gain b + loss a → a ≡ b
 equal (pos a) (pos b) h = let e : a ≡ b = omega arith in ap pos e
 equal (pos a) (negsuc b) h = absurd (omega arith)
