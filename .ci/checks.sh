@@ -129,6 +129,8 @@ check_stored() {
     local start=$SECONDS
     check_replay crates/replay
     check_layouts target/bin/crossings layouts
+    check_streams target/bin/crossings layouts/two_coils.txt layouts/two_coils.out
+    check_streams target/bin/replay crates/replay/stdin crates/replay/stdout
     note_time "$start"
 }
 
@@ -152,6 +154,12 @@ check_layouts() {
     done
     [ ${#texts[@]} = ${#answers[@]} ] || fail "there are answers in $2 without a text"
     say "ran ${#texts[@]} stored layouts"
+}
+
+# Where a program cannot read or write it says so, and a signal takes nothing from its answer.
+check_streams() {
+    .ci/streams "$@" || fail "$1 does not tell what it cannot read or write, as above"
+    say "ran $1 without an input, without room for its output, and broken off by signals"
 }
 
 # ---- the comparison
