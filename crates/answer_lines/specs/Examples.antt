@@ -35,7 +35,8 @@ scopeLines =
     ++ 10 ∷ []
 
 pub scope-lines : answerText 1 1 (0 ∷ 0 ∷ 2 ∷ []) (two ∷ nought ∷ nought ∷ nought ∷ []) ≡ scopeLines
-unfolding answerText countText rowsText rowAt rowText classText pointsText numberText hex glyph decimal decimalIn ofBits ofFields odd toBits size span climb
+unfolding answerText countText rowsText rowAt rowText classText pointsText numberText hex glyph decimal decimalIn ofBits ofFields
+    odd toBits size span climb
 scope-lines = refl
 
 -- "7 12 arcs fff0000000000000 7ff8000000000000 4000000000000000 0000000000000000" and a newline

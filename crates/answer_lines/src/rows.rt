@@ -94,7 +94,8 @@ pub fn put_rows(out: &mut [u8], start: usize, rows: usize, index: &[u64], points
     requires { ⌜ rows * 3 ≤ length (now index) ⌝ }
     requires { ⌜ rows * 4 ≤ length (now points) ⌝ }
     requires { ⌜ start + rows * sizes.line ≤ length (now out) ⌝ }
-    ensures { λ r. ⌜ Put (lines.rowsText (now (index .entry)) (now (points .entry)) rows 0) (now (out .entry)) start (now (out .exit)) r ⌝ }
+    ensures { λ r. ⌜
+        Put (lines.rowsText (now (index .entry)) (now (points .entry)) rows 0) (now (out .entry)) start (now (out .exit)) r ⌝ }
 {
     let mut at = start;
     let mut k = 0;

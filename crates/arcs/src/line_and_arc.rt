@@ -54,7 +54,8 @@ pub fn tangent_line_arc(
     arc_geometry: ArcGeometry,
     pos_equal_eps: f64,
 ) -> PlineSegIntr
-    ensures { λ r. ⌜ r ≡ LineAndArc.tangentLineArc t0 (vector2.length (vector2.sub p1 p0)) p0 p1 «arc_geometry» «pos_equal_eps» ⌝ }
+    ensures { λ r. ⌜
+        r ≡ LineAndArc.tangentLineArc t0 (vector2.length (vector2.sub p1 p0)) p0 p1 «arc_geometry» «pos_equal_eps» ⌝ }
 {
     if arc_geometry.point_lies_on_arc(p0) {
         return PlineSegIntr::TangentIntersect { point: p0 };

@@ -9,7 +9,8 @@ use Rattle.capi.specs.Handed.{Handed}
 use Rattle.capi.specs.HandedListing.{HandedListing}
 use Rattle.answers.specs.declared.padded.PaddedAnswer.{PaddedAnswer}
 
-pub handed-one-result : {f : PaddedAnswer} {r s : ℕ} {old a b : List Float} → Handed f r old a → Handed f s old b → (r ≡ s) × (a ≡ b)
+pub handed-one-result : {f : PaddedAnswer} {r s : ℕ} {old a b : List Float} → Handed f r old a → Handed f s old b
+    → (r ≡ s) × (a ≡ b)
 handed-one-result p q = (p .code-is ∙ sym (q .code-is), p .holds ∙ sym (q .holds))
 
 pub listing-one-result : {o : Outcome} {r s : ℕ} {c₀ c d i₀ i j : List ℕ} {p₀ p q : List Float}

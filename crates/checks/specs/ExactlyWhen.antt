@@ -18,7 +18,8 @@ FirstIs n checks = (f : Fault) × (FirstFault f checks × (f .number ≡ n))
 
 -- The answer is refusal n if and only if the first fault has that number, and it is how the two meet if and only if every number
 -- passes.
-pub record ExactlyWhen {I A : Type 0} (refused : ℕ → A) (met : I → A) (answer : A) (checks : List Checked) (intr : I) : Type 0 where
+pub record ExactlyWhen {I A : Type 0} (refused : ℕ → A) (met : I → A) (answer : A) (checks : List Checked)
+    (intr : I) : Type 0 where
   pub refused-when : (n : ℕ) → (answer ≡ refused n) ↔ FirstIs n checks
   pub met-when : (answer ≡ met intr) ↔ AllFine checks
 

@@ -15,7 +15,8 @@ use Rattle.checks.specs.Limit
 
 module _ (x : Float) where
   -- 4: epsilon is NaN, infinite, below 2^-40 or above 1/2
-  pub epsilon : Gives (Each.epsilon x) (at 0 0 Epsilon) 4 ((isNan x || isInfinite x) || ((x ≺ Limit.epsilonLeast) || (x ≻ Limit.epsilonMost)))
+  pub epsilon : Gives (Each.epsilon x) (at 0 0 Epsilon) 4
+      ((isNan x || isInfinite x) || ((x ≺ Limit.epsilonLeast) || (x ≻ Limit.epsilonMost)))
   unfolding Each.epsilon notFinite
   epsilon = gives _ 4 _
 

@@ -36,7 +36,8 @@ pub line-circle : (p0 p1 : Vector2) (radius : Float) (circleCenter : Vector2) (e
     (lineCircle p0 p1 radius circleCenter epsilon)
 unfolding lineAndCircle.lineCircleIntr calls.checkLineCircle
 line-circle p0 p1 radius circleCenter epsilon =
-    let apart : Distinct ofLineAndCircle.Refused ofLineAndCircle.Met = record { numbers = λ n m e. cc; kinds = λ n i e. no-number cc } in
+    let apart : Distinct ofLineAndCircle.Refused ofLineAndCircle.Met =
+    record { numbers = λ n m e. cc; kinds = λ n i e. no-number cc } in
     exactly-when ofLineAndCircle.Refused ofLineAndCircle.Met apart
     (calls.lineCircleChecks p0 p1 radius circleCenter epsilon)
     (lineCircle p0 p1 radius circleCenter epsilon)
@@ -61,4 +62,5 @@ pub pline-seg : (v1 v2 u1 u2 : PlineVertex) (posEqualEps : Float)
 unfolding pairs.plineSegIntr calls.checkPlineSeg
 pline-seg v1 v2 u1 u2 posEqualEps =
     let apart : Distinct ofPairs.Refused ofPairs.Met = record { numbers = λ n m e. cc; kinds = λ n i e. no-number cc } in
-    exactly-when ofPairs.Refused ofPairs.Met apart (calls.plineSegChecks v1 v2 u1 u2 posEqualEps) (plineSeg v1 v2 u1 u2 posEqualEps)
+    exactly-when ofPairs.Refused ofPairs.Met apart (calls.plineSegChecks v1 v2 u1 u2 posEqualEps)
+    (plineSeg v1 v2 u1 u2 posEqualEps)

@@ -25,7 +25,8 @@ use Rattle.crossing.specs.declared.pline_seg_intersect.PlineSegAnswer.{P
 use Rattle.crossing.specs.declared.pline_seg_intersect.PlineSegAnswer.the-variants as ofPairs
 
 -- if answers can be built again from their numbers, equal numbers mean equal answers
-apart-by : {A : Type 0} (numbers : A → AnswerNumbers) (back : AnswerNumbers → A) → ((a : A) → back (numbers a) ≡ a) → (a b : A) → numbers a ≡ numbers b → a ≡ b
+apart-by : {A : Type 0} (numbers : A → AnswerNumbers) (back : AnswerNumbers → A) → ((a : A) → back (numbers a) ≡ a) → (a b : A)
+    → numbers a ≡ numbers b → a ≡ b
 apart-by numbers back is a b e = sym (is a) ∙ ap back e ∙ is b
 
 -- one, two or four values, and what stands for any other count

@@ -136,7 +136,8 @@ module _ (p n den : ℕ) (P : 2 ≤ p) (D : 0 < den) where
   higher : (Y : ℕ) (h : Held p Y) → place ≤ h .j → Sides n den (rounded * 2 ^ place) Y
   higher Y h l =
       let up = 2 ^ (h .j - place) in
-      let split : up * 2 ^ place ≡ 2 ^ h .j = sym (pow-add 2 (h .j - place) place) ∙ ap (λ (z : ℕ). 2 ^ z) (back (h .j) place l) in
+      let split : up * 2 ^ place ≡ 2 ^ h .j =
+      sym (pow-add 2 (h .j - place) place) ∙ ap (λ (z : ℕ). 2 ^ z) (back (h .j) place l) in
       let is : h .y * up * 2 ^ place ≡ Y = mul-assoc (h .y) up (2 ^ place) ∙ ap (λ (z : ℕ). h .y * z) split ∙ sym (h .is) in
       subst (λ (z : ℕ). Sides n den (rounded * 2 ^ place) z) is (multiple n den (2 ^ place) rounded (h .y * up) half)
 
@@ -155,7 +156,8 @@ round-best f num den D = best (prec f) (num * 2 ^ low f) den (two f) D
 
 -- ---- so rounding does not cross a value of the format
 pub grid-le : (f : Format) (a c B : ℕ) → 0 < c → Held (prec f) B → a * 2 ^ low f ≤ B * c → grid f a c ≤ B
-grid-le f a c B C h l = le-of-suc-le-suc (lt-of-not-le (λ (g : suc B ≤ grid f a c). clash (grid f a c) (round-best f a c C .below B h g) g))
+grid-le f a c B C h l =
+    le-of-suc-le-suc (lt-of-not-le (λ (g : suc B ≤ grid f a c). clash (grid f a c) (round-best f a c C .below B h g) g))
   where
     clash : (R : ℕ) → (B + R) * c ≤ 2 * (a * 2 ^ low f) → B < R → ⊥
     clash R x y = let z : B * c < R * c = mul-lt-mul-of-pos-right y C in omega arith

@@ -40,7 +40,8 @@ units64 x t h = subst (λ (L : ℕ). Units L x) (sym unit-is) (units-of binary64
 
 -- if both factors are not below zero, neither is the product; and adding such a number takes nothing away. The exact results say
 -- so, and rounding does not cross a float
-pub mul-least : (x y : Float) (p n q : ℕ) → Diff x p n unit → Diff y q 0 unit → n ≤ p → T (le (ofBits binary64 0) (mul binary64 x y))
+pub mul-least : (x y : Float) (p n q : ℕ) → Diff x p n unit → Diff y q 0 unit → n ≤ p
+    → T (le (ofBits binary64 0) (mul binary64 x y))
 mul-least x y p n q a b l =
     rounded-ge binary64 (mul binary64 x y) _ _ (unit * unit) (mul-rounded binary64 x y p n q 0 unit unit unit-pos unit-pos a b)
     (mul-pos unit-pos unit-pos) (ofBits binary64 0) 0 0 unit unit-pos (ofBits-fits binary64 0) zero-is (plain unit)
@@ -48,10 +49,12 @@ mul-least x y p n q a b l =
     plain : (L : ℕ) → 0 * (L * L) + (p * 0 + n * q) * L ≤ (p * q + n * 0) * L + 0 * (L * L)
     plain L = omega (arith, mul-le-mul-right (q * L) l)
 
-pub add-least : (x y : Float) (p n q k : ℕ) → T (fits binary64 y) → Diff x p n unit → Diff y q k unit → T (le (ofBits binary64 0) x)
+pub add-least : (x y : Float) (p n q k : ℕ) → T (fits binary64 y) → Diff x p n unit → Diff y q k unit
+    → T (le (ofBits binary64 0) x)
     → T (le y (add binary64 x y))
 add-least x y p n q k fit a b l =
-    rounded-ge binary64 (add binary64 x y) _ _ unit (add-over binary64 x y p n q k unit unit-pos a b) unit-pos y q k unit unit-pos fit b
+    rounded-ge binary64 (add binary64 x y) _ _ unit (add-over binary64 x y p n q k unit unit-pos a b) unit-pos y q k unit unit-pos
+    fit b
     (plain unit (le-over (ofBits binary64 0) x 0 0 p n unit unit-pos zero-is a .0 l))
   where
     plain : (L : ℕ) → 0 + n ≤ p + 0 → q * L + (n + k) * L ≤ (p + q) * L + k * L

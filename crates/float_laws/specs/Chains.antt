@@ -70,7 +70,8 @@ le-neg (fin s m e) (fin t n d) h =
     let x-is = written-diff s m e in
     let y-is = written-diff t n d in
     le-diff y x _ _ _ _ _ _ (down-pos d) (down-pos e) y-is x-is .1
-    (turned _ _ _ _ (le-diff (neg x) (neg y) _ _ _ _ _ _ (down-pos e) (down-pos d) (neg-diff x _ _ _ x-is) (neg-diff y _ _ _ y-is) .0 h))
+    (turned _ _ _ _ (le-diff (neg x) (neg y) _ _ _ _ _ _ (down-pos e) (down-pos d) (neg-diff x _ _ _ x-is)
+    (neg-diff y _ _ _ y-is) .0 h))
   where
     turned : (a b c d : ℕ) → a + b ≤ c + d → b + a ≤ d + c
     turned a b c d l = omega arith

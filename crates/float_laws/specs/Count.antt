@@ -100,7 +100,8 @@ bits-at f w g lo hi = go (prec f - 1) (pred (prec f) (two f)) lo (eq-or-lt-of-le
 
     size-at : (o v k : ℕ) → 2 ^ o ≤ v → v < 2 * 2 ^ o → size (v * 2 ^ k) ≡ suc (o + k)
     size-at o v k a b =
-        let next : 2 * 2 ^ o * 2 ^ k ≡ 2 ^ suc (o + k) = twice (2 ^ o) (2 ^ k) (2 ^ (o + k)) (pow-add 2 o k) ∙ sym (pow-succ' 2 (o + k)) in
+        let next : 2 * 2 ^ o * 2 ^ k ≡ 2 ^ suc (o + k) =
+        twice (2 ^ o) (2 ^ k) (2 ^ (o + k)) (pow-add 2 o k) ∙ sym (pow-succ' 2 (o + k)) in
         size-exact (o + k) (v * 2 ^ k)
         (le-trans (le-of-eq (pow-add 2 o k)) (mul-le-mul-right (2 ^ k) a))
         (lt-of-lt-of-le (mul-lt-mul-of-pos-right b (pow-pos k)) (le-of-eq next))
@@ -133,10 +134,12 @@ count f (suc x) t = (hid f + t) * 2 ^ x
 ofFields-count : (f : Format) (x t : ℕ) → x < ones f → HasValue (ofFields f false x t) false (count f x t) (2 ^ low f)
 unfolding ofFields
 ofFields-count f zero t X =
-    subst (λ (z : ℕ). HasValue (odd (prec f) false t 0 (low f)) false z (2 ^ low f)) (mul-one t) (odd-sign (prec f) false t 0 (low f))
+    subst (λ (z : ℕ). HasValue (odd (prec f) false t 0 (low f)) false z (2 ^ low f)) (mul-one t)
+    (odd-sign (prec f) false t 0 (low f))
 ofFields-count f (suc x) t X =
     let value = odd (prec f) false (hid f + t) x (low f) in
-    let no-inf = not-T (eqb (suc x) (ones f)) (λ u. lt-irrefl (ones f) (subst (λ (z : ℕ). z < ones f) (eqb→eq (suc x) (ones f) u) X)) in
+    let no-inf =
+    not-T (eqb (suc x) (ones f)) (λ u. lt-irrefl (ones f) (subst (λ (z : ℕ). z < ones f) (eqb→eq (suc x) (ones f) u) X)) in
     subst (λ (v : Float). HasValue v false ((hid f + t) * 2 ^ x) (2 ^ low f))
     (sym (cond-no (eqb (suc x) (ones f)) (cond (eqb t 0) (inf false) nan) value no-inf))
     (odd-sign (prec f) false (hid f + t) x (low f))
@@ -165,7 +168,8 @@ moved l m (pos a) h =
     (a + l, mul-assoc m (2 ^ a) (2 ^ l) ∙ ap (λ (z : ℕ). m * z) (sym (pow-add 2 a l)) ∙ sym (mul-one (m * 2 ^ (a + l))))
 moved l m (negsuc a) h =
     let k : suc a ≤ l = pow-le-back (suc a) l h in
-    let split : 2 ^ l ≡ 2 ^ (l - suc a) * 2 ^ suc a = ap (λ (x : ℕ). 2 ^ x) (sym (back l (suc a) k)) ∙ pow-add 2 (l - suc a) (suc a) in (
+    let split : 2 ^ l ≡ 2 ^ (l - suc a) * 2 ^ suc a =
+    ap (λ (x : ℕ). 2 ^ x) (sym (back l (suc a) k)) ∙ pow-add 2 (l - suc a) (suc a) in (
       l - suc a,
       ap (λ (x : ℕ). x * 2 ^ l) (mul-one m)
           ∙ ap (λ (x : ℕ). m * x) split
@@ -200,7 +204,8 @@ counted f (fin s (suc m) e) h t =
     let abc = and-l (A && B && C) D t in
     let digits : suc m < 2 ^ prec f = ltb→lt (suc m) (2 ^ prec f) (and-r A B (and-l (A && B) C abc)) in
     let place : down e ≤ 2 ^ low f = leb→le (down e) (2 ^ low f) (and-r (A && B) C abc) in
-    let range : suc m * up e < 2 ^ suc (emax f) * down e = ltb→lt (suc m * up e) (2 ^ suc (emax f) * down e) (and-r (A && B && C) D t) in
+    let range : suc m * up e < 2 ^ suc (emax f) * down e =
+    ltb→lt (suc m * up e) (2 ^ suc (emax f) * down e) (and-r (A && B && C) D t) in
     let k = moved (low f) (suc m) e place in
     record {
       s = s;
@@ -217,7 +222,8 @@ counted f (fin s (suc m) e) h t =
         lt-of-mul-lt-mul-right d wide
 
 -- ---- what `round` gives, with its sign
-pub round-count : (f : Format) (s : Bool) (a c : ℕ) → grid f a c < overflow f → HasValue (round f s a c) s (grid f a c) (2 ^ low f)
+pub round-count : (f : Format) (s : Bool) (a c : ℕ) → grid f a c < overflow f
+    → HasValue (round f s a c) s (grid f a c) (2 ^ low f)
 round-count f s a c h =
     subst (λ (z : Float). HasValue z s (grid f a c) (2 ^ low f)) (sym (round-is f s a c))
     (units-val f s (kept (prec f) (a * 2 ^ low f) c) (drop (prec f) (a * 2 ^ low f) c) h)

@@ -18,7 +18,8 @@ use Rattle.float_laws.specs.Order.{le-diff}
 use Rattle.float_laws.specs.Rounded.{add-rounded, sub-rounded, mul-rounded, div-rounded, signed-by}
 use Rattle.float_laws.specs.Roundings.{Within, rounded-within}
 
-in-diff : (f : Format) (K : ℕ) (x : Float) (w : Within f K x) → Diff x (ups (w .s) (w .count)) (downs (w .s) (w .count)) (2 ^ low f)
+in-diff : (f : Format) (K : ℕ) (x : Float) (w : Within f K x)
+    → Diff x (ups (w .s) (w .count)) (downs (w .s) (w .count)) (2 ^ low f)
 in-diff f K x w = own-diff x (w .s) (w .count) (2 ^ low f) (w .value)
 
 pub within-finite : (f : Format) (K : ℕ) (x : Float) → Within f K x → T (finite x)
@@ -80,7 +81,8 @@ product-in true false X Y L K h = let w = mul-le-mul-right L h in (omega arith, 
 product-in false true X Y L K h = let w = mul-le-mul-right L h in (omega arith, omega arith)
 product-in false false X Y L K h = let w = mul-le-mul-right L h in (omega arith, omega arith)
 
-pub mul-within : (f : Format) (x y : Float) (i j k : ℕ) → Within f i x → Within f j y → i + j ≡ low f + k → k < low f + suc (emax f)
+pub mul-within : (f : Format) (x y : Float) (i j k : ℕ) → Within f i x → Within f j y → i + j ≡ low f + k
+    → k < low f + suc (emax f)
     → Within f k (mul f x y)
 mul-within f x y i j k A B e fine =
     let L = 2 ^ low f in
@@ -120,7 +122,8 @@ between (inf true) a h k = absurd h
 between (inf false) a h k = absurd k
 between (fin s m e) a h k = tt
 
-pub within-of-le : (f : Format) (x : Float) (a : ℕ) → T (fits f x) → T (le (fin true 1 (pos a)) x) → T (le x (fin false 1 (pos a)))
+pub within-of-le : (f : Format) (x : Float) (a : ℕ) → T (fits f x) → T (le (fin true 1 (pos a)) x)
+    → T (le x (fin false 1 (pos a)))
     → Within f (a + low f) x
 within-of-le f x a t h k =
     let c = counted f x (between x a h k) t in

@@ -91,7 +91,8 @@ round-absolute f num den K D P h = go (eq-or-lt-of-le h)
   where
     -- the power itself is exact
     exact : (n G T e : ℕ) → n ≡ T * den → G ≡ T → Off n den G e
-    exact n G T e p q = let x : G * den ≡ T * den = ap (λ (z : ℕ). z * den) q in record { above = omega arith; below = omega arith }
+    exact n G T e p q = let x : G * den ≡ T * den = ap (λ (z : ℕ). z * den) q in
+        record { above = omega arith; below = omega arith }
 
     wider : (n G u w : ℕ) → u ≤ w → Off n den G u → Off n den G w
     wider n G u w l h = record {

@@ -80,7 +80,8 @@ out-right b d e Y c h = mul-right-comm b e c ∙ ap (λ (z : ℕ). z * e) h ∙ 
 -- `lt` and `eq` test two signs and two sizes, which is the same over every denominator
 module _ (compare : Float → Float → Bool) (test : Bool → ℕ → Bool → ℕ → Bool)
     (asks : (u v : Bool) (m n : ℕ) (e g : ℤ) → compare (fin u m e) (fin v n g) ≡ test u (m * up e * down g) v (n * up g * down e))
-    (same : (s t : Bool) (a b c a' b' c' : ℕ) → 0 < c → 0 < c' → a * c' ≡ a' * c → b * c' ≡ b' * c → test s a t b ≡ test s a' t b')
+    (same : (s t : Bool) (a b c a' b' c' : ℕ) → 0 < c → 0 < c' → a * c' ≡ a' * c → b * c' ≡ b' * c
+    → test s a t b ≡ test s a' t b')
   where
     by-count : (x y : Float) (s t : Bool) (X Y c : ℕ) → 0 < c → HasValue x s X c → HasValue y t Y c → compare x y ≡ test s X t Y
     by-count nan y s t X Y c C h k = absurd h
@@ -104,7 +105,8 @@ module _ (compare : Float → Float → Bool) (test : Bool → ℕ → Bool → 
     by-diff Lies says x y p n c q k d C D a b =
         let A = signed-of x (p * d) (n * d) (c * d) (diff-mul x p n c d C a) in
         let B = signed-of y (q * c) (k * c) (d * c) (diff-mul y q k d c D b) in
-        let alike : HasValue y (B .s) (B .size) (c * d) = subst (λ (z : ℕ). HasValue y (B .s) (B .size) z) (mul-comm d c) (B .value) in
+        let alike : HasValue y (B .s) (B .size) (c * d) =
+        subst (λ (z : ℕ). HasValue y (B .s) (B .size) z) (mul-comm d c) (B .value) in
         let e = by-count x y (A .s) (B .s) (A .size) (B .size) (c * d) (mul-pos C D) (A .value) alike in
         let r = says (A .s) (B .s) (A .size) (B .size) (p * d) (n * d) (q * c) (k * c) (A .is) (B .is) in
         ((λ h. r .0 (subst T e h)), (λ h. subst T (sym e) (r .1 h)))

@@ -15,7 +15,8 @@ use Rattle.float_laws.specs.Roundings.{rounded-at}
 module _ (f : Format) (x y : Float) (p n q k : ℕ) (a : Diff x p n 1) (b : Diff y q k 1) where
   by-sign : (t : Bool) (D : ℕ) → 0 < D → HasValue y t D 1 → Rounded f (div f x y) (signed-by t p n) (signed-by t n p) D
   by-sign t D pos v =
-      rounded-at f (div f x y) _ _ _ (signed-by t p n) (signed-by t n p) D (omega arith) pos (same (signed-by t p n) (signed-by t n p) D)
+      rounded-at f (div f x y) _ _ _ (signed-by t p n) (signed-by t n p) D (omega arith) pos
+      (same (signed-by t p n) (signed-by t n p) D)
       (div-rounded f x y p n 1 t D 1 (zero-lt-suc 0) (zero-lt-suc 0) pos a v)
     where
       same : (p n d : ℕ) → p * 1 * d + n * (d * 1) ≡ p * (d * 1) + n * 1 * d

@@ -103,7 +103,8 @@ mul-count f (fin u m e) (fin v n g) s t X Y c d C D (p, h) (q, k) =
     ∙ ap (λ (z : ℕ). X * down e * z) k
     ∙ mul-mul-mul-comm X (down e) Y (down g))
 
-pub div-count : (f : Format) (x y : Float) (s t : Bool) (X Y c d : ℕ) → 0 < c → 0 < d → 0 < Y → HasValue x s X c → HasValue y t Y d
+pub div-count : (f : Format) (x y : Float) (s t : Bool) (X Y c d : ℕ) → 0 < c → 0 < d → 0 < Y → HasValue x s X c
+    → HasValue y t Y d
     → div f x y ≡ round f (unlike s t) (X * d) (Y * c)
 unfolding div
 div-count f nan y s t X Y c d C D P h k = absurd h

@@ -5,7 +5,20 @@
 -- half a unit.
 use mathlib.Core.Path.{_≡_, refl, sym, ap, _∙_, subst}
 use Prim.Native.Nat.{ℕ, zero, suc, _+_, _-_, _*_, _^_, _≤_, _<_}
-use native.Mathlib.Nat.{mul-pos, mul-le-mul-left, mul-le-mul-right, le-of-mul-le-mul-right, zero-lt-suc, zero-mul, le-trans, le-of-eq, lt-of-le-of-lt, not-le-of-lt, lt-of-not-le, pow-succ'}
+use native.Mathlib.Nat.{
+  mul-pos,
+  mul-le-mul-left,
+  mul-le-mul-right,
+  le-of-mul-le-mul-right,
+  zero-lt-suc,
+  zero-mul,
+  le-trans,
+  le-of-eq,
+  lt-of-le-of-lt,
+  not-le-of-lt,
+  lt-of-not-le,
+  pow-succ',
+}
 use native.Mathlib.Omega.{arith}
 use mathlib.Core.Bool.{Bool, true, false, not, cond, true≢false}
 use lib.Dec.{T, ltb, ltb→lt, nltb→le, lit≤}
@@ -176,7 +189,8 @@ module _ (f : Format) (r : Float) (P N c : ℕ) (h : Rounded f r P N c) (C : 0 <
           → T (le r y)
       go true fine end side =
           le-diff r y _ _ unit _ _ unit (pow-pos (low f)) (pow-pos (low f)) (r-is (fine tt)) y-is .1
-          (wide (ups (h .s) made) (downs (of-y .s) (of-y .count)) (ups (of-y .s) (of-y .count)) (downs (h .s) made) unit (side .0))
+          (wide (ups (h .s) made) (downs (of-y .s) (of-y .count)) (ups (of-y .s) (of-y .count)) (downs (h .s) made) unit
+          (side .0))
       go false fine end side = past (h .s) (side .1) (r-past (end tt)) (end tt)
 
 -- the same with the other sign
@@ -202,14 +216,16 @@ module _ (f : Format) (r : Float) (P N c : ℕ) (h : Rounded f r P N c) (C : 0 <
   -- if the exact value is at least y, so is r
   pub rounded-ge : q * c + N * d ≤ P * d + k * c → T (le y r)
   rounded-ge l =
-      le-neg r y (rounded-le f (neg r) N P c (rounded-neg f r P N c h) C (neg y) k q d D (neg-fits f y fit) (neg-diff y q k d v) (omega arith))
+      le-neg r y (rounded-le f (neg r) N P c (rounded-neg f r P N c h) C (neg y) k q d D (neg-fits f y fit) (neg-diff y q k d v)
+      (omega arith))
 
   -- and r is below y, or above it, only if the exact value is
   pub rounded-below : T (lt r y) → P * d + k * c < q * c + N * d
   rounded-below t = lt-of-not-le (λ (l : q * c + N * d ≤ P * d + k * c). not-both y r (rounded-ge l) t)
 
   pub rounded-above : T (lt y r) → q * c + N * d < P * d + k * c
-  rounded-above t = lt-of-not-le (λ (l : P * d + k * c ≤ q * c + N * d). not-both r y (rounded-le f r P N c h C y q k d D fit v l) t)
+  rounded-above t =
+      lt-of-not-le (λ (l : P * d + k * c ≤ q * c + N * d). not-both r y (rounded-le f r P N c h C y q k d D fit v l) t)
 
 -- ---- whole numbers are exact
 
@@ -293,9 +309,12 @@ rounded-near f r P N c k h C u l fine =
     }
   where
     both : (s : Bool) (X G L g B : ℕ) → SizeOf s X P N → g * (X * L) ≤ g * (G * c) + B → g * (G * c) ≤ g * (X * L) + B
-        → (g * (ups s G * c + N * L) ≤ g * (P * L + downs s G * c) + B) × (g * (P * L + downs s G * c) ≤ g * (ups s G * c + N * L) + B)
-    both true X G L g B x a b = let y : g * ((X + P) * L) ≡ g * (N * L) = ap (λ (z : ℕ). g * (z * L)) x in (omega arith, omega arith)
-    both false X G L g B x a b = let y : g * ((X + N) * L) ≡ g * (P * L) = ap (λ (z : ℕ). g * (z * L)) x in (omega arith, omega arith)
+        → (g * (ups s G * c + N * L) ≤ g * (P * L + downs s G * c) + B)
+        × (g * (P * L + downs s G * c) ≤ g * (ups s G * c + N * L) + B)
+    both true X G L g B x a b =
+        let y : g * ((X + P) * L) ≡ g * (N * L) = ap (λ (z : ℕ). g * (z * L)) x in (omega arith, omega arith)
+    both false X G L g B x a b =
+        let y : g * ((X + N) * L) ≡ g * (P * L) = ap (λ (z : ℕ). g * (z * L)) x in (omega arith, omega arith)
 
 -- the same by sign and size: the exact value has the sign s and the size A / c
 pub record Sized (L : ℕ) (r : Float) (s : Bool) (A c e g : ℕ) : Type 0 where

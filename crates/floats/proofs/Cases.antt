@@ -53,7 +53,8 @@ down-none (fin false (suc m) e) t h = absurd (true≢false (sym (is-true _ reach
   where
     reached : T (le (fin false 0 (pos 0)) (fin false (suc m) e))
     reached =
-        le-of-values (fin false 0 (pos 0)) (fin false (suc m) e) 0 1 (suc m * up e) (down e) (zero-lt-suc 0) (down-pos e) (refl, refl)
+        le-of-values (fin false 0 (pos 0)) (fin false (suc m) e) 0 1 (suc m * up e) (down e) (zero-lt-suc 0) (down-pos e)
+        (refl, refl)
         (refl, refl) (omega arith)
 
 pub root-number : (x : Float) → le (ofBits binary64 0) x ≡ true → (isNan x ≡ false) × (isNan (F64.sqrt x) ≡ false)

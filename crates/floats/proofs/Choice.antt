@@ -17,7 +17,8 @@ second-nan first x y h = subst (λ (v : Float). x ≡ choose first x v) (sym (di
     go (inf s) = refl
     go (fin s m e) = refl
 
-pub first-picked : (first : Bool) (x y : Float) → ne y y ≡ false → (isNan x ≡ true → first ≡ false) → first ≡ true → x ≡ choose first x y
+pub first-picked : (first : Bool) (x y : Float) → ne y y ≡ false → (isNan x ≡ true → first ≡ false) → first ≡ true
+    → x ≡ choose first x y
 first-picked first x y h no-nan t = sym (rw (number y h, t) (go (isNan x) refl))
   where
     go : (b : Bool) → isNan x ≡ b → cond b y x ≡ x

@@ -98,7 +98,8 @@ parts-low b e = rw e
 pub parts-high : (b : ℕ) → (b / 2 ^ 52 ≡ 0 → ⊥) → scaled (b % 2 ^ 52 + 2 ^ 52) (b / 2 ^ 52 + 1023) ≡ Root.parts b
 unfolding Root.parts
 parts-high b n =
-    sym (cond-no (eqb (b / 2 ^ 52) 0) (Root.raised (b % 2 ^ 52)) _ (not-T (eqb (b / 2 ^ 52) 0) (λ t. n (eqb→eq (b / 2 ^ 52) 0 t))))
+    sym (cond-no (eqb (b / 2 ^ 52) 0) (Root.raised (b % 2 ^ 52)) _
+    (not-T (eqb (b / 2 ^ 52) 0) (λ t. n (eqb→eq (b / 2 ^ 52) 0 t))))
 
 pub parts-is : (b : ℕ) → 0 < b → b < 0x7ff0_0000_0000_0000 → Parts (count binary64 (b / 2 ^ 52) (b % 2 ^ 52)) (Root.parts b)
 parts-is b P h = go (b / 2 ^ 52) (omega arith) (parts-low b) (parts-high b) (omega arith)
@@ -106,7 +107,8 @@ parts-is b P h = go (b / 2 ^ 52) (omega arith) (parts-low b) (parts-high b) (ome
     t : ℕ
     t = b % 2 ^ 52
 
-    go : (x : ℕ) → x < 2047 → (x ≡ 0 → Root.raised t ≡ Root.parts b) → ((x ≡ 0 → ⊥) → scaled (t + 2 ^ 52) (x + 1023) ≡ Root.parts b)
+    go : (x : ℕ) → x < 2047 → (x ≡ 0 → Root.raised t ≡ Root.parts b)
+        → ((x ≡ 0 → ⊥) → scaled (t + 2 ^ 52) (x + 1023) ≡ Root.parts b)
         → 0 < x * 2 ^ 52 + t → Parts (count binary64 x t) (Root.parts b)
     go zero X low high some = subst (Parts t) (low refl) (raised-parts t (omega arith) (omega arith))
     go (suc x) X low high some =
@@ -208,7 +210,8 @@ module _ (b : ℕ) (P : 0 < b) (h : b < 0x7ff0_0000_0000_0000) where
       let X-pos : 0 < X = some m (p .z) (p .y) X (p .value) (lt-of-lt-of-le (lit< tt) (p .digits-low)) in
       let scaled = same-root (low binary64) X m e (p .z) (p .y) g o (p .value) (p .place) (halves e (p .e-low)) refl in
       let of-root = rootOf-count binary64 (ofBits binary64 b) X X-pos value ∙ ap (rootAt binary64) scaled in
-      let rounded = rootAt-val binary64 (n * 2 ^ 53) q g r (j .0) (j .1) (no-tie n q) (fine w g (omega arith) (omega (arith, p .e-high))) in
+      let rounded =
+      rootAt-val binary64 (n * 2 ^ 53) q g r (j .0) (j .1) (no-tie n q) (fine w g (omega arith) (omega (arith, p .e-high))) in
       let found = subst (λ (k : Float). HasValue k false (w * 2 ^ g) (2 ^ low binary64)) (sym of-root) rounded in
       sym (toBits-count binary64 (rootOf binary64 (ofBits binary64 b)) false (w * 2 ^ g) found
       ∙ bits-at binary64 w g (omega arith) (omega arith))
@@ -241,7 +244,8 @@ module _ (b : ℕ) (P : 0 < b) (h : b < 0x7ff0_0000_0000_0000) where
       let k = known p is in
       let n = given p in
       let fits : n < 2 ^ 55 =
-      subst (λ (z : ℕ). z < 2 ^ 55) (sym (given-is p)) (handed-in (p .m) (p .e % 2) (k .digits-low) (k .digits-high) (omega arith) .1) in
+      subst (λ (z : ℕ). z < 2 ^ 55) (sym (given-is p)) (handed-in (p .m) (p .e % 2) (k .digits-low) (k .digits-high)
+      (omega arith) .1) in
       half r (Root.digits n) e (q-small n (Root.digits n) fits refl)
     where
       half : (r q : ℕ) → r ≡ (q + 1) / 2 → q < 2 ^ 54 → r ≤ 2 ^ 53

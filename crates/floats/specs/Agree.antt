@@ -31,7 +31,8 @@ fields-abs f zero t = odd-abs (prec f) t 0 (low f)
 fields-abs f (suc x) t =
     go (eqb (suc x) (ones f)) (eqb t 0) (odd (prec f) false (hid f + t) x (low f)) (odd-abs (prec f) (hid f + t) x (low f))
   where
-    go : (a b : Bool) (w : Float) → w ≡ F64.abs w → cond a (cond b (inf false) nan) w ≡ F64.abs (cond a (cond b (inf false) nan) w)
+    go : (a b : Bool) (w : Float) → w ≡ F64.abs w
+        → cond a (cond b (inf false) nan) w ≡ F64.abs (cond a (cond b (inf false) nan) w)
     go true true w e = refl
     go true false w e = refl
     go false b w e = e
@@ -66,9 +67,11 @@ quiet-is : ofBits binary64 Bits.quietNan ≡ nan
 unfolding ofBits
 quiet-is = refl
 
-pick-agrees : (first : Bool) (a b : ℕ) → ofBits binary64 (Bits.pick first a b) ≡ F64.choose first (ofBits binary64 a) (ofBits binary64 b)
+pick-agrees : (first : Bool) (a b : ℕ)
+    → ofBits binary64 (Bits.pick first a b) ≡ F64.choose first (ofBits binary64 a) (ofBits binary64 b)
 unfolding Bits.pick
-pick-agrees first a b = go first (nanBits binary64 a) (nanBits binary64 b) (sym (nanBits-is binary64 a)) (sym (nanBits-is binary64 b))
+pick-agrees first a b =
+    go first (nanBits binary64 a) (nanBits binary64 b) (sym (nanBits-is binary64 a)) (sym (nanBits-is binary64 b))
   where
     go : (first m n : Bool) → isNan (ofBits binary64 a) ≡ m → isNan (ofBits binary64 b) ≡ n
         → ofBits binary64 (cond m (cond n Bits.quietNan b) (cond n a (cond first a b)))

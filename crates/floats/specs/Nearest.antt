@@ -48,13 +48,15 @@ sqrt-nearest x X t v P = go binary64 t v
 pub nearest-unique : (f : Format) (X : ℕ) (r q : Float) → NearestRoot f X r → NearestRoot f X q → r ≡ q
 nearest-unique f X r q a b =
     let same : a .R ≡ b .R = le-antisymm (not-above a b) (not-above b a) in
-    count-unique f r q false (b .R) (a .fit) (b .fit) (subst (λ (z : ℕ). HasValue r false z (2 ^ low f)) same (a .value)) (b .value)
+    count-unique f r q false (b .R) (a .fit) (b .fit) (subst (λ (z : ℕ). HasValue r false z (2 ^ low f)) same (a .value))
+    (b .value)
   where
     clash : {x y : Float} (a : NearestRoot f X x) (b : NearestRoot f X y) → b .R < a .R → ⊥
     clash {x} {y} a b l =
         let from-a = a .below y (b .R) (b .fit) (b .value) l in
         let from-b = b .above x (a .R) (a .fit) (a .value) l in
-        lt-irrefl (4 * (X * 2 ^ low f)) (lt-trans from-b (subst (λ (z : ℕ). z * z < 4 * (X * 2 ^ low f)) (add-comm (b .R) (a .R)) from-a))
+        lt-irrefl (4 * (X * 2 ^ low f)) (lt-trans from-b (subst (λ (z : ℕ). z * z < 4 * (X * 2 ^ low f)) (add-comm (b .R) (a .R))
+        from-a))
 
     not-above : {x y : Float} (a : NearestRoot f X x) (b : NearestRoot f X y) → a .R ≤ b .R
     not-above a b = le-of-suc-le-suc (lt-of-not-le (clash a b))

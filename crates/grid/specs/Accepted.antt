@@ -81,7 +81,8 @@ not-minus m e num den h N =
     go (negℤ (pos (m * up e))) (k .0) h some
   where
     go : (z : ℤ) → gain z ≡ 0 → z *ℤ pos den ≡ pos (num * down e) → 0 < num * down e → ⊥
-    go (pos a) g h s = let f : a * den ≡ num * down e = ap gain h in let z : a * den ≡ 0 * den = ap (λ (x : ℕ). x * den) g in omega arith
+    go (pos a) g h s = let f : a * den ≡ num * down e = ap gain h in let z : a * den ≡ 0 * den = ap (λ (x : ℕ). x * den) g in
+        omega arith
     go (negsuc a) g h s =
         let f : gain (negℤ (pos (suc a * den))) ≡ num * down e = ap gain h in
         let k = gain-neg (pos (suc a * den)) in
@@ -96,7 +97,8 @@ most-value = subst (λ (x : Float). HasValue x false 1 2) (sym (powers .epsilon-
 epsilon-between : (e : Float) (num den : ℕ) → Epsilon e num den → Between Limit.epsilonLeast Limit.epsilonMost e
 epsilon-between e num den h = go e (h .value) (h .range .0) (h .range .1) (h .range .2)
   where
-    go : (e : Float) → Is e (pos num) den → 0 < den → den ≤ 1024 * num → 2 * num ≤ den → Between Limit.epsilonLeast Limit.epsilonMost e
+    go : (e : Float) → Is e (pos num) den → 0 < den → den ≤ 1024 * num → 2 * num ≤ den
+        → Between Limit.epsilonLeast Limit.epsilonMost e
     go nan v D l m = absurd v
     go (inf s) v D l m = absurd v
     go (fin true k x) v D l m = absurd (not-minus k x num den v (omega arith))

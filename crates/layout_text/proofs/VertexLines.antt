@@ -10,7 +10,19 @@ use lib.Ieee.{Float}
 use Rattle.layout_text.specs.Limits as limit
 use Rattle.layout_text.specs.Layout.{Vertex}
 use Rattle.layout_text.specs.Numbers.{coordinate, bulge, pathOf}
-use Rattle.layout_text.specs.Workings.Reader.{Got, nothing, got, Passed, stuck, over, passed, andThen, vertexOf, verticesOf, whole}
+use Rattle.layout_text.specs.Workings.Reader.{
+  Got,
+  nothing,
+  got,
+  Passed,
+  stuck,
+  over,
+  passed,
+  andThen,
+  vertexOf,
+  verticesOf,
+  whole,
+}
 use Rattle.layout_text.specs.Workings.Reader.{space, newline, wholeOf}
 use Rattle.layout_text.specs.Workings.Shown.{shownNumber, shownVertex, numbersOf, Filled}
 use Rattle.layout_text.proofs.Told.{no-number, a-number}

@@ -24,7 +24,8 @@ pub enum Reading {
 // Reads a text. It writes the vertices of the two paths, three numbers each, to the front of the two buffers; the rest of the
 // buffers is unchanged. If the text breaks its form or a buffer is too small, nothing is written.
 pub fn read_layout(text: &[u8], first: &mut [f64], second: &mut [f64]) -> Reading
-    ensures { λ r. ⌜ ReadLayout (now (text .entry)) r (now (first .entry)) (now (first .exit)) (now (second .entry)) (now (second .exit)) ⌝ }
+    ensures { λ r. ⌜
+        ReadLayout (now (text .entry)) r (now (first .entry)) (now (first .exit)) (now (second .entry)) (now (second .exit)) ⌝ }
 {
     if first.len() < limits::ROOM {
         return Reading::NoRoom;

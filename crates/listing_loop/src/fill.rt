@@ -48,7 +48,8 @@ pub fn fill(
     requires { ⌜ (room * 3 ≤ length (now indices)) × (room * 4 ≤ length (now points)) ⌝ }
     ensures { λ r. ⌜
         filling.Filled job write at
-        (Pages.page (Look.look (now (first .entry)) (now (second .entry)) (job .epsilon)) (job_of.left job «start_i» «start_j») (room - at))
+        (Pages.page (Look.look (now (first .entry)) (now (second .entry)) (job .epsilon)) (job_of.left job «start_i» «start_j»)
+        (room - at))
         r (now (indices .entry)) (now (indices .exit)) (now (points .entry)) (now (points .exit)) ⌝ }
 {
     let mut i = start_i;

@@ -5,5 +5,6 @@ use mathlib.Core.List.{List}
 use lib.Ieee.{Float}
 use Rattle.probe.specs.Numbers.{Given}
 
-pub given-one-result : {numbers old a b : List Float} {r s : ℕ} → Given numbers r old a → Given numbers s old b → (r ≡ s) × (a ≡ b)
+pub given-one-result : {numbers old a b : List Float} {r s : ℕ} → Given numbers r old a → Given numbers s old b
+    → (r ≡ s) × (a ≡ b)
 given-one-result p q = (p .told ∙ sym (q .told), p .holds ∙ sym (q .holds))

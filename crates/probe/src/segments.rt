@@ -11,7 +11,9 @@ use paths::segments;
 // The segment's first vertex, then its second, each x, y and bulge.
 #[no_mangle]
 pub extern "C" fn vjp_segment(path: &[f64], closed: bool, i: usize, out: &mut [f64]) -> usize
-    ensures { λ r. ⌜ Given (SegmentNumbers.segmentNumbers (Segments.segment (now (path .entry)) closed i)) r (now (out .entry)) (now (out .exit)) ⌝ }
+    ensures { λ r. ⌜
+        Given (SegmentNumbers.segmentNumbers (Segments.segment (now (path .entry)) closed i)) r
+        (now (out .entry)) (now (out .exit)) ⌝ }
 {
     out::segment(segments::segment(path, closed, i), out)
 }
@@ -20,7 +22,8 @@ pub extern "C" fn vjp_segment(path: &[f64], closed: bool, i: usize, out: &mut [f
 #[no_mangle]
 pub extern "C" fn vjp_view_segment(path: &[f64], closed: bool, i: usize, out: &mut [f64]) -> usize
     ensures { λ r. ⌜
-        Given (SegmentNumbers.segmentNumbers (View.segment (View.viewOf (path .entry) closed) i)) r (now (out .entry)) (now (out .exit)) ⌝ }
+        Given (SegmentNumbers.segmentNumbers (View.segment (View.viewOf (path .entry) closed) i)) r
+        (now (out .entry)) (now (out .exit)) ⌝ }
 {
     out::segment(viewed::segment(path, closed, i), out)
 }

@@ -1,6 +1,6 @@
 // Replays a recorded list of answers from standard input. It prints how many records the list has, and for how many our answer
-// differs. A line that is no record counts as a difference, and so does a record that is cut short. If a read or a write fails, it says
-// so in one line on standard error.
+// differs. A line that is no record counts as a difference, and so does a record that is cut short. If a read or a write fails,
+// it says so in one line on standard error.
 
 // What reading one record showed.
 enum Seen {

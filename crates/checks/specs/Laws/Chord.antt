@@ -54,7 +54,8 @@ finite-long x t f h =
     (plain (r .R) unit k) in
     le-not-lt Limit.chordLeast (F64.sqrt x) long
   where
-    sizes : (p n L : ℕ) → 0 < L → 1 * L + n * 2 ^ 80 ≤ p * 2 ^ 80 + 0 * L → (n < p) × (0 < p - n) × (L ≤ 2 ^ 40 * 2 ^ 40 * (p - n))
+    sizes : (p n L : ℕ) → 0 < L → 1 * L + n * 2 ^ 80 ≤ p * 2 ^ 80 + 0 * L
+        → (n < p) × (0 < p - n) × (L ≤ 2 ^ 40 * 2 ^ 40 * (p - n))
     sizes p n L Q h = (omega arith, omega arith, omega arith)
 
     plain : (R L : ℕ) → L ≤ 2 ^ 40 * R → 1 * L + 0 * 2 ^ 40 ≤ R * 2 ^ 40 + 0 * L

@@ -100,7 +100,8 @@ module _ (k q w z : Float) (K Q W Z : ℕ)
       let under : r .R ≤ W = r .most W held (le-of-lt (square h)) in
       let least = r .least 1 one (small Q unit unit-pos some) in
       rounded-ge binary64 (k ⊘ F64.sqrt q) _ _ (r .R * unit)
-      (div-rounded binary64 k (F64.sqrt q) K 0 unit false (r .R) unit unit-pos unit-pos least (own-diff k false K unit k-value) (r .value))
+      (div-rounded binary64 k (F64.sqrt q) K 0 unit false (r .R) unit unit-pos unit-pos least (own-diff k false K unit k-value)
+      (r .value))
       (mul-pos least unit-pos) z Z 0 unit unit-pos z-fits (own-diff z false Z unit z-value)
       (order K Z W (r .R) unit under (product g))
     where

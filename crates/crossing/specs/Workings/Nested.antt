@@ -114,7 +114,8 @@ infinite-s (inf true) g h = h
 infinite-s (inf false) g h = none-above g h
 infinite-s (fin t m x) g h = none-above g h
 
-module _ (radius1 : Float) (center1 : Vector2) (radius2 : Float) (center2 : Vector2) (eps : Float) (eps-fits : T (fits binary64 eps)) where
+module _ (radius1 : Float) (center1 : Vector2) (radius2 : Float) (center2 : Vector2) (eps : Float)
+    (eps-fits : T (fits binary64 eps)) where
   abbrev cv : Vector2
   cv = vector2.sub center2 center1
 
@@ -138,12 +139,14 @@ module _ (radius1 : Float) (center1 : Vector2) (radius2 : Float) (center2 : Vect
       let d2-fits = add-fits binary64 (cv .x ⊗ cv .x) (cv .y ⊗ cv .y) in
       let s-fits = sub-fits binary64 gap (eps ⊕ eps) in
       let fs : T (finite s) =
-      from-above (λ (z : Float). T (z ⊕ eps ≺ gap) → T (finite z)) f0 s zero-finite least (λ y. absurd (infinite-s eps gap y)) (λ f y. f) room in
+      from-above (λ (z : Float). T (z ⊕ eps ≺ gap) → T (finite z)) f0 s zero-finite least (λ y. absurd (infinite-s eps gap y))
+      (λ f y. f) room in
       let inside =
       root-within s d2 s-fits d2-fits fs least (and-l (d2 ≽ f0) (d2 ≺ s ⊗ s) square) (and-r (d2 ≽ f0) (d2 ≺ s ⊗ s) square) in
       let short =
       is-false (gap ≺ d ⊕ eps)
-      (sum-not-above d s eps gap (root-fits d2 d2-fits) s-fits eps-fits (abs-fits (radius1 ⊖ radius2) (sub-fits binary64 radius1 radius2)) fs
+      (sum-not-above d s eps gap (root-fits d2 d2-fits) s-fits eps-fits
+      (abs-fits (radius1 ⊖ radius2) (sub-fits binary64 radius1 radius2)) fs
       inside room) in
       no-meeting (fuzzyEqZeroEps d eps) (gap ≺ eps) (fuzzyLtEps d (radius1 ⊕ radius2) eps) (fuzzyGtEps d gap eps)
       (meeting radius1 center1 radius2 cv d2 d eps)

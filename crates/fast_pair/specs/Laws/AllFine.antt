@@ -96,7 +96,11 @@ of-segment v1 v2 owner h =
     let both = and-l ends long h in
     let vertex = and-l (pointFine v1 && bulge) (pointFine v2) both in
     record {
-      start = record { point = of-point v1 (and-l (pointFine v1) bulge vertex); bulge = of-bulge (v1 .bulge) (and-r (pointFine v1) bulge vertex) };
+      start =
+          record {
+            point = of-point v1 (and-l (pointFine v1) bulge vertex);
+            bulge = of-bulge (v1 .bulge) (and-r (pointFine v1) bulge vertex);
+          };
       end = of-point v2 (and-r (pointFine v1 && bulge) (pointFine v2) both);
       arc = of-arc v1 v2 owner (and-r ends long h);
     }

@@ -64,12 +64,14 @@ module _ (p0 p1 : Vector2) (line : Line) (point : Bool) (circle : ArcRadiusCente
       let z = s ⊗ more in
       let rest = (moderate k && moderate z) && ((z ⊗ g ≺ k) && (s ≺ z)) in
       let t = taken point (sound q w) w (and-l (g ≼ huge) rest h) in
-      let r = subst (λ (x : Float). T ((moderate k && moderate z) && ((z ⊗ x ≺ k) && (s ≺ z)))) (t .2) (and-r (g ≼ huge) rest h) in (
+      let r =
+      subst (λ (x : Float). T ((moderate k && moderate z) && ((z ⊗ x ≺ k) && (s ≺ z)))) (t .2) (and-r (g ≼ huge) rest h) in (
         t .0,
         line-far p0 p1 line (circle .radius) (circle .center .x) (circle .center .y) eps
             (far-line (line .c) k q w z s c-fits (add-fits binary64 (a ⊗ a) (b ⊗ b)) (guess-fits (F64.abs a ⊕ F64.abs b) q)
             (mul-fits binary64 s more) refl
-            (together (moderate k) (moderate q) (moderate w) (moderate z) (q ≺ w ⊗ w) (z ⊗ w ≺ k) (s ≺ z) (sure (sound q w) (t .1)) r)),
+            (together (moderate k) (moderate q) (moderate w) (moderate z) (q ≺ w ⊗ w) (z ⊗ w ≺ k) (s ≺ z)
+            (sure (sound q w) (t .1)) r)),
       )
 
 -- ---- the definition's line: its a and b are those behind the kept number, and its c is the one that the quick test computes
@@ -105,7 +107,8 @@ module _ (p0 p1 : Vector2) (circle : ArcRadiusCenter) (eps : Float) where
       (record { a = dy ⊘ dx; b = neg f1; c = q1 .y ⊖ (dy ⊘ dx) ⊗ q1 .x })
 
   by-slant : (vertical : Bool)
-      → T (beside (kept-by vertical .«center_x_or_root») (F64.abs (constant-by vertical (kept-by vertical .«radius_or_slope»))) (circle .radius ⊕ eps))
+      → T (beside (kept-by vertical .«center_x_or_root») (F64.abs (constant-by vertical (kept-by vertical .«radius_or_slope»)))
+      (circle .radius ⊕ eps))
       → (point ≡ false)
       × (lineMeets p0 p1 (line-by vertical) (circle .radius) (circle .center .x) (circle .center .y) eps ≡ NoIntersect)
   unfolding ofSlant

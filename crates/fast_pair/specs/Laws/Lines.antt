@@ -69,7 +69,8 @@ module _ (n d : Float) (s t : Bool) (X Y : ℕ) (n-fits : T (fits binary64 n)) (
     above : T (n ≻ d ⊗ c) → P + downs s X * e < ups s X * e + N
     above h =
         divided (downs s X) (ups s X) P N e unit
-        (rounded-below binary64 (d ⊗ c) P N (unit * e) product (mul-pos unit-pos E) n (ups s X) (downs s X) unit unit-pos n-fits n-is h)
+        (rounded-below binary64 (d ⊗ c) P N (unit * e) product (mul-pos unit-pos E) n (ups s X) (downs s X) unit unit-pos n-fits
+        n-is h)
 
     beneath : T (n ≺ d ⊗ c) → N + ups s X * e < downs s X * e + P
     beneath h =
@@ -80,7 +81,8 @@ module _ (n d : Float) (s t : Bool) (X Y : ℕ) (n-fits : T (fits binary64 n)) (
         turned : (a b c d : ℕ) → a + b < c + d → b + a < d + c
         turned a b c d h = omega arith
 
-  quotient : Rounded binary64 (n ⊘ d) (signed-by t (ups s X) (downs s X) * unit) (signed-by t (downs s X) (ups s X) * unit) (Y * unit)
+  quotient : Rounded binary64 (n ⊘ d) (signed-by t (ups s X) (downs s X) * unit) (signed-by t (downs s X) (ups s X) * unit)
+      (Y * unit)
   quotient = div-rounded binary64 n d (ups s X) (downs s X) unit t Y unit unit-pos unit-pos some n-is d-value
 
   -- at least 33/32 if the signs are equal, at most -1/32 if they differ
@@ -135,11 +137,13 @@ module _ (n d : Float) (s t : Bool) (X Y : ℕ) (n-fits : T (fits binary64 n)) (
 
   beyond : T (n ≻ d ⊗ afterEnd) → T (n ≻ d ⊗ beforeStart) → T (outside (n ⊘ d))
   beyond h g =
-      past false s t (above afterEnd 33 0 32 afterEnd-is (lit< tt) h) (above beforeStart 0 1 32 beforeStart-is (lit< tt) g) end start
+      past false s t (above afterEnd 33 0 32 afterEnd-is (lit< tt) h)
+      (above beforeStart 0 1 32 beforeStart-is (lit< tt) g) end start
 
   before : T (n ≺ d ⊗ afterEnd) → T (n ≺ d ⊗ beforeStart) → T (outside (n ⊘ d))
   before h g =
-      past true s t (beneath afterEnd 33 0 32 afterEnd-is (lit< tt) h) (beneath beforeStart 0 1 32 beforeStart-is (lit< tt) g) end start
+      past true s t (beneath afterEnd 33 0 32 afterEnd-is (lit< tt) h)
+      (beneath beforeStart 0 1 32 beforeStart-is (lit< tt) g) end start
 
   both : T (quotientOutside n d) → T (outside (n ⊘ d))
   unfolding quotientOutside
@@ -192,7 +196,8 @@ of-nan d h =
     either over false (λ y. below-nan (d ⊗ afterEnd) (and-l (d ⊗ afterEnd ≺ nan) (d ⊗ beforeStart ≺ nan) y)) (λ y. y) h
 
 -- a finite d that is not near zero is not zero
-not-zero : (d eps : Float) (s : Bool) (Y E : ℕ) → HasValue d s Y unit → HasValue eps false E unit → 0 < E → (F64.abs d ≺ eps) ≡ false → 0 < Y
+not-zero : (d eps : Float) (s : Bool) (Y E : ℕ) → HasValue d s Y unit → HasValue eps false E unit → 0 < E
+    → (F64.abs d ≺ eps) ≡ false → 0 < Y
 unfolding F64.abs
 not-zero nan eps s Y E v w h far = absurd v
 not-zero (inf t) eps s Y E v w h far = absurd v
@@ -201,7 +206,8 @@ not-zero (fin t m e) eps s Y E v w h far =
   where
     small : Y ≤ 0 → T (fin false m e ≺ eps)
     small y =
-        lt-over (fin false m e) eps Y 0 E 0 unit unit-pos (own-diff (fin false m e) false Y unit (refl, v .1)) (own-diff eps false E unit w) .1
+        lt-over (fin false m e) eps Y 0 E 0 unit unit-pos (own-diff (fin false m e) false Y unit (refl, v .1))
+        (own-diff eps false E unit w) .1
         (omega arith)
 
 pub outside-told : (n d eps : Float) (E : ℕ) → T (fits binary64 n) → T (fits binary64 d) → HasValue eps false E unit → 0 < E

@@ -34,7 +34,8 @@ unfolding circleOf ofArc vector2.new
 circle-kept v1 v2 = refl
 
 -- so the circle kept of an arc is the arc's own
-pub circle-given : (v1 v2 : PlineVertex) (v : Kept) (circle : ArcRadiusCenter) (eps : Float) → v ≡ keptOf v1 v2 eps → circle ≡ circleOf v
+pub circle-given : (v1 v2 : PlineVertex) (v : Kept) (circle : ArcRadiusCenter) (eps : Float) → v ≡ keptOf v1 v2 eps
+    → circle ≡ circleOf v
     → OfArc v1 v2 circle
 unfolding keptOf
 circle-given v1 v2 v circle eps e f arc = f ∙ ap circleOf (e ∙ arc-kept (bulgeIsZero v1) _ _ arc) ∙ circle-kept v1 v2
@@ -60,7 +61,8 @@ apart-arcs v1 v2 u1 u2 eps e-fits h =
     (circles-nested (c .radius) (c .center) (d .radius) (d .center) eps e-fits))
 
 beside-arc : (p0 p1 : Vector2) (a1 a2 : PlineVertex) (b : Bool) (eps : Float)
-    → T (lineBeside p0 p1 (ofLine p0 p1 eps) (segArcRadiusAndCenter a1 a2) eps) → processLineArcIntr p0 p1 a1 a2 b eps ≡ NoIntersect
+    → T (lineBeside p0 p1 (ofLine p0 p1 eps) (segArcRadiusAndCenter a1 a2) eps)
+    → processLineArcIntr p0 p1 a1 a2 b eps ≡ NoIntersect
 unfolding processLineArcIntr
 beside-arc p0 p1 a1 a2 b eps h =
     ap (λ (r : LineCircleIntr). lineArcOf r p0 p1 (pos a1) (ofSegment a1 a2 (segArcRadiusAndCenter a1 a2) eps) b eps)
@@ -76,8 +78,10 @@ module _ (v1 v2 u1 u2 : PlineVertex) (eps : Float) (e-fits : T (fits binary64 ep
     where
       go : (a b : Bool)
           → T (cond a
-          (cond b (linesApart (pos v1) (pos v2) (pos u1) (pos u2) eps) (lineBeside (pos v1) (pos v2) (kept a v1 v2) (circleOf (kept b u1 u2)) eps))
-          (cond b (lineBeside (pos u1) (pos u2) (kept b u1 u2) (circleOf (kept a v1 v2)) eps) (circlesApart (circleOf (kept a v1 v2)) (circleOf (kept b u1 u2)) eps)))
+          (cond b (linesApart (pos v1) (pos v2) (pos u1) (pos u2) eps)
+          (lineBeside (pos v1) (pos v2) (kept a v1 v2) (circleOf (kept b u1 u2)) eps))
+          (cond b (lineBeside (pos u1) (pos u2) (kept b u1 u2) (circleOf (kept a v1 v2)) eps)
+          (circlesApart (circleOf (kept a v1 v2)) (circleOf (kept b u1 u2)) eps)))
           → cond (a && b)
           (processLineLineIntr (pos v1) (pos v2) (pos u1) (pos u2) eps)
           (cond a
@@ -89,10 +93,12 @@ module _ (v1 v2 u1 u2 : PlineVertex) (eps : Float) (e-fits : T (fits binary64 ep
       go true true t = apart-lines (pos v1) (pos v2) (pos u1) (pos u2) eps e-fits t
       go true false t =
           beside-arc (pos v1) (pos v2) u1 u2 false eps
-          (subst (λ (c : ArcRadiusCenter). T (lineBeside (pos v1) (pos v2) (ofLine (pos v1) (pos v2) eps) c eps)) (circle-kept u1 u2) t)
+          (subst (λ (c : ArcRadiusCenter). T (lineBeside (pos v1) (pos v2) (ofLine (pos v1) (pos v2) eps) c eps))
+          (circle-kept u1 u2) t)
       go false true t =
           beside-arc (pos u1) (pos u2) v1 v2 true eps
-          (subst (λ (c : ArcRadiusCenter). T (lineBeside (pos u1) (pos u2) (ofLine (pos u1) (pos u2) eps) c eps)) (circle-kept v1 v2) t)
+          (subst (λ (c : ArcRadiusCenter). T (lineBeside (pos u1) (pos u2) (ofLine (pos u1) (pos u2) eps) c eps))
+          (circle-kept v1 v2) t)
       go false false t =
           apart-arcs v1 v2 u1 u2 eps e-fits
           (subst (λ (c : ArcRadiusCenter). T (circlesApart c (segArcRadiusAndCenter u1 u2) eps)) (circle-kept v1 v2)
@@ -103,7 +109,8 @@ pub apart-line-pair : (v1 v2 u1 u2 : PlineVertex) (eps : Float) → T (fits bina
     → plineSeg v1 v2 u1 u2 eps ≡ NoIntersect
 unfolding linePairApart plineSeg
 apart-line-pair v1 v2 u1 u2 eps e-fits h =
-    go (bulgeIsZero v1) (bulgeIsZero u1) (linesApart (pos v1) (pos v2) (pos u1) (pos u2) eps) _ _ h (apart-lines (pos v1) (pos v2) (pos u1) (pos u2) eps e-fits)
+    go (bulgeIsZero v1) (bulgeIsZero u1) (linesApart (pos v1) (pos v2) (pos u1) (pos u2) eps) _ _ h
+    (apart-lines (pos v1) (pos v2) (pos u1) (pos u2) eps e-fits)
   where
     go : (a b l : Bool) (x y : PlineSegIntr) → T (cond (not a) false (cond (not b) false l)) → (T l → x ≡ NoIntersect)
         → cond (a && b) x y ≡ NoIntersect

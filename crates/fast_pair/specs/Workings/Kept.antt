@@ -36,7 +36,11 @@ unfoldable pub ofSlant : Float → Float → Bool → Kept
 ofSlant a b point =
     let q = a ⊗ a ⊕ b ⊗ b in
     let w = guess (F64.abs a ⊕ F64.abs b) q in
-    record { «radius_or_slope» = a; «center_x_or_root» = cond point noGuess (cond (sound q w) w noGuess); «center_y_or_zero» = f0 }
+    record {
+      «radius_or_slope» = a;
+      «center_x_or_root» = cond point noGuess (cond (sound q w) w noGuess);
+      «center_y_or_zero» = f0;
+    }
 
 unfoldable pub ofLine : Vector2 → Vector2 → Float → Kept
 ofLine p0 p1 eps =
@@ -54,4 +58,5 @@ unfoldable pub keptOf : PlineVertex → PlineVertex → Float → Kept
 keptOf v1 v2 eps = cond (bulgeIsZero v1) (ofLine (pos v1) (pos v2) eps) (ofArc v1 v2)
 
 unfoldable pub circleOf : Kept → ArcRadiusCenter
-circleOf kept = record { radius = kept .«radius_or_slope»; center = vector2.new (kept .«center_x_or_root») (kept .«center_y_or_zero») }
+circleOf kept =
+    record { radius = kept .«radius_or_slope»; center = vector2.new (kept .«center_x_or_root») (kept .«center_y_or_zero») }

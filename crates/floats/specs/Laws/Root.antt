@@ -37,12 +37,14 @@ use Rattle.floats.specs.Laws.Isqrt.{IsRoot, isqrt-is, sq-lt, sq-le}
 use Rattle.floats.specs.Laws.RootAt.{rootAt-is, sticky-le}
 
 -- ---- the root by the count
-pub rootOf-count : (f : Format) (x : Float) (X : ℕ) → 0 < X → HasValue x false X (2 ^ low f) → rootOf f x ≡ rootAt f (X * 2 ^ (low f + 2))
+pub rootOf-count : (f : Format) (x : Float) (X : ℕ) → 0 < X → HasValue x false X (2 ^ low f)
+    → rootOf f x ≡ rootAt f (X * 2 ^ (low f + 2))
 unfolding rootOf
 rootOf-count f nan X P h = absurd h
 rootOf-count f (inf t) X P h = absurd h
 rootOf-count f (fin true m e) X P h = absurd (true≢false (h .0))
-rootOf-count f (fin false zero e) X P h = absurd (none (down e) (down-pos e) (ap (λ (z : ℕ). z * 2 ^ low f) (sym (zero-mul (up e))) ∙ h .1))
+rootOf-count f (fin false zero e) X P h =
+    absurd (none (down e) (down-pos e) (ap (λ (z : ℕ). z * 2 ^ low f) (sym (zero-mul (up e))) ∙ h .1))
   where
     none : (d : ℕ) → 0 < d → 0 * 2 ^ low f ≡ X * d → ⊥
     none d p e = let q : 0 < X * d = mul-pos P p in omega arith
@@ -136,7 +138,8 @@ held-root p (suc zero) x S X h =
     few zero e = pow-pos p
     few (suc s) e = omega arith
 held-root p (suc (suc k)) x S X h =
-    let half = even-root S (2 * (x * 2 ^ k)) (h ∙ quarter (2 ^ k) (2 ^ suc k) (2 ^ suc (suc k)) (pow-succ' 2 k) (pow-succ' 2 (suc k))) in
+    let half =
+    even-root S (2 * (x * 2 ^ k)) (h ∙ quarter (2 ^ k) (2 ^ suc k) (2 ^ suc (suc k)) (pow-succ' 2 k) (pow-succ' 2 (suc k))) in
     let less = held-root p k x (S / 2) X (omega (arith, half .1)) in
     let next = pow-succ' 2 (less .j) in
     record {
@@ -158,11 +161,13 @@ module _ (p l X R : ℕ) (h : Held p X) (c : Close p (4 * (X * 2 ^ l)) R) where
   tie-held S e =
       let half = even-root S (2 * (X * 2 ^ l)) (e ∙ omega arith) in
       let few : X * 2 ^ l ≡ h .y * 2 ^ (h .j + l) =
-      ap (λ (z : ℕ). z * 2 ^ l) (h .is) ∙ mul-assoc (h .y) (2 ^ h .j) (2 ^ l) ∙ ap (λ (z : ℕ). h .y * z) (sym (pow-add 2 (h .j) l)) in
+      ap (λ (z : ℕ). z * 2 ^ l) (h .is) ∙ mul-assoc (h .y) (2 ^ h .j) (2 ^ l)
+      ∙ ap (λ (z : ℕ). h .y * z) (sym (pow-add 2 (h .j) l)) in
       (half .0, held-root p (h .j + l) (h .y) (S / 2) (h .few) (omega (arith, half .1)))
 
   -- the halfway point M fits: it lies strictly between the two, and its square is the number, so R is not the nearest
-  halfway : (S : ℕ) → S * S ≡ 4 * (X * 2 ^ l) → (S ≡ 2 * (S / 2)) × Held p (S / 2) × (2 * (S / 2) * (2 * (S / 2)) ≡ 4 * (X * 2 ^ l))
+  halfway : (S : ℕ) → S * S ≡ 4 * (X * 2 ^ l)
+      → (S ≡ 2 * (S / 2)) × Held p (S / 2) × (2 * (S / 2) * (2 * (S / 2)) ≡ 4 * (X * 2 ^ l))
   halfway S e = let t = tie-held S e in (t .0, t .1, sym (ap (λ (z : ℕ). z * z) (t .0)) ∙ e)
 
   no-tie-below : (Y : ℕ) → Y < R → (Y + R) * (Y + R) ≡ 4 * (X * 2 ^ l) → ⊥
@@ -202,7 +207,8 @@ root-under f X h =
     let big : N < K * K = lt-of-lt-of-le (mul-lt-mul-of-pos-right h (pow-pos (low f + 2))) places in
     let q : Q < K = sq-lt Q K (lt-of-le-of-lt (isqrt-is N .low) big) in
     let most = fit Q s (2 ^ k) K (2 ^ low f) (2 ^ (low f + 2)) (pow-succ' 2 k) (pow-add 2 (low f) 2) q (sticky-le N Q) in
-    lt-of-le-of-lt (grid-le f (2 * Q + s) (2 ^ (low f + 2)) (2 ^ k) (pow-pos (low f + 2)) (held-pow f k) most) (pow-lt (last (low f) (emax f)))
+    lt-of-le-of-lt (grid-le f (2 * Q + s) (2 ^ (low f + 2)) (2 ^ k) (pow-pos (low f + 2)) (held-pow f k) most)
+    (pow-lt (last (low f) (emax f)))
   where
     one : (f : Format) → 1 ≤ emax f
     one binary32 = omega arith
@@ -233,10 +239,12 @@ found f x X P h held v =
     let N = X * 2 ^ (low f + 2) in
     let four : N ≡ 4 * (X * 2 ^ low f) = ap (λ (z : ℕ). X * z) (pow-add 2 (low f) 2) ∙ quad X (2 ^ low f) in
     let c = subst (λ (z : ℕ). Close (prec f) z (made f N)) four (close f N) in
-    let is : rootOf f x ≡ round f false (2 * isqrt N + sticky N (isqrt N)) (2 ^ (low f + 2)) = rootOf-count f x X P v ∙ rootAt-is f N in
+    let is : rootOf f x ≡ round f false (2 * isqrt N + sticky N (isqrt N)) (2 ^ (low f + 2)) =
+    rootOf-count f x X P v ∙ rootAt-is f N in
     record {
       R = made f N;
-      value = subst (λ (r : Float). HasValue r false (made f N) (2 ^ low f)) (sym is) (round-count f false _ _ (root-under f X h));
+      value =
+          subst (λ (r : Float). HasValue r false (made f N) (2 ^ low f)) (sym is) (round-count f false _ _ (root-under f X h));
       below = below-strict (prec f) (low f) X (made f N) held c;
       above = above-strict (prec f) (low f) X (made f N) held c;
     }

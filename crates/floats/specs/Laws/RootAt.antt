@@ -79,7 +79,8 @@ half-up q = go (q % 2) refl
 
 -- a / (4 * G) to the nearest whole number is w
 module _ (a G Q s q w : ℕ) (is : a ≡ 2 * Q + s) (S : s ≤ 1) (lo : q * G ≤ Q) (hi : Q < (q + 1) * G) where
-  around : 0 < G → (q ≡ 2 * w) ⊎ ((q + 1 ≡ 2 * w) × (2 * (q * G) < 2 * Q + s)) → (4 * (w * G) < a + 2 * G) × (a < 4 * (w * G) + 2 * G)
+  around : 0 < G → (q ≡ 2 * w) ⊎ ((q + 1 ≡ 2 * w) × (2 * (q * G) < 2 * Q + s))
+      → (4 * (w * G) < a + 2 * G) × (a < 4 * (w * G) + 2 * G)
   around P (inl x) = let y : q * G ≡ 2 * w * G = ap (λ (z : ℕ). z * G) x in (omega arith, omega arith)
   around P (inr (x, k)) = let y : (q + 1) * G ≡ 2 * w * G = ap (λ (z : ℕ). z * G) x in (omega arith, omega arith)
 
@@ -103,7 +104,8 @@ size-quarter a l d h L e lo hi =
     size-exact h (a * l / d) (le-div-iff-mul-le D .1 least) (div-lt-iff-lt-mul D .1 most)
 
 -- p digits and g places, of a number whose quarter has q's leading digits
-size-root : (p g q Q s l d : ℕ) → 2 ≤ p → 0 < l → d ≡ l * 4 → 2 ^ p ≤ q → q < 2 ^ suc p → s ≤ 1 → q * 2 ^ g ≤ Q → Q < (q + 1) * 2 ^ g
+size-root : (p g q Q s l d : ℕ) → 2 ≤ p → 0 < l → d ≡ l * 4 → 2 ^ p ≤ q → q < 2 ^ suc p → s ≤ 1 → q * 2 ^ g ≤ Q
+    → Q < (q + 1) * 2 ^ g
     → size ((2 * Q + s) * l / d) ≡ p + g
 size-root (suc o) g q Q s l d P L e lo hi S x y =
     let between = at (2 ^ o) (2 ^ g) (2 ^ (o + g)) (omega arith) (omega arith) (pow-add 2 o g) in
@@ -132,7 +134,8 @@ module _ (f : Format) (n q g : ℕ) (r : IsRoot n q) (lo : 2 ^ prec f ≤ q) (hi
       let least = lower n q G Q r (isqrt-is N) in
       let most = upper n q G Q r (isqrt-is N) P in
       let S = sticky-le N Q in
-      let digits : size (a * l / d) ≡ prec f + g = size-root (prec f) g q Q s l d (two f) (pow-pos (low f)) e lo hi S least most in
+      let digits : size (a * l / d) ≡ prec f + g =
+      size-root (prec f) g q Q s l d (two f) (pow-pos (low f)) e lo hi S least most in
       let place : drop (prec f) (a * l) d ≡ g = ap (λ (t : ℕ). t - prec f) digits ∙ front (prec f) in
       let side = last w (half-up q) (apart n q G Q r (isqrt-is N) P) in
       let rounded : closest (a * l) (d * G) ≡ w = near a G Q s q w refl S least most l d (pow-pos (low f)) P e side in

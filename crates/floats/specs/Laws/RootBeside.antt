@@ -53,8 +53,10 @@ unfolding F64.sqrt
 root-of-zero nan n c C h = absurd h
 root-of-zero (inf s) n c C h = absurd h
 root-of-zero (fin s zero e) n c C h = refl
-root-of-zero (fin true (suc m) e) n c C h = absurd (none (suc m * up e * c) (n * down e) (mul-pos (mul-pos (zero-lt-suc m) (up-pos e)) C) h)
-root-of-zero (fin false (suc m) e) n c C h = absurd (none (suc m * up e * c) (n * down e) (mul-pos (mul-pos (zero-lt-suc m) (up-pos e)) C) h)
+root-of-zero (fin true (suc m) e) n c C h =
+    absurd (none (suc m * up e * c) (n * down e) (mul-pos (mul-pos (zero-lt-suc m) (up-pos e)) C) h)
+root-of-zero (fin false (suc m) e) n c C h =
+    absurd (none (suc m * up e * c) (n * down e) (mul-pos (mul-pos (zero-lt-suc m) (up-pos e)) C) h)
 
 -- ---- both finite: s is S units with any sign, and x is (p - n) units
 module _ (s x : Float) (t : Bool) (S p n : ℕ) (held : Held 53 S) (s-value : HasValue s t S unit)
@@ -65,7 +67,8 @@ module _ (s x : Float) (t : Bool) (S p n : ℕ) (held : Held 53 S) (s-value : Ha
   -- the square has no sign
   square : Rounded binary64 (s ⊗ s) (S * S) 0 (unit * unit)
   square =
-      rounded-at binary64 (s ⊗ s) _ _ (unit * unit) (S * S) 0 (unit * unit) (mul-pos unit-pos unit-pos) (mul-pos unit-pos unit-pos)
+      rounded-at binary64 (s ⊗ s) _ _ (unit * unit) (S * S) 0 (unit * unit) (mul-pos unit-pos unit-pos)
+      (mul-pos unit-pos unit-pos)
       (plain t (unit * unit))
       (mul-rounded binary64 s s (ups t S) (downs t S) (ups t S) (downs t S) unit unit unit-pos unit-pos s-is s-is)
     where
@@ -77,12 +80,16 @@ module _ (s x : Float) (t : Bool) (S p n : ℕ) (held : Held 53 S) (s-value : Ha
   -- the exact square, from the rounded one
   below : T (s ⊗ s ≺ x) → S * S * unit + n * (unit * unit) < p * (unit * unit)
   below h =
-      let l = rounded-below binary64 (s ⊗ s) (S * S) 0 (unit * unit) square (mul-pos unit-pos unit-pos) x p n unit unit-pos x-fits x-is h in
+      let l =
+      rounded-below binary64 (s ⊗ s) (S * S) 0 (unit * unit) square (mul-pos unit-pos unit-pos) x p n unit unit-pos x-fits
+      x-is h in
       omega arith
 
   above : T (x ≺ s ⊗ s) → p * (unit * unit) < S * S * unit + n * (unit * unit)
   above h =
-      let l = rounded-above binary64 (s ⊗ s) (S * S) 0 (unit * unit) square (mul-pos unit-pos unit-pos) x p n unit unit-pos x-fits x-is h in
+      let l =
+      rounded-above binary64 (s ⊗ s) (S * S) 0 (unit * unit) square (mul-pos unit-pos unit-pos) x p n unit unit-pos x-fits
+      x-is h in
       omega arith
 
   beyond-finite : T (s ⊗ s ≺ x) → Beyond s (F64.sqrt x)
@@ -178,7 +185,8 @@ root-beyond s x s-fits x-fits lo h =
     finite-s : T (finite s) → T (s ⊗ s ≺ x) → Beyond s (F64.sqrt x)
     finite-s f y = above-any (λ (z : Float). Beyond s (F64.sqrt z)) (s ⊗ s) x y (below-inf s f) (λ g. finite-both f g y)
 
-pub root-within : (s x : Float) → T (fits binary64 s) → T (fits binary64 x) → T (finite s) → T (s ≽ f0) → T (x ≽ f0) → T (x ≺ s ⊗ s)
+pub root-within : (s x : Float) → T (fits binary64 s) → T (fits binary64 x) → T (finite s) → T (s ≽ f0) → T (x ≽ f0)
+    → T (x ≺ s ⊗ s)
     → T (le (F64.sqrt x) s)
 root-within s x s-fits x-fits f lo least h =
     let c = counted binary64 s f s-fits in

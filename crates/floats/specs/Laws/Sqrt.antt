@@ -5,7 +5,28 @@
 use mathlib.Core.Path.{_≡_, refl, sym, ap, _∙_, subst}
 use mathlib.Core.Logic.{_⊎_, inl, inr}
 use Prim.Native.Nat.{ℕ, zero, suc, _+_, _-_, _*_, _^_, _≤_, _<_}
-use native.Mathlib.Nat.{mul-pos, mul-one, le-of-mul-le-mul-right, lt-of-mul-lt-mul-right, zero-lt-suc, mul-le-mul, mul-le-mul-left, mul-le-mul-right, mul-lt-mul-of-pos-right, mul-assoc, one-mul, eq-or-lt-of-le, le-trans, le-of-eq, le-of-lt, le-of-suc-le-suc, lt-irrefl, lt-of-le-of-lt, lt-of-lt-of-le, lt-of-not-le}
+use native.Mathlib.Nat.{
+  mul-pos,
+  mul-one,
+  le-of-mul-le-mul-right,
+  lt-of-mul-lt-mul-right,
+  zero-lt-suc,
+  mul-le-mul,
+  mul-le-mul-left,
+  mul-le-mul-right,
+  mul-lt-mul-of-pos-right,
+  mul-assoc,
+  one-mul,
+  eq-or-lt-of-le,
+  le-trans,
+  le-of-eq,
+  le-of-lt,
+  le-of-suc-le-suc,
+  lt-irrefl,
+  lt-of-le-of-lt,
+  lt-of-lt-of-le,
+  lt-of-not-le,
+}
 use native.Mathlib.Omega.{arith}
 use mathlib.Core.Bool.{Bool, true, false, not}
 use lib.Dec.{T, leb, leb→le, nleb→lt, lit≤}
@@ -68,7 +89,8 @@ placed p R P h l = go (leb (size R) p) (leb→le (size R) p) (nleb→lt (size R)
         le-of-suc-le-suc (lt-of-not-le (λ (s : suc (h .j) ≤ j).
         lt-irrefl R (lt-of-lt-of-le own (le-trans (pow-mono (up-to p (h .j) j s P)) wide)))) in
         let w = h .y * 2 ^ (h .j - j) in
-        let power : 2 ^ (h .j - j) * 2 ^ j ≡ 2 ^ h .j = sym (pow-add 2 (h .j - j) j) ∙ ap (λ (z : ℕ). 2 ^ z) (back (h .j) j far) in
+        let power : 2 ^ (h .j - j) * 2 ^ j ≡ 2 ^ h .j =
+        sym (pow-add 2 (h .j - j) j) ∙ ap (λ (z : ℕ). 2 ^ z) (back (h .j) j far) in
         let split : w * 2 ^ j ≡ R =
         mul-assoc (h .y) (2 ^ (h .j - j)) (2 ^ j) ∙ ap (λ (z : ℕ). h .y * z) power ∙ sym (h .is) in
         let wide' : 2 ^ (p - 1) * 2 ^ j ≤ w * 2 ^ j =
@@ -162,7 +184,8 @@ module _ (f : Format) (X : ℕ) (some : 0 < X) (r : Float) (fit : T (fits f r)) 
       let place : H * u ≤ h .R = le-trans (mul-le-mul-right u (d .least)) (le-of-eq (sym (d .is))) in
       let upper = h .above ((d .w + 1) * u) (held-next (prec f) (d .w) (d .j) (two f) (d .few))
       (more ((d .w + 1) * u) u (h .R) U next-is) in
-      let lower = h .below ((d .w - 1) * u) (held-last (prec f) (d .w) (d .j) (d .few)) (less ((d .w - 1) * u) u (h .R) U last-is) in
+      let lower =
+      h .below ((d .w - 1) * u) (held-last (prec f) (d .w) (d .j) (d .few)) (less ((d .w - 1) * u) u (h .R) U last-is) in
       let beyond : 4 * N < (h .R + u + h .R) * (h .R + u + h .R) =
       subst (λ (z : ℕ). 4 * N < (z + h .R) * (z + h .R)) next-is upper in (
         near-above (2 ^ prec f) H (h .R) u N (twice f) place beyond,
@@ -243,8 +266,10 @@ root-of f x A c t P C v =
       after = λ Y y l. beyond ((Y + h .R) * (Y + h .R)) (A * (L * L)) (k .X * L) N (h .above Y y l);
       least = λ Y y l. least-at f (k .X) (rootOf f x) h Y y (cut (Y * Y) (k .X * L) (le-trans l (le-of-eq N)));
       most = λ Y y l. most-at f (k .X) (rootOf f x) h Y y (cut (k .X * L) (Y * Y) (le-trans (le-of-eq (sym N)) l));
-      above = up (2 ^ prec f * 2 ^ prec f) ((2 ^ prec f + 1) * (2 ^ prec f + 1)) (A * (L * L)) (k .X * L) (h .R * h .R) N (near .0);
-      below = dn (2 ^ prec f * 2 ^ prec f) ((2 ^ prec f + 2) * (2 ^ prec f + 2)) (A * (L * L)) (k .X * L) (h .R * h .R) N (near .1);
+      above =
+          up (2 ^ prec f * 2 ^ prec f) ((2 ^ prec f + 1) * (2 ^ prec f + 1)) (A * (L * L)) (k .X * L) (h .R * h .R) N (near .0);
+      below =
+          dn (2 ^ prec f * 2 ^ prec f) ((2 ^ prec f + 2) * (2 ^ prec f + 2)) (A * (L * L)) (k .X * L) (h .R * h .R) N (near .1);
     }
   where
     over : (A X L : ℕ) → A * L ≡ X * c → A * (L * L) ≡ X * L * c
@@ -278,13 +303,15 @@ root-zero f (fin t zero e) s c d C h = (h .0, none (up e) (down e))
   where
     none : (u w : ℕ) → 0 * u * d ≡ 0 * w
     none u w = omega arith
-root-zero f (fin t (suc m) e) s c d C h = absurd (never (suc m * up e * c) (down e) (mul-pos (mul-pos (zero-lt-suc m) (up-pos e)) C) (h .1))
+root-zero f (fin t (suc m) e) s c d C h =
+    absurd (never (suc m * up e * c) (down e) (mul-pos (mul-pos (zero-lt-suc m) (up-pos e)) C) (h .1))
   where
     never : (a w : ℕ) → 0 < a → a ≡ 0 * w → ⊥
     never a w l e = omega arith
 
 -- ---- magnitudes: a number of at most 2 ^ K units has a root of at most 2 ^ J, if K + low is at most twice J
-pub root-within : (f : Format) (x : Float) (X K J : ℕ) → T (fits f x) → HasValue x false X (2 ^ low f) → X ≤ 2 ^ K → K + low f ≤ J + J
+pub root-within : (f : Format) (x : Float) (X K J : ℕ) → T (fits f x) → HasValue x false X (2 ^ low f) → X ≤ 2 ^ K
+    → K + low f ≤ J + J
     → Within f J (rootOf f x)
 root-within f x X K J t v l m = go X v l
   where

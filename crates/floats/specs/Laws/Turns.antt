@@ -48,7 +48,8 @@ module _ (n k : ℕ) (s : Turning) (t : Turn n (suc k) s) where
         → Turn n k (record { rest = (s .rest - step) + (s .rest - step); root = s .root + half; unit = half })
     taken l =
         let back : s .rest ≡ (s .rest - step) + (s .root + s .root + half) = omega arith in
-        let used : s .rest * (2 * half) ≡ ((s .rest - step) + (s .root + s .root + half)) * (2 * half) = ap (λ (x : ℕ). x * (2 * half)) back in
+        let used : s .rest * (2 * half) ≡ ((s .rest - step) + (s .root + s .root + half)) * (2 * half) =
+        ap (λ (x : ℕ). x * (2 * half)) back in
         record {
           total = omega (arith, t .total, left);
           power = power;

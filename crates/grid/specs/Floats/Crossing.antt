@@ -45,7 +45,8 @@ Inside P N D = (N ≤ P) × (P ≤ N + D)
 
 -- r is the answer for the parameters t1 on a segment with the square s1, and t2 on one with the square s2
 pub record Crossed (r : LineLineIntr) (s1 s2 num den : ℕ) (P1 N1 D1 P2 N2 D2 : ℕ) (t1 t2 : Float) : Type 0 where
-  pub answer : ((r ≡ TrueIntersect t1 t2) × Reaches s1 num den P1 N1 D1 × Reaches s2 num den P2 N2 D2) ⊎ (r ≡ FalseIntersect t1 t2)
+  pub answer : ((r ≡ TrueIntersect t1 t2) × Reaches s1 num den P1 N1 D1 × Reaches s2 num den P2 N2 D2)
+      ⊎ (r ≡ FalseIntersect t1 t2)
   pub inside : Inside P1 N1 D1 → Inside P2 N2 D2 → r ≡ TrueIntersect t1 t2
 
 module _ (e : Float) (num den : ℕ) (h : Eps e num den) (v u w : Vector2) (A : Vec 21 v) (B : Vec 21 u) (C : Vec 21 w)

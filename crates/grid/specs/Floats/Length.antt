@@ -109,7 +109,8 @@ root-long v A S e P =
     let t : T (fits binary64 x) = add-fits binary64 (v .x ⊗ v .x) (v .y ⊗ v .y) in
     let below : B .n < B .p = omega arith in
     let same : B .p - B .n ≡ S = omega arith in
-    let value : HasValue x false S 1 = subst (λ (z : ℕ). HasValue x false z 1) same (size-above x (B .p) (B .n) 1 below (B .is)) in
+    let value : HasValue x false S 1 =
+    subst (λ (z : ℕ). HasValue x false z 1) same (size-above x (B .p) (B .n) 1 below (B .is)) in
     let r = root-at x S t P value in
     let l : S ≤ 2 ^ 44 = omega (arith, B .p-le) in
     let k = long-at x S l r in

@@ -178,7 +178,8 @@ module _ (e : Float) (num den : ℕ) (h : Eps e num den) (v1 u1 u2 w w2 u : Vect
       }
 
   -- along x if the second segment has a width, else along y
-  pub overlap-spanned : Spanned (overlap v1 u1 u2 u (spanOf w w2 u e) e) (W .x .p) (W .x .n) (Z .x .p) (Z .x .n) (A .x .p) (A .x .n)
+  pub overlap-spanned : Spanned (overlap v1 u1 u2 u (spanOf w w2 u e) e) (W .x .p) (W .x .n) (Z .x .p) (Z .x .n) (A .x .p)
+      (A .x .n)
       ⊎ Spanned (overlap v1 u1 u2 u (spanOf w w2 u e) e) (W .y .p) (W .y .n) (Z .y .p) (Z .y .n) (A .y .p) (A .y .n)
   unfolding spanOf
   overlap-spanned = go (fuzzyEqZeroEps (u .x) e) (near-zero e num den h 21 (u .x) (A .x))

@@ -287,7 +287,8 @@ module _ (e : Float) (num den : ℕ) (h : Eps e num den)
       under T d =
           let m = m-near 0 T d in
           let minus = neg-diff e (eu .E) 0 unit (eu .is) in
-          let some = rounded-above binary64 (t ⊗ len ⊕ e) _ _ unit (sum 0 T d) unit-pos f0 0 0 unit unit-pos (ofBits-fits binary64 0)
+          let some =
+          rounded-above binary64 (t ⊗ len ⊕ e) _ _ unit (sum 0 T d) unit-pos f0 0 0 unit unit-pos (ofBits-fits binary64 0)
           zero-is x in
           let above = lt-over (neg e) (t ⊗ len) 0 (eu .E) (m .p) (m .n) unit unit-pos minus (m .is) .1
           (summed (m .p) (m .n) (eu .E) unit some) in

@@ -119,7 +119,8 @@ module _ (e : Float) (num den : ℕ) (h : Eps e num den) (u : Vector2) (S : ℕ)
       let q = by-length 2 (d-near .p) (d-near .n) unit (g .R) d (g .most) in
       near64 ((x1 ⊖ x0) ⊗ len) _ _ (unit * unit) 23 product (mul-pos unit-pos unit-pos) (q .0) (q .1) (lit≤ tt)
 
-  q-is : (2 ^ 54 * (q-near .p * unit + d-near .n * g .R) ≤ 2 ^ 54 * (d-near .p * g .R + q-near .n * unit) + 2 ^ 23 * (unit * unit))
+  q-is :
+      (2 ^ 54 * (q-near .p * unit + d-near .n * g .R) ≤ 2 ^ 54 * (d-near .p * g .R + q-near .n * unit) + 2 ^ 23 * (unit * unit))
       × (2 ^ 54 * (q-near .n * unit + d-near .p * g .R) ≤ 2 ^ 54 * (d-near .n * g .R + q-near .p * unit) + 2 ^ 23 * (unit * unit))
   q-is =
       near-over unit unit (unit * unit) (2 ^ 23) unit-pos refl ((x1 ⊖ x0) ⊗ len) (d-near .p * g .R) (d-near .n * g .R) q-near

@@ -1,5 +1,5 @@
--- Whole numbers of the grid in floats: the vectors between grid points, their dot and their perp dot are exact. A coordinate is at
--- most 2 ^ 20 in size, a vector's 2 ^ 21, a dot or perp dot 2 ^ 44: all far below 2 ^ 53.
+-- Whole numbers of the grid in floats: the vectors between grid points, their dot and their perp dot are exact. A coordinate is
+-- at most 2 ^ 20 in size, a vector's 2 ^ 21, a dot or perp dot 2 ^ 44: all far below 2 ^ 53.
 use mathlib.Core.Path.{sym}
 use Prim.Native.Nat.{ℕ, suc, _+_, _*_, _^_, _≤_}
 use native.Mathlib.Nat.{mul-le-mul, le-trans, le-of-eq, pow-succ'}

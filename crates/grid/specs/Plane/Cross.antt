@@ -145,7 +145,8 @@ module _ (v1 v2 u1 u2 : Spot) (slant : ¬ Parallel v1 v2 u1 u2) where
       → Between (steps-v v1 v2 u1 u2) (base v1 v2 u1 u2) × Between (steps-u v1 v2 u1 u2) (base v1 v2 u1 u2)
   shared-between (P, ((s, t, l, on-v), (s', t', l', on-u))) = (
     between (steps-v v1 v2 u1 u2) (base v1 v2 u1 u2) s t (on-v .some) l
-        (turned-eq (across v1 v2 u1 u2) (first v1 v2 u1 u2) (pos s) (pos t) (place-v v1 v2 u1 u2 P (pos s) (pos s') t t' on-v on-u)),
+        (turned-eq (across v1 v2 u1 u2) (first v1 v2 u1 u2) (pos s) (pos t)
+        (place-v v1 v2 u1 u2 P (pos s) (pos s') t t' on-v on-u)),
     between (steps-u v1 v2 u1 u2) (base v1 v2 u1 u2) s' t' (on-u .some) l'
         (turned-eq (across v1 v2 u1 u2) (second v1 v2 u1 u2) (pos s') (pos t')
         (place-u v1 v2 u1 u2 P (pos s) (pos s') t t' on-v on-u)),
@@ -157,15 +158,19 @@ module _ (v1 v2 u1 u2 : Spot) (slant : ¬ Parallel v1 v2 u1 u2) where
       × (P .y *ℤ pos (base v1 v2 u1 u2) ≡ meeting .y *ℤ pos (P .over))
   crossing-is P ((s, t, on-v), (s', t', on-u)) =
       let place = turned-eq (across v1 v2 u1 u2) (first v1 v2 u1 u2) s (pos t) (place-v v1 v2 u1 u2 P s s' t t' on-v on-u) in (
-        same-place (P .x) (v1 .x) (v2 .x -ℤ v1 .x) s (steps-v v1 v2 u1 u2) (P .over) t (base v1 v2 u1 u2) (on-v .some) (on-v .at-x) place,
-        same-place (P .y) (v1 .y) (v2 .y -ℤ v1 .y) s (steps-v v1 v2 u1 u2) (P .over) t (base v1 v2 u1 u2) (on-v .some) (on-v .at-y) place,
+        same-place (P .x) (v1 .x) (v2 .x -ℤ v1 .x) s (steps-v v1 v2 u1 u2) (P .over) t (base v1 v2 u1 u2) (on-v .some)
+            (on-v .at-x) place,
+        same-place (P .y) (v1 .y) (v2 .y -ℤ v1 .y) s (steps-v v1 v2 u1 u2) (P .over) t (base v1 v2 u1 u2) (on-v .some)
+            (on-v .at-y) place,
       )
 
   pub crossing-once : (P Q : Point) → Crossing v1 v2 u1 u2 P → Crossing v1 v2 u1 u2 Q → ¬ Differ P Q
   crossing-once P Q h k (inl a) =
-      a (same-ratio (P .x) (Q .x) (meeting .x) (P .over) (Q .over) (base v1 v2 u1 u2) base-pos (crossing-is P h .0) (crossing-is Q k .0))
+      a (same-ratio (P .x) (Q .x) (meeting .x) (P .over) (Q .over) (base v1 v2 u1 u2) base-pos (crossing-is P h .0)
+      (crossing-is Q k .0))
   crossing-once P Q h k (inr a) =
-      a (same-ratio (P .y) (Q .y) (meeting .y) (P .over) (Q .over) (base v1 v2 u1 u2) base-pos (crossing-is P h .1) (crossing-is Q k .1))
+      a (same-ratio (P .y) (Q .y) (meeting .y) (P .over) (Q .over) (base v1 v2 u1 u2) base-pos (crossing-is P h .1)
+      (crossing-is Q k .1))
 
   pub share-once : ¬ ShareMore v1 v2 u1 u2
   share-once (P, Q, apart, (p, p'), (q, q')) =

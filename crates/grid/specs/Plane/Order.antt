@@ -122,7 +122,8 @@ cancel-any a b d n h = go (sign d)
     back a d = rw (← whole a, ← whole d) (simp naturals (omega arith))
 
     go : Plain d ⊎ Minus d → a ≡ b
-    go (inl k) = cancel a b (natAbs d) (size-pos d n) (ap (λ (z : ℤ). a *ℤ z) (k .size) ∙ h ∙ ap (λ (z : ℤ). b *ℤ z) (sym (k .size)))
+    go (inl k) =
+        cancel a b (natAbs d) (size-pos d n) (ap (λ (z : ℤ). a *ℤ z) (k .size) ∙ h ∙ ap (λ (z : ℤ). b *ℤ z) (sym (k .size)))
     go (inr k) =
         cancel a b (natAbs d) (size-pos d n)
         (ap (λ (z : ℤ). a *ℤ z) (k .size) ∙ back a d ∙ ap negℤ h ∙ sym (back b d) ∙ ap (λ (z : ℤ). b *ℤ z) (sym (k .size)))

@@ -279,7 +279,8 @@ module _ (v1 v2 u1 u2 : Spot) (c : Collinear v1 v2 u1 u2) (slant : (u2 .x -ℤ u
           (subst (λ (z : ℤ). mark u1 u2 (lower .0) <ℤ z) (sym (mark-end u1 u2)) (lower .3))
 
 -- v has length, so its ends differ on u's axis
-pub apart-on-axis : (v1 v2 u1 u2 : Spot) → across v1 v2 u1 u2 ≡ pos 0 → ((u2 .x -ℤ u1 .x) ≡ pos 0 → ⊥) → v1 .x ≡ v2 .x → Same v1 v2
+pub apart-on-axis : (v1 v2 u1 u2 : Spot) → across v1 v2 u1 u2 ≡ pos 0 → ((u2 .x -ℤ u1 .x) ≡ pos 0 → ⊥) → v1 .x ≡ v2 .x
+    → Same v1 v2
 apart-on-axis v1 v2 u1 u2 flat slant e =
     let none : (v1 .y -ℤ v2 .y) *ℤ (u2 .x -ℤ u1 .x) ≡ pos 0 *ℤ (u2 .x -ℤ u1 .x)
     = combine2 (corners v1 v2 u1 u2 []) (leg end-v start-v .y ⊠ leg start-u end-u .x) (num 0 ⊠ leg start-u end-u .x)
@@ -318,7 +319,8 @@ meet-shared-more v1 v2 u1 u2 c slant long (lo, hi) =
     go (inr l) m n =
         let l' = lt-of-le-ne b a l (λ e. same (sym e)) in
         share-more-reversed v1 v2 u1 u2
-        (ordered v2 v1 u1 u2 (reversed v1 v2 u1 u2 c) slant l' (least-below b a k l' (other m)) (most-above b a (pos 0) l' (other n)))
+        (ordered v2 v1 u1 u2 (reversed v1 v2 u1 u2 c) slant l' (least-below b a k l' (other m))
+        (most-above b a (pos 0) l' (other n)))
 
 -- ---- both directions
 module _ (v1 v2 u1 u2 : Spot) (c : Collinear v1 v2 u1 u2) (slant : (u2 .x -ℤ u1 .x) ≡ pos 0 → ⊥) where

@@ -276,7 +276,8 @@ multiple : (ρ : List ℤ) (c l r : Expr) → value ρ l ≡ value ρ r → valu
 multiple ρ c l r h =
     ap (λ (z : ℤ). value ρ c *ℤ z) (sub-of-equal (value ρ l) (value ρ r) h) ∙ mul-zero (value ρ c)
 
-pub combine : (ρ : List ℤ) (e f c l r : Expr) → value ρ l ≡ value ρ r → T (gone (norm (e ⊟ f ⊟ c ⊠ (l ⊟ r)))) → value ρ e ≡ value ρ f
+pub combine : (ρ : List ℤ) (e f c l r : Expr) → value ρ l ≡ value ρ r → T (gone (norm (e ⊟ f ⊟ c ⊠ (l ⊟ r))))
+    → value ρ e ≡ value ρ f
 combine ρ e f c l r h t =
     let known = c ⊠ (l ⊟ r) in
     let rest = equal-of-sub (value ρ (e ⊟ f)) (value ρ known) (vanishes ρ (e ⊟ f ⊟ known) t) in

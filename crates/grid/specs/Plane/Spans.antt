@@ -101,7 +101,8 @@ seen v1 v2 u1 u2 P (s, t, l, on-v) (s', t', l', on-u) =
     let H = on-v .some in
     let one = same-x v1 v2 u1 u2 P (pos s) (pos s') t t' on-v on-u in
     let flat = placed (v1 .x) (v2 .x) (u1 .x) (u2 .x) (pos s) (pos (t - s)) (pos t) (pos s') (pos t') one (ap pos rest) in
-    let turn = turned-place (u2 .x -ℤ u1 .x) (v1 .x -ℤ u1 .x) (v2 .x -ℤ u1 .x) (pos (t - s)) (pos s) (pos t') (pos s' *ℤ pos t) flat in
+    let turn =
+    turned-place (u2 .x -ℤ u1 .x) (v1 .x -ℤ u1 .x) (v2 .x -ℤ u1 .x) (pos (t - s)) (pos s) (pos t') (pos s' *ℤ pos t) flat in
     record {
       s = s;
       r = t - s;
@@ -163,7 +164,9 @@ module _ (u1 u2 : Spot) (P : Point) (a b : ℤ) (k : ℕ) (h : Seen u1 u2 P a b 
   past-end K l m =
       let x = from k a l in
       let y = from k b m in
-      let all = all-past (x .0) (y .0) k (h .r) (h .s) (h .s') (h .t') (up-place (x .0) (y .0) (x .1) (y .1)) (x .2) (y .2) K (h .some) in
+      let all =
+      all-past (x .0) (y .0) k (h .r) (h .s) (h .s') (h .t') (up-place (x .0) (y .0) (x .1) (y .1))
+      (x .2) (y .2) K (h .some) in
       let w = h .within in
       let same : h .s' ≡ h .t' = omega arith in
       is-end P u1 u2 (h .t') (subst (λ (z : ℕ). Along P u1 u2 (pos z) (h .t')) same (h .on-u))

@@ -196,7 +196,11 @@ level-on a b p n h =
     let other : y *ℤ pos k ≡ m *ℤ e = turned-eq d x y e (crossed d e x y (h .on-line)) in
     let c = natural m (h .on-axis .0) in
     let along : Along (spot p) a b m k
-    = record { some = size-pos d n; at-x = placed (p .x) (a .x) d m (pos k) main; at-y = placed (p .y) (a .y) e m (pos k) other } in (
+    = record {
+      some = size-pos d n;
+      at-x = placed (p .x) (a .x) d m (pos k) main;
+      at-y = placed (p .y) (a .y) e m (pos k) other;
+    } in (
       c .0,
       k,
       pos-le (c .0) k .0 (subst (λ (z : ℤ). z ≤ℤ pos k) (c .1) (h .on-axis .1)),

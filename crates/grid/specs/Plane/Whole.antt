@@ -51,7 +51,8 @@ pub same : (p n q m : ℕ) → (diff p n ≡ diff q m) ↔ (p + m ≡ q + n)
 same p n q m =
     let a = parts p n in
     let b = parts q m in (
-      λ h. let g : gain (diff p n) ≡ gain (diff q m) = ap gain h in let l : loss (diff p n) ≡ loss (diff q m) = ap loss h in omega arith,
+      λ h. let g : gain (diff p n) ≡ gain (diff q m) = ap gain h in let l : loss (diff p n) ≡ loss (diff q m) = ap loss h in
+          omega arith,
       λ h. equal (diff p n) (diff q m) (omega arith),
     )
 

@@ -23,7 +23,8 @@ fronts : (c : tie.After-read)
     (k .read-layout .last .1 .0) (k .read-layout .last .1 .1 .0)
 fronts c =
     let k = c .before .before .before .before in
-    counted (now (start (branch k) .args .text)) (k .read-layout .result) (k .read-layout .last .1 .0) (k .read-layout .last .1 .1 .0)
+    counted (now (start (branch k) .args .text)) (k .read-layout .result) (k .read-layout .last .1 .0)
+    (k .read-layout .last .1 .1 .0)
     (k .read-layout .ensures) _ _ (c .read .given .1)
 
 returns : tie.Need-returns

@@ -70,7 +70,8 @@ module _ (first second : List Float) (old : List ℕ) (h : room ≤ length old) 
   refused-lines n e l =
       rw (lines ∙ ap (λ (t : ListingAnswer). linesOf t i p) e) (refusal-line n old h r now l)
 
-  pub listed-lines : (rows pairs : ℕ) → a ≡ Listed rows pairs → AnswerLines pairs rows i p r old now → LinesFor first second r old now
+  pub listed-lines : (rows pairs : ℕ) → a ≡ Listed rows pairs → AnswerLines pairs rows i p r old now
+      → LinesFor first second r old now
   listed-lines rows pairs e l =
       let o = mutualListing first false second false epsilon noIndices noPoints in
       let fits = mutual-fits first false second false epsilon noIndices noPoints in
@@ -135,8 +136,10 @@ module _ (text : List ℕ) (r : Reading) (first second : List Float) (l : read.R
           let n-is : n ≡ length (k .first) = cc in
           let m-is : m ≡ length (k .second) = cc in
           let w = read-is-text text k is .1 in
-          let on-first : first ≡ sets buffer 0 (pathOf (k .first)) = l .first-holds ∙ ap (λ (t : Taken). read.firstOf t buffer) is in
-          let on-second : second ≡ sets buffer 0 (pathOf (k .second)) = l .second-holds ∙ ap (λ (t : Taken). read.secondOf t buffer) is in
+          let on-first : first ≡ sets buffer 0 (pathOf (k .first)) =
+          l .first-holds ∙ ap (λ (t : Taken). read.firstOf t buffer) is in
+          let on-second : second ≡ sets buffer 0 (pathOf (k .second)) =
+          l .second-holds ∙ ap (λ (t : Taken). read.secondOf t buffer) is in
           record {
             layout-is = k;
             reads-it = is;
@@ -179,7 +182,8 @@ module _ (text : List ℕ) (r : Reading) (first second : List Float) (l : read.R
 
 -- ---- the answer to a text
 module _ (text old : List ℕ) (r : Written) (now : List ℕ) where
-  pub broken-answer : (n : ℕ) → room ≤ length old → reads text ≡ broken → n ≡ 10 → RefusalLine n r old now → AnswerTo text r old now
+  pub broken-answer : (n : ℕ) → room ≤ length old → reads text ≡ broken → n ≡ 10 → RefusalLine n r old now
+      → AnswerTo text r old now
   unfolding answerTo
   broken-answer n h is e l = rw is (refusal-line 10 old h r now (rw e at l))
 

@@ -116,7 +116,8 @@ vertex-read v t w =
     let last : List ℕ = 10 ∷ t in
     let third : List ℕ = 32 ∷ (wholeText (v .bulge) ++ last) in
     let x-read = whole-read limit.coordinate space 32 is-space (omega arith) (v .x) (wholeText (v .y) ++ third) (w .x-within) in
-    let y-read = whole-read limit.coordinate space 32 is-space (omega arith) (v .y) (wholeText (v .bulge) ++ last) (w .y-within) in
+    let y-read =
+    whole-read limit.coordinate space 32 is-space (omega arith) (v .y) (wholeText (v .bulge) ++ last) (w .y-within) in
     let bulge-read = whole-read limit.bulge newline 10 is-newline (omega arith) (v .bulge) t (w .bulge-within) in
     simp (append-assoc, x-read, y-read, bulge-read)
 

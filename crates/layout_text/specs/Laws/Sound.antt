@@ -138,7 +138,8 @@ abbrev ByteText : ℕ → ℕ → List ℕ → ℤ → List ℕ → Type 0
 ByteText most end text z rest = (text ≡ wholeText z ++ (byteOf end ∷ rest)) × (magnitude z ≤ most)
 
 abbrev CountText : ℕ → ℕ → List ℕ → ℤ → List ℕ → Type 0
-CountText most end text z rest = (text ≡ decimal (magnitude z) ++ (byteOf end ∷ rest)) × (magnitude z ≤ most) × (z ≡ pos (magnitude z))
+CountText most end text z rest =
+    (text ≡ decimal (magnitude z) ++ (byteOf end ∷ rest)) × (magnitude z ≤ most) × (z ≡ pos (magnitude z))
 
 -- the text of a number without a minus is its digits
 count-as : (most end m : ℕ) (text rest : List ℕ) (z : ℤ) → z ≡ pos m → m ≤ most → text ≡ decimal m ++ (byteOf end ∷ rest)

@@ -8,7 +8,19 @@ use lib.Seq.{sets}
 use lib.IntN.{ℤ}
 use lib.Ieee.{Float}
 use Rattle.layout_text.specs.Layout.{Vertex}
-use Rattle.layout_text.specs.Workings.Reader.{Got, nothing, got, Passed, stuck, over, broken, layout, verticesOf, reads, whole}
+use Rattle.layout_text.specs.Workings.Reader.{
+  Got,
+  nothing,
+  got,
+  Passed,
+  stuck,
+  over,
+  broken,
+  layout,
+  verticesOf,
+  reads,
+  whole,
+}
 use Rattle.layout_text.specs.Numbers.{pathOf}
 use Rattle.layout_text.specs.declared.number.Number.{Number}
 use Rattle.layout_text.specs.declared.number.Number.the-variants as Number·

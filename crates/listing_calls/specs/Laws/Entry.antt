@@ -107,7 +107,8 @@ module _ (first : List Float) (firstClosed : Bool) (second : List Float) (second
         outcome-listed (mutualChecks first firstClosed second secondClosed epsilon) first second job i₀ p₀ e same
         (mutual-every job own ∙ ap (λ (k : ℕ). mutualPairs k (job .m)) n ∙ ap (mutualPairs (segmentCount first firstClosed)) m)
 
-  pub mutual-refused : (x : Fault) (i₀ : List ℕ) (p₀ : List Float) → checkMutual first firstClosed second secondClosed epsilon ≡ Bad x
+  pub mutual-refused : (x : Fault) (i₀ : List ℕ) (p₀ : List Float)
+      → checkMutual first firstClosed second secondClosed epsilon ≡ Bad x
       → Leaves (mutualListing first firstClosed second secondClosed epsilon i₀ p₀) (Refused (x .number)) i₀ p₀
   unfolding mutualListing checkMutual
   mutual-refused x i₀ p₀ e = outcome-bad (mutualChecks first firstClosed second secondClosed epsilon) _ _ i₀ p₀ x e

@@ -82,7 +82,8 @@ module _ {look : ℕ → ℕ → Look} {job : Job} {write : Bool} {at room start
 
   -- to another pair, with the same rows
   on : {i′ j′ pairs′ : ℕ}
-      → Left write at (whole look job at room startI startJ) (page look (job_of.left job i′ j′) (room - rows)) rows pairs′ i₀ l p₀ p
+      → Left write at (whole look job at room startI startJ) (page look (job_of.left job i′ j′) (room - rows))
+      rows pairs′ i₀ l p₀ p
       → i′ ≤ job .n → State look job write at room startI startJ i₀ p₀ i′ j′ rows pairs′ l p
   on left within = record { left = left; fits = s .fits; within = within; indices = s .indices; points = s .points }
 

@@ -85,7 +85,8 @@ module _ (look : ℕ → ℕ → Look) where
   module _ {ps : List Pair} {room : ℕ} {q : Page} (j : Joins ps room q) where
     -- if no pair remains, the page is the whole
     pub whole-rows : empty (q .rest) ≡ true → q .rows ≡ rowsOf look ps
-    whole-rows e = sym (append-nil (q .rows)) ∙ ap (λ (l : List Pair). q .rows ++ rowsOf look l) (sym (empty-nil (q .rest) e)) ∙ j .rows
+    whole-rows e =
+        sym (append-nil (q .rows)) ∙ ap (λ (l : List Pair). q .rows ++ rowsOf look l) (sym (empty-nil (q .rest) e)) ∙ j .rows
 
     pub whole-looked : empty (q .rest) ≡ true → q .looked ≡ lookedAt look ps
     whole-looked e = omega (arith, ap (lookedAt look) (empty-nil (q .rest) e), j .looked)

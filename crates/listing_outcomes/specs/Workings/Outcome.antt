@@ -78,7 +78,8 @@ module _ (look : ℕ → ℕ → Look) (ps : List Pair) (i₀ : List ℕ) (p₀ 
 
     -- one kind of numbers, stored with room for all rows
     stored-all : {A : Type 0} (numbers : Row → List A) (width : ℕ) → ((r : Row) → length (numbers r) ≡ width)
-        → (old : List A) → length rows * width ≤ length old → sets old 0 (numbersOfRows numbers (q .rows)) ≡ overwrite old (numbersOfRows numbers rows)
+        → (old : List A) → length rows * width ≤ length old
+        → sets old 0 (numbersOfRows numbers (q .rows)) ≡ overwrite old (numbersOfRows numbers rows)
     stored-all numbers width each old fit =
         ap (λ (rs : List Row). sets old 0 (numbersOfRows numbers rs)) all
         ∙ sets-over old (numbersOfRows numbers rows) (omega (arith, flat-length numbers width each rows, fit))
@@ -95,7 +96,8 @@ module _ (look : ℕ → ℕ → Look) (ps : List Pair) (i₀ : List ℕ) (p₀ 
     -- one kind of numbers, stored in a buffer a and copied from there
     copied-all : {A : Type 0} (numbers : Row → List A) (width : ℕ) → ((r : Row) → length (numbers r) ≡ width)
         → (old buffer a : List A) (n : ℕ) → n ≡ length rows → k * width ≤ length buffer
-        → a ≡ sets buffer 0 (numbersOfRows numbers (q .rows)) → paste old 0 a (n * width) ≡ overwrite old (numbersOfRows numbers rows)
+        → a ≡ sets buffer 0 (numbersOfRows numbers (q .rows))
+        → paste old 0 a (n * width) ≡ overwrite old (numbersOfRows numbers rows)
     copied-all {A} numbers width each old buffer a n count fit is =
         let fewer : length rows ≤ k = omega (arith, ap length all, j .few) in
         let inside = stored-all numbers width each buffer (omega (arith, mul-le-mul fewer (le-refl width), fit)) in
@@ -231,7 +233,8 @@ module _ {look : ℕ → ℕ → Look} {job : Job} {k i j m : ℕ} {a : List ℕ
       -- one kind of numbers, copied and then stored behind
       stored-both : {A : Type 0} (numbers : Row → List A) (width : ℕ) → ((r : Row) → length (numbers r) ≡ width)
           → (old held : List A) → held ≡ numbersOfRows numbers (front .rows) → room i₀ p₀ * width ≤ length old
-          → sets (paste old 0 held (k * width)) (k * width) (numbersOfRows numbers (behind .rows)) ≡ overwrite old (numbersOfRows numbers (rowsOf look ps))
+          → sets (paste old 0 held (k * width)) (k * width) (numbersOfRows numbers (behind .rows))
+          ≡ overwrite old (numbersOfRows numbers (rowsOf look ps))
       stored-both {A} numbers width each old held is long =
           let front-long = flat-length numbers width each (front .rows) in
           let behind-long = flat-length numbers width each (behind .rows) in
@@ -243,13 +246,15 @@ module _ {look : ℕ → ℕ → Look} {job : Job} {k i j m : ℕ} {a : List ℕ
           ap (λ (l : List A). sets (paste old 0 l (k * width)) (k * width) (numbersOfRows numbers (behind .rows))) is
           ∙ ap (λ (l : List A). sets l (k * width) (numbersOfRows numbers (behind .rows)))
           (paste-all old (numbersOfRows numbers (front .rows)) (k * width) k-long)
-          ∙ sets-beyond old (numbersOfRows numbers (front .rows)) (numbersOfRows numbers (behind .rows)) (k * width) (sym k-long) end
+          ∙ sets-beyond old (numbersOfRows numbers (front .rows)) (numbersOfRows numbers (behind .rows))
+          (k * width) (sym k-long) end
           ∙ ap (overwrite old) (sym (flat-append numbers (front .rows) (behind .rows)) ∙ ap (numbersOfRows numbers) (sym both))
 
       -- u and v: the slices after the held-back rows are copied to their fronts
       pub behind-listed : (n l : ℕ) (u x : List ℕ) (v y : List Float) → n ≡ k + length (behind .rows) → l ≡ m + behind .looked
           → u ≡ paste i₀ 0 a (k * 3) → v ≡ paste p₀ 0 b (k * 4)
-          → x ≡ sets u (k * 3) (numbersOfRows indicesOf (behind .rows)) → y ≡ sets v (k * 4) (numbersOfRows pointsOf (behind .rows))
+          → x ≡ sets u (k * 3) (numbersOfRows indicesOf (behind .rows))
+          → y ≡ sets v (k * 4) (numbersOfRows pointsOf (behind .rows))
           → Leaves (listed look ps i₀ p₀) (Listed n l) x y
       behind-listed n l u x v y count pairs to-u to-v to-x to-y =
           let all = room i₀ p₀ in

@@ -102,7 +102,8 @@ module _ (n : ℕ) (closed : Bool) where
           few true h = omega (arith, h)
           few false h = omega (arith, h)
       go (suc k) h =
-          ap (λ (b : Bool). cond b (record { i = i; j = i + 1 } ∷ those test (along i (suc (i + 1)) k)) (those test (along i (suc (i + 1)) k)))
+          ap (λ (b : Bool). cond b (record { i = i; j = i + 1 } ∷ those test (along i (suc (i + 1)) k))
+          (those test (along i (suc (i + 1)) k)))
           (next-out i (i + 1) refl)
           ∙ ap (λ (j : ℕ). those test (along i j k)) (sym two)
           ∙ split (closed && eqb i 0) refl closed refl (eqb i 0) refl k h

@@ -23,10 +23,16 @@ ofSegment s epsilon = keptOf (s .v1) (s .v2) epsilon
 unfoldable pub keptAt : List Float → ℕ → Kept
 keptAt l j =
     let at = j * 3 in
-    record { «radius_or_slope» = getD l at nan; «center_x_or_root» = getD l (at + 1) nan; «center_y_or_zero» = getD l (at + 2) nan }
+    record {
+      «radius_or_slope» = getD l at nan;
+      «center_x_or_root» = getD l (at + 1) nan;
+      «center_y_or_zero» = getD l (at + 2) nan;
+    }
 
 abbrev put : List Float → ℕ → Kept → List Float
-put l j k = let at = j * 3 in set (set (set l at (k .«radius_or_slope»)) (at + 1) (k .«center_x_or_root»)) (at + 2) (k .«center_y_or_zero»)
+put l j k =
+    let at = j * 3 in
+    set (set (set l at (k .«radius_or_slope»)) (at + 1) (k .«center_x_or_root»)) (at + 2) (k .«center_y_or_zero»)
 
 -- the numbers of the first m segments
 unfoldable pub keep : List Float → ℕ → Float → List Float → List Float
@@ -36,7 +42,8 @@ keep path (suc j) epsilon l = put (keep path j epsilon l) j (ofSegment (segmentF
 -- ---- stored and read
 put-length : (l : List Float) (j : ℕ) (k : Kept) → length (put l j k) ≡ length l
 put-length l j k =
-    length-set (set (set l (j * 3) (k .«radius_or_slope»)) (j * 3 + 1) (k .«center_x_or_root»)) (j * 3 + 2) (k .«center_y_or_zero»)
+    length-set (set (set l (j * 3) (k .«radius_or_slope»)) (j * 3 + 1) (k .«center_x_or_root»)) (j * 3 + 2)
+    (k .«center_y_or_zero»)
     ∙ length-set (set l (j * 3) (k .«radius_or_slope»)) (j * 3 + 1) (k .«center_x_or_root»)
     ∙ length-set l (j * 3) (k .«radius_or_slope»)
 
@@ -71,11 +78,24 @@ module _ (l : List Float) (a : ℕ) (x y z : Float) (room : a + 3 ≤ length l) 
       getD-set-same (set (set l a x) (a + 1) y) (a + 2) z nan
       (omega (arith, length-set (set l a x) (a + 1) y, length-set l a x))
 
-three : (a b : Kept) → a .«radius_or_slope» ≡ b .«radius_or_slope» → a .«center_x_or_root» ≡ b .«center_x_or_root» → a .«center_y_or_zero» ≡ b .«center_y_or_zero» → a ≡ b
+three : (a b : Kept) → a .«radius_or_slope» ≡ b .«radius_or_slope» → a .«center_x_or_root» ≡ b .«center_x_or_root»
+    → a .«center_y_or_zero» ≡ b .«center_y_or_zero» → a ≡ b
 three a b e f g =
-    ap (λ (x : Float). record { «radius_or_slope» = x; «center_x_or_root» = a .«center_x_or_root»; «center_y_or_zero» = a .«center_y_or_zero» }) e
-    ∙ ap (λ (x : Float). record { «radius_or_slope» = b .«radius_or_slope»; «center_x_or_root» = x; «center_y_or_zero» = a .«center_y_or_zero» }) f
-    ∙ ap (λ (x : Float). record { «radius_or_slope» = b .«radius_or_slope»; «center_x_or_root» = b .«center_x_or_root»; «center_y_or_zero» = x }) g
+    ap (λ (x : Float). record {
+      «radius_or_slope» = x;
+      «center_x_or_root» = a .«center_x_or_root»;
+      «center_y_or_zero» = a .«center_y_or_zero»;
+    }) e
+    ∙ ap (λ (x : Float). record {
+      «radius_or_slope» = b .«radius_or_slope»;
+      «center_x_or_root» = x;
+      «center_y_or_zero» = a .«center_y_or_zero»;
+    }) f
+    ∙ ap (λ (x : Float). record {
+      «radius_or_slope» = b .«radius_or_slope»;
+      «center_x_or_root» = b .«center_x_or_root»;
+      «center_y_or_zero» = x;
+    }) g
 
 put-same : (l : List Float) (j : ℕ) (k : Kept) → suc j * 3 ≤ length l → keptAt (put l j k) j ≡ k
 unfolding keptAt
@@ -103,7 +123,8 @@ keep-at path (suc m) epsilon l h j b =
     go (eq-or-lt-of-le up-to) (λ (s : j < m). keep-at path m epsilon l (omega arith) j s)
   where
     go : (j ≡ m) ⊎ (j < m) → (j < m → keptAt (keep path m epsilon l) j ≡ ofSegment (segmentFrom path j) epsilon)
-        → keptAt (put (keep path m epsilon l) m (ofSegment (segmentFrom path m) epsilon)) j ≡ ofSegment (segmentFrom path j) epsilon
+        → keptAt (put (keep path m epsilon l) m (ofSegment (segmentFrom path m) epsilon)) j
+        ≡ ofSegment (segmentFrom path j) epsilon
     go (inr s) rest = put-other (keep path m epsilon l) j m _ s ∙ rest s
     go (inl e) rest =
         ap (keptAt (put (keep path m epsilon l) m (ofSegment (segmentFrom path m) epsilon))) e
@@ -113,7 +134,8 @@ keep-at path (suc m) epsilon l h j b =
 -- one turn of the loop that stores them
 pub keep-more : (path l now : List Float) (j : ℕ) (epsilon : Float) (s : Segment) (k : Kept)
     → now ≡ keep path j epsilon l → s ≡ segmentFrom path j → k ≡ ofSegment s epsilon
-    → set (set (set now (j * 3) (k .«radius_or_slope»)) (j * 3 + 1) (k .«center_x_or_root»)) (j * 3 + 2) (k .«center_y_or_zero») ≡ keep path (j + 1) epsilon l
+    → set (set (set now (j * 3) (k .«radius_or_slope»)) (j * 3 + 1) (k .«center_x_or_root»)) (j * 3 + 2) (k .«center_y_or_zero»)
+    ≡ keep path (j + 1) epsilon l
 unfolding keep
 keep-more path l now j epsilon s k e f g =
     ap (λ (a : List Float). put a j k) e

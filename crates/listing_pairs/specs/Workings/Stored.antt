@@ -29,7 +29,8 @@ module _ {A : Type 0} (numbers : Row → List A) (width : ℕ) where
 
   -- one row, then the others after it
   pub stored-one : (write : Bool) (l : List A) (k : ℕ) (r : Row) (rows : List Row) → length (numbers r) ≡ width
-      → stored numbers width write (stored numbers width write l k (r ∷ [])) (k + 1) rows ≡ stored numbers width write l k (r ∷ rows)
+      → stored numbers width write (stored numbers width write l k (r ∷ [])) (k + 1) rows
+      ≡ stored numbers width write l k (r ∷ rows)
   stored-one true l k r rows e =
       let next : (k + 1) * width ≡ k * width + length (numbers r) = omega (arith, e, add-mul k 1 width) in
       ap (λ (vs : List A). sets (sets l (k * width) vs) ((k + 1) * width) (numbersOfRows numbers rows)) (append-nil (numbers r))

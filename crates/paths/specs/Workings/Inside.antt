@@ -33,7 +33,8 @@ pub record Tells (path : List Float) (r : Bool) : Type 0 where
 pub none-yet : (path : List Float) → InsideBelow path 0
 none-yet path j l = absurd (omega arith)
 
-pub one-more : (path : List Float) (i : ℕ) (v : PlineVertex) (b : Bool) → b ≡ vertexInside (v .x) (v .y) (v .bulge) → v ≡ vertex path i
+pub one-more : (path : List Float) (i : ℕ) (v : PlineVertex) (b : Bool) → b ≡ vertexInside (v .x) (v .y) (v .bulge)
+    → v ≡ vertex path i
     → not b ≡ false → InsideBelow path i → InsideBelow path (i + 1)
 one-more path i v b told read h below j l = go (eq-or-lt-of-le (close j i l))
   where
@@ -47,7 +48,8 @@ one-more path i v b told read h below j l = go (eq-or-lt-of-le (close j i l))
     go (inl e) = subst (λ (k : ℕ). Inside (vertex path k)) (sym e) here
     go (inr less) = below j less
 
-pub inside-fine : (f : Checked) (path : List Float) (owner : ℕ) → InsideBelow path (vertexCount path) → f ≡ checkVertices f path owner
+pub inside-fine : (f : Checked) (path : List Float) (owner : ℕ) → InsideBelow path (vertexCount path)
+    → f ≡ checkVertices f path owner
 unfolding checkVertices ofVertex
 inside-fine f path owner all =
     sym (fine-right f)

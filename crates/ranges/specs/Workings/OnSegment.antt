@@ -152,7 +152,8 @@ module _ (e : Float) (E : ℕ) (e-fits : T (fits binary64 e)) (e-value : HasValu
         near64 (t ⊗ len) _ _ (unit * unit) 25 product (mul-pos unit-pos unit-pos) (over p n R unit hi most) (under p n R unit lo)
         (lit≤ tt)
       where
-        over : (p n R L : ℕ) → p * 32 + 0 * L ≤ 31 * L + n * 32 → R ≤ 2 ^ 25 * L → p * R + n * 0 ≤ p * 0 + n * R + 2 ^ 25 * (L * L)
+        over : (p n R L : ℕ) → p * 32 + 0 * L ≤ 31 * L + n * 32 → R ≤ 2 ^ 25 * L
+            → p * R + n * 0 ≤ p * 0 + n * R + 2 ^ 25 * (L * L)
         over p n R L h m =
             let l : p ≤ L + n = omega arith in
             omega (arith, mul-le-mul-right R l, mul-le-mul-left L m)
@@ -197,11 +198,13 @@ module _ (e : Float) (E : ℕ) (e-fits : T (fits binary64 e)) (e-value : HasValu
         plain E h = omega arith
 
   -- ---- beyond the end
-  far-beyond : (t : Float) (p n : ℕ) → Diff t p n unit → 33 * unit + n * 32 ≤ p * 32 + 0 * unit → T (not (fuzzyLtEps (t ⊗ len) len e))
+  far-beyond : (t : Float) (p n : ℕ) → Diff t p n unit → 33 * unit + n * 32 ≤ p * 32 + 0 * unit
+      → T (not (fuzzyLtEps (t ⊗ len) len e))
   far-beyond t p n t-is h =
       let x = sizes p n unit unit-pos h in
       let k = p - n in
-      let m = mul-count binary64 t len false false k R unit unit unit-pos unit-pos (size-above t p n unit (x .0) t-is) len-value in
+      let m =
+      mul-count binary64 t len false false k R unit unit unit-pos unit-pos (size-above t p n unit (x .0) t-is) len-value in
       let s : len ⊕ e ≡ round binary64 false (R + E) unit =
       add-count binary64 len e false false R E unit unit-pos len-value e-value ∙ sum-is binary64 R E unit in
       let l = round-mono binary64 (R + E) unit (k * R) (unit * unit) unit-pos (mul-pos unit-pos unit-pos)

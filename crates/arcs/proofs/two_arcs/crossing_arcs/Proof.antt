@@ -17,4 +17,5 @@ crossing-arcs-spec =
     tie.close
     (tie.spec
     (λ c κs. search needs) (λ c κs. search needs) returns
-    (λ c κs. search needs) (λ c κs. search needs) (λ c. simp (← c .before .collect-end-points .ensures, ← c .two-arc-arc2 .ensures)))
+    (λ c κs. search needs) (λ c κs. search needs)
+    (λ c. simp (← c .before .collect-end-points .ensures, ← c .two-arc-arc2 .ensures)))

@@ -14,7 +14,8 @@ use Rattle.checks.proofs.arc.arc_chord.Tie as tie
 
 of-arc : (c : tie.After-sub)
     → (let a = c .before .before .before .before .before .args in
-    Arc.arcChord (a .a) (a .b) (a .owner) (a .index) ≡ Each.chord (vector2.length (c .sub .result)) (at (a .owner) (a .index) Chord))
+    Arc.arcChord (a .a) (a .b) (a .owner) (a .index)
+    ≡ Each.chord (vector2.length (c .sub .result)) (at (a .owner) (a .index) Chord))
 unfolding Arc.arcChord
 of-arc c =
     let ends = c .before .before in

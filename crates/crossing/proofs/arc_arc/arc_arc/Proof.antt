@@ -44,7 +44,8 @@ arc-arc-spec =
     rw (met (m .before .before), m .intr-result .given .1) (search (of-both (tangentArcArc (m .intr-result .given .0 .0)))))
     (λ c. let m = c .before .before .before .before .before .before .before .before in
     rw (met (m .before .before), m .intr-result2 .given .1)
-    (search (of-both (λ p1 p2 q1 q2 a b. crossingArcs p1 p2 q1 q2 (m .intr-result2 .given .0 .0) (m .intr-result2 .given .0 .1 .0) a b
+    (search (of-both (λ p1 p2 q1 q2 a b. crossingArcs p1 p2 q1 q2 (m .intr-result2 .given .0 .0) (m .intr-result2 .given .0 .1 .0)
+    a b
     (m .before .before .before .args .pos-equal-eps)))))
     (λ c. let m = c .before in
     simp (met (m .before .before), m .enum-told2 .given .1, ← c .overlapping-arc-arc .ensures)))

@@ -12,4 +12,5 @@ point-circle-spec =
     tie.close
     (tie.spec
     (search needs) (search needs)
-    (λ c. simp (← c .before .before .sqrt .ensures) (search branches)) (λ c. simp (← c .before .before .sqrt .ensures) (search branches)))
+    (λ c. simp (← c .before .before .sqrt .ensures) (search branches))
+    (λ c. simp (← c .before .before .sqrt .ensures) (search branches)))

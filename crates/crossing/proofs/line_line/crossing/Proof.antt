@@ -23,7 +23,13 @@ parameters c = simp (← c .before .perp-dot .ensures, ← c .perp-dot2 .ensures
 returns-3 : tie.Need-returns-3
 returns-3 c =
     let w = c .before .before .before in
-    simp (parameters (w .before), ← w .on-segment .ensures, c .before .before .if1 .left, ← c .before .on-segment2 .ensures, c .if2 .left)
+    simp (
+      parameters (w .before),
+      ← w .on-segment .ensures,
+      c .before .before .if1 .left,
+      ← c .before .on-segment2 .ensures,
+      c .if2 .left,
+    )
 
 pub crossing-spec : {M : Type 1} → statement M
 crossing-spec =
@@ -33,5 +39,11 @@ crossing-spec =
     (λ c. simp (parameters (c .before .before), ← c .before .on-segment .ensures, c .if1 .taken))
     (search needs)
     (λ c. let w = c .before .before .before in
-    simp (parameters (w .before), ← w .on-segment .ensures, c .before .before .if1 .left, ← c .before .on-segment2 .ensures, c .if2 .taken))
+    simp (
+      parameters (w .before),
+      ← w .on-segment .ensures,
+      c .before .before .if1 .left,
+      ← c .before .on-segment2 .ensures,
+      c .if2 .taken,
+    ))
     returns-3)

@@ -35,4 +35,5 @@ line-line-spec =
     tie.close
     (tie.spec
     (search needs) (search needs) (search needs) (search needs) (search needs) (search needs)
-    (λ c. rw (by-angle (c .before .before)) (search branches)) (search needs) (λ c. rw (by-angle (c .before .before)) (search branches)))
+    (λ c. rw (by-angle (c .before .before)) (search branches)) (search needs)
+    (λ c. rw (by-angle (c .before .before)) (search branches)))

@@ -74,7 +74,13 @@ pline-seg-on-spec =
     simp (← z .before .bulge-is-zero .ensures, ← z .bulge-is-zero2 .ensures, t .before .if1 .taken, t .if2 .left, ← line-first c))
     (λ c. search needs) (λ c. search needs) process-line-arc-intr-requires-2
     (λ c. let t = c .before .before .before in let z = t .before .before in
-    simp (← z .before .bulge-is-zero .ensures, ← z .bulge-is-zero2 .ensures, t .before .if1 .left, t .if3 .taken, ← line-second c))
+    simp (
+      ← z .before .bulge-is-zero .ensures,
+      ← z .bulge-is-zero2 .ensures,
+      t .before .if1 .left,
+      t .if3 .taken,
+      ← line-second c,
+    ))
     arc-arc-requires
     (λ c. let t = c .before in let z = t .before .before in
     simp (

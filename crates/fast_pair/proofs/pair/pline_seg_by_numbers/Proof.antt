@@ -30,7 +30,8 @@ pline-seg-after-checks-requires c κs =
 returns : tie.Need-returns
 returns c =
     let t = c .before .before .before in
-    met _ _ _ _ _ _ (sym (t .before .before .check-pline-seg .ensures) ∙ t .enum-told .given .1) (c .pline-seg-after-checks .ensures)
+    met _ _ _ _ _ _ (sym (t .before .before .check-pline-seg .ensures) ∙ t .enum-told .given .1)
+    (c .pline-seg-after-checks .ensures)
 
 returns-2 : tie.Need-returns-2
 unfolding plineSegIntr

@@ -29,7 +29,8 @@ returns : tie.Need-returns
 returns c =
     let p1 = c .before in
     let s = p1 .before in
-    sym (told _ _ _ _ _ _ _ _ (passes _ (s .good .1 .1 .1 .1 .1 .1 .0 .1)) (s .pre .1 .0) (s .pre .1 .1) (p1 .clearly-apart .ensures) (c .if1 .taken))
+    sym (told _ _ _ _ _ _ _ _ (passes _ (s .good .1 .1 .1 .1 .1 .1 .0 .1)) (s .pre .1 .0) (s .pre .1 .1)
+    (p1 .clearly-apart .ensures) (c .if1 .taken))
 
 pline-seg-after-checks-requires : tie.Need-pline-seg-after-checks-requires
 pline-seg-after-checks-requires c κs =

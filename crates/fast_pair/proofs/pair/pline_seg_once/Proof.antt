@@ -12,7 +12,8 @@ returns : tie.Need-returns
 returns c =
     let p = c .before in
     let s = p .before in
-    sym (apart-line-pair _ _ _ _ _ (passes _ (s .good .1 .1 .1 .1 .0 .1)) (passes _ (sym (p .line-pair-apart .ensures) ∙ c .if1 .taken)))
+    sym (apart-line-pair _ _ _ _ _ (passes _ (s .good .1 .1 .1 .1 .0 .1))
+    (passes _ (sym (p .line-pair-apart .ensures) ∙ c .if1 .taken)))
 
 pline-seg-after-checks-requires : tie.Need-pline-seg-after-checks-requires
 pline-seg-after-checks-requires c κs =

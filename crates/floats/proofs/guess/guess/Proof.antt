@@ -24,7 +24,8 @@ small c =
 
 -- the patterns of hi and x as the code has them: nothing is lost
 guess-is : (m o f : ℕ) → o < 2 → f < 2 ^ 27 → f ≡ Root.first m o
-    → Root.near (ofBits binary64 (m + (o + 1022) * 2 ^ 52 % 2 ^ 64)) (ofBits binary64 (f * 2 ^ 27 % 2 ^ 64 + 0x3fe0_0000_0000_0000))
+    → Root.near (ofBits binary64 (m + (o + 1022) * 2 ^ 52 % 2 ^ 64))
+    (ofBits binary64 (f * 2 ^ 27 % 2 ^ 64 + 0x3fe0_0000_0000_0000))
     ≡ Root.guess m o
 unfolding Root.guess
 guess-is m o f l k e =
@@ -45,7 +46,8 @@ float-from-bits-x c = below-infinity _ (omega (arith, c .before .pre))
 returns : tie.Need-returns
 returns c =
     let start = c .before .before in
-    c .near .ensures ∙ guess-is (start .args .m) (start .args .odd) _ (start .pre .1) (small (c .before)) (c .before .first .ensures)
+    c .near .ensures
+    ∙ guess-is (start .args .m) (start .args .odd) _ (start .pre .1) (small (c .before)) (c .before .first .ensures)
 
 pub guess-spec : {M : Type 1} → statement M
 guess-spec =

@@ -18,7 +18,8 @@ returns c =
 returns-2 : tie.Need-returns-2
 returns-2 c =
     let b = c .before .args .b in
-    ap (λ (t : ℕ). scaled (t + 2 ^ 52) (b / 2 ^ 52 + 1023)) (low-digits b (c .before .fits .b .fits)) ∙ parts-high b (c .if1 .left)
+    ap (λ (t : ℕ). scaled (t + 2 ^ 52) (b / 2 ^ 52 + 1023)) (low-digits b (c .before .fits .b .fits))
+    ∙ parts-high b (c .if1 .left)
 
 pub parts-spec : {M : Type 1} → statement M
 parts-spec =

@@ -19,7 +19,11 @@ add-result : tie.Need-add-result
 add-result c =
     let start = c .before .before in
     let k = known (start .args .b) (start .pre .0) (start .pre .1) _ (c .before .parts .ensures) in
-    omega (arith, k .e-high, r-small (start .args .b) (start .pre .0) (start .pre .1) _ _ (c .before .parts .ensures) (c .rounded .ensures))
+    omega (
+      arith,
+      k .e-high,
+      r-small (start .args .b) (start .pre .0) (start .pre .1) _ _ (c .before .parts .ensures) (c .rounded .ensures),
+    )
 
 returns : tie.Need-returns
 returns c =

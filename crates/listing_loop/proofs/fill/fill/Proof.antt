@@ -15,13 +15,15 @@ use Rattle.listing_loop.proofs.fill.fill.Tie as tie
 
 -- the inner loop does not know what the slices held at the call: whatever that was, it keeps the state
 abbrev Inv-loop2 : tie.InvT-loop2
-Inv-loop2 first second kept job start-i start-j write at room indices₀ points₀ i j₀ rows₀ pairs₀ v v-kept end indices points j rows pairs =
+Inv-loop2 first second kept job start-i start-j write at room indices₀ points₀ i j₀ rows₀ pairs₀ v v-kept end indices points j
+    rows pairs =
     (x : List ℕ) (y : List Float)
     → State (look first second (job .epsilon)) job write at room start-i start-j x y i j₀ rows₀ pairs₀ indices₀ points₀
     → State (look first second (job .epsilon)) job write at room start-i start-j x y i j rows pairs indices points
 
 abbrev μ-loop2 : tie.MeasureT-loop2
-μ-loop2 first second kept job start-i start-j write at room indices₀ points₀ i j₀ rows₀ pairs₀ v v-kept end indices points j rows pairs =
+μ-loop2 first second kept job start-i start-j write at room indices₀ points₀ i j₀ rows₀ pairs₀ v v-kept end indices points j rows
+    pairs =
     end - j
 
 abbrev Inv-loop : tie.InvT-loop
@@ -47,7 +49,8 @@ start c = c .before .before .before .before .before .before
 -- the state in the inner loop
 inner : (c : At-loop2)
     → let a = start (outer c) .args in
-    State (look (now (a .first)) (now (a .second)) (a .job .epsilon)) (a .job) (a .write) (a .at) (a .room) (a .start-i) (a .start-j)
+    State (look (now (a .first)) (now (a .second)) (a .job .epsilon)) (a .job) (a .write) (a .at) (a .room) (a .start-i)
+    (a .start-j)
     (now (a .indices)) (now (a .points))
     (outer c .loop .i) (c .loop2 .j) (c .loop2 .rows) (c .loop2 .pairs) (c .loop2 .indices) (c .loop2 .points)
 inner c = let a = start (outer c) .args in c .loop2 .inv (now (a .indices)) (now (a .points)) (outer c .loop .inv)

@@ -21,7 +21,8 @@ returns c = record { all = λ t. absurd t }
 loop-again : tie.Need-loop-again Inv-loop μ-loop
 loop-again c =
     let v = c .before in
-    one-more _ _ _ _ (v .vertex-inside .ensures) (v .before .vertex .ensures) (c .if1 .left) (v .before .before .before .loop .inv)
+    one-more _ _ _ _ (v .vertex-inside .ensures) (v .before .vertex .ensures) (c .if1 .left)
+    (v .before .before .before .loop .inv)
 
 returns-2 : tie.Need-returns-2 Inv-loop μ-loop
 returns-2 c = record { all = λ t j l. c .before .loop .inv j (search needs) }

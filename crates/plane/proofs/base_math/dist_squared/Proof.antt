@@ -6,4 +6,5 @@ use Rattle.plane.proofs.base_math.dist_squared.Tie as tie
 
 pub dist-squared-spec : {M : Type 1} → statement M
 unfolding BaseMath.distSquared
-dist-squared-spec = tie.close (tie.spec (λ c. search needs) (λ c. search needs) (λ c. simp (← c .before .sub .ensures, ← c .dot .ensures)))
+dist-squared-spec =
+    tie.close (tie.spec (λ c. search needs) (λ c. search needs) (λ c. simp (← c .before .sub .ensures, ← c .dot .ensures)))

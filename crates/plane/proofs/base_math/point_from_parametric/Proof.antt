@@ -7,4 +7,6 @@ use Rattle.plane.proofs.base_math.point_from_parametric.Tie as tie
 
 pub point-from-parametric-spec : {M : Type 1} → statement M
 unfolding BaseMath.pointFromParametric
-point-from-parametric-spec = tie.close (tie.spec (λ c. search needs) (λ c. search needs) (λ c. search needs) (λ c. simp (← c .before .before .sub .ensures, ← c .before .scale .ensures, ← c .add .ensures)))
+point-from-parametric-spec =
+    tie.close (tie.spec (λ c. search needs) (λ c. search needs) (λ c. search needs)
+    (λ c. simp (← c .before .before .sub .ensures, ← c .before .scale .ensures, ← c .add .ensures)))

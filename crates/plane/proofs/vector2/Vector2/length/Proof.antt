@@ -6,4 +6,5 @@ use Rattle.plane.proofs.vector2.Vector2.length.Tie as tie
 
 pub length-spec : {M : Type 1} → statement M
 unfolding vector2.length
-length-spec = tie.close (tie.spec (λ c. search needs) (λ c. search needs) (λ c. simp (← c .before .dot .ensures, ← c .sqrt .ensures)))
+length-spec =
+    tie.close (tie.spec (λ c. search needs) (λ c. search needs) (λ c. simp (← c .before .dot .ensures, ← c .sqrt .ensures)))
