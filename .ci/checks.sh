@@ -76,6 +76,7 @@ prove_changed() {
 
 prove_rest() {
     wait "$rest" || fail "rt check failed"
+    check_replaying
 }
 
 # Wrong functions, many at a time: beside the must-fail edits, which rt ci has tried one by one. It needs what was proved.
@@ -129,6 +130,8 @@ check_stored() {
     local start=$SECONDS
     check_replay crates/replay
     check_layouts target/bin/crossings layouts
+    check_streams target/bin/crossings layouts/two_coils.txt layouts/two_coils.out
+    [ -n "$quick" ] || check_replaying
     note_time "$start"
 }
 
@@ -152,6 +155,16 @@ check_layouts() {
     done
     [ ${#texts[@]} = ${#answers[@]} ] || fail "there are answers in $2 without a text"
     say "ran ${#texts[@]} stored layouts"
+}
+
+# Where a program cannot read or write it says so, and a signal takes nothing from its answer.
+check_streams() {
+    .ci/streams "$@" || fail "$1 does not tell what it cannot read or write, as above"
+    say "ran $1 without an input, without room for its output, and broken off by signals"
+}
+
+check_replaying() {
+    check_streams target/bin/replay crates/replay/stdin crates/replay/stdout
 }
 
 # ---- the comparison

@@ -1,25 +1,55 @@
 // Replays a recorded list of answers from standard input, and says how many records it has and on how many of them ours
-// differ. A line that is no record counts as a difference, and so does a record that is cut short.
+// differ. A line that is no record counts as a difference, and so does a record that is cut short. What cannot be read or written
+// is told in one line on standard error.
 
 // What reading one record showed.
 enum Seen {
     End,
     Right,
     Wrong,
+    Unread,
 }
 
 struct Tally {
     records: u64,
     differences: u64,
+    unread: bool,
 }
 
 fn main() {
     let t = replay();
-    io::write_all(1, b"replayed ");
-    io::print_decimal(1, t.records);
-    io::write_all(1, b" differences ");
-    io::print_decimal(1, t.differences);
-    io::write_all(1, b"\n");
+    if t.unread {
+        io::write_all(
+            libc::STDERR_FILENO,
+            b"replay: standard input cannot be read\n",
+        );
+        return;
+    }
+    if !say(t.records, t.differences) {
+        io::write_all(
+            libc::STDERR_FILENO,
+            b"replay: standard output cannot be written\n",
+        );
+    }
+}
+
+// Writes the counts; no if they could not be written.
+fn say(records: u64, differences: u64) -> bool {
+    put(b"replayed ")
+        && put_number(records)
+        && put(b" differences ")
+        && put_number(differences)
+        && put(b"\n")
+}
+
+fn put(text: &[u8]) -> bool {
+    streams::write_full(text) == text.len()
+}
+
+fn put_number(n: u64) -> bool {
+    let mut digits = [0u8; 20];
+    let k = io::decimal(n, &mut digits);
+    put(&digits[..k])
 }
 
 // Replays the whole list. Nothing says that the input ends, so the loop ends too where the count would not fit.
@@ -39,18 +69,30 @@ fn replay() -> Tally {
                 records += 1;
                 differences += 1;
             }
+            Seen::Unread => {
+                return Tally {
+                    records: records,
+                    differences: differences,
+                    unread: true,
+                };
+            }
         }
     }
     Tally {
         records: records,
         differences: differences,
+        unread: false,
     }
 }
 
 // Reads and judges one record: its name, then as many numbers as follow such a name.
 fn next() -> Seen {
     let mut head = [0u8; 5];
-    if io::read_full(0, &mut head) == 0 {
+    let name = streams::read_full(&mut head);
+    if name.failed {
+        return Seen::Unread;
+    }
+    if name.bytes == 0 {
         return Seen::End;
     }
     let end = records::numbers(&head) * records::FIELD;
@@ -60,7 +102,10 @@ fn next() -> Seen {
 
 // Reads and judges what follows a name. What the input lacks of it stays 0, which is no part of a record.
 fn rest(head: &[u8; 5], body: &mut [u8]) -> Seen {
-    io::read_full(0, body);
+    let input = streams::read_full(body);
+    if input.failed {
+        return Seen::Unread;
+    }
     if records::is_right(head, body) {
         return Seen::Right;
     }
