@@ -1,5 +1,5 @@
--- The text of an answer: a refusal's line, or a line with the counts and a line for each row. A row is two segments' indices, the
--- class's name, and the points that the class has, each number as the sixteen hex digits of its bits.
+-- The text of an answer: the line of a refusal; or a line with the counts, then a line for each row. A row's line has the indices
+-- of the two segments, the name of the class, and the points of the class, each number as the sixteen hex digits of its bits.
 use Prim.Native.Nat.{ℕ, zero, suc, _+_, _*_, _/_, _%_}
 use mathlib.Core.Bool.{cond}
 use mathlib.Core.List.{List, [], _∷_, _++_}
@@ -63,7 +63,7 @@ unfoldable pub hex : ℕ → ℕ → List ℕ
 hex zero n = []
 hex (suc k) n = hex k (n / 16) ++ (glyph (n % 16) ∷ [])
 
--- a space, then a number's bits; those of a NaN are 7ff8000000000000, as `toBits` has it
+-- a space, then the bits of a number; every NaN has the bits 7ff8000000000000, as in `toBits`
 unfoldable pub numberText : Float → List ℕ
 numberText x = space ++ hex 16 (toBits binary64 x)
 
@@ -78,7 +78,7 @@ classText class =
     (cond (eqb class 4) linesWord
     (cond (eqb class 5) arcsWord noneWord))))
 
--- a tangent and a single crossing have one point, the other classes two
+-- a tangent and one crossing have one point, the other classes two
 unfoldable pub pointsText : ℕ → Float → Float → Float → Float → List ℕ
 pointsText class x1 y1 x2 y2 =
     cond (ltb class 1) []
@@ -97,7 +97,7 @@ refusedText n = refusedWord ++ decimal n ++ newline
 unfoldable pub countText : ℕ → ℕ → List ℕ
 countText pairs rows = pairsWord ++ decimal pairs ++ rowsWord ++ decimal rows ++ newline
 
--- row k of the index rows, three numbers a row, and of the float rows, four a row
+-- the line of row k: the index rows have three numbers each, the float rows four
 unfoldable pub rowAt : List ℕ → List Float → ℕ → List ℕ
 rowAt index points k =
     rowText (getD index (k * 3) 0) (getD index (k * 3 + 1) 0) (getD index (k * 3 + 2) 0)

@@ -1,4 +1,4 @@
--- How an answer goes to a caller in C, settled here: a number is returned, and of an answer four numbers stand in the lent slice.
+-- How an answer goes to a caller in C, as decided here: a number is returned, and four values go into the lent slice.
 use Prim.Native.Nat.{ℕ, _+_}
 use mathlib.Core.Path.{_≡_}
 use mathlib.Core.Bool.{Bool, cond, _||_}
@@ -19,7 +19,7 @@ point x y = record { x = x; y = y }
 abbrev pub vertex : Float → Float → Float → PlineVertex
 vertex x y bulge = record { x = x; y = y; bulge = bulge }
 
--- ---- out: 512 where the slice has not four places, else 256 and the number of a refusal, else the number of the case
+-- ---- out: 512 if the slice has fewer than four places, else 256 plus the number of a refusal, else the number of the case
 
 abbrev pub short : List Float → Bool
 short old = ltb (length old) 4

@@ -1,5 +1,5 @@
--- How a listing goes to a caller in C, settled here: a number is returned, the two counts stand in a third lent slice, and
--- the rows in the two slices that the listing was lent.
+-- How a listing goes to a caller in C, as decided here: a number is returned, the two counts go into a third lent slice, and the
+-- rows into the two slices that the listing is lent.
 use Prim.Native.Nat.{ℕ, _+_}
 use mathlib.Core.Path.{_≡_}
 use mathlib.Core.Bool.{Bool, cond}
@@ -12,7 +12,7 @@ use Rattle.listing_outcomes.specs.declared.answer.ListingAnswer.{ListingAnswer}
 use Rattle.listing_outcomes.specs.declared.answer.ListingAnswer.the-variants.{Refused, Listed}
 use Rattle.listing_outcomes.specs.Outcome.{Outcome}
 
--- 512 where the counts' slice has not two places, else 256 and the number of a refusal, else 0
+-- 512 if the counts' slice has fewer than two places, else 256 plus the number of a refusal, else 0
 abbrev pub short : List ℕ → Bool
 short counts = ltb (length counts) 2
 

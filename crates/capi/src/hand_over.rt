@@ -1,10 +1,10 @@
-// How an answer is handed to a caller in C: a number is returned, and four values go into a lent slice.
+// How an answer goes to a caller in C: a number is returned, and four values go into a lent slice.
 ghost use Prim.Native.Nat.{_<_};
 ghost use Rattle.capi.specs.Handed;
 use answers::padded::PaddedAnswer;
 
-// Writes an answer's four values to the front of `out` and returns its number. Nothing is written where `out` has no room for
-// four, or where the answer is a refusal.
+// Writes an answer's four values to the front of `out` and returns its number. Nothing is written if `out` has no room for four,
+// or if the answer is a refusal.
 pub fn hand_over(padded: PaddedAnswer, out: &mut [f64]) -> u64
     requires { ⌜ padded .number < 256 ⌝ }
     ensures { λ r. ⌜ Handed.Handed padded r (now (out .entry)) (now (out .exit)) ⌝ }

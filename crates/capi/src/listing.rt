@@ -8,8 +8,8 @@ use listing_calls::mutual_listing;
 use listing_calls::self_listing;
 use listing_outcomes::answer::ListingAnswer;
 
-// Writes the counts of an answer to the front of `counts` and returns 0; a refusal writes nothing, and 256 and its number are
-// returned.
+// Writes the counts of an answer to the front of `counts` and returns 0. A refusal writes nothing and returns 256 plus its
+// number.
 fn hand_counts(answer: ListingAnswer, counts: &mut [u64]) -> u64
     requires { ⌜ 2 ≤ length (now counts) ⌝ }
     requires { ⌜ handed.code answer < 512 ⌝ }
@@ -60,7 +60,7 @@ pub extern "C" fn vj_mutual(
     hand_counts(answer, counts)
 }
 
-// Which segments of a path meet, neighbours excepted.
+// Which segments of a path meet. Neighbours are left out.
 #[no_mangle]
 pub extern "C" fn vj_self(
     path: &[f64],

@@ -1,9 +1,9 @@
-// Lists where the two paths of a layout meet: the layout's text from standard input, the listing's to standard output. What
-// cannot be read or written is told in one line on standard error.
+// Lists where the two paths of a layout meet: it reads the layout's text from standard input and writes the listing's text to
+// standard output. If a read or a write fails, it says so in one line on standard error.
 use answer_lines::Written;
 
 fn main() {
-    // one byte more than a text may have, so that a longer one is told
+    // one byte more than a text may have, so that a longer text is noticed
     let mut text = [0u8; 16385];
     let input = streams::read_full(&mut text);
     if input.failed {
@@ -17,7 +17,7 @@ fn main() {
     answer(&text[..n]);
 }
 
-// Writes the answer to a text. There is room for the longest one, so the other ends are not met.
+// Writes the answer to a text. There is room for the longest answer, so the last line is never reached.
 fn answer(text: &[u8]) {
     let mut out = [0u8; 65664];
     let written = layout_listing::list_layout(text, &mut out);

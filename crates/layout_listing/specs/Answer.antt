@@ -1,5 +1,5 @@
--- The answer of the scope's text program, `crossings`, to a text: "refused 10" where it breaks its form, else the listing of its
--- two paths, both open, with epsilon 1/1024 and room for 512 rows.
+-- The answer of the scope's text program, `crossings`, to a text: "refused 10" if the text breaks its form, else the listing of
+-- its two paths, both open, with epsilon 1/1024 and room for 512 rows.
 use Prim.Native.Nat.{ℕ}
 use mathlib.Core.Bool.{false}
 use mathlib.Core.List.{List}
@@ -20,7 +20,7 @@ use Rattle.listing_calls.specs.Listing.{mutualListing}
 abbrev pub epsilon : Float
 epsilon = ofBits binary64 0x3f50_0000_0000_0000
 
--- rows for 512: three whole numbers and four floats each
+-- room for 512 rows: three whole numbers and four floats each
 abbrev pub noIndices : List ℕ
 noIndices = replicate 1536 0
 
@@ -46,7 +46,7 @@ answerOf (layout l) = linesFor (pathOf (l .first)) (pathOf (l .second))
 unfoldable pub answerTo : List ℕ → List ℕ
 answerTo text = answerOf (reads text)
 
--- ---- what the functions promise: these bytes on the front of the slice, or nothing where it has fewer than 65,664 places
+-- ---- what the functions promise: these bytes at the front of the slice, or nothing if it has fewer than 65,664 places
 abbrev pub room : ℕ
 room = 65664
 

@@ -1,4 +1,4 @@
-// From the text of a layout to the text of its listing: all that the program `crossings` does but reading and writing.
+// From the text of a layout to the text of its listing: everything that the program `crossings` does, except reading and writing.
 ghost use Rattle.layout_listing.specs.Answer.{AnswerTo, LinesFor};
 use answer_lines::Written;
 use answer_lines::write_answer;
@@ -8,16 +8,16 @@ use layout_text::read_layout;
 use listing_calls::mutual_listing::mutual_listing;
 use listing_outcomes::answer::ListingAnswer;
 
-// how near is near: 1/1024
+// epsilon: 1/1024
 pub const EPSILON: f64 = 0.0009765625;
 
-// how many rows there is room for
+// how many rows the listing has room for
 pub const ROWS: usize = 512;
 
-// how many bytes the answer's text is given: 128 a line, for the counts and every row
+// how many bytes of room the answer's text needs: 128 for each line, for the counts and every row
 pub const ROOM: usize = 65664;
 
-// Writes the lines of the listing of two open paths to the front of `out`, and answers how many bytes they are.
+// Writes the lines of the listing of two open paths to the front of `out`, and answers how many bytes they have.
 fn list_paths(first: &[f64], second: &[f64], out: &mut [u8]) -> Written
     ensures { λ r. ⌜ LinesFor (now (first .entry)) (now (second .entry)) r (now (out .entry)) (now (out .exit)) ⌝ }
 {
@@ -41,8 +41,8 @@ fn list_paths(first: &[f64], second: &[f64], out: &mut [u8]) -> Written
     }
 }
 
-// Writes the answer to a layout's text to the front of `out`, and answers how many bytes it is; nothing is written if `out` has not
-// the room for the longest answer.
+// Writes the answer to a layout's text to the front of `out`, and answers how many bytes it has. If `out` lacks the room for the
+// longest answer, nothing is written.
 pub fn list_layout(text: &[u8], out: &mut [u8]) -> Written
     ensures { λ r. ⌜ AnswerTo (now (text .entry)) r (now (out .entry)) (now (out .exit)) ⌝ }
 {

@@ -1,6 +1,6 @@
-// Replays a recorded list of answers from standard input, and says how many records it has and on how many of them ours
-// differ. A line that is no record counts as a difference, and so does a record that is cut short. What cannot be read or written
-// is told in one line on standard error.
+// Replays a recorded list of answers from standard input. It prints how many records the list has, and for how many our answer
+// differs. A line that is no record counts as a difference, and so does a record that is cut short. If a read or a write fails, it says
+// so in one line on standard error.
 
 // What reading one record showed.
 enum Seen {
@@ -52,7 +52,7 @@ fn put_number(n: u64) -> bool {
     put(&digits[..k])
 }
 
-// Replays the whole list. Nothing says that the input ends, so the loop ends too where the count would not fit.
+// Replays the whole list. Nothing promises that the input ends, so the loop also ends where the count would not fit.
 fn replay() -> Tally {
     let mut records: u64 = 0;
     let mut differences: u64 = 0;
@@ -85,7 +85,7 @@ fn replay() -> Tally {
     }
 }
 
-// Reads and judges one record: its name, then as many numbers as follow such a name.
+// Reads and judges one record: its name, then as many numbers as belong to that name.
 fn next() -> Seen {
     let mut head = [0u8; 5];
     let name = streams::read_full(&mut head);
@@ -100,7 +100,7 @@ fn next() -> Seen {
     rest(&head, &mut body[..end])
 }
 
-// Reads and judges what follows a name. What the input lacks of it stays 0, which is no part of a record.
+// Reads and judges what follows a name. What the input lacks stays 0, and no record has a 0 byte.
 fn rest(head: &[u8; 5], body: &mut [u8]) -> Seen {
     let input = streams::read_full(body);
     if input.failed {

@@ -1,4 +1,4 @@
--- How long a text is: every layout within the limits has a text of at most 12,808 bytes, so none is refused for its length.
+-- The length of a text: every layout within the limits has a text of at most 12,808 bytes, so none is refused for its length.
 use Prim.Native.Nat.{ℕ, zero, suc, _+_, _*_, _/_, _%_, _^_, _≤_, _<_}
 use mathlib.Core.Path.{_≡_}
 use mathlib.Core.Bool.{Bool, true, false, not}
