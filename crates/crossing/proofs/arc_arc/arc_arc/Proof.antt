@@ -1,5 +1,5 @@
--- `crossing::arc_arc::arc_arc` meets its contract: each return is an end of the definition, by what the circles have in common and the
--- calls on its way.
+-- `crossing::arc_arc::arc_arc` meets its contract: each return is an end of the definition, by what the circles have in common
+-- and the calls on its way.
 use mathlib.Core.Path.{_≡_}
 use borrow.Author.Needs.{needs}
 use lib.Ieee.{Float}

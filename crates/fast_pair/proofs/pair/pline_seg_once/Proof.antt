@@ -1,5 +1,5 @@
--- `fast_pair::pair::pline_seg_once` meets its contract: of two lines that are clearly apart the law of `Laws/Pair` says what the pair call
--- would; elsewhere it is asked, with the circles of what is an arc.
+-- `fast_pair::pair::pline_seg_once` meets its contract: of two lines that are clearly apart the law of `Laws/Pair` says what the
+-- pair call would; elsewhere it is asked, with the circles of what is an arc.
 use mathlib.Core.Path.{sym, _∙_}
 use denote.Floats.{passes}
 use borrow.Author.Needs.{needs}

@@ -1,4 +1,5 @@
--- `floats::bits::below` meets its contract: a NaN is below nothing and above nothing, and of two numbers the comparison is the value's.
+-- `floats::bits::below` meets its contract: a NaN is below nothing and above nothing, and of two numbers the comparison is the
+-- value's.
 use mathlib.Core.Path.{refl, sym, _∙_}
 use borrow.Author.Needs.{needs}
 use lib.Ieee.{binary64}

@@ -1,4 +1,5 @@
--- `floats::root::sqrt` meets its contract: RootBits.antt says what `parts` and `rounded` make of the pattern, and that nothing wraps.
+-- `floats::root::sqrt` meets its contract: RootBits.antt says what `parts` and `rounded` make of the pattern, and that nothing
+-- wraps.
 use borrow.Author.Needs.{needs}
 use native.Mathlib.Omega.{arith}
 use Rattle.floats.proofs.RootBits.{known, r-small, pattern-is}

@@ -1,5 +1,5 @@
--- `listing_outcomes::buffer::list` meets its contract: what is kept is that of the second path's segments, and the listing is that
--- of `list_kept`.
+-- `listing_outcomes::buffer::list` meets its contract: what is kept is that of the second path's segments, and the listing is
+-- that of `list_kept`.
 use mathlib.Core.Path.{_≡_}
 use native.Mathlib.Omega.{arith}
 use lib.Ieee.{Float, binary64, ofBits}

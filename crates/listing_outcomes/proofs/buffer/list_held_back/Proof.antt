@@ -1,5 +1,5 @@
--- `listing_outcomes::buffer::list_held_back` meets its contract: the buffer is a page of all pairs. Where it ends the listing, it is
--- copied; where it is as long as the slices and pairs are left, there are too many rows; else the rest follows behind it.
+-- `listing_outcomes::buffer::list_held_back` meets its contract: the buffer is a page of all pairs. Where it ends the listing,
+-- it is copied; where it is as long as the slices and pairs are left, there are too many rows; else the rest follows behind it.
 use mathlib.Core.Path.{_≡_, refl, sym, ap, _∙_}
 use mathlib.Core.Bool.{true}
 use mathlib.Core.List.{List}

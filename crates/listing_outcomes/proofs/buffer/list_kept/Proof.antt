@@ -1,5 +1,5 @@
--- `listing_outcomes::buffer::list_kept` meets its contract: where every pair could have a row, the page of all pairs is the listing;
--- else rows are held back.
+-- `listing_outcomes::buffer::list_kept` meets its contract: where every pair could have a row, the page of all pairs is the
+-- listing; else rows are held back.
 use native.Mathlib.Nat.{mul-le-mul}
 use native.Mathlib.Omega.{arith}
 use borrow.Author.Needs.{needs}
