@@ -34,7 +34,7 @@ fn answer(text: &[u8]) {
     io::write_all(libc::STDERR_FILENO, b"crossings: no room for the answer\n");
 }
 
-// Writes all of a text; that it could not be written is told.
+// Writes all of a text. If it cannot be written, it says so on standard error.
 fn write(text: &[u8]) {
     if streams::write_full(text) < text.len() {
         io::write_all(

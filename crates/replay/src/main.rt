@@ -33,7 +33,7 @@ fn main() {
     }
 }
 
-// Writes the counts; no if they could not be written.
+// Writes the counts. The answer is no if they could not be written.
 fn say(records: u64, differences: u64) -> bool {
     put(b"replayed ")
         && put_number(records)

@@ -1,9 +1,9 @@
-// Standard input and output of the programs, whole: a slice is read full or to the input's end, and written to its end. A call
-// that a signal broke off before it moved a byte is made again; one that failed is told apart from the end of the input.
+// Standard input and output of the programs: a slice is read until it is full or the input ends, and written to its end. A call
+// that a signal interrupts before it moved a byte is made again. A failed call is not the same as the end of the input.
 ghost use Prim.Native.Nat.{_≤_};
 ghost use lib.ListN.{length};
 
-// how often a call is made at most: nothing says that signals end, and a loop that is proved has to
+// how often a call is made at most: nothing promises that signals end, but a proved loop must
 const TRIES: u64 = u64::MAX;
 
 // How many bytes were read, and whether a read failed.
@@ -12,7 +12,7 @@ pub struct Input {
     pub failed: bool,
 }
 
-// Reads until the slice is full or the input ends, or a read fails.
+// Reads until the slice is full, the input ends, or a read fails.
 pub fn read_full(bytes: &mut [u8]) -> Input
     ensures { λ r. ⌜ r .bytes ≤ length (now (bytes .exit)) ⌝ }
 {
@@ -55,7 +55,7 @@ pub fn write_full(bytes: &[u8]) -> usize
     n
 }
 
-// One read, made again where a signal broke it off.
+// One read, made again if a signal interrupts it.
 fn read_some(bytes: &mut [u8]) -> isize {
     let mut tries = TRIES;
     while tries > 0 {
@@ -71,7 +71,7 @@ fn read_some(bytes: &mut [u8]) -> isize {
     -1
 }
 
-// One write, likewise.
+// One write, made again if a signal interrupts it.
 fn write_some(bytes: &[u8]) -> isize {
     let mut tries = TRIES;
     while tries > 0 {
