@@ -118,7 +118,8 @@ module _ {M : Type 1} (𝓤 : URA M) (H : Heap 𝓤) (A : Atoms 𝓤) where
     OfPath = answers 𝓤 H A (lent F) (yes, (yes, F .kept)) (λ κs a. F .view-says κs (viewOf (a .0) (a .1 .0)) (a .1 .1))
 
     -- the walk that a function owes: a call of `view_of` on the slice and the flag is a run of the function, if the value
-    -- returned is a view's and the function of the view can then be called on it, and if what that returns is of the result's type
+    -- returned is a view's and the function of the view can then be called on it, and if what that returns is of the type of the
+    -- result
     abbrev pub Walk : Tables 𝓤 H → Name → Fn → Type 2
     Walk 𝓣 f e =
         (κs : Lfts 1) (s : RefT (List Float)) (closed : Bool) (a : Denots (More F κs)) (P K : Val → SProp 𝓤)
