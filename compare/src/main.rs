@@ -2,6 +2,7 @@
 
 #[cfg(feature = "rust-text")]
 mod answer;
+mod arcs;
 mod bench;
 mod capi;
 mod classes;
@@ -60,6 +61,7 @@ usage: compare check [COUNT [SEED]]  compare each float function on COUNT random
 const COUNT: u64 = 10 << 20;
 const ON_AN_EDGE: u64 = 1 << 20;
 const SEARCHED: u64 = 24 << 20;
+const SEARCHED_ARCS: u64 = 10 << 20;
 const TEXTS: u64 = 3072;
 const SEED: u64 = 1;
 const BENCHES: [&str; 3] = ["floats", "calls", "listings"];
@@ -71,6 +73,7 @@ fn main() -> ExitCode {
         ["check", ref numbers @ ..] => check(numbers),
         ["edges", ref numbers @ ..] => edges(numbers),
         ["search", ref numbers @ ..] => search(numbers),
+        ["arcs", ref numbers @ ..] => search_arcs(numbers),
         ["texts", program, ref numbers @ ..] => texts(program, numbers),
         ["layouts", folder] => layouts(Path::new(folder)),
         ["record", file] => record(file),
@@ -109,6 +112,14 @@ fn search(numbers: &[&str]) -> Result<(), String> {
     match search::run(count, seed) {
         0 => Ok(()),
         broken => Err(format!("{broken} answers break the promise")),
+    }
+}
+
+fn search_arcs(numbers: &[&str]) -> Result<(), String> {
+    let (count, seed) = count_and_seed(numbers, SEARCHED_ARCS)?;
+    match arcs::run(count, seed) {
+        0 => Ok(()),
+        broken => Err(format!("{broken} answers are not what the search allows")),
     }
 }
 
