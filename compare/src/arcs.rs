@@ -3,6 +3,8 @@
 
 mod aim;
 mod apart;
+mod climb;
+mod cures;
 mod depth;
 mod draw;
 mod judge;
@@ -12,15 +14,27 @@ mod whole;
 
 use crate::capi;
 use crate::rng::Rng;
+use cures::Floats;
 use draw::{Pair, KINDS};
 use report::Report;
 
 type Caller = (&'static str, fn(&Pair) -> u64);
 
-/// Judges the answers to `count` pairs, as many of each kind. Answers how many were missed where none may be, refused, or not the
-/// same from both.
+/// Judges the answers to `count` pairs, as many of each kind. Answers how many were beyond what the search allows: missed where none
+/// may be, reported too far apart, refused, or not the same from both.
 pub fn run(count: u64, seed: u64) -> u64 {
     judge_all(&callers(), count, seed)
+}
+
+/// Climbs down to the least radii that are missed, by so many turns for each.
+pub fn climb(turns: u64, seed: u64) {
+    climb::climb(ours, turns, seed);
+}
+
+/// Asks again, in other ways, about the missed ones of `count` pairs; and how far apart short parallel lines are reported.
+pub fn cures(count: u64, seed: u64) {
+    cures::run(count, seed);
+    cures::short_lines();
 }
 
 fn judge_all(callers: &[Caller], count: u64, seed: u64) -> u64 {
@@ -41,6 +55,8 @@ fn judge_all(callers: &[Caller], count: u64, seed: u64) -> u64 {
     if differ > 0 {
         println!("{differ} pairs are answered by two classes");
     }
+    // where all answer alike, so are the tables
+    reports[0].print_tables();
     reports.iter().map(Report::print).sum::<u64>() + differ
 }
 
@@ -63,9 +79,71 @@ fn text(pair: &Pair) -> u64 {
 }
 
 fn numbers(pair: &Pair) -> [f64; 13] {
-    let (v, u) = (pair.v, pair.u);
-    let [a, b, c, d] = [v.from, v.to, u.from, u.to].map(|p| (p.x as f64, p.y as f64));
-    [
-        a.0, a.1, v.bulge(), b.0, b.1, 0.0, c.0, c.1, u.bulge(), d.0, d.1, 0.0, pair.epsilon,
-    ]
+    segments(cures::floats(pair.v), cures::floats(pair.u), pair.epsilon)
+}
+
+/// What our library answers to two segments in floats, the first of them before or behind the other.
+fn told(one: Floats, other: Floats, before: bool, epsilon: f64) -> u64 {
+    let (v, u) = if before { (one, other) } else { (other, one) };
+    capi::vj_pair(segments(v, u, epsilon), &mut [0.0; 4])
+}
+
+fn segments(v: Floats, u: Floats, epsilon: f64) -> [f64; 13] {
+    let [a, b, c, d, v] = v;
+    let [e, f, g, h, u] = u;
+    [a, b, v, c, d, 0.0, e, f, u, g, h, 0.0, epsilon]
+}
+
+#[cfg(test)]
+mod tests {
+    use super::*;
+
+    fn told(call: fn(&Pair) -> u64) -> u64 {
+        judge_all(&[("a library", call)], 22_000, 3)
+    }
+
+    #[test]
+    fn the_library_is_allowed() {
+        assert_eq!(told(ours), 0);
+    }
+
+    #[test]
+    fn a_fixed_answer_is_found_out() {
+        assert!(told(|_| 0) > 1000);
+        assert!(told(|_| 2) > 1000);
+        assert_eq!(told(|_| 261), 22_000);
+    }
+
+    /// Each way of missing: all of one kind of pair, and a smaller epsilon, at which more is missed.
+    #[test]
+    fn missing_some_is_found_out() {
+        fn arcs(pair: &Pair) -> u64 {
+            u64::from(!pair.v.is_line()) + u64::from(!pair.u.is_line())
+        }
+        assert!(told(|pair| if arcs(pair) == 2 { 0 } else { ours(pair) }) > 1000);
+        assert!(told(|pair| if arcs(pair) == 1 { 0 } else { ours(pair) }) > 1000);
+        let finer = |pair: &Pair| {
+            ours(&Pair {
+                epsilon: 1e-9,
+                ..*pair
+            })
+        };
+        assert!(told(finer) > 100);
+    }
+
+    #[test]
+    fn a_larger_epsilon_is_found_out() {
+        assert!(
+            told(|pair| ours(&Pair {
+                epsilon: 0.5,
+                ..*pair
+            })) > 100
+        );
+    }
+
+    #[test]
+    fn a_second_answer_is_found_out() {
+        let second: fn(&Pair) -> u64 = |pair| (ours(pair) + 1) % 6;
+        assert!(judge_all(&[("one", ours), ("another", second)], 2200, 3) >= 2200);
+    }
 }

@@ -62,6 +62,7 @@ const COUNT: u64 = 10 << 20;
 const ON_AN_EDGE: u64 = 1 << 20;
 const SEARCHED: u64 = 24 << 20;
 const SEARCHED_ARCS: u64 = 10 << 20;
+const CLIMBED: u64 = 1 << 20;
 const TEXTS: u64 = 3072;
 const SEED: u64 = 1;
 const BENCHES: [&str; 3] = ["floats", "calls", "listings"];
@@ -73,6 +74,8 @@ fn main() -> ExitCode {
         ["check", ref numbers @ ..] => check(numbers),
         ["edges", ref numbers @ ..] => edges(numbers),
         ["search", ref numbers @ ..] => search(numbers),
+        ["arcs", "climb", ref numbers @ ..] => climb_arcs(numbers),
+        ["arcs", "cures", ref numbers @ ..] => cure_arcs(numbers),
         ["arcs", ref numbers @ ..] => search_arcs(numbers),
         ["texts", program, ref numbers @ ..] => texts(program, numbers),
         ["layouts", folder] => layouts(Path::new(folder)),
@@ -121,6 +124,18 @@ fn search_arcs(numbers: &[&str]) -> Result<(), String> {
         0 => Ok(()),
         broken => Err(format!("{broken} answers are not what the search allows")),
     }
+}
+
+fn climb_arcs(numbers: &[&str]) -> Result<(), String> {
+    let (turns, seed) = count_and_seed(numbers, CLIMBED)?;
+    arcs::climb(turns, seed);
+    Ok(())
+}
+
+fn cure_arcs(numbers: &[&str]) -> Result<(), String> {
+    let (count, seed) = count_and_seed(numbers, SEARCHED_ARCS)?;
+    arcs::cures(count, seed);
+    Ok(())
 }
 
 fn texts(program: &str, numbers: &[&str]) -> Result<(), String> {

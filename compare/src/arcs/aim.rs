@@ -37,7 +37,7 @@ fn turned((x, y): Way, s: f64) -> Way {
 
 /// The place on an arc at which its way is the chord's, turned by twice the angle whose tangent is `along` times the bulge: as seen
 /// from the start, and its way there.
-fn at(chord: Way, bulge: f64, along: f64) -> (Way, Way) {
+pub fn at(chord: Way, bulge: f64, along: f64) -> (Way, Way) {
     let length = size(chord);
     let (x, y) = (chord.0 / length, chord.1 / length);
     let part = (1.0 + bulge * bulge) / (2.0 * (1.0 + along * along * bulge * bulge));
@@ -58,7 +58,11 @@ pub fn aimed(rng: &mut Rng, aim: &Aim) -> Option<(Piece, Piece)> {
     let (x, y) = (first.to.x - first.from.x, first.to.y - first.from.y);
     let (place, ahead) = at(float((x, y)), shape.bulge, aim.place);
     // beyond is on the left where the second one turns left, and the other way round before its start
-    let side = if (aim.turn < 0.0) != aim.backward { -1.0 } else { 1.0 };
+    let side = if (aim.turn < 0.0) != aim.backward {
+        -1.0
+    } else {
+        1.0
+    };
     let side = if aim.along < 0.0 { -side } else { side };
     let (low, high) = (side * aim.beyond.0, side * aim.beyond.1);
     let (middle, width) = ((low + high) / 2.0, (high - low).abs() / 2.0);
@@ -67,7 +71,13 @@ pub fn aimed(rng: &mut Rng, aim: &Aim) -> Option<(Piece, Piece)> {
         (first.from.x as f64 + place.0 - offset.0 + normal.0 * middle).round(),
         (first.from.y as f64 + place.1 - offset.1 + normal.1 * middle).round(),
     );
-    let left = |p: Way| if shape.is_line() { shape.off(p) } else { -shape.off(p) };
+    let left = |p: Way| {
+        if shape.is_line() {
+            shape.off(p)
+        } else {
+            -shape.off(p)
+        }
+    };
     let now = left((base.0 + offset.0, base.1 + offset.1));
     let (dx, dy) = stepped(rng, now, middle, width, ahead, shape.radius);
     let from = Spot {
@@ -108,18 +118,41 @@ fn laid(rng: &mut Rng, aim: &Aim, way: Way) -> Option<Piece> {
 }
 
 /// A few steps aside and along, after which the distance is nearest to the wanted one, or within the width of it.
-fn stepped(rng: &mut Rng, now: f64, wanted: f64, width: f64, ahead: Way, radius: f64) -> (i64, i64) {
+fn stepped(
+    rng: &mut Rng,
+    now: f64,
+    wanted: f64,
+    width: f64,
+    ahead: Way,
+    radius: f64,
+) -> (i64, i64) {
     let normal = (-ahead.1, ahead.0);
     let bend = if radius == 0.0 { 0.0 } else { 0.5 / radius };
-    let most = if radius == 0.0 { STEPS } else { (radius.sqrt() as i64).min(STEPS) };
+    let most = if radius == 0.0 {
+        STEPS
+    } else {
+        (radius.sqrt() as i64).min(STEPS)
+    };
     let steep = normal.0.abs() > normal.1.abs();
     // along the axis that the way is nearer to, and across it
-    let (by_step, across) = if steep { (normal.1, normal.0) } else { (normal.0, normal.1) };
-    let (step_ahead, across_ahead) = if steep { (ahead.1, ahead.0) } else { (ahead.0, ahead.1) };
+    let (by_step, across) = if steep {
+        (normal.1, normal.0)
+    } else {
+        (normal.0, normal.1)
+    };
+    let (step_ahead, across_ahead) = if steep {
+        (ahead.1, ahead.0)
+    } else {
+        (ahead.0, ahead.1)
+    };
     let mut best = (f64::INFINITY, 0, 0);
     let start = signed(rng, most.max(1));
     for i in 0..2 * most.max(1) {
-        let step = if start + i > most { start + i - 2 * most } else { start + i };
+        let step = if start + i > most {
+            start + i - 2 * most
+        } else {
+            start + i
+        };
         let s = step as f64;
         // so far along, the arc has bent to the left
         let along = s / step_ahead;

@@ -37,7 +37,11 @@ impl Shape {
         let at = |p: crate::search::plane::Spot| (p.x as f64, p.y as f64);
         let (from, to, b) = (at(s.from), at(s.to), s.bulge());
         let (x, y) = less(to, from);
-        let up = if s.is_line() { 0.0 } else { (1.0 - b * b) / (4.0 * b) };
+        let up = if s.is_line() {
+            0.0
+        } else {
+            (1.0 - b * b) / (4.0 * b)
+        };
         Shape {
             from,
             to,
@@ -70,7 +74,8 @@ impl Shape {
             return dot(chord, less(p, self.from)) > 0.0 && dot(chord, less(p, self.to)) < 0.0;
         }
         let from = less(p, self.center);
-        across(less(self.from, self.center), from) > 0.0 && across(from, less(self.to, self.center)) > 0.0
+        across(less(self.from, self.center), from) > 0.0
+            && across(from, less(self.to, self.center)) > 0.0
     }
 
     fn from_point(&self, p: Point) -> f64 {
@@ -106,8 +111,16 @@ pub fn apart(v: Piece, u: Piece) -> f64 {
         (false, true) => less(u.to, u.from),
         _ => less(u.center, v.center),
     };
-    let way = if v.is_line() || u.is_line() { (-way.1, way.0) } else { way };
-    let tops = v.tops(way).map(|p| (u, p)).into_iter().chain(u.tops(way).map(|p| (v, p)));
+    let way = if v.is_line() || u.is_line() {
+        (-way.1, way.0)
+    } else {
+        way
+    };
+    let tops = v
+        .tops(way)
+        .map(|p| (u, p))
+        .into_iter()
+        .chain(u.tops(way).map(|p| (v, p)));
     tops.filter_map(|(s, p)| Some(s.from_point(p?)))
         .fold(least, f64::min)
 }

@@ -16,7 +16,8 @@ pub fn depth(v: Piece, u: Piece) -> f64 {
     for (plus, signed) in [(0, root.negated()), (1, root)] {
         if met.signs[plus] {
             let ends = [v.from, v.to, u.from, u.to];
-            let away = ends.map(|end| distance(&met.spots, &met.roots.a, &met.roots.b, &signed, end));
+            let away =
+                ends.map(|end| distance(&met.spots, &met.roots.a, &met.roots.b, &signed, end));
             deepest = deepest.max(away.into_iter().fold(f64::INFINITY, f64::min));
         }
     }

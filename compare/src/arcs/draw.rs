@@ -2,7 +2,8 @@
 //! + - * / and roots is used, so that a seed gives the same pairs on every machine.
 
 mod circles;
-mod joints;
+pub mod joints;
+mod touches;
 
 use super::aim::{aimed, Aim};
 use super::piece::{Piece, ONE};
@@ -16,6 +17,10 @@ pub const FAR: i64 = 1 << 20;
 /// The largest radius of the form: the longest chord with the least bulge.
 pub const WIDEST: f64 = 5.0e10;
 
+/// The least epsilon that is not refused, and the least of those that are promised something on the grid.
+const LEAST_EPSILON: f64 = 1.0 / (1u64 << 40) as f64;
+pub const GRID_EPSILON: f64 = 1.0 / 1024.0;
+
 #[derive(Clone, Copy, Debug)]
 pub struct Pair {
     pub v: Piece,
@@ -25,10 +30,11 @@ pub struct Pair {
 
 type Draw = fn(&mut Rng, f64) -> Option<(Piece, Piece)>;
 
-pub const KINDS: [(&str, Draw); 10] = [
+pub const KINDS: [(&str, Draw); 11] = [
     ("random", random),
     ("a common end", corner),
     ("a smooth joint", joints::draw),
+    ("at a whole point", touches::draw),
     ("near tangent", near_tangent),
     ("an end near the other", end_near),
     ("small against large", small_and_large),
@@ -40,7 +46,7 @@ pub const KINDS: [(&str, Draw); 10] = [
 
 /// A pair of the kind, its segments and their ends in any order, mirrored or not.
 pub fn pair(kind: usize, rng: &mut Rng) -> Pair {
-    let epsilon = lines::epsilon(rng).0;
+    let epsilon = epsilon(rng);
     let (mut v, mut u) = loop {
         if let Some((v, u)) = KINDS[kind].1(rng, epsilon) {
             if valid(v) && valid(u) {
@@ -60,6 +66,15 @@ pub fn pair(kind: usize, rng: &mut Rng) -> Pair {
         (v, u) = (mirrored(v), mirrored(u));
     }
     Pair { v, u, epsilon }
+}
+
+/// As for lines, from 1/1024 to 1/2; one in eight is a finer one, down to the least that is not refused.
+fn epsilon(rng: &mut Rng) -> f64 {
+    if rng.one_in(8) {
+        spread(rng, LEAST_EPSILON, GRID_EPSILON)
+    } else {
+        lines::epsilon(rng).0
+    }
 }
 
 /// Within the limits of the form, and no arc without a chord.
@@ -166,7 +181,14 @@ fn corner(rng: &mut Rng, epsilon: f64) -> Option<(Piece, Piece)> {
         },
         _ => u.to,
     };
-    Some((v, Piece { from: v.from, to, ..u }))
+    Some((
+        v,
+        Piece {
+            from: v.from,
+            to,
+            ..u
+        },
+    ))
 }
 
 /// A chord of about that length, and a bulge, for an arc of the radius, or a line.
@@ -191,7 +213,11 @@ fn near_tangent(rng: &mut Rng, epsilon: f64) -> Option<(Piece, Piece)> {
         chord,
         n,
         along: 2.0 * part(rng) - 1.0,
-        turn: if rng.one_in(2) { 0.0 } else { spread(rng, 1e-9, 0.1) * sign(rng) },
+        turn: if rng.one_in(2) {
+            0.0
+        } else {
+            spread(rng, 1e-9, 0.1) * sign(rng)
+        },
         backward: rng.one_in(2),
         beyond: (-2.0 * epsilon, 2.0 * epsilon),
         place: place(rng),
@@ -204,7 +230,11 @@ fn end_near(rng: &mut Rng, epsilon: f64) -> Option<(Piece, Piece)> {
     let lines = rng.below(4);
     let (r1, r2) = (radius(rng, 0.5), radius(rng, 0.5));
     let (chord, n) = any_shape(rng, r2, lines == 0);
-    let turn = if rng.one_in(2) { part(rng) } else { spread(rng, 1e-6, 1.0) };
+    let turn = if rng.one_in(2) {
+        part(rng)
+    } else {
+        spread(rng, 1e-6, 1.0)
+    };
     let aim = Aim {
         radius: if lines == 1 { 0.0 } else { r1 },
         chord,

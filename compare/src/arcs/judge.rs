@@ -146,7 +146,11 @@ fn line_and_arc(line: Piece, arc: Circle) -> Option<Inside> {
         way: [dx, dy].map(Whole::from),
         over: Whole::from(1),
     };
-    let roots = Roots::of(Whole::from(a), Whole::from(b), Whole::from(arc.at(line.from)))?;
+    let roots = Roots::of(
+        Whole::from(a),
+        Whole::from(b),
+        Whole::from(arc.at(line.from)),
+    )?;
     let one = Whole::from(1);
     let before = (Whole::from(0), one.negated());
     let behind = (one.negated(), one);
@@ -172,7 +176,9 @@ fn two_arcs(v: Circle, u: Circle) -> Option<Inside> {
     }
     let whole = Whole::from;
     let dot = |ax: i128, bx: i128, ay: i128, by: i128| {
-        whole(ax).times(&whole(bx)).plus(&whole(ay).times(&whole(by)))
+        whole(ax)
+            .times(&whole(bx))
+            .plus(&whole(ay).times(&whole(by)))
     };
     let over = dot(lx, lx, ly, ly);
     let toward = whole(-l);

@@ -148,7 +148,10 @@ pub mod tests {
         assert_eq!(up.at(Spot { x: 0, y: 5 }), 0);
         assert!(up.side(Spot { x: 0, y: 5 }) < 0);
         assert_eq!(up.at(Spot { x: 3, y: 4 }), 0);
-        assert_eq!(piece(4, 3, -4, 3, ONE / 2).circle().at(Spot { x: 0, y: 5 }), 0);
+        assert_eq!(
+            piece(4, 3, -4, 3, ONE / 2).circle().at(Spot { x: 0, y: 5 }),
+            0
+        );
     }
 
     #[test]

@@ -3,26 +3,38 @@
 
 use super::apart::apart;
 use super::depth::depth;
-use super::draw::{Pair, KINDS};
+use super::draw::{Pair, GRID_EPSILON, KINDS};
 use super::judge::{Way, WAYS};
+use std::slice::SliceIndex;
 
 /// The epsilons are told apart by where they lie: each class ends below the next.
-pub const CLASSES: [(f64, &str); 5] = [
+pub const CLASSES: [(f64, &str); 8] = [
+    (0.0, "below 2^-30"),
+    (1.0 / (1u64 << 30) as f64, "below 2^-20"),
+    (1.0 / (1u64 << 20) as f64, "below 1/1024"),
     (1.0 / 1024.0, "1/1024"),
-    (1.0 / 1024.0 + f64::EPSILON, "below 1/64"),
+    (1.0 / 1024.0 + f64::EPSILON / 1024.0, "below 1/64"),
     (1.0 / 64.0, "below 1/8"),
     (1.0 / 8.0, "below 1/2"),
     (0.5, "1/2"),
 ];
 
+/// How many of the classes are finer than what is promised of the grid.
+const FINE: usize = 3;
+
 /// Radii by powers of two: a band is that of radii from 2^k on, the first from 0 on.
 const BANDS: usize = 37;
 
-/// Up to this radius two arcs that share a point are never missed: a miss fails the search.
-pub const ARCS_FREE: f64 = 1_048_576.0;
+/// By how many roundings the square of half a chord is taken to be off at most, each its size over 2^53. No pair is missed that would
+/// need more, as far as the search has shown; one that is fails it.
+pub const ROUNDINGS: f64 = 8.0;
+/// What a rounding is over: 2^53.
+pub const ROUNDED: f64 = (1u64 << 53) as f64;
 
-/// Likewise a line and an arc, up to this radius times epsilon squared.
-pub const LINE_FREE: f64 = 536_870_912.0;
+/// Up to this radius what is reported is never farther apart than so many epsilons, as far as the search has shown; the rest is for
+/// the distance's own rounding.
+pub const NEAR_RADIUS: f64 = 1_048_576.0;
+pub const NEAR: f64 = 2.0 + 1e-6;
 
 const SHOWN: u64 = 5;
 
@@ -43,6 +55,8 @@ struct Cell {
     epsilons: f64,
 }
 
+type Bands = [Cell; BANDS];
+
 #[derive(Clone, Copy, Default)]
 struct Drawn {
     pairs: u64,
@@ -56,14 +70,19 @@ const PAIRS: [&str; 3] = ["two lines", "a line and an arc", "two arcs"];
 pub struct Report {
     name: &'static str,
     /// By kind of pair, way, epsilon, radius; without a shared point the way is 0.
-    cells: Vec<[[[Cell; BANDS]; CLASSES.len()]; WAYS.len()]>,
+    cells: Vec<[[Bands; CLASSES.len()]; WAYS.len()]>,
     drawn: [Drawn; KINDS.len()],
     broken: u64,
+    /// The most roundings that a miss needed, of a line and an arc and of two arcs, where epsilon is not finer than the grid's.
+    most: [f64; PAIRS.len()],
 }
 
 /// Which of the classes an epsilon is in.
 pub fn class_of(epsilon: f64) -> usize {
-    CLASSES.iter().rposition(|c| epsilon >= c.0).expect("an epsilon of the grid's")
+    CLASSES
+        .iter()
+        .rposition(|c| epsilon >= c.0)
+        .expect("an epsilon of the grid's")
 }
 
 pub fn band(radius: f64) -> usize {
@@ -74,13 +93,31 @@ pub fn largest(pair: &Pair) -> f64 {
     pair.v.radius().max(pair.u.radius())
 }
 
-/// Whether a pair that shares a point may be missed: what the search has shown to happen.
-pub fn may_miss(pair: &Pair) -> bool {
-    match (pair.v.is_line(), pair.u.is_line()) {
-        (true, true) => false,
-        (false, false) => largest(pair) > ARCS_FREE,
-        _ => largest(pair) > LINE_FREE * pair.epsilon * pair.epsilon,
+/// How many roundings a miss of the pair would need. Two arcs, of radii r and R: 2 r epsilon 2^53 over R^2. A line and an arc:
+/// epsilon^2 2^53 over R times the sum of R, the largest coordinate and the line's length.
+pub fn roundings(pair: &Pair) -> f64 {
+    let (r, large, epsilon) = (
+        pair.v.radius().min(pair.u.radius()),
+        largest(pair),
+        pair.epsilon,
+    );
+    if pair.v.is_line() || pair.u.is_line() {
+        let ends = [pair.v.from, pair.v.to, pair.u.from, pair.u.to];
+        let far = ends
+            .map(|p| p.x.abs().max(p.y.abs()))
+            .into_iter()
+            .fold(0, i64::max) as f64;
+        let line = if pair.v.is_line() { pair.v } else { pair.u };
+        epsilon * epsilon * ROUNDED / (large * (large + far + line.length()))
+    } else {
+        2.0 * r * epsilon * ROUNDED / (large * large)
     }
+}
+
+/// Whether a pair that shares a point may be missed: where the search has shown that it happens. Not two lines, of which it is proved.
+pub fn may_miss(pair: &Pair) -> bool {
+    let lines = pair.v.is_line() && pair.u.is_line();
+    pair.epsilon < GRID_EPSILON || !lines && roundings(pair) < ROUNDINGS
 }
 
 impl Report {
@@ -90,13 +127,16 @@ impl Report {
             cells: vec![[[[Cell::default(); BANDS]; CLASSES.len()]; WAYS.len()]; PAIRS.len()],
             drawn: [Drawn::default(); KINDS.len()],
             broken: 0,
+            most: [0.0; PAIRS.len()],
         }
     }
 
     /// Takes an answer's class beside what the judge told.
     pub fn take(&mut self, kind: usize, pair: &Pair, way: Option<Way>, class: u64) {
         let arcs = usize::from(!pair.v.is_line()) + usize::from(!pair.u.is_line());
-        let at = way.map_or(0, |way| WAYS.iter().position(|w| w.0 == way).expect("a way"));
+        let at = way.map_or(0, |way| {
+            WAYS.iter().position(|w| w.0 == way).expect("a way")
+        });
         let cell = &mut self.cells[arcs][at][class_of(pair.epsilon)][band(largest(pair))];
         let drawn = &mut self.drawn[kind];
         drawn.pairs += 1;
@@ -109,6 +149,9 @@ impl Report {
                 cell.missed += 1;
                 if way == Way::Cross && arcs > 0 {
                     cell.deepest = cell.deepest.max(depth(pair.v, pair.u));
+                }
+                if pair.epsilon >= GRID_EPSILON {
+                    self.most[arcs] = self.most[arcs].max(roundings(pair));
                 }
                 bad |= !may_miss(pair);
             }
@@ -123,6 +166,9 @@ impl Report {
                 let far = apart(pair.v, pair.u);
                 cell.farthest = cell.farthest.max(far);
                 cell.epsilons = cell.epsilons.max(far / pair.epsilon);
+                bad |= pair.epsilon >= GRID_EPSILON
+                    && largest(pair) <= NEAR_RADIUS
+                    && far > NEAR * pair.epsilon;
             }
         }
         if bad {
@@ -133,66 +179,119 @@ impl Report {
         }
     }
 
-    /// Prints the tables, and answers how many answers were a refusal or a miss that may not be.
-    pub fn print(&self) -> u64 {
-        println!("{}: pairs by how they were drawn", self.name);
+    /// Prints the tables.
+    pub fn print_tables(&self) {
+        println!(
+            "{}: how they were drawn | pairs | share a point | missed | reported apart",
+            self.name
+        );
         for ((kind, _), d) in KINDS.iter().zip(&self.drawn) {
             println!(
-                "| {kind} | {} pairs | {} share a point | {} missed | {} reported apart |",
+                "| {kind} | {} | {} | {} | {} |",
                 d.pairs, d.shared, d.missed, d.apart
             );
         }
-        self.print_missed();
-        self.print_apart();
-        let sum = |f: fn(&Drawn) -> u64| self.drawn.iter().map(f).sum::<u64>();
+        let classes =
+            |of: &[(f64, &'static str)]| of.iter().map(|c| c.1).collect::<Vec<_>>().join(" | ");
+        let (fine, grid) = (classes(&CLASSES[..FINE]), classes(&CLASSES[FINE..]));
         println!(
-            "{}: {} pairs judged, {} share a point, {} missed, {} of them where none may be; {} reported apart",
-            self.name,
-            sum(|d| d.pairs),
-            sum(|d| d.shared),
-            sum(|d| d.missed),
-            self.broken,
-            sum(|d| d.apart)
+            "missed of those that share a point, by the largest radius | epsilon {grid} | deepest"
         );
-        self.broken
+        self.each(|arcs, at| self.print_missed(arcs, at));
+        println!("the same for finer epsilons, any radius | epsilon {fine} | deepest");
+        self.each(|arcs, at| self.print_row(arcs, at, ..FINE, 0, BANDS, "any radius"));
+        println!("reported without a shared point, and the farthest apart | epsilon {grid}");
+        for arcs in 0..PAIRS.len() {
+            self.print_apart(arcs);
+        }
     }
 
-    fn print_missed(&self) {
-        for (arcs, pairs) in PAIRS.iter().enumerate() {
-            for (at, (_, way)) in WAYS.iter().enumerate() {
-                let cells = &self.cells[arcs][at];
-                let row = |low: usize, high: usize| {
-                    let mut deepest: f64 = 0.0;
-                    let columns: Vec<String> = cells
-                        .iter()
-                        .map(|class| {
-                            let of = |f: fn(&Cell) -> u64| class[low..high].iter().map(f).sum::<u64>();
-                            deepest = class[low..high].iter().map(|c| c.deepest).fold(deepest, f64::max);
-                            format!("{} of {}", of(|c| c.missed), of(|c| c.shared))
-                        })
-                        .collect();
-                    format!("{} | {deepest:.1}", columns.join(" | "))
-                };
-                let missed = |band: usize| cells.iter().any(|class| class[band].missed > 0);
-                let first = (0..BANDS).find(|&band| missed(band)).unwrap_or(BANDS);
-                println!("{}: {pairs}, {way}: missed by radius and epsilon; deepest", self.name);
-                println!("| below 2^{first} | {} |", row(0, first));
-                for band in first..BANDS {
-                    println!("| 2^{band} | {} |", row(band, band + 1));
-                }
+    fn each(&self, print: impl Fn(usize, usize)) {
+        for arcs in 0..PAIRS.len() {
+            for at in 0..WAYS.len() {
+                print(arcs, at);
             }
         }
     }
 
-    fn print_apart(&self) {
-        for (arcs, pairs) in PAIRS.iter().enumerate() {
-            println!("{}: {pairs}: reported without a shared point, the farthest apart", self.name);
-            for band in 0..BANDS {
-                let cells = self.cells[arcs][0].map(|class| class[band]);
-                if cells.iter().any(|c| c.apart > 0) {
-                    let told = cells.map(|c| format!("{} {:.4} {:.3} eps", c.apart, c.farthest, c.epsilons));
-                    println!("| 2^{band} | {} |", told.join(" | "));
-                }
+    /// Prints the sums, and answers how many answers were a refusal, a miss that may not be, or too far apart.
+    pub fn print(&self) -> u64 {
+        let sum = |f: fn(&Drawn) -> u64| self.drawn.iter().map(f).sum::<u64>();
+        println!(
+            "{}: {} pairs with arcs judged, {} share a point, {} missed by up to {:.2} and {:.2} roundings, \
+             {} reported apart; {} beyond what the search allows",
+            self.name,
+            sum(|d| d.pairs),
+            sum(|d| d.shared),
+            sum(|d| d.missed),
+            self.most[1],
+            self.most[2],
+            sum(|d| d.apart),
+            self.broken
+        );
+        self.broken
+    }
+
+    /// A row for all radii below the first miss, and one for each band from there on.
+    fn print_missed(&self, arcs: usize, at: usize) {
+        let missed = |band: usize| {
+            self.cells[arcs][at][FINE..]
+                .iter()
+                .any(|class| class[band].missed > 0)
+        };
+        let first = (0..BANDS).find(|&band| missed(band)).unwrap_or(BANDS);
+        self.print_row(arcs, at, FINE.., 0, first, &format!("below 2^{first}"));
+        for band in first..BANDS {
+            self.print_row(arcs, at, FINE.., band, band + 1, &format!("2^{band}"));
+        }
+    }
+
+    fn print_row(
+        &self,
+        arcs: usize,
+        at: usize,
+        classes: impl SliceIndex<[Bands], Output = [Bands]>,
+        low: usize,
+        high: usize,
+        name: &str,
+    ) {
+        let cells: Vec<&[Cell]> = self.cells[arcs][at][classes]
+            .iter()
+            .map(|class| &class[low..high])
+            .collect();
+        let sum = |of: &[Cell], f: fn(&Cell) -> u64| of.iter().map(f).sum::<u64>();
+        let told = cells
+            .iter()
+            .map(|of| format!("{} of {}", sum(of, |c| c.missed), sum(of, |c| c.shared)));
+        let told = told.collect::<Vec<_>>().join(" | ");
+        let deepest = cells
+            .iter()
+            .flat_map(|of| of.iter())
+            .map(|c| c.deepest)
+            .fold(0.0, f64::max);
+        if cells.iter().any(|of| sum(of, |c| c.shared) > 0) {
+            println!(
+                "| {}, {}, {name} | {told} | {deepest:.1} |",
+                PAIRS[arcs], WAYS[at].1
+            );
+        }
+    }
+
+    fn print_apart(&self, arcs: usize) {
+        for band in 0..BANDS {
+            let cells: Vec<Cell> = self.cells[arcs][0][FINE..]
+                .iter()
+                .map(|class| class[band])
+                .collect();
+            if cells.iter().any(|c| c.apart > 0) {
+                let told = cells
+                    .iter()
+                    .map(|c| format!("{}: {:.4}, {:.3} epsilons", c.apart, c.farthest, c.epsilons));
+                println!(
+                    "| {}, 2^{band} | {} |",
+                    PAIRS[arcs],
+                    told.collect::<Vec<_>>().join(" | ")
+                );
             }
         }
     }
@@ -205,7 +304,11 @@ mod tests {
     #[test]
     fn classes_and_bands() {
         let classes = [1.0 / 1024.0, 0.001, 1.0 / 64.0, 0.125, 0.49, 0.5].map(class_of);
-        assert_eq!(classes, [0, 1, 2, 3, 3, 4]);
-        assert_eq!([0.0, 0.5, 1.9, 2.0, 1_048_575.9, 1e11].map(band), [0, 0, 0, 1, 19, 36]);
+        assert_eq!(classes, [3, 4, 5, 6, 6, 7]);
+        assert_eq!([1e-12, 1e-9, 1e-7, 0.0009].map(class_of), [0, 1, 1, 2]);
+        assert_eq!(
+            [0.0, 0.5, 1.9, 2.0, 1_048_575.9, 1e11].map(band),
+            [0, 0, 0, 1, 19, 36]
+        );
     }
 }

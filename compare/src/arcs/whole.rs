@@ -158,7 +158,9 @@ impl Whole {
         let size = self.limbs[..self.used]
             .iter()
             .rev()
-            .fold(0.0, |sum, &limb| sum * 18_446_744_073_709_551_616.0 + limb as f64);
+            .fold(0.0, |sum, &limb| {
+                sum * 18_446_744_073_709_551_616.0 + limb as f64
+            });
         if self.negative {
             -size
         } else {

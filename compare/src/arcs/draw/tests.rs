@@ -9,7 +9,7 @@ fn every_kind_is_within_the_form() {
         for _ in 0..2000 {
             let p = pair(kind, &mut rng);
             assert!(valid(p.v) && valid(p.u), "{p:?}");
-            assert!((1.0 / 1024.0..=0.5).contains(&p.epsilon));
+            assert!((LEAST_EPSILON..=0.5).contains(&p.epsilon));
             arcs += u32::from(!p.v.is_line()) + u32::from(!p.u.is_line());
         }
         match KINDS[kind].0 {
@@ -30,9 +30,15 @@ fn kinds_do_what_they_say() {
     assert!(often("random", |p| share(p.v, p.u).is_some()) > 100);
     assert!(often("a common end", |p| share(p.v, p.u) == Some(Way::Corner)) > 800);
     assert!(often("a smooth joint", |p| share(p.v, p.u) == Some(Way::Joint)) > 300);
+    assert!(often("at a whole point", |p| share(p.v, p.u) == Some(Way::Touch)) > 100);
+    assert!(often("at a whole point", |p| share(p.v, p.u) == Some(Way::End)) > 100);
     assert!(often("near tangent", |p| share(p.v, p.u).is_some()) > 300);
     assert!(often("an end near the other", |p| share(p.v, p.u).is_some()) > 300);
-    assert!(often("small against large", |p| share(p.v, p.u) == Some(Way::Cross)) > 500);
+    assert!(
+        often("small against large", |p| share(p.v, p.u)
+            == Some(Way::Cross))
+            > 500
+    );
     assert!(often("flat", |p| share(p.v, p.u) == Some(Way::Cross)) > 500);
     assert!(often("one circle", |p| share(p.v, p.u).is_some()) > 200);
     assert!(often("at the limit", |p| share(p.v, p.u).is_some()) > 100);
