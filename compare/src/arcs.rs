@@ -10,6 +10,7 @@ mod draw;
 mod judge;
 mod piece;
 mod report;
+mod rules;
 mod whole;
 
 use crate::capi;

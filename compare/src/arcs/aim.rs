@@ -1,7 +1,8 @@
 //! Places one segment beside another by construction: a given point of it at a given distance, its way at a given angle.
 
 use super::apart::{size, Shape};
-use super::draw::{bent, signed, spread, FAR};
+use super::draw::parts::{bent, signed, spread};
+use super::draw::FAR;
 use super::piece::{Piece, ONE};
 use crate::rng::Rng;
 use crate::search::plane::Spot;

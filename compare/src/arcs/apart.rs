@@ -78,7 +78,7 @@ impl Shape {
             && across(from, less(self.to, self.center)) > 0.0
     }
 
-    fn from_point(&self, p: Point) -> f64 {
+    fn distance(&self, p: Point) -> f64 {
         let ends = size(less(p, self.from)).min(size(less(p, self.to)));
         if self.from != self.to && self.faces(p) {
             ends.min(self.off(p).abs())
@@ -103,7 +103,7 @@ pub fn apart(v: Piece, u: Piece) -> f64 {
     let ends = [(v, u.from), (v, u.to), (u, v.from), (u, v.to)];
     let least = ends
         .iter()
-        .map(|(s, p)| s.from_point(*p))
+        .map(|(s, p)| s.distance(*p))
         .fold(f64::INFINITY, f64::min);
     let way = match (v.is_line(), u.is_line()) {
         (true, true) => return least,
@@ -121,7 +121,7 @@ pub fn apart(v: Piece, u: Piece) -> f64 {
         .map(|p| (u, p))
         .into_iter()
         .chain(u.tops(way).map(|p| (v, p)));
-    tops.filter_map(|(s, p)| Some(s.from_point(p?)))
+    tops.filter_map(|(s, p)| Some(s.distance(p?)))
         .fold(least, f64::min)
 }
 

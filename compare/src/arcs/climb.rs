@@ -2,10 +2,11 @@
 
 use super::aim::{aimed, Aim};
 use super::draw::joints::{exactly, nearly, Lengths};
-use super::draw::{bent, direction, part, sign, spread, valid, Pair, FAR, WIDEST};
+use super::draw::parts::{bent, direction, part, sign, spread};
+use super::draw::{valid, Pair, FAR, WIDEST};
 use super::judge::share;
 use super::piece::Piece;
-use super::report::{largest, roundings};
+use super::rules::{largest, roundings};
 use crate::rng::Rng;
 
 /// What a caller answers where it finds nothing.

@@ -4,7 +4,7 @@ use super::aim::at;
 use super::draw::{self, Pair, GRID_EPSILON, KINDS};
 use super::judge::share;
 use super::piece::{Piece, ONE};
-use super::report::largest;
+use super::rules::largest;
 use super::{ours, told};
 use crate::rng::Rng;
 use crate::search::plane::Spot;

@@ -5,6 +5,7 @@ use super::apart::apart;
 use super::depth::depth;
 use super::draw::{Pair, GRID_EPSILON, KINDS};
 use super::judge::{Way, WAYS};
+use super::rules::{largest, may_miss, may_report, roundings};
 use std::slice::SliceIndex;
 
 /// The epsilons are told apart by where they lie: each class ends below the next.
@@ -24,17 +25,6 @@ const FINE: usize = 3;
 
 /// Radii by powers of two: a band is that of radii from 2^k on, the first from 0 on.
 const BANDS: usize = 37;
-
-/// By how many roundings the square of half a chord is taken to be off at most, each its size over 2^53. No pair is missed that would
-/// need more, as far as the search has shown; one that is fails it.
-pub const ROUNDINGS: f64 = 8.0;
-/// What a rounding is over: 2^53.
-pub const ROUNDED: f64 = (1u64 << 53) as f64;
-
-/// Up to this radius what is reported is never farther apart than so many epsilons, as far as the search has shown; the rest is for
-/// the distance's own rounding.
-pub const NEAR_RADIUS: f64 = 1_048_576.0;
-pub const NEAR: f64 = 2.0 + 1e-6;
 
 const SHOWN: u64 = 5;
 
@@ -89,37 +79,6 @@ pub fn band(radius: f64) -> usize {
     (radius.max(1.0).log2().floor() as usize).min(BANDS - 1)
 }
 
-pub fn largest(pair: &Pair) -> f64 {
-    pair.v.radius().max(pair.u.radius())
-}
-
-/// How many roundings a miss of the pair would need. Two arcs, of radii r and R: 2 r epsilon 2^53 over R^2. A line and an arc:
-/// epsilon^2 2^53 over R times the sum of R, the largest coordinate and the line's length.
-pub fn roundings(pair: &Pair) -> f64 {
-    let (r, large, epsilon) = (
-        pair.v.radius().min(pair.u.radius()),
-        largest(pair),
-        pair.epsilon,
-    );
-    if pair.v.is_line() || pair.u.is_line() {
-        let ends = [pair.v.from, pair.v.to, pair.u.from, pair.u.to];
-        let far = ends
-            .map(|p| p.x.abs().max(p.y.abs()))
-            .into_iter()
-            .fold(0, i64::max) as f64;
-        let line = if pair.v.is_line() { pair.v } else { pair.u };
-        epsilon * epsilon * ROUNDED / (large * (large + far + line.length()))
-    } else {
-        2.0 * r * epsilon * ROUNDED / (large * large)
-    }
-}
-
-/// Whether a pair that shares a point may be missed: where the search has shown that it happens. Not two lines, of which it is proved.
-pub fn may_miss(pair: &Pair) -> bool {
-    let lines = pair.v.is_line() && pair.u.is_line();
-    pair.epsilon < GRID_EPSILON || !lines && roundings(pair) < ROUNDINGS
-}
-
 impl Report {
     pub fn new(name: &'static str) -> Report {
         Report {
@@ -166,9 +125,7 @@ impl Report {
                 let far = apart(pair.v, pair.u);
                 cell.farthest = cell.farthest.max(far);
                 cell.epsilons = cell.epsilons.max(far / pair.epsilon);
-                bad |= pair.epsilon >= GRID_EPSILON
-                    && largest(pair) <= NEAR_RADIUS
-                    && far > NEAR * pair.epsilon;
+                bad |= !may_report(pair, far);
             }
         }
         if bad {

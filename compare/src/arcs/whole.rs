@@ -87,9 +87,9 @@ impl Whole {
         let most = self.used.max(other.used);
         let mut sum = [0; LIMBS];
         let mut carry: u128 = 0;
-        for i in 0..most {
+        for (i, place) in sum.iter_mut().enumerate().take(most) {
             carry += u128::from(self.limbs[i]) + u128::from(other.limbs[i]);
-            sum[i] = carry as u64;
+            *place = carry as u64;
             carry >>= 64;
         }
         if carry == 0 {
@@ -104,10 +104,10 @@ impl Whole {
     fn lessened(&self, other: &Whole) -> Whole {
         let mut rest = [0; LIMBS];
         let mut borrow = false;
-        for i in 0..self.used {
+        for (i, place) in rest.iter_mut().enumerate().take(self.used) {
             let (once, a) = self.limbs[i].overflowing_sub(other.limbs[i]);
             let (twice, b) = once.overflowing_sub(u64::from(borrow));
-            rest[i] = twice;
+            *place = twice;
             borrow = a || b;
         }
         Whole::of(self.negative, rest, self.used)

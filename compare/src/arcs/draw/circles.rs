@@ -1,7 +1,8 @@
 //! Two arcs of one circle, or nearly.
 
 use super::super::piece::{Piece, ONE};
-use super::{sign, signed, spot, spread, FAR};
+use super::parts::{sign, signed, spot, spread};
+use super::FAR;
 use crate::rng::Rng;
 use crate::search::plane::Spot;
 

@@ -1,7 +1,8 @@
 //! Two segments that share an end and go on in one another's direction there, or nearly.
 
 use super::super::piece::{Piece, ONE};
-use super::{bent, direction, radius, sign, signed, spread, FAR};
+use super::parts::{bent, direction, radius, sign, signed, spread};
+use super::FAR;
 use crate::rng::Rng;
 use crate::search::plane::Spot;
 

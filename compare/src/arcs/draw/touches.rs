@@ -1,7 +1,8 @@
 //! Segments that meet at a whole point inside an arc: touching there, ending there, or starting there along the tangent or nearly.
 
 use super::super::piece::{Piece, ONE};
-use super::{sign, signed, spot, spread, FAR};
+use super::parts::{sign, signed, spot, spread};
+use super::FAR;
 use crate::rng::Rng;
 use crate::search::plane::Spot;
 
