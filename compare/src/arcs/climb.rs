@@ -54,13 +54,12 @@ fn print(what: f64, epsilon: f64, found: Option<Pair>) {
     let told = match found {
         None => "none missed".to_string(),
         Some(pair) => {
-            let text = [pair.v, pair.u]
-                .map(|s| format!("{} {} {}; {} {}", s.from.x, s.from.y, s.n, s.to.x, s.to.y));
             format!(
-                "{:.0} | {:.2} | {}",
+                "{:.0} | {:.2} | {} with {}",
                 largest(&pair),
                 roundings(&pair),
-                text.join(" with ")
+                pair.v.written(),
+                pair.u.written()
             )
         }
     };

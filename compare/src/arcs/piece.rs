@@ -80,6 +80,12 @@ impl Piece {
         }
     }
 
+    /// As a layout has its two vertices.
+    pub fn written(self) -> String {
+        let Piece { from, to, n } = self;
+        format!("{} {} {n}; {} {} 0", from.x, from.y, to.x, to.y)
+    }
+
     /// The bulge as a call takes it.
     pub fn bulge(self) -> f64 {
         self.n as f64 / ONE as f64

@@ -26,6 +26,9 @@ const FINE: usize = 3;
 /// Radii by powers of two: a band is that of radii from 2^k on, the first from 0 on.
 const BANDS: usize = 37;
 
+/// The text program's epsilon.
+const PROGRAM: f64 = GRID_EPSILON;
+
 const SHOWN: u64 = 5;
 
 /// What the pair call answers where it finds nothing.
@@ -63,6 +66,8 @@ pub struct Report {
     cells: Vec<[[Bands; CLASSES.len()]; WAYS.len()]>,
     drawn: [Drawn; KINDS.len()],
     broken: u64,
+    /// By kind of pair and way, the missed pair of the least radius at the program's epsilon.
+    least: [[Option<Pair>; WAYS.len()]; PAIRS.len()],
     /// The most roundings that a miss needed, of a line and an arc and of two arcs, where epsilon is not finer than the grid's.
     most: [f64; PAIRS.len()],
 }
@@ -86,6 +91,7 @@ impl Report {
             cells: vec![[[[Cell::default(); BANDS]; CLASSES.len()]; WAYS.len()]; PAIRS.len()],
             drawn: [Drawn::default(); KINDS.len()],
             broken: 0,
+            least: [[None; WAYS.len()]; PAIRS.len()],
             most: [0.0; PAIRS.len()],
         }
     }
@@ -111,6 +117,10 @@ impl Report {
                 }
                 if pair.epsilon >= GRID_EPSILON {
                     self.most[arcs] = self.most[arcs].max(roundings(pair));
+                }
+                let least = &mut self.least[arcs][at];
+                if pair.epsilon == PROGRAM && least.is_none_or(|l| largest(pair) < largest(&l)) {
+                    *least = Some(*pair);
                 }
                 bad |= !may_miss(pair);
             }
@@ -157,6 +167,8 @@ impl Report {
         self.each(|arcs, at| self.print_missed(arcs, at));
         println!("the same for finer epsilons, any radius | epsilon {fine} | deepest");
         self.each(|arcs, at| self.print_row(arcs, at, ..FINE, 0, BANDS, "any radius"));
+        println!("the least radius that was missed at epsilon 1/1024");
+        self.each(|arcs, at| self.print_least(arcs, at));
         println!("reported without a shared point, and the farthest apart | epsilon {grid}");
         for arcs in 0..PAIRS.len() {
             self.print_apart(arcs);
@@ -230,6 +242,19 @@ impl Report {
             println!(
                 "| {}, {}, {name} | {told} | {deepest:.1} |",
                 PAIRS[arcs], WAYS[at].1
+            );
+        }
+    }
+
+    fn print_least(&self, arcs: usize, at: usize) {
+        if let Some(pair) = self.least[arcs][at] {
+            println!(
+                "| {}, {} | {:.0} | {} with {} |",
+                PAIRS[arcs],
+                WAYS[at].1,
+                largest(&pair),
+                pair.v.written(),
+                pair.u.written()
             );
         }
     }
