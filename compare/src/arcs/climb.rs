@@ -55,11 +55,10 @@ fn print(what: f64, epsilon: f64, found: Option<Pair>) {
         None => "none missed".to_string(),
         Some(pair) => {
             format!(
-                "{:.0} | {:.2} | {} with {}",
+                "{:.0} | {:.2} | {}",
                 largest(&pair),
                 roundings(&pair),
-                pair.v.written(),
-                pair.u.written()
+                pair.written()
             )
         }
     };

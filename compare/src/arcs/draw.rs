@@ -30,6 +30,12 @@ pub struct Pair {
     pub epsilon: f64,
 }
 
+impl Pair {
+    pub fn written(&self) -> String {
+        format!("{} with {}", self.v.written(), self.u.written())
+    }
+}
+
 type Draw = fn(&mut Rng, f64) -> Option<(Piece, Piece)>;
 
 pub const KINDS: [(&str, Draw); 11] = [

@@ -1,12 +1,13 @@
 //! Counts what a search of arcs met: how many pairs share a point, of which how many are missed, by radius, epsilon and kind of pair;
 //! and what is reported though it shares none, with how far apart that is.
 
+mod print;
+
 use super::apart::apart;
 use super::depth::depth;
 use super::draw::{Pair, GRID_EPSILON, KINDS};
 use super::judge::{Way, WAYS};
 use super::rules::{largest, may_miss, may_report, roundings};
-use std::slice::SliceIndex;
 
 /// The epsilons are told apart by where they lie: each class ends below the next.
 pub const CLASSES: [(f64, &str); 8] = [
@@ -68,8 +69,10 @@ pub struct Report {
     broken: u64,
     /// By kind of pair and way, the missed pair of the least radius at the program's epsilon.
     least: [[Option<Pair>; WAYS.len()]; PAIRS.len()],
-    /// The most roundings that a miss needed, of a line and an arc and of two arcs, where epsilon is not finer than the grid's.
-    most: [f64; PAIRS.len()],
+    /// By kind of pair, the farthest apart that is reported at the program's epsilon, and how far.
+    farthest: [Option<(Pair, f64)>; PAIRS.len()],
+    /// By kind of pair and epsilon, the most roundings that a miss needed.
+    most: [[f64; CLASSES.len()]; PAIRS.len()],
 }
 
 /// Which of the classes an epsilon is in.
@@ -91,8 +94,9 @@ impl Report {
             cells: vec![[[[Cell::default(); BANDS]; CLASSES.len()]; WAYS.len()]; PAIRS.len()],
             drawn: [Drawn::default(); KINDS.len()],
             broken: 0,
+            farthest: [None; PAIRS.len()],
             least: [[None; WAYS.len()]; PAIRS.len()],
-            most: [0.0; PAIRS.len()],
+            most: [[0.0; CLASSES.len()]; PAIRS.len()],
         }
     }
 
@@ -115,9 +119,8 @@ impl Report {
                 if way == Way::Cross && arcs > 0 {
                     cell.deepest = cell.deepest.max(depth(pair.v, pair.u));
                 }
-                if pair.epsilon >= GRID_EPSILON {
-                    self.most[arcs] = self.most[arcs].max(roundings(pair));
-                }
+                let most = &mut self.most[arcs][class_of(pair.epsilon)];
+                *most = most.max(roundings(pair));
                 let least = &mut self.least[arcs][at];
                 if pair.epsilon == PROGRAM && least.is_none_or(|l| largest(pair) < largest(&l)) {
                     *least = Some(*pair);
@@ -135,6 +138,10 @@ impl Report {
                 let far = apart(pair.v, pair.u);
                 cell.farthest = cell.farthest.max(far);
                 cell.epsilons = cell.epsilons.max(far / pair.epsilon);
+                let farthest = &mut self.farthest[arcs];
+                if pair.epsilon == PROGRAM && farthest.is_none_or(|f| far > f.1) {
+                    *farthest = Some((*pair, far));
+                }
                 bad |= !may_report(pair, far);
             }
         }
@@ -142,138 +149,6 @@ impl Report {
             self.broken += 1;
             if self.broken <= SHOWN {
                 println!("{}: {way:?} and answered {class}: {pair:?}", self.name);
-            }
-        }
-    }
-
-    /// Prints the tables.
-    pub fn print_tables(&self) {
-        println!(
-            "{}: how they were drawn | pairs | share a point | missed | reported apart",
-            self.name
-        );
-        for ((kind, _), d) in KINDS.iter().zip(&self.drawn) {
-            println!(
-                "| {kind} | {} | {} | {} | {} |",
-                d.pairs, d.shared, d.missed, d.apart
-            );
-        }
-        let classes =
-            |of: &[(f64, &'static str)]| of.iter().map(|c| c.1).collect::<Vec<_>>().join(" | ");
-        let (fine, grid) = (classes(&CLASSES[..FINE]), classes(&CLASSES[FINE..]));
-        println!(
-            "missed of those that share a point, by the largest radius | epsilon {grid} | deepest"
-        );
-        self.each(|arcs, at| self.print_missed(arcs, at));
-        println!("the same for finer epsilons, any radius | epsilon {fine} | deepest");
-        self.each(|arcs, at| self.print_row(arcs, at, ..FINE, 0, BANDS, "any radius"));
-        println!("the least radius that was missed at epsilon 1/1024");
-        self.each(|arcs, at| self.print_least(arcs, at));
-        println!("reported without a shared point, and the farthest apart | epsilon {grid}");
-        for arcs in 0..PAIRS.len() {
-            self.print_apart(arcs);
-        }
-    }
-
-    fn each(&self, print: impl Fn(usize, usize)) {
-        for arcs in 0..PAIRS.len() {
-            for at in 0..WAYS.len() {
-                print(arcs, at);
-            }
-        }
-    }
-
-    /// Prints the sums, and answers how many answers were a refusal, a miss that may not be, or too far apart.
-    pub fn print(&self) -> u64 {
-        let sum = |f: fn(&Drawn) -> u64| self.drawn.iter().map(f).sum::<u64>();
-        println!(
-            "{}: {} pairs with arcs judged, {} share a point, {} missed by up to {:.2} and {:.2} roundings, \
-             {} reported apart; {} beyond what the search allows",
-            self.name,
-            sum(|d| d.pairs),
-            sum(|d| d.shared),
-            sum(|d| d.missed),
-            self.most[1],
-            self.most[2],
-            sum(|d| d.apart),
-            self.broken
-        );
-        self.broken
-    }
-
-    /// A row for all radii below the first miss, and one for each band from there on.
-    fn print_missed(&self, arcs: usize, at: usize) {
-        let missed = |band: usize| {
-            self.cells[arcs][at][FINE..]
-                .iter()
-                .any(|class| class[band].missed > 0)
-        };
-        let first = (0..BANDS).find(|&band| missed(band)).unwrap_or(BANDS);
-        self.print_row(arcs, at, FINE.., 0, first, &format!("below 2^{first}"));
-        for band in first..BANDS {
-            self.print_row(arcs, at, FINE.., band, band + 1, &format!("2^{band}"));
-        }
-    }
-
-    fn print_row(
-        &self,
-        arcs: usize,
-        at: usize,
-        classes: impl SliceIndex<[Bands], Output = [Bands]>,
-        low: usize,
-        high: usize,
-        name: &str,
-    ) {
-        let cells: Vec<&[Cell]> = self.cells[arcs][at][classes]
-            .iter()
-            .map(|class| &class[low..high])
-            .collect();
-        let sum = |of: &[Cell], f: fn(&Cell) -> u64| of.iter().map(f).sum::<u64>();
-        let told = cells
-            .iter()
-            .map(|of| format!("{} of {}", sum(of, |c| c.missed), sum(of, |c| c.shared)));
-        let told = told.collect::<Vec<_>>().join(" | ");
-        let deepest = cells
-            .iter()
-            .flat_map(|of| of.iter())
-            .map(|c| c.deepest)
-            .fold(0.0, f64::max);
-        if cells.iter().any(|of| sum(of, |c| c.shared) > 0) {
-            println!(
-                "| {}, {}, {name} | {told} | {deepest:.1} |",
-                PAIRS[arcs], WAYS[at].1
-            );
-        }
-    }
-
-    fn print_least(&self, arcs: usize, at: usize) {
-        if let Some(pair) = self.least[arcs][at] {
-            println!(
-                "| {}, {} | {:.0} | {} with {} |",
-                PAIRS[arcs],
-                WAYS[at].1,
-                largest(&pair),
-                pair.v.written(),
-                pair.u.written()
-            );
-        }
-    }
-
-    fn print_apart(&self, arcs: usize) {
-        for band in 0..BANDS {
-            let cells: Vec<Cell> = self.cells[arcs][0][FINE..]
-                .iter()
-                .map(|class| class[band])
-                .collect();
-            if cells.iter().any(|c| c.apart > 0) {
-                let told = cells
-                    .iter()
-                    .map(|c| format!("{}: {:.4}, {:.3} epsilons", c.apart, c.farthest, c.epsilons));
-                println!(
-                    "| {}, 2^{band} | {} |",
-                    PAIRS[arcs],
-                    told.collect::<Vec<_>>().join(" | ")
-                );
             }
         }
     }
