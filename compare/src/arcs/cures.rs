@@ -12,6 +12,9 @@ use crate::search::plane::Spot;
 /// Into how many pieces an arc is cut.
 const CUT: usize = 8;
 
+/// An arc that rises less than this above its chord is a low one.
+const LOW: f64 = 0.5;
+
 /// Asked again: how many of them still share a point, and of these how many are found.
 #[derive(Clone, Copy, Default)]
 struct Again {
@@ -59,13 +62,14 @@ impl Rest {
     }
 }
 
-const WAYS: [&str; 8] = [
+const WAYS: [&str; 9] = [
     "exchanged",
     "the first reversed",
     "the second reversed",
     "epsilon 1/64",
     "epsilon 1/2",
     "the larger arc as a line",
+    "the larger arc as a line, if it rises less than 1/2",
     "the larger arc cut in eight on the grid",
     "the larger arc cut in eight, off the grid",
 ];
@@ -121,11 +125,12 @@ fn ask(pair: &Pair, way: usize) -> (bool, bool) {
         2 => (true, found(v, u.reversed(), epsilon)),
         3 => (true, found(v, u, 1.0 / 64.0)),
         4 => (true, found(v, u, 0.5)),
-        5 => {
+        5 | 6 => {
             let (v, u) = put(Piece { n: 0, ..large });
-            (share(v, u).is_some(), found(v, u, epsilon))
+            let asked = way == 5 || large.height() < LOW;
+            (asked && share(v, u).is_some(), found(v, u, epsilon))
         }
-        6 => {
+        7 => {
             let pieces = cut_on_grid(large).map(put);
             let touching = pieces
                 .iter()

@@ -105,6 +105,11 @@ impl Piece {
             self.length() * (1.0 + b * b) / (4.0 * b)
         }
     }
+
+    /// How far the arc rises above its chord.
+    pub fn height(self) -> f64 {
+        self.length() * self.bulge().abs() / 2.0
+    }
 }
 
 impl Circle {
@@ -156,8 +161,9 @@ pub mod tests {
     }
 
     #[test]
-    fn radii() {
+    fn radii_and_heights() {
         assert_eq!(piece(-5, 0, 5, 0, ONE).radius(), 5.0);
         assert_eq!(piece(-4, 3, 4, 3, -ONE / 2).radius(), 5.0);
+        assert_eq!(piece(-4, 3, 4, 3, -ONE / 2).height(), 2.0);
     }
 }
