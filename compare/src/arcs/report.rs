@@ -67,6 +67,8 @@ pub struct Report {
     cells: Vec<[[Bands; CLASSES.len()]; WAYS.len()]>,
     drawn: [Drawn; KINDS.len()],
     broken: u64,
+    /// By kind of pair, how many share a point and may not be missed.
+    free: [u64; PAIRS.len()],
     /// By kind of pair and way, the missed pair of the least radius at the program's epsilon.
     least: [[Option<Pair>; WAYS.len()]; PAIRS.len()],
     /// By kind of pair, the farthest apart that is reported at the program's epsilon, and how far.
@@ -95,6 +97,7 @@ impl Report {
             drawn: [Drawn::default(); KINDS.len()],
             broken: 0,
             farthest: [None; PAIRS.len()],
+            free: [0; PAIRS.len()],
             least: [[None; WAYS.len()]; PAIRS.len()],
             most: [[0.0; CLASSES.len()]; PAIRS.len()],
         }
@@ -110,6 +113,7 @@ impl Report {
         let drawn = &mut self.drawn[kind];
         drawn.pairs += 1;
         let mut bad = class >= CLASS_END;
+        self.free[arcs] += u64::from(way.is_some() && !may_miss(pair));
         match (way, class) {
             (Some(way), NONE) => {
                 drawn.shared += 1;

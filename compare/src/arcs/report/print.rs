@@ -35,6 +35,10 @@ impl Report {
                 most.map(|c| format!("{c:.2}")).join(" | ")
             );
         }
+        println!("share a point and may not be missed");
+        for (pairs, free) in PAIRS.iter().zip(self.free) {
+            println!("| {pairs} | {free} |");
+        }
         println!("the least radius that was missed at epsilon 1/1024");
         self.each(|arcs, at| self.print_least(arcs, at));
         println!("the farthest apart that was reported at epsilon 1/1024");
