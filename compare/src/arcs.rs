@@ -11,6 +11,8 @@ mod judge;
 mod piece;
 mod report;
 mod rules;
+#[cfg(test)]
+mod stored;
 mod whole;
 
 use crate::capi;

@@ -4,8 +4,9 @@
 use super::draw::{Pair, GRID_EPSILON};
 
 /// By how many roundings the square of half a chord is taken to be off at most, each its size over 2^53. No pair is missed that would
-/// need more, as far as the search has shown; one that is fails it.
-pub const ROUNDINGS: f64 = 8.0;
+/// need more, as far as the search has shown; one that is fails it. Two arcs: counted on paper. A line and an arc: twice what was found.
+pub const ARC_ROUNDINGS: f64 = 8.0;
+pub const LINE_ROUNDINGS: f64 = 16.0;
 /// What a rounding is over: 2^53.
 pub const ROUNDED: f64 = (1u64 << 53) as f64;
 
@@ -41,8 +42,12 @@ pub fn roundings(pair: &Pair) -> f64 {
 
 /// Whether a pair that shares a point may be missed: where the search has shown that it happens. Not two lines, of which it is proved.
 pub fn may_miss(pair: &Pair) -> bool {
-    let lines = pair.v.is_line() && pair.u.is_line();
-    pair.epsilon < GRID_EPSILON || !lines && roundings(pair) < ROUNDINGS
+    match (pair.v.is_line(), pair.u.is_line()) {
+        _ if pair.epsilon < GRID_EPSILON => true,
+        (true, true) => false,
+        (false, false) => roundings(pair) < ARC_ROUNDINGS,
+        _ => roundings(pair) < LINE_ROUNDINGS,
+    }
 }
 
 /// Whether what is reported may be that far apart.
@@ -74,7 +79,7 @@ mod tests {
 
     #[test]
     fn a_line_and_an_arc_by_the_sheet_and_two_lines_never() {
-        let (line, arc) = (piece(0, 0, 9, 0, 0), piece(0, 0, 0, 20_000, ONE));
+        let (line, arc) = (piece(0, 0, 9, 0, 0), piece(0, 0, 0, 10_000, ONE));
         assert!(!may_miss(&pair(line, arc, GRID_EPSILON)));
         let far = piece(0, 0, 1 << 20, 1 << 20, 0);
         assert!(may_miss(&pair(far, arc, GRID_EPSILON)));
