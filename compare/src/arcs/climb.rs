@@ -23,25 +23,31 @@ type Call = fn(&Pair) -> u64;
 /// Prints the least radius that was missed, for each epsilon and small arc, and for each epsilon and length of a line, with the pair;
 /// beside it the constant c for which the formula gives that radius.
 pub fn climb(call: Call, turns: u64, seed: u64) {
-    let mut rng = Rng::new(seed);
     println!(
         "two arcs: radius r of the small one | epsilon | least R | c of R^2 = 2 r epsilon 2^53 / c"
     );
-    for r in SMALL.map(power) {
+    each(call, turns, seed, &SMALL, small);
+    println!("a line and an arc with a common end: longest line L | epsilon | least R | c of R (R + S) = epsilon^2 2^53 / c");
+    each(call, turns, seed, &LINES, |rng, longest, _, most| {
+        joint(rng, longest, most)
+    });
+}
+
+/// For each size and each epsilon.
+fn each(
+    call: Call,
+    turns: u64,
+    seed: u64,
+    sizes: &[i32],
+    draw: fn(&mut Rng, f64, f64, f64) -> Option<(Piece, Piece)>,
+) {
+    let mut rng = Rng::new(seed);
+    for size in sizes.iter().map(|&e| power(e)) {
         for epsilon in EPSILONS.map(|e| power(-e)) {
             let found = descend(call, turns, &mut rng, epsilon, |rng, most| {
-                small(rng, r, epsilon, most)
+                draw(rng, size, epsilon, most)
             });
-            print(r, epsilon, found);
-        }
-    }
-    println!("a line and an arc with a common end: up to a line's length L | epsilon | least R | c of R (R + farthest + L) = epsilon^2 2^53 / c");
-    for longest in LINES.map(power) {
-        for epsilon in EPSILONS.map(|e| power(-e)) {
-            let found = descend(call, turns, &mut rng, epsilon, |rng, most| {
-                joint(rng, longest, most)
-            });
-            print(longest, epsilon, found);
+            print(size, epsilon, found);
         }
     }
 }
@@ -126,5 +132,5 @@ fn joint(rng: &mut Rng, longest: f64, most: f64) -> Option<(Piece, Piece)> {
         chord: (radius / 8.0, (2.0 * radius).min(2.0 * FAR as f64)),
         other,
     };
-    exactly(rng, &lengths).filter(|(_, u)| u.is_line())
+    exactly(rng, &lengths).filter(|(_, u)| u.is_line() && u.length() <= longest)
 }
