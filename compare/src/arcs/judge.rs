@@ -99,25 +99,31 @@ pub fn lies_on(s: Piece, p: Spot) -> bool {
 /// Not for a line that is a point, which has no direction: it is an end on the other.
 fn common_end(v: Piece, u: Piece) -> Option<Way> {
     let mut found = None;
-    if v.from == v.to || u.from == u.to {
-        return None;
-    }
-    for v in [v, v.reversed()] {
-        for u in [u, u.reversed()] {
-            if v.from == u.from {
-                let ((vx, vy), (ux, uy)) = (leaving(v), leaving(u));
-                if vx * uy == vy * ux {
-                    return Some(Way::Joint);
-                }
-                found = Some(Way::Corner);
-            }
+    for ((vx, vy), (ux, uy)) in common_ends(v, u) {
+        if vx * uy == vy * ux {
+            return Some(Way::Joint);
         }
+        found = Some(Way::Corner);
     }
     found
 }
 
+/// The directions in which the two leave each end that they have in common. None where one is a point.
+pub fn common_ends(v: Piece, u: Piece) -> impl Iterator<Item = (Direction, Direction)> {
+    let both = move |v: Piece| [(v, u), (v, u.reversed())];
+    let lines = v.from != v.to && u.from != u.to;
+    [v, v.reversed()]
+        .into_iter()
+        .flat_map(both)
+        .filter(move |(v, u)| lines && v.from == u.from)
+        .map(|(v, u)| (leaving(v), leaving(u)))
+}
+
+/// A direction, x before y.
+type Direction = (i128, i128);
+
 /// The direction in which the segment leaves its start: the chord, turned by twice the angle whose tangent is the bulge.
-fn leaving(s: Piece) -> (i128, i128) {
+fn leaving(s: Piece) -> Direction {
     let (x, y) = s.chord();
     let (n, one) = (i128::from(s.n), i128::from(ONE));
     let (along, right) = (one * one - n * n, 2 * n * one);

@@ -2,6 +2,7 @@
 //! is proved, but for two lines.
 
 use super::draw::{Pair, GRID_EPSILON};
+use super::judge::common_ends;
 
 /// By how many roundings the square of half a chord is taken to be off at most, each its size over 2^53. No pair is missed that would
 /// need more, as far as the search has shown; one that is fails it. Two arcs: counted on paper. A line and an arc: twice what was found.
@@ -28,16 +29,18 @@ pub fn roundings(pair: &Pair) -> f64 {
         pair.epsilon,
     );
     if pair.v.is_line() || pair.u.is_line() {
-        let ends = [pair.v.from, pair.v.to, pair.u.from, pair.u.to];
-        let far = ends
-            .map(|p| p.x.abs().max(p.y.abs()))
-            .into_iter()
-            .fold(0, i64::max) as f64;
-        let line = if pair.v.is_line() { pair.v } else { pair.u };
-        epsilon * epsilon * ROUNDED / (large * (large + far + line.length()))
+        epsilon * epsilon * ROUNDED / (large * (large + far(pair)))
     } else {
         2.0 * r * epsilon * ROUNDED / (large * large)
     }
+}
+
+/// The largest coordinate and the line's length together.
+fn far(pair: &Pair) -> f64 {
+    let ends = [pair.v.from, pair.v.to, pair.u.from, pair.u.to];
+    let far = ends.map(|p| p.x.abs().max(p.y.abs()));
+    let line = if pair.v.is_line() { pair.v } else { pair.u };
+    far.into_iter().fold(0, i64::max) as f64 + line.length()
 }
 
 /// Whether a pair that shares a point may be missed: where the search has shown that it happens. Not two lines, of which it is proved.
@@ -46,8 +49,21 @@ pub fn may_miss(pair: &Pair) -> bool {
         _ if pair.epsilon < GRID_EPSILON => true,
         (true, true) => false,
         (false, false) => roundings(pair) < ARC_ROUNDINGS,
-        _ => roundings(pair) < LINE_ROUNDINGS,
+        _ => roundings(pair) < LINE_ROUNDINGS && angle(pair) <= widest(pair),
     }
+}
+
+/// The sine of the widest angle at which a line and an arc may meet at a common end and be missed.
+fn widest(pair: &Pair) -> f64 {
+    LINE_ROUNDINGS * (largest(pair) + far(pair)) / (2.0 * ROUNDED * pair.epsilon)
+}
+
+/// The sine of the widest angle at a common end, 0 where there is none.
+fn angle(pair: &Pair) -> f64 {
+    let size = |(x, y): (i128, i128)| ((x * x + y * y) as f64).sqrt();
+    common_ends(pair.v, pair.u)
+        .map(|(v, u)| ((v.0 * u.1 - v.1 * u.0).abs() as f64) / (size(v) * size(u)))
+        .fold(0.0, f64::max)
 }
 
 /// Whether what is reported may be that far apart.
@@ -82,8 +98,12 @@ mod tests {
         let (line, arc) = (piece(0, 0, 9, 0, 0), piece(0, 0, 0, 10_000, ONE));
         assert!(!may_miss(&pair(line, arc, GRID_EPSILON)));
         let far = piece(0, 0, 1 << 20, 1 << 20, 0);
-        assert!(may_miss(&pair(far, arc, GRID_EPSILON)));
-        assert!(!may_miss(&pair(far, arc, 0.5)));
+        assert!(!may_miss(&pair(far, arc, GRID_EPSILON)), "at an angle");
+        let along = piece(0, 0, 1 << 20, 0, 0);
+        assert!(may_miss(&pair(along, arc, GRID_EPSILON)));
+        assert!(!may_miss(&pair(along, arc, 0.5)));
+        let beside = piece(0, 1, 1 << 20, 1, 0);
+        assert!(may_miss(&pair(beside, arc, GRID_EPSILON)));
         assert!(!may_miss(&pair(far, line, GRID_EPSILON)));
     }
 }
