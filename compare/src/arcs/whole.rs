@@ -205,6 +205,13 @@ mod tests {
         let square = whole(1).raised(254).less(&whole(1).raised(128));
         assert!(same(a.times(&a), square.plus(&whole(1))));
         assert!(same(a.raised(300).less(&a.raised(300)), whole(0)));
+        // a borrow that goes on through limbs of zeros, and a carry through limbs of ones
+        let ones = whole(1).raised(200).less(&whole(1));
+        assert!(same(
+            ones.less(&a.raised(73)),
+            whole(1).raised(73).less(&whole(1))
+        ));
+        assert!(same(ones.plus(&whole(1)), whole(1).raised(200)));
     }
 
     #[test]
