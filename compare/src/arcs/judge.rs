@@ -130,7 +130,7 @@ fn leaving(s: Piece) -> Direction {
     (along * x + right * y, along * y - right * x)
 }
 
-/// None where the circles have one centre. Not for two lines.
+/// None where the circle is not met by the line or the other circle, or has its centre. Not for two lines.
 pub fn inside(v: Piece, u: Piece) -> Option<Inside> {
     match (v.is_line(), u.is_line()) {
         (true, _) => line_and_arc(v, u.circle()),
