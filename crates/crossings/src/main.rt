@@ -17,7 +17,8 @@ fn main() {
     answer(&text[..n]);
 }
 
-// Writes the answer to a text. There is room for the longest answer, so the last line is never reached.
+// Writes the answer to a text. There is room for the longest answer, so the last line is never reached: `answer-whole` of
+// layout_listing/specs/Room.antt proves it for every text.
 fn answer(text: &[u8]) {
     let mut out = [0u8; 65664];
     let written = layout_listing::list_layout(text, &mut out);
