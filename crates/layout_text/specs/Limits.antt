@@ -1,5 +1,5 @@
 -- The scope's limits on texts: a layout's numbers, and how much of it there may be. Every form in which it is stored has these.
-use Prim.Native.Nat.{ℕ}
+use Prim.Native.Nat.{ℕ, _*_}
 
 -- the largest magnitude of x and of y
 abbrev pub coordinate : ℕ
@@ -17,6 +17,10 @@ vertices = 256
 abbrev pub bytes : ℕ
 bytes = 16_384
 
--- how many numbers a buffer must have for a path: three for each of the most vertices
+-- how many numbers a vertex is in a buffer
+abbrev pub numbersAVertex : ℕ
+numbersAVertex = 3
+
+-- how many numbers a buffer must have for a path of the most vertices
 abbrev pub room : ℕ
-room = 768
+room = vertices * numbersAVertex
