@@ -10,7 +10,7 @@ use lib.Seq.{getD-append-add}
 use Rattle.listing_pairs.specs.declared.row.Row.{Row}
 use Rattle.listing_pairs.specs.declared.row.Look.{Look}
 use Rattle.listing_pairs.specs.declared.row.Look.the-variants.{Passed, Nothing, Made}
-use Rattle.listing_pairs.specs.Row.{indicesOf, numbersOfRows}
+use Rattle.listing_pairs.specs.Row.{indicesARow, indicesOf, numbersOfRows}
 use Rattle.listing_pairs.specs.Order.{Pair, along, pairsFrom}
 use Rattle.listing_pairs.specs.Rows.{onto, rowsOf}
 use Rattle.listing_pairs.specs.Laws.Stores.{flat-append, flat-length}
@@ -96,21 +96,25 @@ module _ (look : ℕ → ℕ → Look) where
 pub row-in-slice : (r : Row) (rows : List Row) (old : List ℕ) (w : Within r rows)
     → (length (w .before) < length rows) × RowAt (overwrite old (numbersOfRows indicesOf rows)) (length (w .before)) (r .i) (r .j)
 row-in-slice r rows old w =
-    let count = ap length (w .is) ∙ length-append (w .before) (r ∷ w .after) in
+    let k = length (w .before) in
+    let numbers = numbersOfRows indicesOf rows in
     let front = numbersOfRows indicesOf (w .before) in
-    let rest = numbersOfRows indicesOf (w .after) ++ drop (length (numbersOfRows indicesOf rows)) old in
-    let long : length front ≡ length (w .before) * 3 = flat-length indicesOf 3 (λ r. refl) (w .before) in
-    let shown : overwrite old (numbersOfRows indicesOf rows) ≡ front ++ r .i ∷ r .j ∷ r .class ∷ rest =
-    ap (λ (l : List ℕ). l ++ drop (length (numbersOfRows indicesOf rows)) old)
+    let rest = numbersOfRows indicesOf (w .after) ++ drop (length numbers) old in
+    let count = ap length (w .is) ∙ length-append (w .before) (r ∷ w .after) in
+    let long : length front ≡ k * indicesARow = flat-length indicesOf indicesARow (λ r. refl) (w .before) in
+    let shown : overwrite old numbers ≡ front ++ r .i ∷ r .j ∷ r .class ∷ rest =
+    ap (λ (l : List ℕ). l ++ drop (length numbers) old)
     (ap (numbersOfRows indicesOf) (w .is) ∙ flat-append indicesOf (w .before) (r ∷ w .after))
-    ∙ append-assoc front (numbersOfRows indicesOf (r ∷ w .after)) (drop (length (numbersOfRows indicesOf rows)) old) in
-    let at : (n : ℕ) → getD (overwrite old (numbersOfRows indicesOf rows)) (length (w .before) * 3 + n) 0 ≡ getD (r .i ∷ r .j ∷ r .class ∷ rest) n 0 =
-    λ n. ap (λ (l : List ℕ). getD l (length (w .before) * 3 + n) 0) shown
-    ∙ ap (λ (k : ℕ). getD (front ++ r .i ∷ r .j ∷ r .class ∷ rest) (k + n) 0) (sym long)
+    ∙ append-assoc front (numbersOfRows indicesOf (r ∷ w .after)) (drop (length numbers) old) in
+    let whole = ap length shown ∙ length-append front (r .i ∷ r .j ∷ r .class ∷ rest) in
+    let at : (n : ℕ) → getD (overwrite old numbers) (k * indicesARow + n) 0 ≡ getD (r .i ∷ r .j ∷ r .class ∷ rest) n 0 =
+    λ n. ap (λ (l : List ℕ). getD l (k * indicesARow + n) 0) shown
+    ∙ ap (λ (m : ℕ). getD (front ++ r .i ∷ r .j ∷ r .class ∷ rest) (m + n) 0) (sym long)
     ∙ getD-append-add front (r .i ∷ r .j ∷ r .class ∷ rest) n 0 in (
       omega (arith, count),
       record {
-        first = ap (λ (k : ℕ). getD (overwrite old (numbersOfRows indicesOf rows)) k 0) (sym (add-zero (length (w .before) * 3))) ∙ at 0;
+        inside = omega (arith, whole, long);
+        first = ap (λ (m : ℕ). getD (overwrite old numbers) m 0) (sym (add-zero (k * indicesARow))) ∙ at 0;
         second = at 1;
       },
     )
