@@ -7,16 +7,16 @@ use Rattle.plane.specs.declared.pline_vertex.PlineVertex.{PlineVertex}
 use Rattle.plane.specs.PlineVertex as vertices
 
 -- how many numbers a vertex has
-abbrev pub numbers : ℕ
-numbers = 3
+abbrev pub numbersAVertex : ℕ
+numbersAVertex = 3
 
 -- the most vertices that a path may have
-abbrev pub most : ℕ
-most = 4096
+abbrev pub mostVertices : ℕ
+mostVertices = 4096
 
 -- the whole vertices in the list
 abbrev pub vertexCount : List Float → ℕ
-vertexCount path = length path / numbers
+vertexCount path = length path / numbersAVertex
 
 -- number k of the list; the NaN stands where there is none
 abbrev pub number : List Float → ℕ → Float
@@ -25,5 +25,5 @@ number path k = getD path k nan
 -- vertex i
 unfoldable pub vertex : List Float → ℕ → PlineVertex
 vertex path i =
-    let start = i * numbers in
+    let start = i * numbersAVertex in
     vertices.new (number path start) (number path (start + 1)) (number path (start + 2))
