@@ -1,6 +1,7 @@
 // Which pairs a listing goes by, in order: the first path's index outermost, both rising.
 ghost use mathlib.Core.Path.{_≡_};
 ghost use Prim.Native.Nat.{_≤_};
+ghost use Rattle.paths.specs.Path;
 ghost use Rattle.listing_pairs.specs.Workings.Job as job_of;
 
 // What a listing works on: n segments of the first path, m of the second, and how near is near. In a self listing, `own`, both are
@@ -15,7 +16,7 @@ pub struct Job {
 
 // The first index that goes with i: in a self listing those before it went with i already, and the next one is its neighbour.
 pub fn from(job: Job, i: usize) -> usize
-    requires { ⌜ i ≤ 4096 ⌝ }
+    requires { ⌜ i ≤ Path.mostVertices ⌝ }
     ensures { λ r. ⌜ r ≡ job_of.from job i ⌝ }
 {
     if job.own {
