@@ -1,6 +1,7 @@
 -- How many bytes a line is given, and how many its parts have at most. The contracts of src/ go by these, and LINE of src/lib.rt
 -- is `line`. Room.antt proves them of the text of every answer.
 use Prim.Native.Nat.{ℕ, _+_, _*_}
+use Rattle.answer_lines.specs.Lines.{pointsARow}
 
 -- how much room is asked for a line
 abbrev pub line : ℕ
@@ -24,7 +25,7 @@ name = 7
 
 -- two points
 abbrev pub points : ℕ
-points = 4 * float
+points = pointsARow * float
 
 -- ---- lines, each with its newline
 
