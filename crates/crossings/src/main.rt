@@ -2,6 +2,7 @@
 ghost use Prim.Native.Nat.{_≤_};
 ghost use lib.ListN.{length};
 use answer_lines::Written;
+use layout_text::limits;
 
 // How many bytes were read, and whether a read failed.
 struct Input {
@@ -11,7 +12,7 @@ struct Input {
 
 fn main() {
     // one byte more than a text may have, so that a longer one is told
-    let mut text = [0u8; 16385];
+    let mut text = [0u8; limits::BYTES + 1];
     let input = read_text(&mut text);
     if input.failed {
         io::write_all(2, b"crossings: standard input cannot be read\n");
@@ -51,7 +52,7 @@ fn read_text(text: &mut [u8]) -> Input
 
 // Writes the answer to a text. There is room for the longest one, so the other ends are not met.
 fn answer(text: &[u8]) {
-    let mut out = [0u8; 65664];
+    let mut out = [0u8; layout_listing::ROOM];
     let written = layout_listing::list_layout(text, &mut out);
     match written {
         Written::Length(n) => {
