@@ -19,13 +19,25 @@ point x y = record { x = x; y = y }
 abbrev pub vertex : Float → Float → Float → PlineVertex
 vertex x y bulge = record { x = x; y = y; bulge = bulge }
 
--- ---- out: 512 where the slice has not four places, else 256 and the number of a refusal, else the number of the case
+-- ---- out
+
+-- how many places an answer takes
+abbrev pub places : ℕ
+places = 4
+
+-- what is returned where the slice has not its places
+abbrev pub noRoomCode : ℕ
+noRoomCode = 512
+
+-- what is returned of a refusal: this and its number
+abbrev pub refusedCode : ℕ
+refusedCode = 256
 
 abbrev pub short : List Float → Bool
-short old = ltb (length old) 4
+short old = ltb (length old) places
 
 abbrev pub code : PaddedAnswer → List Float → ℕ
-code f old = cond (short old) 512 (cond (f .refused) (256 + f .number) (f .number))
+code f old = cond (short old) noRoomCode (cond (f .refused) (refusedCode + f .number) (f .number))
 
 abbrev pub written : PaddedAnswer → List Float → List Float
 written f old = cond (short old || f .refused) old (sets old 0 (f .a ∷ f .b ∷ f .c ∷ f .d ∷ []))
