@@ -1,4 +1,4 @@
-# What the gate does, a function for each check. `.ci/run` calls them in its order; `.ci/test` tries that each can fail.
+# The checks of the gate, one function each. `.ci/run` calls them in order; `.ci/test` tests that each can fail.
 
 scratch=$(mktemp -d)
 trap 'rm -rf "$scratch"' EXIT
@@ -14,7 +14,7 @@ say() {
     echo "gate: $*"
 }
 
-# Runs a command and shows what it wrote only where it failed.
+# Runs a command and shows its output only if it fails.
 quietly() {
     local out
     out=$(mktemp -p "$scratch")
@@ -24,7 +24,7 @@ quietly() {
     }
 }
 
-# How long a part took, by the wall's clock: called at its end, with its start.
+# Notes how long a part took, in wall-clock time. It is called at the part's end, with its start.
 note_time() {
     times+=("$((SECONDS - $1)) s  $part")
 }
@@ -36,7 +36,7 @@ say_times() {
 
 # ---- proofs
 
-# rt ci removes target/, so it comes first, and nothing is proved twice. Its last line is held back for the end.
+# rt ci removes target/, so it comes first and nothing is proved twice. Its last line is printed at the end.
 prove() {
     local start=$SECONDS
     command -v rt > /dev/null || fail "the Rattle kit's rt is not on the PATH"
@@ -49,8 +49,8 @@ prove() {
     note_time "$start"
 }
 
-# What has changed is proved first; then the product that stands on it, and beside that its wrong functions are tried. What is for the
-# comparison only is proved beside the comparison itself, and `prove_rest` waits for it.
+# Proves what has changed, then the product that uses it, and tries the wrong functions at the same time. What only the comparison
+# needs is proved during the comparison, and `prove_rest` waits for it.
 prove_changed() {
     local start=$SECONDS changed trials=
     quick=yes
@@ -76,9 +76,10 @@ prove_changed() {
 
 prove_rest() {
     wait "$rest" || fail "rt check failed"
+    check_replaying
 }
 
-# Wrong functions, many at a time: beside the must-fail edits, which rt ci has tried one by one. It needs what was proved.
+# Tries wrong functions, many at a time. rt ci has tried the must-fail edits one by one. It needs the proved crates.
 try_functions() {
     local start=$SECONDS said
     said=$(.ci/trials) || fail "a wrong function was not refused as it should be: $said"
@@ -96,8 +97,8 @@ check_texts() {
     note_time "$start"
 }
 
-# A path of somebody's machine in a tracked file means nothing to a user. git grep's status is 1 where it finds none, and above 1
-# where it could not look.
+# A path of somebody's machine in a tracked file means nothing to a user. git grep's status is 1 if it finds none, and above 1 if
+# it fails.
 check_paths() {
     local status=0
     git grep -nE '/(work|opt|root|tmp|home)/' || status=$?
@@ -108,10 +109,11 @@ check_paths() {
     esac
 }
 
-# Where each wrong program was refused is what docs/FRAUDS.md says; of a must-fail edit too some fact must fail.
+# docs/FRAUDS.md says where each wrong program was refused. Some fact must fail for each must-fail edit too.
 check_frauds() {
     local start=$SECONDS
-    .ci/frauds ${quick:+quick} || fail "docs/FRAUDS.md and what was refused differ as above: .ci/frauds write writes what is generated"
+    .ci/frauds ${quick:+quick} ||
+        fail "docs/FRAUDS.md and what was refused differ as above: .ci/frauds write writes what is generated"
     note_time "$start"
 }
 
@@ -129,10 +131,12 @@ check_stored() {
     local start=$SECONDS
     check_replay crates/replay
     check_layouts target/bin/crossings layouts
+    check_streams target/bin/crossings layouts/two_coils.txt layouts/two_coils.out
+    [ -n "$quick" ] || check_replaying
     note_time "$start"
 }
 
-# rt has run the program and held it to its file stdout. Here: that file speaks of the whole list.
+# rt has run the program and compared its output with the file stdout. This checks that the file speaks of the whole list.
 check_replay() {
     local records
     records=$(wc -l < "$1/stdin")
@@ -141,7 +145,8 @@ check_replay() {
     say "replayed $records records"
 }
 
-# The text program on the stored layouts, their answers byte for byte. It needs no Rust: a model in Rust wrote the answers.
+# Runs the text program on the stored layouts and compares the answers byte for byte. It needs no Rust: the answers, which a model
+# in Rust wrote, are stored.
 check_layouts() {
     local program=$1 texts=("$2"/*.txt) answers=("$2"/*.out) text answer
     [ -f "${texts[0]}" ] || fail "no layouts are stored"
@@ -154,9 +159,19 @@ check_layouts() {
     say "ran ${#texts[@]} stored layouts"
 }
 
+# Where a program cannot read or write it says so, and a signal takes nothing from its answer.
+check_streams() {
+    .ci/streams "$@" || fail "$1 does not tell what it cannot read or write, as above"
+    say "ran $1 without an input, without room for its output, and broken off by signals"
+}
+
+check_replaying() {
+    check_streams target/bin/replay crates/replay/stdin crates/replay/stdout
+}
+
 # ---- the comparison
 
-# The static libraries (the product's, and what only the comparison calls) beside Rust, and the recorded list made again.
+# Compares the static libraries (the product's, and the one for the comparison only) with Rust, and makes the recorded list again.
 compare_with_rust() {
     local start=$SECONDS
     if ! can_compare; then
@@ -179,8 +194,8 @@ can_compare() {
     return 1
 }
 
-# The Rust text is no part of the repository. Where its folder is, compare compiles it and runs its own examples too. A user's clone
-# goes on without it, and says so; where CI is true it must be there.
+# The Rust text is no part of the repository. If its folder is there, compare compiles it and runs its own examples too. A user's
+# clone may lack it: the gate says so and goes on. If CI is true the folder must be there.
 find_rust_text() {
     local folder=${CAVALIER_SRC:-../shared/docs/src}
     features=()
@@ -194,7 +209,8 @@ find_rust_text() {
     fi
 }
 
-# One library after the other, since rt keeps notes in target/. One that is there already, made of what is proved now, is not made again.
+# Makes one library after the other, since rt keeps notes in target/. A library that was made from what is proved now is not made
+# again.
 make_libraries() {
     local library
     for library in capi probe; do
@@ -205,7 +221,8 @@ make_libraries() {
     done
 }
 
-# The comparison proper, two runs at a time. Quick: a tenth of the inputs; of texts all, which are few, and some kinds of them rare.
+# The comparison itself, two runs at a time. The quick gate takes a tenth of the inputs, but all texts: they are few, and some
+# kinds of them are rare.
 run_comparison() {
     local compare=$1 inputs=10485760 pairs=4194304 texts=3072 check
     if [ -n "$quick" ]; then
@@ -224,7 +241,7 @@ run_comparison() {
     cat "$scratch/check"
 }
 
-# The text program beside a model of it over the Rust text, and the stored answers made again.
+# Compares the text program with a model of it over the Rust text, and makes the stored answers again.
 compare_texts() {
     if [ ${#features[@]} = 0 ]; then
         say "no Rust text: THE TEXT PROGRAM WAS NOT COMPARED WITH A MODEL"
@@ -240,7 +257,8 @@ compare_texts() {
     done
 }
 
-# The list must be what is made here. Without the Rust text only its front can be made: the float functions' answers.
+# The stored list must be the one that is made here. Without the Rust text only its first part can be made: the answers of the
+# float functions.
 check_list() {
     if [ ${#features[@]} -gt 0 ]; then
         cmp "$1" "$2" || fail "$2 is not what 'compare record' writes"

@@ -1,25 +1,26 @@
 """What the checker says of a wrong program, and which of it counts.
 
-A program counts as refused where the checker shows a fact that no longer holds: two sides of an equation, or two statements, that
-differ; an equation that is left when all that is known was put in; numbers for which all that is known holds and the goal fails; or a
-search that tried every way. All else says of the proof that it does not fit the changed text (a place that is not there, a step that
-finds nothing to do, an answer too few or too many, a bound that was met), or that the text does not compile. A right program that is
-written another way is refused in those words too, so they show nothing.
+A program counts as refused if the checker shows a fact that no longer holds: two sides of an equation, or two statements, that
+differ; an equation that remains after all known facts are used; numbers for which all known facts hold and the goal fails; or a
+search that tried every way. All other errors say that the proof does not fit the changed text (a place that is not there, a step
+that finds nothing to do, an answer too few or too many, a bound that was reached), or that the text does not compile. A right
+program that is written another way gives such errors too, so they show nothing.
 """
 import re
 
-# An error's first line; the lines that go on with it are indented.
+# The first line of an error; its other lines are indented.
 ERROR = re.compile(r"^(?P<path>[^\s:]+):(?P<line>\d+):(?P<column>\d+): error: (?:`(?P<name>[^`]+)`: )?", re.M)
 
-# It follows from another error: what this one stands on was not accepted.
+# It follows from another error: something that it uses was not accepted.
 FOLLOWS = re.compile(r"was not admitted \(it has holes or undetermined implicits, or was rejected\)")
 
-# Of the shape of a proof and no fact of the program: how many answers a walk wants, and which.
+# It is about the shape of a proof, not about the program: how many answers a walk needs, and which.
 SHAPE = re.compile(r"\bLts\.Closed\b|\bNeed-")
 
 SHOWN = {
     "two sides differ": re.compile(
-        r"the two (?:types|sides) (?:first differ|differ only|are )|^.*expected type `.*but this has type `|does not hold \(this comparison",
+        r"the two (?:types|sides) (?:first differ|differ only|are )|^.*expected type `.*but this has type `"
+        r"|does not hold \(this comparison",
         re.S,
     ),
     "an equation is left": re.compile(r"what it leaves must be a path whose two ends are equal, and .* is none", re.S),
@@ -40,7 +41,7 @@ class Refusal:
 
     @property
     def shows(self):
-        """The kind of fact that it shows to hold no longer, or None."""
+        """The kind of fact that it shows to fail, or None."""
         if self.follows:
             return None
         for kind, form in SHOWN.items():
@@ -67,7 +68,7 @@ def refusals(said):
 
 
 def answer_at(text, line, column):
-    """Which answer of a walk, `tie.spec A B ..`, stands at this place of a proof file: its number, and how many there are."""
+    """Which answer of a walk, `tie.spec A B ..`, is at this place of a proof file: its number, and how many there are."""
     lines = text.splitlines(keepends=True)
     place = sum(len(one) for one in lines[: line - 1]) + column - 1
     start = text.rfind("tie.spec", 0, place + 1)
@@ -92,8 +93,9 @@ def answer_at(text, line, column):
 
 
 def place_of(one, folder):
-    """Whose fact an error is about, and which one: a function's, MODULE::NAME, with the name of the fact in its proof or its place
-    among the answers of its walk; or a file of definitions and laws, with the name of the law. `folder` is the crate's."""
+    """Whose fact an error is about, and which one. It is a function, MODULE::NAME, with the name of the fact in its proof or
+    its place among the answers of its walk; or a file of definitions and laws, with the name of the law. `folder` is the
+    crate's."""
     path = one.path[len(str(folder)) + 1 :] if one.path.startswith(f"{folder}/") else one.path
     proof = re.match(r"proofs/(.*)/Proof\.antt$", path)
     if not proof:

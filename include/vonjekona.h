@@ -1,10 +1,10 @@
 /*
  * Vonjekona: the calls of the static library, for C and C++.
  *
- * Every call answers for every argument: it always returns, reads and writes
- * no memory of the caller's but the room that is lent to it, and keeps no state
- * between calls. What is said of each answer here is proved of the source that
- * the library is compiled from.
+ * Every call answers for every argument: it always returns, it reads and writes
+ * no memory of the caller except what is lent to it, and it keeps no state
+ * between calls. What this file says of each answer is proved of the source from
+ * which the library is compiled.
  *
  * Link with target/staticlib/libcapi.a (x86-64 Linux).
  */
@@ -20,89 +20,89 @@ extern "C" {
 #endif
 
 /*
- * Float functions on binary64 numbers. Which bits a NaN answer has is left
- * open; the functions on patterns, below, settle that too.
+ * Float functions on binary64 numbers. The bits of a NaN answer are left open;
+ * the functions on patterns, below, fix them too.
  */
 
 /* The absolute value: x without its sign. A NaN stays a NaN. */
 double vj_abs(double x);
 
 /*
- * The smaller of x and y. Equal operands give y, and zeros of either sign are
- * equal. If one operand is a NaN, quiet or signalling, the other is given; two
- * NaNs give a NaN.
+ * The smaller of x and y. Equal operands give y; zeros of either sign are
+ * equal. If one operand is a NaN, quiet or signalling, the answer is the other
+ * one; two NaNs give a NaN.
  */
 double vj_min(double x, double y);
 
-/* The larger of x and y. Equal operands and NaNs as with vj_min. */
+/* The larger of x and y. Equal operands and NaNs: as for vj_min. */
 double vj_max(double x, double y);
 
 /*
  * The square root, correctly rounded for every x, subnormal ones included: no
- * binary64 number is nearer to the exact root. The root of -0 is -0, that of
- * +infinity is +infinity. A NaN, or a number below zero, gives a NaN.
+ * binary64 number is nearer to the exact root. The root of -0 is -0, and the
+ * root of +infinity is +infinity. A NaN or a number below zero gives a NaN.
  */
 double vj_sqrt(double x);
 
 /*
  * The same four functions on the bit patterns of binary64 numbers. Here every
- * bit of every answer is settled.
+ * bit of every answer is fixed.
  */
 
-/* b with its highest bit, the sign, cleared: of a NaN's pattern too. */
+/* b with its highest bit, the sign, cleared. A NaN's pattern is no exception. */
 uint64_t vj_abs_bits(uint64_t b);
 
 /*
- * The pattern, a or b, of the smaller number. Equal numbers, which zeros of
- * either sign are, give b. If one pattern is a NaN's, quiet or signalling, the
- * other is given as it is; two NaNs give 7FF8000000000000.
+ * The pattern, a or b, of the smaller number. Equal numbers give b; zeros of
+ * either sign are equal. If one pattern is a NaN's, quiet or signalling, the
+ * answer is the other one, unchanged; two NaNs give 7FF8000000000000.
  */
 uint64_t vj_min_bits(uint64_t a, uint64_t b);
 
-/* The pattern of the larger number. Equal numbers and NaNs as with vj_min_bits. */
+/* The pattern of the larger number. Equal numbers, NaNs: as for vj_min_bits. */
 uint64_t vj_max_bits(uint64_t a, uint64_t b);
 
 /*
- * The pattern of the correctly rounded square root. A NaN, or a number below
- * zero, gives 7FF8000000000000; -0 and +infinity give themselves.
+ * The pattern of the correctly rounded square root. A NaN or a number below
+ * zero gives 7FF8000000000000; -0 and +infinity give themselves.
  */
 uint64_t vj_sqrt_bits(uint64_t b);
 
 /*
- * Crossings. Each call looks at its numbers first, then works out how two
- * things meet; the definitions that it is proved to equal follow the Rust crate
+ * Crossings. Each call checks its numbers first, then computes how two things
+ * meet. It is proved to equal definitions that follow the Rust crate
  * cavalier_contours 0.9.0 operation by operation. A caller lends `room` places
- * of memory, from `out` on, which are the call's alone while it runs; `out` may
- * not be null. What is returned is
+ * of memory from `out` on. They belong to the call alone while it runs, and
+ * `out` may not be null. The call returns
  *
- *   VJ_NO_ROOM         if room is below 4: nothing was written;
- *   VJ_REFUSED + N     else, if a number is refused: nothing was written. N is
- *                      the refusal of the first number at fault, in the order
+ *   VJ_NO_ROOM         if room is below 4: nothing is written;
+ *   VJ_REFUSED + N     else, if a number is refused: nothing is written. N is
+ *                      the refusal of the first number at fault. The order is
  *                      epsilon, then as the call says;
- *   a case, from 0 on  else. Then out[0] to out[3] hold the case's values, +0
- *                      in the places that it does not need, and the places
- *                      after these are as they were.
+ *   a case, from 0 on  else. Then out[0] to out[3] hold the values of the case,
+ *                      +0 in the places that it does not need, and the places
+ *                      after them are unchanged.
  *
- * A coordinate, bulge or radius that is NaN or infinite is refused by 1. Then a
- * point's coordinate is refused by 2 if its magnitude is above 1,048,576; a
- * bulge by 3 if its magnitude is above 1; a circle by 9 if its radius is not in
- * 2^-42 to 2^47, or a coordinate of its centre has a magnitude above 2^48. An
- * epsilon is refused by 4 if it is no number in 2^-40 to 1/2. The limits
- * themselves pass.
+ * Refusal 1: a coordinate, bulge or radius is NaN or infinite. If it is not,
+ * refusal 2: a point's coordinate is above 1,048,576 in magnitude; refusal 3: a
+ * bulge is above 1 in magnitude; refusal 9: a circle's radius is not in 2^-42 to
+ * 2^47, or a coordinate of its centre is above 2^48 in magnitude. Refusal 4:
+ * epsilon is NaN, infinite, or not in 2^-40 to 1/2. A number equal to its limit
+ * passes.
  *
- * Each value is settled, a zero's sign too, where the Rust leaves some signs of
- * zeros open. Only which bits a NaN would have is left open.
+ * Every value is fixed, the sign of a zero too, even where the Rust leaves the
+ * sign of a zero open. Only the bits of a NaN are left open.
  */
 #define VJ_REFUSED 256
 #define VJ_NO_ROOM 512
 
 /*
- * The lines v1 to v2 and u1 to u2. A parameter t means the point from + t * (to
- * - from) of its line. Looks at v1, v2, u1, u2, each x before y. Cases:
+ * The lines v1 to v2 and u1 to u2. A parameter t stands for the point from + t *
+ * (to - from) of its line. Checks v1, v2, u1, u2, each x before y. Cases:
  *
- *   0  no crossing: parallel and not on one line, or points that are apart;
- *   1  one point that both have: the parameters on v and on u;
- *   2  a common stretch: where on u it begins and ends, two parameters on u;
+ *   0  parallel and apart, on one line or not; a point counts as parallel;
+ *   1  one shared point: its parameters on v and on u;
+ *   2  a shared stretch: its start and its end, two parameters on u;
  *   3  the lines cross beyond an end: the parameters on v and on u.
  */
 uint64_t vj_line_line_intr(double v1x, double v1y, double v2x, double v2y,
@@ -110,21 +110,21 @@ uint64_t vj_line_line_intr(double v1x, double v1y, double v2x, double v2y,
                            double epsilon, double *out, size_t room);
 
 /*
- * The line through p0 and p1, and a circle about (cx, cy). A parameter below 0
- * or above 1 is a point beyond p0 or p1. Looks at p0, p1, the radius, the
- * centre. Cases:
+ * The line through p0 and p1, and a circle with the centre (cx, cy). A parameter
+ * below 0 or above 1 is a point beyond p0 or p1. Checks p0, p1, the radius, the
+ * centre, each x before y. Cases:
  *
  *   0  apart;
  *   1  they touch: one parameter;
- *   2  two points: two parameters, the smaller first if both are numbers.
+ *   2  two points: two parameters, the smaller one first if both are numbers.
  */
 uint64_t vj_line_circle_intr(double p0x, double p0y, double p1x, double p1y,
                              double radius, double cx, double cy,
                              double epsilon, double *out, size_t room);
 
 /*
- * Two circles. Looks at the first circle, then at the second, radius before
- * centre. Cases:
+ * Two circles. Checks the first circle, then the second, each radius, x, y.
+ * Cases:
  *
  *   0  apart, or one inside the other;
  *   1  they touch: a point, x before y;
@@ -137,18 +137,18 @@ uint64_t vj_circle_circle_intr(double radius1, double c1x, double c1y,
 
 /*
  * Two segments of polylines, v1 to v2 and u1 to u2. The bulge of a segment's
- * first vertex says what it is: a line if its magnitude is below 1e-8, else an
- * arc. The bulges of v2 and u2 play no part, whatever they are. Looks at v1,
- * v2, u1, u2, each x, y and, of v1 and u1, the bulge; then at v and u: an arc is
- * refused by 5 if its chord is shorter than 2^-40. Cases, with their points, x
- * before y:
+ * first vertex says what it is: a line if the bulge is below 1e-8 in magnitude,
+ * else an arc. The bulges of v2 and u2 have no effect, whatever they are. Checks
+ * v1, v2, u1, u2, each x, then y, then (of v1 and u1 only) the bulge; then v and
+ * u: refusal 5 if the segment is an arc with a chord shorter than 2^-40. Cases,
+ * with their points, x before y:
  *
- *   0  no point in common;
- *   1  they touch in one point;
- *   2  one point;
- *   3  two points;
- *   4  two lines with a common stretch, from the first point to the second;
- *   5  two arcs with a common stretch, from the first point to the second.
+ *   0  apart;
+ *   1  they touch at one point;
+ *   2  one shared point;
+ *   3  two shared points;
+ *   4  two lines with a shared stretch, from the first point to the second;
+ *   5  two arcs with a shared stretch, from the first point to the second.
  */
 uint64_t vj_pair(double v1x, double v1y, double v1_bulge,
                            double v2x, double v2y, double v2_bulge,
@@ -157,36 +157,39 @@ uint64_t vj_pair(double v1x, double v1y, double v1_bulge,
                            double epsilon, double *out, size_t room);
 
 /*
- * Listings of whole paths. A path is lent as `len` binary64 numbers, from `path`
- * on, three a vertex: x, y and the bulge of the segment that starts there; and
- * a flag. n vertices have n - 1 segments open and n closed, the last of which
- * runs back to vertex 0; with n below 2 there are none. A pointer may not be
- * null, even where its length is 0.
+ * Listings of whole paths. A path is lent as `len` binary64 numbers from `path`
+ * on, and a flag that says whether it is closed. Each vertex has three numbers:
+ * x, y and the bulge of the segment that starts there. n vertices have n - 1
+ * segments if the path is open. If it is closed they have n, the last of which
+ * runs back to vertex 0. If n is below 2 there are none. A pointer may not be
+ * null, even if its length is 0.
  *
- * Rows go into two slices: three whole numbers a row from `indices` on, which
- * are the segment's index in the first path, that in the second, and the
- * class, 1 to 5, as with vj_pair; four numbers a row from `points` on, the
- * class's points x before y, +0 in the places that it does not need. Pairs of
- * class 0 make no row. Rows come in order, the first path's index outermost,
- * both rising. As many rows fit as both slices have room for in whole rows.
- * The memory that is lent to be written is the call's alone while it runs; the
- * same path may be lent twice to vj_mutual. What is returned is
+ * Rows go into two slices. From `indices` on, a row has three whole numbers: the
+ * segment's index in the first path, the segment's index in the second path, and
+ * the class, 1 to 5, as in vj_pair. From `points` on, a row has four numbers:
+ * the points of the class, x before y, +0 in the places that it does not need.
+ * Pairs of class 0 make no row. Rows are ordered by the index in the first path,
+ * then by that in the second. There is room for as many rows as fit whole into
+ * both slices. The memory that is lent for writing belongs to the call alone
+ * while it runs: it overlaps no other lent memory, and no one else uses it. The
+ * same path may be lent twice to vj_mutual. The call returns
  *
- *   VJ_NO_ROOM      if counts_room is below 2: nothing was written;
- *   VJ_REFUSED + N  else, if a number is refused: nothing was written. N is the
- *                   refusal of the first fault in the order below;
- *   0               else. Then counts[0] is how many rows were written and
- *                   counts[1] how many pairs were looked at. What stands after
- *                   the last row, and after counts[1], is as it was.
+ *   VJ_NO_ROOM      if counts_room is below 2: nothing is written;
+ *   VJ_REFUSED + N  else, if there is a fault: nothing is written. N is the
+ *                   refusal of the first fault, in the order below;
+ *   0               else. Then counts[0] is how many rows were written, and
+ *                   counts[1] how many pairs were looked at. What follows the
+ *                   last row, and what follows counts[1], is unchanged.
  *
- * The order: epsilon, 4; the first path's length, 6 if it is no multiple of 3,
- * then 7 if it has more than 4,096 vertices; the second path's length likewise;
- * the first path's vertices in order, each x, y and bulge, an open path's last
- * bulge too; then its arcs in order, 5; the second path's likewise; last, 8 if
- * there are more rows than fit.
+ * The order: epsilon, refusal 4; the first path's length, refusal 6 if it is no
+ * multiple of 3, then 7 if it has more than 4,096 vertices; the second path's
+ * length, the same; the first path's vertices in order, each x, y and bulge, also
+ * the last bulge of an open path, refusals 1, 2 and 3; then its arcs in order,
+ * refusal 5; the second path's vertices and arcs, the same; last, refusal 8 if
+ * there are more rows than there is room for.
  *
- * A listing needs some 212 KiB of stack: rows held back until it is known that
- * all fit, and three numbers of each segment of the second path.
+ * A listing needs some 212 KiB of stack: a buffer that holds rows back until it
+ * is known that all fit, and three numbers for each segment of the second path.
  */
 
 /* Every segment of the first path with every segment of the second. */
@@ -197,8 +200,8 @@ uint64_t vj_mutual(const double *first, size_t first_len, bool first_closed,
                    size_t counts_room);
 
 /*
- * The segments i and j of one path, i < j, neighbours excepted: j is not i + 1,
- * and of a closed path the first does not go with the last.
+ * The segments i and j of one path, i < j, without neighbours: j is not i + 1,
+ * and the first and the last segment of a closed path are no pair.
  */
 uint64_t vj_self(const double *path, size_t len, bool closed, double epsilon,
                  uint64_t *indices, size_t indices_room, double *points,

@@ -1,4 +1,5 @@
--- The text of an answer, its sizes, and what its writer promises; then laws, what is proved of them, and worked examples.
+-- The text of an answer (Lines), its sizes and what its writer promises (Written); then what is proved of them (OneResult, Room,
+-- Examples). A reader need not believe Workings and Laws.
 pub mod Lines
 pub mod Sizes
 pub mod Written

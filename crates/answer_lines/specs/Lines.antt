@@ -1,5 +1,5 @@
--- The text of an answer: a refusal's line, or a line with the counts and a line for each row. A row is two segments' indices, the
--- class's name, and the points that the class has, each number as the sixteen hex digits of its bits.
+-- The text of an answer: the line of a refusal; or a line with the counts, then a line for each row. A row's line has the indices
+-- of the two segments, the name of the class, and the points of the class, each number as the sixteen hex digits of its bits.
 use Prim.Native.Nat.{ℕ, zero, suc, _+_, _*_, _/_, _%_}
 use mathlib.Core.Bool.{cond}
 use mathlib.Core.List.{List, [], _∷_, _++_}
@@ -63,7 +63,7 @@ unfoldable pub hex : ℕ → ℕ → List ℕ
 hex zero n = []
 hex (suc k) n = hex k (n / 16) ++ (glyph (n % 16) ∷ [])
 
--- a space, then a number's bits; those of a NaN are 7ff8000000000000, as `toBits` has it
+-- a space, then the bits of a number; every NaN has the bits 7ff8000000000000, as in `toBits`
 unfoldable pub numberText : Float → List ℕ
 numberText x = space ++ hex 16 (toBits binary64 x)
 
@@ -78,7 +78,7 @@ classText class =
     (cond (eqb class 4) linesWord
     (cond (eqb class 5) arcsWord noneWord))))
 
--- a tangent and a single crossing have one point, the other classes two
+-- a tangent and one crossing have one point, the other classes two
 unfoldable pub pointsText : ℕ → Float → Float → Float → Float → List ℕ
 pointsText class x1 y1 x2 y2 =
     cond (ltb class 1) []
@@ -104,7 +104,7 @@ indicesARow = 3
 abbrev pub pointsARow : ℕ
 pointsARow = 4
 
--- row k of the index rows and of the float rows
+-- the line of row k, by its numbers among the index rows and among the float rows
 unfoldable pub rowAt : List ℕ → List Float → ℕ → List ℕ
 rowAt index points k =
     let i = k * indicesARow in

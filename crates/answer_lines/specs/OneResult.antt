@@ -1,4 +1,4 @@
--- The writer's promise settles the result: two answers that it allows are equal, and so are the slice's contents.
+-- The writer's promise allows one result only: two answers that it allows are equal, and so are the slices after them.
 use Prim.Native.Nat.{ℕ}
 use mathlib.Core.Bool.{Bool}
 use mathlib.Core.Path.{_≡_, sym, _∙_}

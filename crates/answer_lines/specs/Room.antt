@@ -1,6 +1,6 @@
--- The text of an answer fits the room that is asked for it, 128 bytes a line: so nothing of it is cut off at the end of the slice
--- that the writer is lent, nor at the end of a program's buffer that has that room. The numbers of an answer are below 2^64, as
--- those of a slice of u64 are; its floats may be any.
+-- The text of an answer fits into its room, 128 bytes for each line. So nothing of it is cut off at the end of the lent slice, or
+-- of a program's buffer that has that room. The whole numbers of an answer are below 2^64, as in a slice of u64; its floats may
+-- be any.
 use Prim.Native.Nat.{ℕ, _+_, _*_, _/_, _^_, _≤_, _<_}
 use mathlib.Core.Path.{_≡_, refl, _∙_}
 use mathlib.Core.Bool.{false}
@@ -18,7 +18,7 @@ use Rattle.answer_lines.specs.declared.Written.{Written}
 use Rattle.answer_lines.specs.declared.Written.the-variants as Written·
 use Rattle.answer_lines.specs.Laws.Sizes.{refusal-short, counts-short, row-short, answer-short}
 
--- ---- lines: a refusal's has at most 29 bytes, that with the counts at most 53, a row's at most 118, its newline among them
+-- ---- lines, with their newlines: a refusal has at most 29 bytes, the counts at most 53, a row at most 118
 pub refusal-line : (n : ℕ) → n < 2 ^ 64 → length (refusedText n) ≤ sizes.refusal
 refusal-line = refusal-short
 
@@ -29,7 +29,7 @@ pub row-line : (i j class : ℕ) (x1 y1 x2 y2 : Float) → i < 2 ^ 64 → j < 2 
     → length (rowText i j class x1 y1 x2 y2) ≤ sizes.row
 row-line = row-short
 
--- ---- answers: at most 128 bytes a line
+-- ---- answers: at most 128 bytes for each line
 pub refusal-fits : (n : ℕ) → n < 2 ^ 64 → length (refusedText n) ≤ line
 refusal-fits n h = omega (arith, refusal-line n h)
 
@@ -38,19 +38,19 @@ pub answer-fits : (pairs rows : ℕ) (index : List ℕ) (points : List Float)
     → length (answerText pairs rows index points) ≤ roomFor rows
 answer-fits pairs rows index points p r below = omega (arith, answer-short index points below pairs rows p r)
 
--- the program `crossings` has room for 512 rows and 65,664 bytes, which is what they are given
+-- the program `crossings` has room for 512 rows and 65,664 bytes, which is the room that they need
 pub room-for-512 : roomFor 512 ≡ 65664
 room-for-512 = refl
 
 -- ---- so what is written is whole
 
--- the bytes stand at the front of the slice, all of them, and behind them what stood there
+-- all the bytes stand at the front of the slice, and what follows them is unchanged
 pub record Whole (bytes : List ℕ) (r : Written) (old now : List ℕ) : Type 0 where
   pub told : r ≡ Written·.Length (length bytes)
   pub inside : length bytes ≤ length old
   pub holds : now ≡ bytes ++ drop (length bytes) old
 
--- what any promise of lines says where nothing is lacking and the bytes fit
+-- what a promise of lines says if nothing is missing and the bytes fit
 pub lines-whole : (bytes : List ℕ) (r : Written) (old now : List ℕ)
     → Lines false false bytes r old now → length bytes ≤ length old → Whole bytes r old now
 lines-whole bytes r old now l h =

@@ -1,13 +1,13 @@
--- How many bytes a line is given, and how many its parts have at most. The contracts of src/ go by these, and LINE of src/lib.rt
--- is `line`. Room.antt proves them of the text of every answer.
+-- How much room a line needs, and how many bytes its parts have at most. The contracts of src/ use these sizes; LINE of
+-- src/lib.rt is `line`. Room.antt proves them for the text of every answer.
 use Prim.Native.Nat.{ℕ, _+_, _*_}
 use Rattle.answer_lines.specs.Lines.{pointsARow}
 
--- how much room is asked for a line
+-- how many bytes of room a line needs
 abbrev pub line : ℕ
 line = 128
 
--- for the line with the counts and so many rows
+-- the room for the line with the counts and this many rows
 abbrev pub roomFor : ℕ → ℕ
 roomFor rows = (rows + 1) * line
 
@@ -37,6 +37,7 @@ refusal = 8 + whole + 1
 abbrev pub counts : ℕ
 counts = 6 + whole + 6 + whole + 1
 
--- two numbers with a space after each, a class's name and its points; the class of the longest name has one point only
+-- two numbers, each with a space after it, the name of the class and its points; the class with the longest name has only one
+-- point
 abbrev pub row : ℕ
 row = whole + 1 + whole + 1 + name + points + 1

@@ -1,6 +1,6 @@
--- What the writer of the scope's lines promises: its answer, and what stands in the slice after it. It asks for 128 bytes a line,
--- which is more than any line has (Room.antt); where there are fewer, or the rows' slices have fewer rows than are told, nothing
--- is written.
+-- What the writer of the scope's lines promises: its answer, and what the slice holds afterwards. It needs room for 128 bytes a
+-- line, which is more than any line has (Room.antt). If there is less room, or the rows' slices hold fewer rows than the given
+-- count, nothing is written.
 use Prim.Native.Nat.{ℕ, _/_}
 use mathlib.Core.Path.{_≡_}
 use mathlib.Core.Bool.{Bool, false, _||_, cond}

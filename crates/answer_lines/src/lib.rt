@@ -1,4 +1,4 @@
-// An answer as lines of text: the writer. The text is in specs/Lines.antt; what the writer promises is in specs/Written.antt.
+// The writer: an answer as lines of text. specs/Lines.antt has the text, and specs/Written.antt what the writer promises.
 ghost use Rattle.answer_lines.specs.Written.{RefusalLine, AnswerLines};
 use put::put_byte;
 use put::put_whole;
@@ -9,7 +9,7 @@ use rows::put_rows;
 mod put;
 mod rows;
 
-// how much room is asked for a line: `line` of specs/Sizes.antt
+// how many bytes of room a line needs: `line` of specs/Sizes.antt
 pub const LINE: usize = 128;
 
 // how many whole numbers and how many floats a row has in the two slices that rows are read from
@@ -17,7 +17,7 @@ pub const INDICES: usize = 3;
 
 pub const POINTS: usize = 4;
 
-// How many bytes were written; or that the rows' slices have fewer rows than told, or that the slice has too little room.
+// How many bytes were written; or that the rows' slices hold fewer rows than `rows`; or that the text has too little room.
 pub enum Written {
     Length(usize),
     NoRows,

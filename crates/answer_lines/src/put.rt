@@ -1,4 +1,4 @@
-// Bytes put into a lent slice from a place on. Each answers the place after what it put.
+// Puts bytes into a lent slice from a place on. Each function answers the place after what it put.
 ghost use mathlib.Core.Path.{_≡_};
 ghost use mathlib.Core.List.{[], _∷_};
 ghost use Prim.Native.Nat.{_+_, _≤_, _<_};
@@ -31,7 +31,7 @@ pub fn put_word(out: &mut [u8], at: usize, word: &[u8]) -> usize
     at + i
 }
 
-// A number in decimal digits, of which there are at most 20.
+// A number in decimal digits, at most 20 of them.
 pub fn put_whole(out: &mut [u8], at: usize, n: u64) -> usize
     requires { ⌜ at + sizes.whole ≤ length (now out) ⌝ }
     ensures { λ r. ⌜ PutIn sizes.whole (decimal n) (now (out .entry)) at (now (out .exit)) r ⌝ }
@@ -75,7 +75,7 @@ fn glyph(d: u64) -> u8
     87 + d as u8
 }
 
-// The bits of a number; every NaN has those of one.
+// The bits of a number. Every NaN gives the same bits.
 fn bits(x: f64) -> u64
     ensures { λ r. ⌜ r ≡ toBits binary64 x ⌝ }
 {

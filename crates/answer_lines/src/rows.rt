@@ -1,4 +1,4 @@
-// The lines of an answer, put one after the other.
+// Puts the lines of an answer, one after the other.
 ghost use Prim.Native.Nat.{_+_, _*_, _≤_};
 ghost use lib.ListN.{length};
 ghost use Rattle.answer_lines.specs.Lines as lines;

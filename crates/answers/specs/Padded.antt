@@ -1,5 +1,5 @@
--- A call's answer in plain numbers: whether it is a refusal, its number (the refusal's, or the case's), and four values, +0 for those that
--- the case does not have.
+-- A call's answer as plain numbers: whether it is a refusal, its number (the refusal's or the case's), and four values. Values
+-- that the case lacks are +0.
 use Prim.Native.Nat.{ℕ}
 use mathlib.Core.Bool.{true, false}
 use mathlib.Core.List.{List, [], _∷_}
@@ -24,7 +24,7 @@ refusal n = record { refused = true; number = n; a = f0; b = f0; c = f0; d = f0 
 unfoldable pub case : ℕ → Float → Float → Float → Float → PaddedAnswer
 case n a b c d = record { refused = false; number = n; a = a; b = b; c = c; d = d }
 
--- ---- what an answer tells, its values filled up with +0 to four
+-- ---- the numbers of an answer, filled up with +0 to four values
 
 abbrev pub head : List Float → Float
 head [] = f0

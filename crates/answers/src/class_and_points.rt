@@ -1,9 +1,9 @@
-// How two segments meet, in the scope's numbers. Rows of a listing and the pair call for C show these.
+// How two segments meet, in the scope's numbers. The rows of a listing and the pair call for C use them.
 ghost use mathlib.Core.Path.{_≡_};
 ghost use Rattle.answers.specs.ClassAndPoints as intr;
 use arcs::pline_seg_intr::PlineSegIntr;
 
-// The class's number and the points; +0 for a point that the class does not have.
+// The class's number and its points. A point that the class lacks is +0.
 pub struct ClassAndPoints {
     pub class: u64,
     pub x1: f64,

@@ -1,3 +1,3 @@
-// An answer in plain numbers, for all who show one: the rows of a listing, the calls for C, the recorded list.
+// An answer as plain numbers, for every user of one: the rows of a listing, the calls for C, the recorded list.
 pub mod class_and_points;
 pub mod padded;

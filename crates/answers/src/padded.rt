@@ -10,7 +10,7 @@ use crossing::line_line_intersect::LineLineAnswer;
 use crossing::line_line_intr::LineLineIntr;
 use crossing::pline_seg_intersect::PlineSegAnswer;
 
-// A refusal and its number, or the number of the case and four values, those that it lacks +0.
+// A refusal and its number, or the number of the case and four values. Values that the case lacks are +0.
 pub struct PaddedAnswer {
     pub refused: bool,
     pub number: u64,
@@ -20,7 +20,7 @@ pub struct PaddedAnswer {
     pub d: f64,
 }
 
-// The refusal of a number.
+// The refusal with this number.
 fn refusal(number: u64) -> PaddedAnswer
     ensures { λ r. ⌜ r ≡ padding.refusal number ⌝ }
 {
@@ -48,7 +48,7 @@ fn case(number: u64, a: f64, b: f64, c: f64, d: f64) -> PaddedAnswer
     }
 }
 
-// What the call on two lines answers.
+// The answer of the call on two lines.
 pub fn of_line_line(answer: LineLineAnswer) -> PaddedAnswer
     ensures { λ r. ⌜ r ≡ padding.ofLineLine answer ⌝ }
 {
@@ -63,7 +63,7 @@ pub fn of_line_line(answer: LineLineAnswer) -> PaddedAnswer
     }
 }
 
-// What the call on a line and a circle answers.
+// The answer of the call on a line and a circle.
 pub fn of_line_circle(answer: LineCircleAnswer) -> PaddedAnswer
     ensures { λ r. ⌜ r ≡ padding.ofLineCircle answer ⌝ }
 {
@@ -77,7 +77,7 @@ pub fn of_line_circle(answer: LineCircleAnswer) -> PaddedAnswer
     }
 }
 
-// What the call on two circles answers.
+// The answer of the call on two circles.
 pub fn of_circle_circle(answer: CircleCircleAnswer) -> PaddedAnswer
     ensures { λ r. ⌜ r ≡ padding.ofCircleCircle answer ⌝ }
 {
@@ -94,7 +94,7 @@ pub fn of_circle_circle(answer: CircleCircleAnswer) -> PaddedAnswer
     }
 }
 
-// What the call on two segments answers.
+// The answer of the call on two segments.
 pub fn of_pline_seg(answer: PlineSegAnswer) -> PaddedAnswer
     ensures { λ r. ⌜ r ≡ padding.ofPlineSeg answer ⌝ }
 {

@@ -1,4 +1,4 @@
--- An arc as the sticky-end rules see it: `ArcGeometry` of pline_seg_intersect.rs, line for line.
+-- An arc for the rules of sticky ends: `ArcGeometry` of pline_seg_intersect.rs, line for line. Read the two side by side.
 use mathlib.Core.Bool.{Bool, _&&_, _||_}
 use lib.Ieee.{Float}
 use Rattle.floats.specs.Ops.{_⊕_, _⊖_, _⊗_, _≺_, _≻_, f0}
@@ -22,7 +22,7 @@ new center start end isClockwise radius epsilon =
       «radius_upper_bound_squared» = radiusUpperBound ⊗ radiusUpperBound;
     }
 
--- lines 231-238, 366-381 and 400-415 call `new` so for a segment
+-- lines 231-238, 366-381 and 400-415: how `new` is called for a segment
 unfoldable pub ofSegment : PlineVertex → PlineVertex → ArcRadiusCenter → Float → ArcGeometry
 ofSegment v1 v2 circle epsilon = new (circle .center) (pos v1) (pos v2) (bulgeIsNeg v1) (circle .radius) epsilon
 

@@ -1,4 +1,4 @@
--- The sweep of an arc: `ArcSweep` of pline_seg_intersect.rs, line for line. A reader holds the two side by side.
+-- The sweep of an arc: `ArcSweep` of pline_seg_intersect.rs, line for line. Read the two side by side.
 use mathlib.Core.Bool.{Bool, true, cond, _&&_, _||_}
 use lib.Ieee.{Float}
 use Rattle.floats.specs.Ops.{_⊗_, _≺_, _≼_, _≽_, f0}
@@ -46,7 +46,8 @@ contains self point =
     (beside (self .«start_vector») pointVector startCross (self .«start_fuzzy_limit»)
     || beside (self .«end_vector») pointVector endCross (self .«end_fuzzy_limit»)))
 
--- Ours: the same rules in the same order, with the one that says yes. `Laws.Sweep` has that `contains` is this not being Outside.
+-- Not in the Rust: the same rules in the same order, and which rule says yes. Laws/Sweep proves that `contains` says yes exactly
+-- if this is not Outside.
 unfoldable pub finding : ArcSweep → Vector2 → SweepFinding
 finding self point =
     let pointVector = vector2.sub point (self .center) in

@@ -1,2 +1,2 @@
--- Laws that only proofs need. Ends and Circles also define two callable functions, which no answer's definition names.
+-- Laws that only proofs need. A reader need not believe them: they are proved.
 pub mod Sweep

@@ -1,4 +1,5 @@
--- The sweep of an arc, which points lie on it, and what it shares with a line or with another arc; then laws.
+-- The sweep of an arc, which points lie on it, and what it shares with a line or with another arc. A reader need not believe
+-- Workings and Laws.
 pub mod ArcSweep
 pub mod ArcGeometry
 pub mod LineAndArc

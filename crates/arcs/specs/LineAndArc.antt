@@ -1,4 +1,5 @@
--- A line and an arc whose circle it touches or crosses: pline_seg_intersect.rs, lines 243-336, line for line.
+-- A line and an arc whose circle it touches or crosses: pline_seg_intersect.rs, lines 243-336, line for line. Read the two side
+-- by side.
 use mathlib.Core.Bool.{Bool, cond, not, _||_}
 use lib.Ieee.{Float}
 use Rattle.floats.specs.Ops.{_⊗_, _≺_, f0}

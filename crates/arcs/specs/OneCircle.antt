@@ -1,4 +1,4 @@
--- Two arcs on one circle: pline_seg_intersect.rs, lines 513-641, line for line. A reader holds the two side by side.
+-- Two arcs on one circle: pline_seg_intersect.rs, lines 513-641, line for line. Read the two side by side.
 use mathlib.Core.Bool.{Bool, Bool·beq, cond, _&&_, _||_}
 use lib.Ieee.{Float, neg}
 use Rattle.floats.specs.Ops.{_⊕_, _⊗_, _⊘_, _≺_, _≈_, f2}

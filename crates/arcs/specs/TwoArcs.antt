@@ -1,4 +1,4 @@
--- Two arcs on two circles that touch or cross: pline_seg_intersect.rs, lines 385-511, line for line. A reader holds the two side by side.
+-- Two arcs on two circles that touch or cross: pline_seg_intersect.rs, lines 385-511, line for line. Read the two side by side.
 use mathlib.Core.List.{List, [], _∷_}
 use mathlib.Core.Bool.{Bool, cond, _&&_}
 use lib.Ieee.{Float}
@@ -40,7 +40,7 @@ tangentArcArc point v1 v2 u1 u2 arc1 arc2 =
     NoIntersect))))
 
 -- ---- two points
--- lines 422-433 at the second slot: near or not, a point that stands there stays, and the loop ends
+-- lines 422-433 at the second slot: a point in it stays, near or not, and the loop ends
 abbrev pub trySecond : Slot → List Slot → Vector2 → List Slot
 trySecond Empty slots intr = set slots 1 (Taken intr)
 trySecond (Taken pt) slots intr = slots
@@ -56,7 +56,7 @@ unfoldable pub tryAddEndPointIntr : List Slot → Vector2 → Float → List Slo
 tryAddEndPointIntr endPointIntrs intr posEqualEps =
     tryFirst (getD endPointIntrs 0 Empty) endPointIntrs intr posEqualEps
 
--- lines 436-438, and so for each end
+-- lines 436-438, which the Rust repeats for each end
 unfoldable pub addIfOnArc : List Slot → Vector2 → ArcGeometry → Float → List Slot
 addIfOnArc endPointIntrs end arc posEqualEps =
     cond (pointLiesOnArc arc end) (tryAddEndPointIntr endPointIntrs end posEqualEps) endPointIntrs
@@ -88,7 +88,7 @@ twoInSweep Empty (Taken endPt) point1 point2 = endForNearer endPt point1 point2
 twoInSweep (Taken endPt) Empty point1 point2 = endForNearer endPt point1 point2
 twoInSweep (Taken endPt1) (Taken endPt2) point1 point2 = endsForBoth endPt1 endPt2 point1
 
--- lines 485-492, 494-501 and 503-510, which differ only where both slots are empty
+-- lines 485-492, 494-501 and 503-510, which differ only if both slots are empty
 abbrev pub endsOr : Slot → Slot → PlineSegIntr → PlineSegIntr
 endsOr Empty Empty otherwise = otherwise
 endsOr Empty (Taken endPt) otherwise = OneIntersect endPt

@@ -1,4 +1,4 @@
-// An arc as the sticky-end rules see it: its sweep, and how far from its centre a point may lie.
+// An arc for the rules of sticky ends: its sweep, and how far from its centre a point may lie.
 ghost use mathlib.Core.Path.{_≡_};
 ghost use Rattle.arcs.specs.ArcGeometry as geometry;
 ghost use Rattle.arcs.specs.Workings.Ends;
@@ -8,8 +8,8 @@ use plane::pline_seg::ArcRadiusCenter;
 use plane::pline_vertex::PlineVertex;
 use plane::vector2::Vector2;
 
-// A sweep, and the radius less and more epsilon. The bounds are squared, so that no root is taken; the lower one is kept with its
-// sign too, since below zero it bounds nothing.
+// A sweep, and the bounds radius - epsilon and radius + epsilon. Both are squared, so that no root is needed. The lower one is
+// also kept as it is: if it is below zero, it bounds nothing.
 pub struct ArcGeometry {
     pub sweep: ArcSweep,
     pub radius_lower_bound: f64,
@@ -59,14 +59,14 @@ impl ArcGeometry {
         )
     }
 
-    // Whether the arc's sweep holds the point, however far from the centre.
+    // Whether the point is in the arc's sweep, at any distance from the centre.
     pub fn sweeps(self, point: Vector2) -> bool
         ensures { λ r. ⌜ r ≡ geometry.sweeps self point ⌝ }
     {
         self.sweep.contains(point)
     }
 
-    // Whether the point lies on the arc: as far from the centre as the arc, within epsilon, and in its sweep.
+    // Whether the point lies on the arc: its distance from the centre is the radius, within epsilon, and it is in the sweep.
     pub fn point_lies_on_arc(self, point: Vector2) -> bool
         ensures { λ r. ⌜ r ≡ geometry.pointLiesOnArc self point ⌝ }
     {
@@ -81,7 +81,7 @@ impl ArcGeometry {
         false
     }
 
-    // Whether the point is not as far from the centre as the arc, so that it lies on no part of it.
+    // Whether the point's distance from the centre is not the radius, within epsilon: then it lies on no part of the arc.
     pub fn point_off_circle(self, point: Vector2) -> bool
         ensures { λ r. ⌜ r ≡ Ends.pointOffCircle self point ⌝ }
     {

@@ -3,8 +3,8 @@ ghost use mathlib.Core.Path.{_≡_};
 ghost use Rattle.arcs.specs.ArcSweep as sweep;
 use plane::vector2::Vector2;
 
-// A wedge around a centre, from one direction to another, the way round that `is_clockwise` says. The limits say how far beside
-// its two edges a point may lie: they are squared, so that no root is taken.
+// A wedge around a centre, from one direction to another, clockwise if `is_clockwise` says so. The limits say how far beside its
+// two edges a point may lie. They are squared, so that no root is needed.
 pub struct ArcSweep {
     pub center: Vector2,
     pub start_vector: Vector2,
@@ -15,11 +15,11 @@ pub struct ArcSweep {
     pub end_fuzzy_limit: f64,
 }
 
-// Where a point lies as a sweep sees it: outside, or the first rule by which it belongs to the sweep.
+// Where a point lies for a sweep: outside, or inside by the first rule that says yes.
 pub enum SweepFinding {
     // No rule says yes.
     Outside,
-    // Nearer to the centre than epsilon, where no direction can be told.
+    // Nearer to the centre than epsilon, where the point has no clear direction.
     NearCenter,
     // Between the two edges, or on one of them.
     Inside,
@@ -54,7 +54,7 @@ impl ArcSweep {
         }
     }
 
-    // Whether the sweep holds the point, and by which rule: the first that says yes.
+    // Whether the point is in the sweep, and by which rule: the first one that says yes.
     pub fn finding(self, point: Vector2) -> SweepFinding
         ensures { λ r. ⌜ r ≡ sweep.finding self point ⌝ }
     {
@@ -86,7 +86,7 @@ impl ArcSweep {
         SweepFinding::Outside
     }
 
-    // Whether the sweep holds the point, by whatever rule.
+    // Whether the point is in the sweep, by any rule.
     pub fn contains(self, point: Vector2) -> bool
         ensures { λ r. ⌜ r ≡ sweep.contains self point ⌝ }
     {
@@ -101,7 +101,7 @@ impl ArcSweep {
     }
 }
 
-// Whether a point lies between the two edges, by the side of each that it is on.
+// Whether a point lies between the two edges: the signs of the two cross products show its side of each.
 fn exactly_within_sweep(is_clockwise: bool, start_cross: f64, end_cross: f64) -> bool
     ensures { λ r. ⌜ r ≡ sweep.exactlyWithinSweep «is_clockwise» «start_cross» «end_cross» ⌝ }
 {
@@ -111,8 +111,8 @@ fn exactly_within_sweep(is_clockwise: bool, start_cross: f64, end_cross: f64) ->
     (start_cross >= 0.0) & (end_cross <= 0.0)
 }
 
-// Whether a point lies on the same side of the centre as an edge, and so near its line that the cross product's square is below
-// the limit.
+// Whether a point lies on the same side of the centre as an edge, and so near the edge's line that the square of the cross
+// product is below the limit.
 fn beside(edge: Vector2, point_vector: Vector2, cross: f64, fuzzy_limit: f64) -> bool
     ensures { λ r. ⌜ r ≡ sweep.beside edge «point_vector» cross «fuzzy_limit» ⌝ }
 {

@@ -6,7 +6,7 @@ use plane::pline_seg::seg_arc_radius_and_center;
 use plane::pline_vertex::PlineVertex;
 use plane::vector2::Vector2;
 
-// The circle of the segment from v1 to v2 if it is an arc; a line has none, and whatever stands for it is not looked at.
+// The circle of the segment from v1 to v2 if it is an arc. A line has no circle: what it gets here is never used.
 pub fn circle_if_arc(v1: PlineVertex, v2: PlineVertex) -> ArcRadiusCenter
     ensures { λ r. ⌜ r ≡ Circles.circleIfArc v1 v2 ⌝ }
 {

@@ -1,5 +1,6 @@
-// Arcs, as a pair's answer needs them: the sweep of an arc and which points lie on it, and what an arc shares with a line or with another
-// arc once it is known where the line or the circles meet. For any numbers: a call of `crossing` looks at its numbers before it asks.
+// Arcs, as a pair's answer needs them: an arc's sweep and the points on it, and what an arc shares with a line or with another
+// arc once the points of the line and the circle, or of the two circles, are known. It answers for any numbers: the calls of
+// `crossing` check their numbers before they use it.
 pub mod arc_geometry;
 mod arc_sweep;
 pub mod circle;

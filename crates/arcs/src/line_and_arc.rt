@@ -1,7 +1,7 @@
-// A line and an arc whose circle it touches or crosses, for any numbers: pline_seg_intersect.rs, lines 243-336.
-// Ends are sticky: where an end of the line lies on the arc, that end is the answer's point. A line that nearly follows the arc
-// meets its circle a little before and a little after such an end, while what meets the line at that end says the end itself; so
-// answers about one place agree.
+// A line and an arc whose circle it touches or crosses, for any numbers: pline_seg_intersect.rs, lines 243-336. Ends are sticky:
+// if an end of the line lies on the arc, the answer has that end as its point. A line that nearly follows the arc meets the
+// circle a little before and a little after such an end, but what else meets the line at that end answers the end itself. Sticky
+// ends make these answers agree.
 ghost use mathlib.Core.Path.{_≡_};
 ghost use Rattle.arcs.specs.LineAndArc;
 ghost use Rattle.plane.specs.Vector2 as vector2;
@@ -24,8 +24,8 @@ pub struct TwoPoints {
     pub point2: Vector2,
 }
 
-// The point at t of the line p0 to p1, if it lies on that segment and in the arc's sweep. Its place is judged along the segment,
-// so that epsilon is a distance.
+// The point at t of the line p0 to p1, if it lies on that segment and in the arc's sweep. The range test compares lengths along
+// the segment, so that epsilon is a distance.
 pub fn point_in_sweep(
     t: f64,
     p0: Vector2,
@@ -45,7 +45,8 @@ pub fn point_in_sweep(
     PointInSweep::Nothing
 }
 
-// A line that touches the circle at t0: at an end of the line that lies on the arc, or at t0, or not at all.
+// A line that touches the circle at t0. The answer's point is an end of the line if it lies on the arc, else the point at t0 if
+// it is on the segment and in the sweep; otherwise the two are apart.
 pub fn tangent_line_arc(
     t0: f64,
     p0: Vector2,
@@ -69,7 +70,7 @@ pub fn tangent_line_arc(
     }
 }
 
-// One crossing, at an end of the line that lies on the arc, or else at the point found.
+// One crossing: at an end of the line that lies on the arc, else at the given point.
 fn one_line_arc(point: Vector2, p0: Vector2, p1: Vector2, arc_geometry: ArcGeometry) -> PlineSegIntr
     ensures { λ r. ⌜ r ≡ LineAndArc.oneLineArc point p0 p1 «arc_geometry» ⌝ }
 {
@@ -82,7 +83,7 @@ fn one_line_arc(point: Vector2, p0: Vector2, p1: Vector2, arc_geometry: ArcGeome
     PlineSegIntr::OneIntersect { point }
 }
 
-// The two points found, with each end of the line that lies on the arc in the place of the one that it is nearer to.
+// The two given points. Each end of the line that lies on the arc replaces the point that it is nearer to.
 fn with_sticky_ends(
     point1: Vector2,
     point2: Vector2,
@@ -122,7 +123,7 @@ fn with_sticky_ends(
     TwoPoints { point1, point2 }
 }
 
-// Two crossings in the second segment's order: as found if u is the line, else by the distance to the arc's start.
+// Two crossings in the second segment's order: as given if u is the line, else the one nearer to the arc's start first.
 fn in_order(points: TwoPoints, arc_start: Vector2, u_is_line: bool) -> PlineSegIntr
     ensures { λ r. ⌜ r ≡ LineAndArc.inOrder points «arc_start» «u_is_line» ⌝ }
 {
@@ -137,7 +138,7 @@ fn in_order(points: TwoPoints, arc_start: Vector2, u_is_line: bool) -> PlineSegI
     }
 }
 
-// What a line that crosses the circle twice has in common with the arc, by which of the two points are in its sweep.
+// What the arc shares with a line that crosses its circle twice: it depends on which of the two points are in the sweep.
 pub fn crossings_line_arc(
     t0_point: PointInSweep,
     t1_point: PointInSweep,

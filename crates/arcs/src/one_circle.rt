@@ -15,7 +15,8 @@ pub struct ArcEnds {
     pub end: Vector2,
 }
 
-// Whether two arcs are the same to the bit, run the same way or the other.
+// Whether the two arcs have exactly equal ends and bulges, in the same direction or in the opposite one. Zeros of either sign are
+// equal.
 fn same_arc(v1: PlineVertex, v2: PlineVertex, u1: PlineVertex, u2: PlineVertex) -> bool
     ensures { λ r. ⌜ r ≡ OneCircle.sameArc v1 v2 u1 u2 ⌝ }
 {
@@ -27,7 +28,7 @@ fn same_arc(v1: PlineVertex, v2: PlineVertex, u1: PlineVertex, u2: PlineVertex) 
         | (p1.eq(q2) & p2.eq(q1) & (v1.bulge == -u1.bulge))
 }
 
-// The second arc's ends as one that runs the first arc's way comes by them.
+// The second arc's start and end, in the direction in which the first arc runs.
 fn arc2_ends(u1: Vector2, u2: Vector2, same_direction_arcs: bool) -> ArcEnds
     ensures { λ r. ⌜ r ≡ OneCircle.arc2Ends u1 u2 «same_direction_arcs» ⌝ }
 {
@@ -37,7 +38,7 @@ fn arc2_ends(u1: Vector2, u2: Vector2, same_direction_arcs: bool) -> ArcEnds
     ArcEnds { start: u2, end: u1 }
 }
 
-// The stretch from the first point to the second, or the other way round where the arcs run against each other.
+// The overlap from `point1` to `point2` if the arcs run in the same direction, else from `other1` to `other2`.
 fn overlap_by_direction(
     same_direction_arcs: bool,
     point1: Vector2,
@@ -56,7 +57,7 @@ fn overlap_by_direction(
     }
 }
 
-// Two arcs of one circle whose ends don't touch: what they share, by which ends lie in the other's sweep.
+// Two arcs of one circle whose ends don't touch: what they share depends on which ends lie in the other's sweep.
 fn shared_sweep(
     v1: Vector2,
     v2: Vector2,
@@ -89,8 +90,8 @@ fn shared_sweep(
     PlineSegIntr::NoIntersect
 }
 
-// Two arcs of one circle: where only ends touch, by the distance of these, or else what they share. A direction is judged as if
-// epsilon were 1e-8 of the radius, whatever the epsilon given.
+// Two arcs of one circle. If ends touch, by their distance, these are the answer; else it is what the arcs share. The sweeps use
+// 1e-8 of the radius as their epsilon, whatever epsilon is given.
 fn arcs_of_one_circle(
     v1: Vector2,
     v2: Vector2,

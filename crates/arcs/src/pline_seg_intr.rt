@@ -1,18 +1,18 @@
 // The answer of a pair: pline_seg_intersect.rs, lines 127-165.
 use plane::vector2::Vector2;
 
-// How two segments meet. Two points come in the order in which the second segment runs by them, but for two arcs on two circles.
+// How two segments meet. Two points stand in the order of the second segment, except for two arcs on two circles.
 pub enum PlineSegIntr {
     // Apart.
     NoIntersect,
     // They touch at one point and don't cross there.
     TangentIntersect { point: Vector2 },
-    // One point that both have.
+    // They share one point.
     OneIntersect { point: Vector2 },
-    // Two points that both have.
+    // They share two points.
     TwoIntersects { point1: Vector2, point2: Vector2 },
-    // Both are lines, and from the first point to the second they are one.
+    // Both are lines, and they share the stretch from the first point to the second.
     OverlappingLines { point1: Vector2, point2: Vector2 },
-    // Both are arcs, and from the first point to the second they are one.
+    // Both are arcs, and they share the stretch from the first point to the second.
     OverlappingArcs { point1: Vector2, point2: Vector2 },
 }

@@ -1,5 +1,5 @@
-// Two arcs on two circles that touch or cross, for any numbers: pline_seg_intersect.rs, lines 385-511.
-// Ends are sticky here too: an end of one arc that lies on the other stands for a crossing near it.
+// Two arcs on two circles that touch or cross, for any numbers: pline_seg_intersect.rs, lines 385-511. Ends are sticky here too:
+// an end of one arc that lies on the other arc replaces a crossing near it.
 ghost use mathlib.Core.Path.{_≡_};
 ghost use Rattle.arcs.specs.TwoArcs;
 ghost use Rattle.arcs.specs.Workings.Ends;
@@ -8,13 +8,13 @@ use super::pline_seg_intr::PlineSegIntr;
 use plane::base_math::dist_squared;
 use plane::vector2::Vector2;
 
-// A place for an end point: empty, or the point that was put there.
+// A place for an end point: empty, or taken by a point.
 pub enum Slot {
     Empty,
     Taken(Vector2),
 }
 
-// Whether the sweeps of both arcs hold the point.
+// Whether the point is in the sweeps of both arcs.
 fn both_sweep(arc1: ArcGeometry, arc2: ArcGeometry, point: Vector2) -> bool
     ensures { λ r. ⌜ r ≡ TwoArcs.bothSweep arc1 arc2 point ⌝ }
 {
@@ -24,7 +24,8 @@ fn both_sweep(arc1: ArcGeometry, arc2: ArcGeometry, point: Vector2) -> bool
     false
 }
 
-// Two arcs whose circles touch at a point: at the first end that lies on the other arc, or at that point, or not at all.
+// Two arcs whose circles touch at `point`. The answer's point is the first end that lies on the other arc, else `point` if it is
+// in both sweeps; otherwise the two are apart.
 pub fn tangent_arc_arc(
     point: Vector2,
     v1: Vector2,
@@ -54,8 +55,8 @@ pub fn tangent_arc_arc(
     PlineSegIntr::NoIntersect
 }
 
-// The slots with the end point in the first that is empty. It is left out where a slot that is reached before holds a point near
-// it, which is the same place met from the other arc, and where no slot is empty.
+// Puts the end point into the first empty slot. It is left out if the first slot holds a point near it (the same place, met from
+// the other arc), and if no slot is empty.
 fn try_add_end_point_intr(
     end_point_intrs: [Slot; 2],
     intr: Vector2,
@@ -120,7 +121,7 @@ fn collect_end_points(
     add_if_on_arc(with_v1, v2, arc2, pos_equal_eps)
 }
 
-// Two crossings, with the end point in the place of the one that it is nearer to.
+// Two crossings. The end point replaces the one that it is nearer to.
 fn end_for_nearer(end_pt: Vector2, point1: Vector2, point2: Vector2) -> PlineSegIntr
     ensures { λ r. ⌜ r ≡ TwoArcs.endForNearer «end_pt» point1 point2 ⌝ }
 {
@@ -136,7 +137,7 @@ fn end_for_nearer(end_pt: Vector2, point1: Vector2, point2: Vector2) -> PlineSeg
     }
 }
 
-// Two end points as the crossings, the one nearer to point1 first.
+// Two end points as the two crossings: the one nearer to point1 comes first.
 fn ends_for_both(end_pt1: Vector2, end_pt2: Vector2, point1: Vector2) -> PlineSegIntr
     ensures { λ r. ⌜ r ≡ TwoArcs.endsForBoth «end_pt1» «end_pt2» point1 ⌝ }
 {
@@ -152,7 +153,7 @@ fn ends_for_both(end_pt1: Vector2, end_pt2: Vector2, point1: Vector2) -> PlineSe
     }
 }
 
-// Both points of the circles lie on both arcs: these two, but for the end points in the slots.
+// Both points of the circles lie on both arcs: the answer is these two, with the slots' end points in their places.
 fn two_in_sweep(first: Slot, second: Slot, point1: Vector2, point2: Vector2) -> PlineSegIntr
     ensures { λ r. ⌜ r ≡ TwoArcs.twoInSweep first second point1 point2 ⌝ }
 {
@@ -168,7 +169,7 @@ fn two_in_sweep(first: Slot, second: Slot, point1: Vector2, point2: Vector2) -> 
     }
 }
 
-// At most one point of the circles lies on both arcs: the end points in the slots if there are any, else as told.
+// At most one point of the circles lies on both arcs: the answer is the slots' end points if there are any, else `otherwise`.
 fn ends_or(first: Slot, second: Slot, otherwise: PlineSegIntr) -> PlineSegIntr
     ensures { λ r. ⌜ r ≡ TwoArcs.endsOr first second otherwise ⌝ }
 {
@@ -187,7 +188,7 @@ fn ends_or(first: Slot, second: Slot, otherwise: PlineSegIntr) -> PlineSegIntr
     }
 }
 
-// Two arcs whose circles cross at two points: what they have in common, by which of these lie on both arcs.
+// Two arcs whose circles cross at two points: the answer depends on which of the two lie on both arcs.
 fn two_arc_arc(
     point1: Vector2,
     point2: Vector2,
@@ -213,7 +214,7 @@ fn two_arc_arc(
     ends_or(first, second, PlineSegIntr::NoIntersect)
 }
 
-// Whether no end of either arc is as far from the other's centre as that arc.
+// Whether each end of either arc is clearly off the other arc's circle.
 fn ends_clear(
     v1: Vector2,
     v2: Vector2,
@@ -228,8 +229,8 @@ fn ends_clear(
         & (arc2.point_off_circle(v1) & arc2.point_off_circle(v2))
 }
 
-// Two arcs whose circles cross at two points. Most often no end lies on the other arc, which four distances tell: then there are no
-// end points to collect.
+// Two arcs whose circles cross at two points. Most often no end lies on the other arc. Four distances show that, and then there
+// are no end points to collect.
 pub fn crossing_arcs(
     v1: Vector2,
     v2: Vector2,

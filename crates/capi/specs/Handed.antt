@@ -1,4 +1,4 @@
--- How an answer goes to a caller in C, settled here: a number is returned, and of an answer four numbers stand in the lent slice.
+-- How an answer goes to a caller in C, as decided here: a number is returned, and four values go into the lent slice.
 use Prim.Native.Nat.{ℕ, _+_}
 use mathlib.Core.Path.{_≡_}
 use mathlib.Core.Bool.{Bool, cond, _||_}
@@ -19,17 +19,17 @@ point x y = record { x = x; y = y }
 abbrev pub vertex : Float → Float → Float → PlineVertex
 vertex x y bulge = record { x = x; y = y; bulge = bulge }
 
--- ---- out
+-- ---- out: one code if the slice has too few places, else another plus the number of a refusal, else the number of the case
 
 -- how many places an answer takes
 abbrev pub places : ℕ
 places = 4
 
--- what is returned where the slice has not its places
+-- what is returned if the slice has too few places
 abbrev pub noRoomCode : ℕ
 noRoomCode = 512
 
--- what is returned of a refusal: this and its number
+-- what is returned of a refusal: this plus its number
 abbrev pub refusedCode : ℕ
 refusedCode = 256
 

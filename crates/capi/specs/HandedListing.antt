@@ -1,5 +1,5 @@
--- How a listing goes to a caller in C, settled here: a number is returned, the two counts stand in a third lent slice, and
--- the rows in the two slices that the listing was lent.
+-- How a listing goes to a caller in C, as decided here: a number is returned, the two counts go into a third lent slice, and the
+-- rows into the two slices that the listing is lent.
 use Prim.Native.Nat.{ℕ, _+_}
 use mathlib.Core.Path.{_≡_}
 use mathlib.Core.Bool.{Bool, cond}
@@ -13,11 +13,11 @@ use Rattle.listing_outcomes.specs.declared.answer.ListingAnswer.the-variants.{R
 use Rattle.listing_outcomes.specs.Outcome.{Outcome}
 use Rattle.capi.specs.Handed.{noRoomCode, refusedCode}
 
--- how many counts there are
+-- how many places the counts take
 abbrev pub countPlaces : ℕ
 countPlaces = 2
 
--- their slice has not these places
+-- the counts' slice has too few
 abbrev pub short : List ℕ → Bool
 short counts = ltb (length counts) countPlaces
 

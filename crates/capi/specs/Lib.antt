@@ -1,4 +1,5 @@
--- How answers go to a caller in C: those of the four crossing calls, and those of the listings.
+-- How answers go to a caller in C: those of the four crossing calls (Handed) and of the listings (HandedListing); and that each
+-- promise allows one result only (OneResult).
 pub mod Handed
 pub mod HandedListing
 pub mod OneResult

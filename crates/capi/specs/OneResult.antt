@@ -1,4 +1,5 @@
--- What a call from C promises settles its result: two numbers returned that it allows are equal, and so are the contents of the slices.
+-- The promise of a call for C allows one result only: two returned numbers that it allows are equal, and so are the slices
+-- afterwards.
 use Prim.Native.Nat.{ℕ}
 use mathlib.Core.Path.{_≡_, sym, _∙_}
 use mathlib.Core.List.{List}

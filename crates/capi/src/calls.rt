@@ -1,5 +1,5 @@
-// How two lines, a line and a circle, two circles, or two segments of polylines meet: the calls that look at their numbers first.
-// The answer's number is returned, and its values go into a lent slice.
+// How two lines, a line and a circle, two circles, or two segments of polylines meet: calls that check their numbers first. They
+// return the answer's number and put its values into a lent slice.
 ghost use Rattle.answers.specs.Padded.{ofLineLine, ofLineCircle, ofCircleCircle, ofPlineSeg};
 ghost use Rattle.capi.specs.Handed.{Handed, point, vertex};
 ghost use Rattle.crossing.specs.LineLineIntersect.{lineLineIntr};
@@ -44,7 +44,7 @@ pub extern "C" fn vj_line_line_intr(
     hand_over(numbers, out)
 }
 
-// How the line of p0 and p1 and a circle meet.
+// How the line through p0 and p1 and a circle meet.
 #[no_mangle]
 pub extern "C" fn vj_line_circle_intr(
     p0x: f64,

@@ -14,8 +14,8 @@ use listing_outcomes::answer::ListingAnswer;
 // how many counts a listing hands over
 const COUNTS: usize = 2;
 
-// Writes the counts of an answer to the front of `counts` and returns 0; a refusal writes nothing, and 256 and its number are
-// returned.
+// Writes the counts of an answer to the front of `counts` and returns 0. A refusal writes nothing and returns 256 plus its
+// number.
 fn hand_counts(answer: ListingAnswer, counts: &mut [u64]) -> u64
     requires { ⌜ handed.countPlaces ≤ length (now counts) ⌝ }
     requires { ⌜ handed.code answer < noRoomCode ⌝ }
@@ -66,7 +66,7 @@ pub extern "C" fn vj_mutual(
     hand_counts(answer, counts)
 }
 
-// Which segments of a path meet, neighbours excepted.
+// Which segments of a path meet. Neighbours are left out.
 #[no_mangle]
 pub extern "C" fn vj_self(
     path: &[f64],

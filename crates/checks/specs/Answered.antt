@@ -1,4 +1,4 @@
--- What a call answers, by what the look found: a fault's number alone, as the scope says, or else what was worked out.
+-- What a call answers: if its check found a fault, the fault's number alone, as the scope says; else how the two meet.
 use Prim.Native.Nat.{ℕ}
 use Rattle.checks.specs.declared.fault.Checked.{Checked}
 use Rattle.checks.specs.declared.fault.Checked.the-variants.{Fine, Bad}

@@ -1,4 +1,4 @@
--- The check of an arc's chord: refusal 5, for a segment of a path and for one of a pair alike.
+-- The check of an arc's chord (refusal 5), for a segment of a path or of a pair.
 use mathlib.Core.Bool.{cond}
 use Prim.Native.Nat.{ℕ}
 use lib.Ieee.{Float}

@@ -1,5 +1,5 @@
--- The checks of a whole call, for src/calls.rt: its numbers are looked at in the scope's order, and the first fault is told.
--- For each of the three kernels and for the pair call there is the list of the checks, and the first fault of that list.
+-- The checks of a whole call, for src/calls.rt: its numbers are checked in the scope's order, and the first fault is the answer.
+-- Each of the three kernels and the pair call has its list of checks, and the first fault of that list.
 use mathlib.Core.List.{List, [], _∷_, _++_}
 use lib.Ieee.{Float}
 use Rattle.plane.specs.declared.vector2.Vector2.{Vector2}
@@ -11,7 +11,7 @@ use Rattle.checks.specs.First.{first}
 use Rattle.checks.specs.Lists.{pointChecks, vertexChecks, circleChecks}
 
 -- ---- two lines
--- the call's numbers, in the order in which they are looked at
+-- the checks of the call, in their order
 abbrev pub lineLineChecks : Vector2 → Vector2 → Vector2 → Vector2 → Float → List Checked
 lineLineChecks v1 v2 u1 u2 epsilon =
     (Each.epsilon epsilon ∷ [])
@@ -24,7 +24,7 @@ unfoldable pub checkLineLine : Vector2 → Vector2 → Vector2 → Vector2 → F
 checkLineLine v1 v2 u1 u2 epsilon = first (lineLineChecks v1 v2 u1 u2 epsilon)
 
 -- ---- a line and a circle
--- the call's numbers, in the order in which they are looked at
+-- the checks of the call, in their order
 abbrev pub lineCircleChecks : Vector2 → Vector2 → Float → Vector2 → Float → List Checked
 lineCircleChecks p0 p1 radius circleCenter epsilon =
     (Each.epsilon epsilon ∷ [])
@@ -36,7 +36,7 @@ unfoldable pub checkLineCircle : Vector2 → Vector2 → Float → Vector2 → F
 checkLineCircle p0 p1 radius circleCenter epsilon = first (lineCircleChecks p0 p1 radius circleCenter epsilon)
 
 -- ---- two circles
--- the call's numbers, in the order in which they are looked at
+-- the checks of the call, in their order
 abbrev pub circleCircleChecks : Float → Vector2 → Float → Vector2 → Float → List Checked
 circleCircleChecks radius1 center1 radius2 center2 epsilon =
     (Each.epsilon epsilon ∷ [])
@@ -47,7 +47,7 @@ unfoldable pub checkCircleCircle : Float → Vector2 → Float → Vector2 → F
 checkCircleCircle radius1 center1 radius2 center2 epsilon = first (circleCircleChecks radius1 center1 radius2 center2 epsilon)
 
 -- ---- two segments of polylines
--- the call's numbers, in the order in which they are looked at: segment v is owner 0, u is 1; an end is its index
+-- the checks of the call's numbers, in their order: the owner of segment v is 0 and of u 1; the index says which end
 abbrev pub plineSegNumbers : PlineVertex → PlineVertex → PlineVertex → PlineVertex → Float → List Checked
 plineSegNumbers v1 v2 u1 u2 posEqualEps =
     (Each.epsilon posEqualEps ∷ [])
@@ -56,7 +56,7 @@ plineSegNumbers v1 v2 u1 u2 posEqualEps =
     ++ vertexChecks (u1 .x) (u1 .y) (u1 .bulge) 1 0
     ++ pointChecks (u2 .x) (u2 .y) 1 1
 
--- these, and then the chords of the arcs
+-- these checks, then those of the arcs' chords
 abbrev pub plineSegChecks : PlineVertex → PlineVertex → PlineVertex → PlineVertex → Float → List Checked
 plineSegChecks v1 v2 u1 u2 posEqualEps =
     plineSegNumbers v1 v2 u1 u2 posEqualEps ++ (arcChord v1 v2 0 0 ∷ arcChord u1 u2 1 0 ∷ [])

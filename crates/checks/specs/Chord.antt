@@ -1,5 +1,5 @@
--- The length of a chord is a number wherever its check looks at it: before that check the coordinates of both ends have passed
--- their own. So refusal 5 never turns on a NaN, and a chord that passes is at least 2^-40. Of a path the same: `paths`, Chords.antt.
+-- The length of a chord is a number wherever it is checked: the coordinates of both ends have passed their own checks before. So
+-- refusal 5 never depends on a NaN, and a chord that passes is at least 2^-40. Chords.antt of `paths` says the same for a path.
 use mathlib.Core.Path.{_≡_, refl, sym, subst}
 use mathlib.Core.Logic.{_↔_, Iff·rfl}
 use mathlib.Core.Bool.{true, false, _||_}
@@ -52,7 +52,7 @@ pub record LongIfArc (a b : PlineVertex) : Type 0 where
   pub chord : bulgeIsZero a ≡ false → Length (chordLength a b)
   pub long : bulgeIsZero a ≡ false → (Limit.chordLeast ≼ chordLength a b) ≡ true
 
--- ---- the argument: Laws/Lengths has the sizes, by which the root is finite and has no sign
+-- ---- the argument: Laws/Lengths bounds the sizes, so the root is finite and has no sign
 zero-value : HasValue f0 false 0 1
 unfolding ofBits
 zero-value = (refl, refl)
@@ -90,9 +90,9 @@ of-points a b p q =
 split : (cs ds : List Checked) → first (cs ++ ds) ≡ Fine → (first cs ≡ Fine) × (first ds ≡ Fine)
 split cs ds e = append-fine cs ds Iff·rfl Iff·rfl .0 e
 
--- ---- of one segment
+-- ---- one segment
 
--- its four coordinates passed their checks, at whatever places: then its chord is a length
+-- if its four coordinates passed their checks, at any places, its chord is a length
 pub chord-is-length : (a b : PlineVertex) (p q r s : Place)
     → Each.coordinate (a .x) p ≡ Fine
     → Each.coordinate (a .y) q ≡ Fine
@@ -104,7 +104,7 @@ chord-is-length a b p q r s ax ay bx by =
     (record { at-x = coordinate-fine (a .x) p .0 ax; at-y = coordinate-fine (a .y) q .0 ay })
     (record { at-x = coordinate-fine (b .x) r .0 bx; at-y = coordinate-fine (b .y) s .0 by })
 
--- such a length passes its own check exactly if it is at least 2^-40, and so does a segment
+-- such a length passes its own check exactly if it is at least 2^-40, and the same holds for a segment
 pub passes-when : (c : Float) (p : Place) → Length c → (Each.chord c p ≡ Fine) ↔ ((Limit.chordLeast ≼ c) ≡ true)
 passes-when c p h =
     let real = neither (isNan c) (isInfinite c) .0 (h .number) .0 in
@@ -119,7 +119,7 @@ segment-passes-when a b owner index h =
 
 -- ---- in the pair call
 
--- where every check before the chords' is fine, both chords are lengths, those of lines too
+-- if every check before those of the chords is fine, both chords are lengths, of lines too
 pub pair-chords : (v1 v2 u1 u2 : PlineVertex) (posEqualEps : Float) → AllFine (plineSegNumbers v1 v2 u1 u2 posEqualEps)
     → Length (chordLength v1 v2) × Length (chordLength u1 u2)
 pair-chords v1 v2 u1 u2 posEqualEps h =
@@ -136,7 +136,7 @@ pair-chords v1 v2 u1 u2 posEqualEps h =
       of-points u1 u2 (vertex-listed _ _ 1 _ 0 .0 (at-u1 .1) .point) (point-listed _ _ 1 1 .0 (at-u2 .1)),
     )
 
--- where every check is fine, each of the two that is an arc has a chord of at least 2^-40
+-- if every check is fine, each arc of the two has a chord of at least 2^-40
 pub pair-long : (v1 v2 u1 u2 : PlineVertex) (posEqualEps : Float) → AllFine (plineSegChecks v1 v2 u1 u2 posEqualEps)
     → LongIfArc v1 v2 × LongIfArc u1 u2
 pair-long v1 v2 u1 u2 posEqualEps h =

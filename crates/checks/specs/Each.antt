@@ -1,5 +1,5 @@
--- What each number is looked at for: the scope's table, number by number. p is the number's place.
--- RefusalTable.antt says of each check exactly when it answers which refusal.
+-- The checks of one number: the scope's table, number by number. p is the number's place. RefusalTable.antt says of each check
+-- exactly when it gives which refusal.
 use Prim.Native.Nat.{ℕ}
 use mathlib.Core.Bool.{Bool, _||_}
 use lib.Ieee.{Float}
@@ -16,7 +16,7 @@ use Rattle.checks.specs.Refusal
 unfoldable pub finite : Float → Place → Checked
 finite x p = refuse (notFinite x) Refusal.notFinite p
 
--- 1, then n where the test says so
+-- 1, then n if the test says yes
 unfoldable pub finiteThen : Float → Bool → ℕ → Place → Checked
 finiteThen x test n p = later (finite x p) (refuse test n p)
 
@@ -40,6 +40,6 @@ radius r p = finiteThen r (outside Limit.radiusLeast Limit.radiusMost r) Refusal
 unfoldable pub center : Float → Place → Checked
 center x p = finiteThen x (beyond Limit.center x) Refusal.circle p
 
--- an arc's chord length: 5. A NaN is not below the limit, and would pass; Chord.antt says that none is looked at.
+-- an arc's chord length: 5. A NaN is not below the limit and would pass; Chord.antt proves that no NaN is checked here.
 unfoldable pub chord : Float → Place → Checked
 chord chordLength p = refuse (chordLength ≺ Limit.chordLeast) Refusal.chord p

@@ -1,5 +1,5 @@
--- The limits as powers of two, and what stands at each: a limit passes, the next float beyond is refused, and so are a NaN and
--- both infinities. Every row is worked out by the definitions of Each.antt.
+-- The limits as powers of two, and the checks at each limit: the limit passes, the next float beyond it is refused, and so are a
+-- NaN and both infinities. The definitions of Each.antt compute every row.
 use mathlib.Core.Path.{_≡_, refl}
 use mathlib.Core.Bool.{false}
 use mathlib.Core.List.{List, [], _∷_, _++_}
@@ -41,7 +41,7 @@ powers =
       center = refl;
     }
 
--- a row: a check, the bits of the number that it looks at, and the refusal, 0 for none
+-- a row: a check, the bits of the checked number, and the refusal, or 0 for none
 pub data Row : Type 0 where
   row : (Float → Place → Checked) → ℕ → ℕ → Row
 
@@ -49,7 +49,7 @@ abbrev pub answer : ℕ → Place → Checked
 answer zero p = Fine
 answer (suc n) p = bad (suc n) p
 
--- what the checks of the rows answer at the place p, and what they are to answer
+-- what the checks of the rows answer at the place p, and what they should answer
 abbrev pub found : Place → List Row → List Checked
 found p [] = []
 found p (row check bits n ∷ rows) = check (ofBits binary64 bits) p ∷ found p rows
@@ -65,7 +65,7 @@ notNumbers check n =
     row check 0x7ff0_0000_0000_0000 n ∷
     row check 0xfff0_0000_0000_0000 n ∷ []
 
--- up to a limit in magnitude: the limit and the next float, whose pattern is one more, of either sign
+-- an upper limit in magnitude: the limit and the next float beyond it, whose pattern is one more, with either sign
 abbrev pub upTo : (Float → Place → Checked) → ℕ → ℕ → List Row
 upTo check limit n =
     row check limit 0 ∷
@@ -73,7 +73,7 @@ upTo check limit n =
     row check (limit + 0x8000_0000_0000_0000) 0 ∷
     row check (limit + 0x8000_0000_0000_0001) n ∷ []
 
--- from a limit on: the limit, the float before it, +0 and -1
+-- a lower limit: the limit, the float before it, +0 and -1
 abbrev pub from : (Float → Place → Checked) → ℕ → ℕ → List Row
 from check limit n =
     row check limit 0 ∷
@@ -81,7 +81,7 @@ from check limit n =
     row check 0 n ∷
     row check 0xbff0_0000_0000_0000 n ∷ []
 
--- epsilon, whose place is its own
+-- epsilon, which has a place of its own
 abbrev pub epsilonRows : List Row
 epsilonRows =
     let check : Float → Place → Checked = λ x p. Each.epsilon x in
@@ -89,7 +89,7 @@ epsilonRows =
     ++ (row check 0x3fe0_0000_0000_0000 0 ∷ row check 0x3fe0_0000_0000_0001 4 ∷ [])
     ++ notNumbers check 4
 
--- the numbers that stand at any place
+-- the numbers that can stand at any place
 abbrev pub rows : List Row
 rows =
     upTo Each.coordinate 0x4130_0000_0000_0000 2

@@ -1,4 +1,4 @@
--- What it says of a check that it refuses exactly when its tests say so; and that checks made by `refuse` and `later` are such.
+-- What it means that a check refuses exactly when its tests say so; and checks made by `refuse` and `later` do.
 use mathlib.Core.Path.{_≡_, refl, sym, ap}
 use mathlib.Core.Logic.{_↔_, _⊎_, inl, inr}
 use mathlib.Core.Bool.{Bool, true, false}
@@ -9,14 +9,14 @@ use Rattle.checks.specs.declared.fault.Checked.{Checked}
 use Rattle.checks.specs.declared.fault.Checked.the-variants.{Fine, Bad}
 use Rattle.checks.specs.Fault.{bad, refusal, refuse, later}
 
--- The check c refuses with number n and place p if and only if `test` says so; it is else fine.
+-- The check c refuses with number n and place p if and only if `test` says yes; otherwise it is fine.
 pub record Gives (c : Checked) (p : Place) (n : ℕ) (test : Bool) : Type 0 where
   pub refused : (c ≡ bad n p) ↔ (test ≡ true)
   pub fine : (c ≡ Fine) ↔ (test ≡ false)
   pub no-other : (f : Fault) → c ≡ Bad f → c ≡ bad n p
 
--- The check c refuses with number n and place p if and only if `first` says so; with m and p if and only if `first` does not and
--- `second` does; it is else fine.
+-- The check c refuses with number n and place p if and only if `first` says yes. It refuses with m and p if and only if `first`
+-- says no and `second` says yes. Otherwise it is fine.
 pub record GivesThen (c : Checked) (p : Place) (n : ℕ) (first : Bool) (m : ℕ) (second : Bool) : Type 0 where
   pub refused : (c ≡ bad n p) ↔ (first ≡ true)
   pub then-refused : (c ≡ bad m p) ↔ ((first ≡ false) × (second ≡ true))

@@ -1,4 +1,4 @@
--- The scope's "exactly when", for every call and every type of answer: the answer that `answered` gives is refusal n if and only if the
+-- The scope's "exactly when", for every call and every type of answer: what `answered` gives is refusal n if and only if the
 -- first fault has that number.
 use mathlib.Core.Path.{_≡_, refl, sym, ap, _∙_}
 use mathlib.Core.Logic.{_↔_}
@@ -12,18 +12,18 @@ use Rattle.checks.specs.First.{first}
 use Rattle.checks.specs.FirstFault.{FirstFault, AllFine, first-bad, first-fine}
 use Rattle.checks.specs.Answered.{answered}
 
--- the first fault among the checks, in their order, has the number n
+-- the first fault of the checks, in their order, has the number n
 abbrev pub FirstIs : ℕ → List Checked → Type 0
 FirstIs n checks = (f : Fault) × (FirstFault f checks × (f .number ≡ n))
 
--- The answer is refusal n if and only if the first fault has that number, and it is what was worked out if and only if every
--- number passes.
+-- The answer is refusal n if and only if the first fault has that number, and it is how the two meet if and only if every number
+-- passes.
 pub record ExactlyWhen {I A : Type 0} (refused : ℕ → A) (met : I → A) (answer : A) (checks : List Checked) (intr : I) : Type 0 where
   pub refused-when : (n : ℕ) → (answer ≡ refused n) ↔ FirstIs n checks
   pub met-when : (answer ≡ met intr) ↔ AllFine checks
 
--- ---- every answer that `answered` gives is such
--- two refusals are equal only if their numbers are, and none is an answer
+-- ---- this holds for all that `answered` gives
+-- two refusals are equal only if their numbers are, and no refusal equals an answer
 pub record Distinct {I A : Type 0} (refused : ℕ → A) (met : I → A) : Type 0 where
   pub numbers : (n m : ℕ) → refused n ≡ refused m → n ≡ m
   pub kinds : (n : ℕ) (i : I) → refused n ≡ met i → ⊥
@@ -49,6 +49,6 @@ module _ {I A : Type 0} (refused : ℕ → A) (met : I → A) (apart : Distinct 
     met-when = (to-fine (first checks) refl, λ h. ap answer (first-fine checks .1 h));
   }
 
--- two kinds of answers are told apart by a number
+-- a number separates two kinds of answers
 pub no-number : _≡_ {A = ℕ} 0 1 → ⊥
 no-number e = omega arith

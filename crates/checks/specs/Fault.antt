@@ -1,4 +1,4 @@
--- A fault, by the scope's number of its refusal, and its place; what a check answers, and the first fault of two checks.
+-- A fault: the scope's number of its refusal, and its place. What a check answers, and the first fault of two checks.
 use Prim.Native.Nat.{ℕ}
 use mathlib.Core.Bool.{Bool, cond}
 use Rattle.checks.specs.declared.fault.Item.{Item}
@@ -6,19 +6,19 @@ use Rattle.checks.specs.declared.fault.Place.{Place}
 use Rattle.checks.specs.declared.fault.Checked.{Checked}
 use Rattle.checks.specs.declared.fault.Checked.the-variants.{Fine, Bad}
 
--- a place, and a fault of number n at the place p
+-- a place, and a fault with the number n at the place p
 abbrev pub at : ℕ → ℕ → Item → Place
 at owner index item = record { owner = owner; index = index; item = item }
 
 abbrev pub bad : ℕ → Place → Checked
 bad n p = Bad (record { number = n; place = p })
 
--- the number of the refusal that a check answers, and 0 where it is fine
+-- the number of the refusal that a check gives, or 0 if it is fine
 abbrev pub refusal : Checked → ℕ
 refusal Fine = 0
 refusal (Bad f) = f .number
 
--- the fault of number n at p where the test says so
+-- the fault with the number n at p if the test says yes
 unfoldable pub refuse : Bool → ℕ → Place → Checked
 refuse test n p = cond test (bad n p) Fine
 

@@ -1,5 +1,5 @@
--- What the answer of a check says, in whole numbers: 0 where it is fine; else the scope's number of the refusal, and its place
--- (owner, index, and which of the numbers). Two answers that say the same are the same.
+-- The answer of a check in whole numbers: 0 if it is fine; else the scope's number of the refusal and its place (owner, index,
+-- and which number). Two answers with the same numbers are the same.
 use mathlib.Core.Path.{_≡_, refl, sym, ap, _∙_}
 use mathlib.Core.Bool.{cond}
 use mathlib.Core.List.{List, [], _∷_}

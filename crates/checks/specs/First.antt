@@ -1,5 +1,5 @@
--- The first fault of a list of checks. A call that checks its numbers one after the other answers `first` of the list of its
--- checks, in the scope's order.
+-- The first fault of a list of checks. A call that checks its numbers one after the other answers `first` of its list of checks,
+-- in the scope's order.
 use mathlib.Core.List.{List, [], _∷_}
 use Rattle.checks.specs.declared.fault.Checked.{Checked}
 use Rattle.checks.specs.declared.fault.Checked.the-variants.{Fine}

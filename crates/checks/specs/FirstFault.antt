@@ -1,4 +1,4 @@
--- What `first` answers: a fault exactly if it is the first of the list, and fine exactly if every check is.
+-- What `first` answers: a fault exactly if it is the first of the list, and fine exactly if every check is fine.
 use mathlib.Core.Path.{_≡_, refl, sym, ap}
 use mathlib.Core.Logic.{_↔_}
 use mathlib.Core.Bool.{Bool, true, false, true≢false}
@@ -9,7 +9,7 @@ use Rattle.checks.specs.declared.fault.Checked.the-variants.{Fine, Bad}
 use Rattle.checks.specs.Fault.{later}
 use Rattle.checks.specs.First.{first}
 
--- f is the first fault: it stands at the head, or a check that is fine does and f is the first fault of the rest
+-- f is the first fault: f is at the head of the list, or the head is fine and f is the first fault of the rest
 pub data FirstFault (f : Fault) : List Checked → Type 0 where
   here : {cs : List Checked} → FirstFault f (Bad f ∷ cs)
   after : {cs : List Checked} → FirstFault f cs → FirstFault f (Fine ∷ cs)
@@ -22,7 +22,7 @@ is-fine : Checked → Bool
 is-fine Fine = true
 is-fine (Bad f) = false
 
--- `first` answers a fault if and only if it is the first, and is fine if and only if every check is
+-- `first` answers a fault if and only if it is the first, and it is fine if and only if every check is fine
 pub first-bad : (cs : List Checked) (f : Fault) → (first cs ≡ Bad f) ↔ FirstFault f cs
 unfolding later is-fine
 first-bad cs f = (to cs, from)

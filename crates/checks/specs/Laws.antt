@@ -1,4 +1,4 @@
--- Laws that only proofs need. Inside also defines two callable tests, which no answer's definition names.
+-- Laws that only proofs need. A reader need not believe them: they are proved.
 pub mod Later
 pub mod Order
 pub mod Fine

@@ -1,5 +1,5 @@
--- The numbers that are refused: definitions from the refusals' numbers up to lists of checks and
--- what a call answers by them, and what is proved of them.
+-- The numbers that are refused: definitions, from the refusals' numbers up to lists of checks and what a call answers by them,
+-- and what is proved of them. A reader need not believe Workings and Laws.
 pub mod Refusal
 pub mod Limit
 pub mod Fault

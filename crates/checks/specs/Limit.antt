@@ -1,4 +1,4 @@
--- The scope's limits, by the bits of their f64. Each is itself accepted. Edges.antt says them as powers of two.
+-- The scope's limits, by the bits of their f64. A number equal to its limit passes. Edges.antt states them as powers of two.
 use lib.Ieee.{Float, binary64, ofBits}
 
 -- 2^20, 1,048,576: the most that a coordinate of a point or vertex may be in magnitude

@@ -1,4 +1,4 @@
--- The checks of a point, a vertex of a path and a kernel's circle, in the scope's order: what a call's own list is made of.
+-- The checks of a point, a vertex of a path and a kernel's circle, in the scope's order. The list of a call is made of these.
 use mathlib.Core.List.{List, [], _∷_, _++_}
 use Prim.Native.Nat.{ℕ}
 use lib.Ieee.{Float}

@@ -1,4 +1,4 @@
--- The tests of one number that the scope's table of refusals names. A NaN is `isNan`'s of the library: it is the value `nan`.
+-- The tests of one number in the scope's table of refusals. `isNan` is the library's: the logic has one NaN, the value `nan`.
 use mathlib.Core.Bool.{Bool, true, false, _||_}
 use lib.Ieee.{Float, nan, inf, fin, isNan}
 use Rattle.floats.specs.Ops.{_≺_, _≻_}
@@ -14,7 +14,7 @@ isInfinite (fin s m e) = false
 unfoldable pub notFinite : Float → Bool
 notFinite x = isNan x || isInfinite x
 
--- x exceeds `most` in magnitude
+-- x is above `most` in magnitude
 unfoldable pub beyond : Float → Float → Bool
 beyond most x = F64.abs x ≻ most
 

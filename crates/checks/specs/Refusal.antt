@@ -1,4 +1,4 @@
--- The scope's numbers of the refusals that a look at one number, at a path's length or at a listing's rows can give.
+-- The scope's numbers of the refusals that the checks of numbers, of a path's length and of a listing's rows can give.
 use Prim.Native.Nat.{ℕ}
 
 -- a coordinate, bulge or radius is NaN or infinite
@@ -13,7 +13,7 @@ coordinate = 2
 abbrev pub bulge : ℕ
 bulge = 3
 
--- epsilon is out of its range, or NaN
+-- epsilon is NaN, infinite, or out of its range
 abbrev pub epsilon : ℕ
 epsilon = 4
 
@@ -21,7 +21,7 @@ epsilon = 4
 abbrev pub chord : ℕ
 chord = 5
 
--- a path's length is no whole number of vertices
+-- the count of a path's numbers is no multiple of 3
 abbrev pub pathLength : ℕ
 pathLength = 6
 
@@ -29,7 +29,7 @@ pathLength = 6
 abbrev pub vertices : ℕ
 vertices = 7
 
--- a listing has more rows than fit
+-- a listing has more rows than there is room for
 abbrev pub rows : ℕ
 rows = 8
 

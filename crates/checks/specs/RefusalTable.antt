@@ -1,5 +1,5 @@
--- The scope's table, for one number: which refusal each check answers, and exactly when. x is the number, p its place, which the
--- fault tells as it was given; Exactly.antt says what `Gives` and `GivesThen` state.
+-- The scope's table, for one number: which refusal each check gives, and exactly when. x is the number and p its place, which the
+-- fault carries unchanged. Exactly.antt says what `Gives` and `GivesThen` mean.
 use mathlib.Core.Bool.{_||_}
 use native.Mathlib.Omega.{arith}
 use lib.Ieee.{Float, isNan}
@@ -25,12 +25,12 @@ module _ (x : Float) (p : Place) where
   unfolding Each.finite notFinite
   finite = gives (notFinite x) 1 p
 
-  -- 1, 2: a coordinate is NaN or infinite; it exceeds 1,048,576 in magnitude
+  -- 1, 2: a coordinate is NaN or infinite; it is above 1,048,576 in magnitude
   pub coordinate : GivesThen (Each.coordinate x p) p 1 (isNan x || isInfinite x) 2 (F64.abs x ≻ Limit.coordinate)
   unfolding Each.coordinate Each.finiteThen Each.finite notFinite beyond
   coordinate = gives-then _ _ 1 2 p (λ e. omega arith)
 
-  -- 1, 3: a bulge is NaN or infinite; its magnitude exceeds 1
+  -- 1, 3: a bulge is NaN or infinite; it is above 1 in magnitude
   pub bulge : GivesThen (Each.bulge x p) p 1 (isNan x || isInfinite x) 3 (F64.abs x ≻ Limit.bulge)
   unfolding Each.bulge Each.finiteThen Each.finite notFinite beyond
   bulge = gives-then _ _ 1 3 p (λ e. omega arith)

@@ -1,4 +1,4 @@
-// The check of an arc's chord, for the segments of a path and of a pair alike.
+// The check of an arc's chord, shared by the segments of a path and of a pair.
 ghost use mathlib.Core.Path.{_≡_};
 ghost use Rattle.checks.specs.Arc;
 use super::each;
@@ -8,8 +8,7 @@ use super::fault::at;
 use super::limit;
 use plane::pline_vertex::PlineVertex;
 
-// Refusal 5 if the segment from a to b is an arc and its computed chord length is below 2^-40; a line is fine whatever its
-// length.
+// Refusal 5 if the segment from a to b is an arc and its computed chord length is below 2^-40. A line of any length is fine.
 pub fn arc_chord(a: PlineVertex, b: PlineVertex, owner: u64, index: u64) -> Checked
     ensures { λ r. ⌜ r ≡ Arc.arcChord a b owner index ⌝ }
 {
@@ -17,7 +16,7 @@ pub fn arc_chord(a: PlineVertex, b: PlineVertex, owner: u64, index: u64) -> Chec
         return Checked::Fine;
     }
     let chord = b.pos().sub(a.pos());
-    // Long enough by its self dot: no root is needed.
+    // The square of the length shows that it is long enough: no root is needed.
     if chord.length_squared() >= limit::CHORD_SQUARE {
         return Checked::Fine;
     }

@@ -1,5 +1,5 @@
-// The checks of a whole call: the first of its numbers that is at fault, in the scope's order. One function for each of the three
-// kernels and one for the pair call.
+// The checks of a whole call: each function answers the first fault among the call's numbers, in the scope's order. There is one
+// function for each of the three kernels and one for the pair call.
 ghost use mathlib.Core.Path.{_≡_};
 ghost use Rattle.checks.specs.Calls;
 use super::arc;
@@ -10,7 +10,7 @@ use super::fault::later;
 use plane::pline_vertex::PlineVertex;
 use plane::vector2::Vector2;
 
-// Two lines. The first of the call's numbers that is at fault: epsilon, then v1, v2, u1 and u2, each x before y.
+// Two lines. The order: epsilon, then v1, v2, u1 and u2, each x before y.
 pub fn check_line_line(v1: Vector2, v2: Vector2, u1: Vector2, u2: Vector2, epsilon: f64) -> Checked
     ensures { λ r. ⌜ r ≡ Calls.checkLineLine v1 v2 u1 u2 epsilon ⌝ }
 {
@@ -21,8 +21,7 @@ pub fn check_line_line(v1: Vector2, v2: Vector2, u1: Vector2, u2: Vector2, epsil
     chain::point_after(a3, u2.x, u2.y, 3, 0)
 }
 
-// A line and a circle. The first of the call's numbers that is at fault: epsilon, then p0 and p1, each x before y, then the
-// radius and the centre.
+// A line and a circle. The order: epsilon, then p0 and p1, each x before y, then the radius and the centre.
 pub fn check_line_circle(
     p0: Vector2,
     p1: Vector2,
@@ -38,8 +37,7 @@ pub fn check_line_circle(
     chain::circle_after(a2, radius, circle_center.x, circle_center.y, 2)
 }
 
-// Two circles. The first of the call's numbers that is at fault: epsilon, then the first circle and the second, each radius, x,
-// y.
+// Two circles. The order: epsilon, then the first circle and the second, each radius, x, y.
 pub fn check_circle_circle(
     radius1: f64,
     center1: Vector2,
@@ -54,8 +52,8 @@ pub fn check_circle_circle(
     chain::circle_after(a1, radius2, center2.x, center2.y, 1)
 }
 
-// Two segments of polylines. The first of the call's numbers that is at fault: epsilon; v1, v2, u1 and u2, each x before y, and
-// of v1 and u1 the bulge; then the chords of v and of u. The bulges of v2 and u2 belong to other segments.
+// Two segments of polylines. The order: epsilon; v1, v2, u1 and u2, each x before y, and the bulge of v1 and of u1 after its y;
+// then the chords of v and of u. The bulges of v2 and u2 belong to other segments and are not checked.
 pub fn check_pline_seg(
     v1: PlineVertex,
     v2: PlineVertex,

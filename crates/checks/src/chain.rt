@@ -1,5 +1,6 @@
-// The first fault of f and of a point, a vertex or a circle, number by number: a fault that was found before, in `f`, is passed on. So a
-// chain of checks is one straight line, and its answer the first fault.
+// The steps of a chain of checks. Each step answers the first fault of `f` and of a point, a vertex or a circle, number by
+// number: a fault in `f` was found earlier and is passed on. So a chain is written as one straight line, and it answers its first
+// fault.
 ghost use mathlib.Core.Path.{_≡_};
 ghost use mathlib.Core.List.{_∷_};
 ghost use Rattle.checks.specs.First.{first};
@@ -28,7 +29,7 @@ pub fn vertex_inside(x: f64, y: f64, bulge: f64) -> bool
     (inside(limit::COORDINATE, x) & inside(limit::COORDINATE, y)) & inside(limit::BULGE, bulge)
 }
 
-// A vertex of a path, one number after the other: x, y, then its bulge.
+// A vertex of a path, number by number: x, y, then its bulge.
 fn vertex_by_numbers(f: Checked, x: f64, y: f64, bulge: f64, owner: u64, index: u64) -> Checked
     ensures { λ r. ⌜ r ≡ first (f ∷ Lists.vertexChecks x y bulge owner index) ⌝ }
 {
@@ -36,7 +37,7 @@ fn vertex_by_numbers(f: Checked, x: f64, y: f64, bulge: f64, owner: u64, index: 
     later(a, each::bulge(bulge, at(owner, index, Item::Bulge)))
 }
 
-// A vertex of a path: x, y, then its bulge. Most often all are fine, and then f stays.
+// A vertex of a path: x, y, then its bulge. Most often all three are fine, and then it answers f.
 pub fn vertex_after(f: Checked, x: f64, y: f64, bulge: f64, owner: u64, index: u64) -> Checked
     ensures { λ r. ⌜ r ≡ first (f ∷ Lists.vertexChecks x y bulge owner index) ⌝ }
 {

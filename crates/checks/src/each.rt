@@ -1,4 +1,4 @@
-// The checks of one number, each with the place that its fault is to tell.
+// The checks of one number. `place` goes into the fault.
 ghost use mathlib.Core.Path.{_≡_};
 ghost use Rattle.checks.specs.Each;
 use super::fault::Checked;
@@ -74,7 +74,7 @@ pub fn center(x: f64, place: Place) -> Checked
     finite_then(x, number::beyond(limit::CENTER, x), refusal::CIRCLE, place)
 }
 
-// An arc's chord length, as its caller computed it: refusal 5 if it is below 2^-40. A NaN is not below and passes.
+// An arc's chord length, as the caller computed it: refusal 5 if it is below 2^-40. A NaN is not below and passes.
 pub fn chord(chord_length: f64, place: Place) -> Checked
     ensures { λ r. ⌜ r ≡ Each.chord «chord_length» place ⌝ }
 {

@@ -1,8 +1,8 @@
-// A fault and its place; what a check answers; and the step by which a chain of checks answers its first fault.
+// A fault and its place, what a check answers, and the step that makes a chain of checks answer its first fault.
 ghost use mathlib.Core.Path.{_≡_};
 ghost use Rattle.checks.specs.Fault as fault;
 
-// Which of its owner's numbers; `Length` is how many numbers a path has, `Rows` how many rows a listing has.
+// Which of the owner's numbers. `Length` is how many numbers a path has, `Rows` how many rows a listing has.
 pub enum Item {
     Epsilon,
     X,
@@ -18,15 +18,15 @@ pub enum Item {
 
 // Where a number stands in a call.
 pub struct Place {
-    // which of the call's things: a kernel's point or circle in the order of the arguments, a pair's segment (0 v, 1 u), a
-    // listing's path (0, 1)
+    // which thing of the call: a kernel's point or circle in the order of the arguments, a pair's segment (0 v, 1 u), a listing's
+    // path (0, 1)
     pub owner: u64,
-    // which end, vertex or segment of it; 0 where there is only one
+    // which end, vertex or segment of it; 0 if there is only one
     pub index: u64,
     pub item: Item,
 }
 
-// A number that is refused: why, by the scope's number, and where it stands.
+// A number that is refused: the scope's number of the refusal, and where the number stands.
 pub struct Fault {
     pub number: u64,
     pub place: Place,
@@ -49,7 +49,7 @@ pub fn at(owner: u64, index: u64, item: Item) -> Place
     }
 }
 
-// The fault of this number and place if `bad`, and else fine.
+// The fault with this number and place if `bad`, else fine.
 pub fn refuse(bad: bool, number: u64, place: Place) -> Checked
     ensures { λ r. ⌜ r ≡ fault.refuse bad number place ⌝ }
 {
@@ -63,7 +63,7 @@ pub fn refuse(bad: bool, number: u64, place: Place) -> Checked
     Checked::Fine
 }
 
-// The first fault of two checks: that of `earlier`, or if that one is fine, what `next` says.
+// The first fault of two checks: the one of `earlier`, or, if that is fine, what `next` says.
 pub fn later(earlier: Checked, next: Checked) -> Checked
     ensures { λ r. ⌜ r ≡ fault.later earlier next ⌝ }
 {

@@ -1,5 +1,5 @@
-// What each number of a call is looked at for, before it is worked with. A chain of checks answers its first fault, with its
-// place. The limits and the numbers of the refusals are the scope's, each said once here.
+// The checks of a call's numbers, before the call works with them. A chain of checks answers its first fault, with its place. The
+// limits and the refusal numbers are the scope's; each stands here once.
 pub mod arc;
 pub mod calls;
 pub mod chain;

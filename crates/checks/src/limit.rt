@@ -1,4 +1,4 @@
-// The limits. Each is itself accepted. specs/Limit.antt has the same, by their bits.
+// The limits. A number equal to its limit passes. specs/Limit.antt states the same limits by their bits.
 
 // 2^20: the most that a coordinate of a point or vertex may be in magnitude
 pub const COORDINATE: f64 = 1048576.0;
@@ -14,7 +14,7 @@ pub const EPSILON_MOST: f64 = 0.5;
 // 2^-40: the least chord of an arc
 pub const CHORD_LEAST: f64 = 1.0 / 1099511627776.0;
 
-// 2^-80: its square. A chord whose self dot is at least this is no shorter (specs/Laws/Chord.antt).
+// 2^-80: its square. A chord whose dot product with itself is at least this is long enough (specs/Laws/Chord.antt).
 pub const CHORD_SQUARE: f64 = CHORD_LEAST * CHORD_LEAST;
 
 // 2^-42 and 2^47: the least and the most radius of a circle

@@ -26,21 +26,21 @@ pub fn not_finite(x: f64) -> bool
     is_nan(x) | is_infinite(x)
 }
 
-// Whether x exceeds `most` in magnitude; a NaN does not.
+// Whether x is above `most` in magnitude. A NaN is not.
 pub fn beyond(most: f64, x: f64) -> bool
     ensures { λ r. ⌜ r ≡ Number.beyond most x ⌝ }
 {
     floats::abs(x) > most
 }
 
-// Whether x is below `least` or above `most`; a NaN is neither.
+// Whether x is below `least` or above `most`. A NaN is neither.
 pub fn outside(least: f64, most: f64, x: f64) -> bool
     ensures { λ r. ⌜ r ≡ Number.outside least most x ⌝ }
 {
     (x < least) | (x > most)
 }
 
-// Whether x is a number of a magnitude of at most `most`, by comparisons alone.
+// Whether x is a number and at most `most` in magnitude, by comparisons alone.
 pub fn inside(most: f64, x: f64) -> bool
     ensures { λ r. ⌜ r ≡ Inside.inside most x ⌝ }
 {

@@ -1,5 +1,5 @@
-// The scope's numbers of the refusals that a look at one number, at a path's length or at a listing's rows can give.
-// specs/Refusal.antt has the same.
+// The scope's numbers of the refusals that the checks of numbers, of a path's length and of a listing's rows can give.
+// specs/Refusal.antt has the same numbers.
 
 // a coordinate, bulge or radius is NaN or infinite
 pub const NOT_FINITE: u64 = 1;
@@ -10,19 +10,19 @@ pub const COORDINATE: u64 = 2;
 // a bulge is too large
 pub const BULGE: u64 = 3;
 
-// epsilon is out of its range, or NaN
+// epsilon is NaN, infinite, or out of its range
 pub const EPSILON: u64 = 4;
 
 // an arc's chord is too short
 pub const CHORD: u64 = 5;
 
-// a path's length is no whole number of vertices
+// the count of a path's numbers is no multiple of 3
 pub const PATH_LENGTH: u64 = 6;
 
 // a path has too many vertices
 pub const VERTICES: u64 = 7;
 
-// a listing has more rows than fit
+// a listing has more rows than there is room for
 pub const ROWS: u64 = 8;
 
 // a circle's radius is out of its range, or a coordinate of its centre is too large

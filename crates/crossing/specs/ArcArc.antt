@@ -1,4 +1,4 @@
--- Two arc segments: pline_seg_intersect.rs, lines 351-642, line for line. A reader holds the two side by side.
+-- Two arc segments: pline_seg_intersect.rs, lines 351-642, line for line. Read the two side by side.
 use lib.Ieee.{Float}
 use Rattle.plane.specs.PlineSeg.{segArcRadiusAndCenter}
 use Rattle.plane.specs.PlineVertex.{pos}
@@ -13,7 +13,7 @@ use Rattle.crossing.specs.CircleCircle.{circleCircle}
 use Rattle.crossing.specs.declared.circle_circle_intr.CircleCircleIntr.{CircleCircleIntr}
 use Rattle.crossing.specs.declared.circle_circle_intr.CircleCircleIntr.the-variants as circles
 
--- lines 363-642, by what the kernel found
+-- lines 363-642, from the kernel's answer
 abbrev pub arcArcOf :
     CircleCircleIntr → PlineVertex → PlineVertex → PlineVertex → PlineVertex → ArcRadiusCenter → ArcRadiusCenter → Float
     → PlineSegIntr

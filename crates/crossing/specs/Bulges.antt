@@ -1,5 +1,5 @@
--- The bulges of v2 and u2 belong to the segments that begin there: whatever stands in their place, a NaN too, the pair call answers
--- the same, refusals included.
+-- The bulges of v2 and u2 belong to the segments that start there. They have no effect: whatever they are, a NaN too, the pair
+-- call answers the same, refusals included.
 use mathlib.Core.Path.{_≡_, ap}
 use lib.Ieee.{Float}
 use Rattle.plane.specs.PlineVertex.{pos}

@@ -1,5 +1,5 @@
--- The pair call works on no arc whose chord is a NaN, an infinity or below 2^-40: where its answer is how the two meet, each of them
--- that is an arc has a chord that is a number and at least 2^-40. Chord.antt of the crate `checks` says what `LongIfArc` states.
+-- The pair call works on no arc whose chord is a NaN, an infinity or below 2^-40: if it answers how the two meet, each arc of the
+-- two has a chord that is a number and at least 2^-40. Chord.antt of the crate `checks` says what `LongIfArc` means.
 use mathlib.Core.Path.{_≡_}
 use lib.Ieee.{Float}
 use Rattle.plane.specs.declared.pline_vertex.PlineVertex.{PlineVertex}

@@ -1,4 +1,4 @@
--- Two circles: circle_circle_intersect.rs, line for line. A reader holds the two side by side.
+-- Two circles: circle_circle_intersect.rs, line for line. Read the two side by side.
 use mathlib.Core.Bool.{cond, not, _||_}
 use lib.Ieee.{Float}
 use Rattle.floats.specs.Ops.{_⊕_, _⊖_, _⊗_, _⊘_, _≼_, f0, f2}

@@ -1,5 +1,5 @@
--- The call of src/circle_circle_intersect.rt: it looks at its numbers first (`checks`,
--- Calls.antt); the first fault is its answer.
+-- The call of src/circle_circle_intersect.rt. It checks its numbers first (`checks`, Calls.antt), and the first fault is its
+-- answer.
 use mathlib.Core.Bool.{true, false}
 use mathlib.Core.List.{[], _∷_}
 use lib.Ieee.{Float}
@@ -17,13 +17,13 @@ use Rattle.crossing.specs.declared.circle_circle_intr.CircleCircleIntr.t
 use Rattle.crossing.specs.declared.circle_circle_intersect.CircleCircleAnswer.{CircleCircleAnswer}
 use Rattle.crossing.specs.declared.circle_circle_intersect.CircleCircleAnswer.the-variants.{Refused, Met}
 
--- the first fault's number, or where there is none how they meet
+-- the number of the first fault; if there is none, how the two meet
 unfoldable pub circleCircleIntr : Float → Vector2 → Float → Vector2 → Float → CircleCircleAnswer
 circleCircleIntr radius1 center1 radius2 center2 epsilon =
     answered Refused Met (checkCircleCircle radius1 center1 radius2 center2 epsilon)
     (circleCircle radius1 center1 radius2 center2 epsilon)
 
--- ---- what an answer tells, in numbers
+-- ---- the answer in numbers
 abbrev pub numbersOf : CircleCircleAnswer → AnswerNumbers
 numbersOf (Refused n) = record { refused = true; number = n; values = [] }
 numbersOf (Met NoIntersect) = record { refused = false; number = 0; values = [] }

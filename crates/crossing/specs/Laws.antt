@@ -1,3 +1,3 @@
--- Laws that only proofs need. Apart, Nested and FarLine also define the three tests of src/shortcuts.rt.
+-- Laws that only proofs need. A reader need not believe them: they are proved.
 pub mod Answers
 pub mod Bulges

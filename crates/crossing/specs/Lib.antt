@@ -1,4 +1,5 @@
--- The three kernels, the pair over them, and the four calls with their refusals; then what is proved of the calls, and laws.
+-- The three kernels, the pair over them, and the four calls with their refusals; then what is proved of the calls (from
+-- SameAnswer on). A reader need not believe Workings and Laws.
 pub mod LineLine
 pub mod LineCircle
 pub mod CircleCircle

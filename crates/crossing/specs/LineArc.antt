@@ -1,4 +1,4 @@
--- A line segment and an arc segment: pline_seg_intersect.rs, lines 208-339, line for line. A reader holds the two side by side.
+-- A line segment and an arc segment: pline_seg_intersect.rs, lines 208-339, line for line. Read the two side by side.
 use mathlib.Core.Bool.{Bool}
 use lib.Ieee.{Float}
 use Rattle.plane.specs.PlineSeg.{segArcRadiusAndCenter}
@@ -15,7 +15,7 @@ use Rattle.crossing.specs.LineCircle.{lineCircle}
 use Rattle.crossing.specs.declared.line_circle_intr.LineCircleIntr.{LineCircleIntr}
 use Rattle.crossing.specs.declared.line_circle_intr.LineCircleIntr.the-variants as circle
 
--- lines 227-338, by what the kernel found
+-- lines 227-338, from the kernel's answer
 abbrev pub lineArcOf : LineCircleIntr → Vector2 → Vector2 → Vector2 → ArcGeometry → Bool → Float → PlineSegIntr
 lineArcOf circle.NoIntersect p0 p1 arcStart arcGeometry uIsLine posEqualEps = NoIntersect
 lineArcOf (circle.TangentIntersect t0) p0 p1 arcStart arcGeometry uIsLine posEqualEps =

@@ -1,4 +1,4 @@
--- A line segment and a circle: line_circle_intersect.rs, line for line. A reader holds the two side by side.
+-- A line segment and a circle: line_circle_intersect.rs, line for line. Read the two side by side.
 use mathlib.Core.Bool.{cond}
 use lib.Ieee.{Float, neg}
 use Rattle.floats.specs.Ops.{_⊕_, _⊖_, _⊗_, _⊘_, _≻_, _≽_, f0, f1, f2}
@@ -24,7 +24,7 @@ pointCircle p0 p1 radius circleCenter eps =
     (TangentIntersect f0)
     NoIntersect
 
--- lines 105-128: vertical by the default epsilon
+-- lines 105-128: the default epsilon, not the given one, says whether the line is vertical
 unfoldable pub lineThrough : Float → Float → Vector2 → Vector2 → Line
 lineThrough dx dy p0Shifted p1Shifted =
     let xPos = (p1Shifted .x ⊕ p0Shifted .x) ⊘ f2 in
@@ -46,7 +46,7 @@ twoPoints p0 p1 line x0 y0 mult eps =
     (TangentIntersect t)
     (TwoIntersects (ts .min) (ts .max))
 
--- lines 130-171: a line a * x + b * y + c = 0 about the centre (h, k)
+-- lines 130-171: the line a * x + b * y + c = 0, relative to the centre (h, k)
 unfoldable pub lineMeets : Vector2 → Vector2 → Line → Float → Float → Float → Float → LineCircleIntr
 lineMeets p0 p1 line radius h k eps =
     let a = line .a in

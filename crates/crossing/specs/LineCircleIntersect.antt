@@ -1,4 +1,5 @@
--- The call of src/line_circle_intersect.rt: it looks at its numbers first (`checks`, Calls.antt); the first fault is its answer.
+-- The call of src/line_circle_intersect.rt. It checks its numbers first (`checks`, Calls.antt), and the first fault is its
+-- answer.
 use mathlib.Core.Bool.{true, false}
 use mathlib.Core.List.{[], _∷_}
 use lib.Ieee.{Float}
@@ -15,12 +16,12 @@ use Rattle.crossing.specs.declared.line_circle_intr.LineCircleIntr.the-v
 use Rattle.crossing.specs.declared.line_circle_intersect.LineCircleAnswer.{LineCircleAnswer}
 use Rattle.crossing.specs.declared.line_circle_intersect.LineCircleAnswer.the-variants.{Refused, Met}
 
--- the first fault's number, or where there is none how they meet
+-- the number of the first fault; if there is none, how the two meet
 unfoldable pub lineCircleIntr : Vector2 → Vector2 → Float → Vector2 → Float → LineCircleAnswer
 lineCircleIntr p0 p1 radius circleCenter epsilon =
     answered Refused Met (checkLineCircle p0 p1 radius circleCenter epsilon) (lineCircle p0 p1 radius circleCenter epsilon)
 
--- ---- what an answer tells, in numbers
+-- ---- the answer in numbers
 abbrev pub numbersOf : LineCircleAnswer → AnswerNumbers
 numbersOf (Refused n) = record { refused = true; number = n; values = [] }
 numbersOf (Met NoIntersect) = record { refused = false; number = 0; values = [] }

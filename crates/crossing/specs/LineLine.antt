@@ -1,4 +1,4 @@
--- Two line segments: line_line_intersect.rs, line for line. A reader holds the two side by side.
+-- Two line segments: line_line_intersect.rs, line for line. Read the two side by side.
 use mathlib.Core.Bool.{cond, not, _&&_, _||_}
 use lib.Ieee.{Float}
 use Rattle.floats.specs.Ops.{_⊖_, _⊗_, _⊘_, _≻_, f0, f1}
@@ -46,14 +46,14 @@ secondPoint v1 v2 u1 v eps =
 unfoldable pub rising : Float → Float → Span
 rising t0 t1 = cond (t0 ≻ t1) (record { t0 = t1; t1 = t0 }) (record { t0 = t0; t1 = t1 })
 
--- lines 188-196: by y where u.x is near zero by the given epsilon, else by x
+-- lines 188-196: from y if u.x is near zero by the given epsilon, else from x
 unfoldable pub spanOf : Vector2 → Vector2 → Vector2 → Float → Span
 spanOf w w2 u eps =
     cond (fuzzyEqZeroEps (u .x) eps)
     (rising (w .y ⊘ u .y) (w2 .y ⊘ u .y))
     (rising (w .x ⊘ u .x) (w2 .x ⊘ u .x))
 
--- lines 212-217: v1 touches, or else v2
+-- lines 212-217: 0 if v1 touches, else 1
 unfoldable pub touchingEnd : Vector2 → Vector2 → Vector2 → Float → Float
 touchingEnd v1 u1 u2 eps = cond (vector2.fuzzyEqEps v1 u1 eps || vector2.fuzzyEqEps v1 u2 eps) f0 f1
 

@@ -1,4 +1,4 @@
--- The call of src/line_line_intersect.rt: it looks at its numbers first (`checks`, Calls.antt); the first fault is its answer.
+-- The call of src/line_line_intersect.rt. It checks its numbers first (`checks`, Calls.antt), and the first fault is its answer.
 use mathlib.Core.Bool.{true, false}
 use mathlib.Core.List.{[], _∷_}
 use lib.Ieee.{Float}
@@ -16,12 +16,12 @@ use Rattle.crossing.specs.declared.line_line_intr.LineLineIntr.the-varia
 use Rattle.crossing.specs.declared.line_line_intersect.LineLineAnswer.{LineLineAnswer}
 use Rattle.crossing.specs.declared.line_line_intersect.LineLineAnswer.the-variants.{Refused, Met}
 
--- the first fault's number, or where there is none how they meet
+-- the number of the first fault; if there is none, how the two meet
 unfoldable pub lineLineIntr : Vector2 → Vector2 → Vector2 → Vector2 → Float → LineLineAnswer
 lineLineIntr v1 v2 u1 u2 epsilon =
     answered Refused Met (checkLineLine v1 v2 u1 u2 epsilon) (lineLine v1 v2 u1 u2 epsilon)
 
--- ---- what an answer tells, in numbers
+-- ---- the answer in numbers
 abbrev pub numbersOf : LineLineAnswer → AnswerNumbers
 numbersOf (Refused n) = record { refused = true; number = n; values = [] }
 numbersOf (Met NoIntersect) = record { refused = false; number = 0; values = [] }

@@ -1,4 +1,4 @@
--- Two segments of polylines: `pline_seg_intr` of pline_seg_intersect.rs, line for line. A reader holds the two side by side.
+-- Two segments of polylines: `pline_seg_intr` of pline_seg_intersect.rs, line for line. Read the two side by side.
 use mathlib.Core.Bool.{cond, _&&_}
 use lib.Ieee.{Float}
 use Rattle.plane.specs.BaseMath.{pointFromParametric}
@@ -17,7 +17,7 @@ use Rattle.arcs.specs.declared.pline_seg_intr.PlineSegIntr.the-variants.{
   OverlappingLines,
 }
 
--- lines 190-205, by what the kernel found
+-- lines 190-205, from the kernel's answer
 abbrev pub lineLineOf : LineLineIntr → Vector2 → Vector2 → Vector2 → Vector2 → PlineSegIntr
 lineLineOf lines.NoIntersect v1 v2 u1 u2 = NoIntersect
 lineLineOf (lines.FalseIntersect seg1T seg2T) v1 v2 u1 u2 = NoIntersect

@@ -1,4 +1,5 @@
--- The call of src/pline_seg_intersect.rt: it looks at its numbers first (`checks`, Calls.antt); the first fault is its answer.
+-- The pair call, which is `fast_pair::pair::pline_seg_intr`. It checks its numbers first (`checks`, Calls.antt), and the first
+-- fault is its answer.
 use mathlib.Core.Bool.{true, false}
 use mathlib.Core.List.{[], _∷_}
 use lib.Ieee.{Float}
@@ -11,12 +12,12 @@ use Rattle.crossing.specs.PlineSegIntr.{classOf, point1Of, point2Of}
 use Rattle.crossing.specs.declared.pline_seg_intersect.PlineSegAnswer.{PlineSegAnswer}
 use Rattle.crossing.specs.declared.pline_seg_intersect.PlineSegAnswer.the-variants.{Refused, Met}
 
--- the first fault's number, or where there is none how they meet
+-- the number of the first fault; if there is none, how the two meet
 unfoldable pub plineSegIntr : PlineVertex → PlineVertex → PlineVertex → PlineVertex → Float → PlineSegAnswer
 plineSegIntr v1 v2 u1 u2 posEqualEps =
     answered Refused Met (checkPlineSeg v1 v2 u1 u2 posEqualEps) (plineSeg v1 v2 u1 u2 posEqualEps)
 
--- ---- what an answer tells, in numbers: its class and its points, absent ones +0
+-- ---- the answer in numbers: its class and its points; a point that the class lacks is +0
 abbrev pub numbersOf : PlineSegAnswer → AnswerNumbers
 numbersOf (Refused n) = record { refused = true; number = n; values = [] }
 numbersOf (Met r) =

@@ -21,7 +21,7 @@ classOf (TwoIntersects point1 point2) = 3
 classOf (OverlappingLines point1 point2) = 4
 classOf (OverlappingArcs point1 point2) = 5
 
--- what stands for a point that an answer has not
+-- stands for a point that the class lacks: +0, +0
 abbrev pub absent : Vector2
 absent = record { x = f0; y = f0 }
 

@@ -1,6 +1,6 @@
--- The refusals of the kernels and of the pair call, exactly when: a call refuses with number n if and only if the first fault among
--- its numbers, in the order of its list of checks, has that number; and it answers how they meet if and only if every number
--- passes. RefusalTable.antt of the crate `checks` says of each check when it finds which fault.
+-- When exactly the kernels and the pair call refuse: with number n if and only if the first fault among their numbers, in the
+-- order of the call's list of checks, has that number. They answer how the two meet if and only if every number passes.
+-- RefusalTable.antt of the crate `checks` says of each check when it finds which fault.
 use lib.Ieee.{Float}
 use Rattle.plane.specs.declared.vector2.Vector2.{Vector2}
 use Rattle.plane.specs.declared.pline_vertex.PlineVertex.{PlineVertex}

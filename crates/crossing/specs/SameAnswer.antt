@@ -1,5 +1,5 @@
--- Two answers that tell the same numbers are the same answer, for each of the four calls: an answer can be made again from what it
--- tells.
+-- Two answers with the same numbers are the same answer, for each of the four calls: an answer can be built again from its
+-- numbers.
 use mathlib.Core.Path.{_≡_, refl, sym, ap, _∙_}
 use mathlib.Core.Bool.{cond}
 use mathlib.Core.List.{List, [], _∷_}
@@ -24,11 +24,11 @@ use Rattle.crossing.specs.declared.circle_circle_intr.CircleCircleIntr.t
 use Rattle.crossing.specs.declared.pline_seg_intersect.PlineSegAnswer.{PlineSegAnswer}
 use Rattle.crossing.specs.declared.pline_seg_intersect.PlineSegAnswer.the-variants as ofPairs
 
--- what can be read back tells answers apart
+-- if answers can be built again from their numbers, equal numbers mean equal answers
 apart-by : {A : Type 0} (numbers : A → AnswerNumbers) (back : AnswerNumbers → A) → ((a : A) → back (numbers a) ≡ a) → (a b : A) → numbers a ≡ numbers b → a ≡ b
 apart-by numbers back is a b e = sym (is a) ∙ ap back e ∙ is b
 
--- one, two or four values, and what stands for another count of them
+-- one, two or four values, and what stands for any other count
 abbrev one : {A : Type 0} → (Float → A) → A → List Float → A
 one f other [] = other
 one f other (a ∷ rest) = f a

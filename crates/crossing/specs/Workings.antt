@@ -1,4 +1,5 @@
--- The workings: how answers are found, and quick tests. No answer's definition names anything here, so a reader need not believe it.
+-- The quick tests of src/shortcuts.rt and line_circle.rt, with what a yes of each means. No answer's definition names them, so a
+-- reader need not believe them.
 pub mod FarLine
 pub mod Apart
 pub mod Nested

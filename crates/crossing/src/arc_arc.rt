@@ -12,7 +12,7 @@ use arcs::two_arcs::tangent_arc_arc;
 use plane::pline_seg::ArcRadiusCenter;
 use plane::pline_vertex::PlineVertex;
 
-// How the arcs v1 to v2 and u1 to u2 meet, which lie on these circles.
+// How the arcs v1 to v2 and u1 to u2, which lie on these circles, meet.
 pub fn arc_arc(
     v1: PlineVertex,
     v2: PlineVertex,

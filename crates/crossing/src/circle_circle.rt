@@ -1,4 +1,4 @@
-// Two circles, for any numbers: circle_circle_intersect.rs. The names of its locals are the Rust's.
+// Two circles, for any numbers: circle_circle_intersect.rs. The local names are the Rust's.
 ghost use mathlib.Core.Path.{_≡_};
 ghost use Rattle.crossing.specs.CircleCircle;
 use super::circle_circle_intr::CircleCircleIntr;
@@ -10,7 +10,7 @@ use plane::fuzzy::fuzzy_gt_eps;
 use plane::fuzzy::fuzzy_lt_eps;
 use plane::vector2::Vector2;
 
-// Two circles about one centre: the same circle, or apart.
+// Two circles with one centre: they are the same circle, or apart.
 fn same_center(radius1: f64, radius2: f64, eps: f64) -> CircleCircleIntr
     ensures { λ r. ⌜ r ≡ CircleCircle.sameCenter radius1 radius2 eps ⌝ }
 {
@@ -20,7 +20,7 @@ fn same_center(radius1: f64, radius2: f64, eps: f64) -> CircleCircleIntr
     CircleCircleIntr::NoIntersect
 }
 
-// The points on either side of the line of centres, h over d times as far from its point `midpoint` as the centres are apart.
+// The two points beside the line of centres: each is h_over_d times the vector cv, turned by a quarter, away from `midpoint`.
 fn two_sides(midpoint: Vector2, cv: Vector2, h_over_d: f64, eps: f64) -> CircleCircleIntr
     ensures { λ r. ⌜ r ≡ CircleCircle.twoSides midpoint cv «h_over_d» eps ⌝ }
 {
@@ -37,7 +37,7 @@ fn two_sides(midpoint: Vector2, cv: Vector2, h_over_d: f64, eps: f64) -> CircleC
     }
 }
 
-// Two circles whose centres are d apart, cv leading from the first to the second, and whose radii let them meet.
+// Two circles that can meet, by their radii. Their centres are d apart, and cv leads from the first to the second.
 fn meeting(
     radius1: f64,
     center1: Vector2,
@@ -60,7 +60,7 @@ fn meeting(
     two_sides(midpoint, cv, h / d, eps)
 }
 
-// How two circles meet, for any numbers, by the distance of their centres.
+// How two circles meet, for any numbers: the plain form, with the distance of their centres.
 fn by_distance(
     radius1: f64,
     center1: Vector2,
@@ -73,7 +73,7 @@ fn by_distance(
     let cv = center2.sub(center1);
     let d2 = cv.dot(cv);
     let d = floats::sqrt(d2);
-    // One centre, by the distance of the two.
+    // The centres count as one if they are nearer than epsilon.
     if fuzzy_eq_zero_eps(d, epsilon) {
         return same_center(radius1, radius2, epsilon);
     }
@@ -85,7 +85,7 @@ fn by_distance(
     meeting(radius1, center1, radius2, cv, d2, d, epsilon)
 }
 
-// How two circles meet, for any numbers. Where they are far apart, or one is well inside the other, no root is taken.
+// How two circles meet, for any numbers. It takes no root if they are far apart, or if one is well inside the other.
 pub fn circle_circle(
     radius1: f64,
     center1: Vector2,

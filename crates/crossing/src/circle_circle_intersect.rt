@@ -1,4 +1,4 @@
-// Two circles: the answer, and the call that looks at its numbers first.
+// Two circles: the answer, and the call, which checks its numbers first.
 ghost use mathlib.Core.Path.{_≡_};
 ghost use Rattle.crossing.specs.CircleCircleIntersect;
 use super::circle_circle;

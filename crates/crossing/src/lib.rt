@@ -1,6 +1,5 @@
-// Where two segments meet: the kernels, a module each, and the pair call over them, as the Rust has them.
-// A call looks at its numbers first and refuses what is out of range. What works out an answer from numbers that nobody looked at is
-// private.
+// Where two segments meet: the kernels, one module each, and the pair call over them, as in the Rust. A call checks its numbers
+// first and refuses what is out of range. Functions that work on unchecked numbers are private.
 mod arc_arc;
 mod circle_circle;
 pub mod circle_circle_intersect;

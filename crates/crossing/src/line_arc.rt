@@ -1,5 +1,5 @@
-// A line segment and an arc segment, for any numbers: pline_seg_intersect.rs, lines 208-339. What sticky ends are is told in
-// `arcs::line_and_arc`.
+// A line segment and an arc segment, for any numbers: pline_seg_intersect.rs, lines 208-339. `arcs::line_and_arc` says what
+// sticky ends are.
 ghost use mathlib.Core.Path.{_≡_};
 ghost use Rattle.crossing.specs.LineArc;
 ghost use Rattle.plane.specs.PlineSeg.{segArcRadiusAndCenter};
@@ -14,7 +14,7 @@ use plane::pline_seg::ArcRadiusCenter;
 use plane::pline_vertex::PlineVertex;
 use plane::vector2::Vector2;
 
-// How the line p0 to p1 and the arc a1 to a2 on the circle `arc` meet; `u_is_line` says that the line is the second segment.
+// How the line p0 to p1 and the arc a1 to a2 on the circle `arc` meet. `u_is_line` says that the line is the second segment.
 pub fn process_line_arc_intr(
     p0: Vector2,
     p1: Vector2,

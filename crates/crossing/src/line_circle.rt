@@ -1,4 +1,4 @@
-// A line segment and a circle, for any numbers: line_circle_intersect.rs. The names of its locals are the Rust's.
+// A line segment and a circle, for any numbers: line_circle_intersect.rs. The local names are the Rust's.
 ghost use mathlib.Core.Path.{_≡_};
 ghost use Rattle.crossing.specs.LineCircle;
 ghost use Rattle.crossing.specs.Workings.FarLine;
@@ -18,7 +18,7 @@ pub struct Line {
     pub c: f64,
 }
 
-// A segment that is a point: it touches where its distance from the centre is near the radius.
+// A segment that is a point: it touches the circle if its distance from the centre is near the radius.
 fn point_circle(
     p0: Vector2,
     p1: Vector2,
@@ -28,7 +28,7 @@ fn point_circle(
 ) -> LineCircleIntr
     ensures { λ r. ⌜ r ≡ LineCircle.pointCircle p0 p1 radius «circle_center» eps ⌝ }
 {
-    // The average of the ends stands for the point.
+    // The middle of the two ends is taken as the point.
     let xh = (p0.x + p1.x) / 2.0 - circle_center.x;
     let yk = (p0.y + p1.y) / 2.0 - circle_center.y;
     if fuzzy_eq_eps(floats::sqrt(xh * xh + yk * yk), radius, eps) {
@@ -37,8 +37,10 @@ fn point_circle(
     LineCircleIntr::NoIntersect
 }
 
-// The line through two points, given as they lie about the circle's centre; dx and dy lead from the first to the second.
-// It is vertical by the default epsilon: the test only keeps the slope's divisor from being too small, and decides no answer.
+// The line through two points, whose coordinates are relative to the circle's centre; dx and dy lead from the first to the
+// second. As in the Rust, the line counts as vertical if dx is near zero by the default epsilon, not by the given one. This test
+// only keeps the slope's divisor from being too small; the given epsilon would turn slanted lines upright and lose digits. A
+// vertical line stands at the mean of the two x. No case of the answer is chosen here.
 fn line_through(dx: f64, dy: f64, p0_shifted: Vector2, p1_shifted: Vector2) -> Line
     ensures { λ r. ⌜ r ≡ LineCircle.lineThrough dx dy «p0_shifted» «p1_shifted» ⌝ }
 {
@@ -72,8 +74,8 @@ fn two_points(
 {
     let point1 = Vector2::new(x0 + line.b * mult, y0 - line.a * mult);
     let point2 = Vector2::new(x0 - line.b * mult, y0 + line.a * mult);
-    // Nearness is judged by the points' positions: by the distance of the line from the centre, a large circle would join points
-    // that are much farther apart than epsilon.
+    // The positions of the two points decide whether they count as one. The line's distance from the centre would not do: on a
+    // large circle it would join points that lie much farther apart than epsilon.
     if point1.fuzzy_eq_eps(point2, eps) {
         let t = parametric_from_point(p0, p1, Vector2::new(x0, y0), eps);
         return LineCircleIntr::TangentIntersect { t0: t };
@@ -87,8 +89,8 @@ fn two_points(
     }
 }
 
-// Whether a line is far from a circle: a yes says that |c| / sqrt(q) exceeds s. w is a guess of the root that must not be less than
-// it, and z one of a number above s; how good they are decides only how often the answer is yes.
+// A quick test whether a line is far from a circle: a yes is proved to mean that |c| / sqrt(q) exceeds s. w is a guess of sqrt(q)
+// that must not be below it, and z a number above s. Better guesses only make a yes more frequent.
 fn far(c: f64, q: f64, w: f64, z: f64, s: f64) -> bool
     ensures { λ r. ⌜ FarLine.Far r c q s ⌝ }
 {
@@ -97,7 +99,7 @@ fn far(c: f64, q: f64, w: f64, z: f64, s: f64) -> bool
         & (((q < w * w) & (z * w < k)) & (s < z))
 }
 
-// How a line and a circle about (h, k) meet, by the distance of the line from the centre.
+// How a line and a circle with the centre (h, k) meet: the plain form, with the distance of the line from the centre.
 fn line_meets_by_distance(
     p0: Vector2,
     p1: Vector2,
@@ -126,12 +128,12 @@ fn line_meets_by_distance(
         return LineCircleIntr::TangentIntersect { t0: t };
     }
     let d = r2 - c2 * inv_a2_b2;
-    // The magnitude, since rounding can make d slightly negative.
+    // abs, since rounding can make d slightly negative.
     let mult = floats::sqrt(floats::abs(d * inv_a2_b2));
     two_points(p0, p1, line, x0, y0, mult, eps)
 }
 
-// How a line and a circle about (h, k) meet. Where the line is far from the circle no root is taken.
+// How a line and a circle with the centre (h, k) meet. It takes no root if the line is far from the circle.
 fn line_meets(
     p0: Vector2,
     p1: Vector2,
@@ -145,8 +147,8 @@ fn line_meets(
 {
     let q = line.a * line.a + line.b * line.b;
     let s = radius + eps;
-    // One step of Newton's from the sum of the sides, which is at least the root and at most sqrt(2) times as much: the mean of it
-    // and of what q is divided by it is at least the root, and at most some 6 % more. The factors leave room for rounding.
+    // One step of Newton's method from g = |a| + |b|, which is at least the root of q and at most sqrt(2) times the root. The
+    // mean of g and q / g is at least the root, and at most some 6 % above it. The factors leave a margin for rounding.
     let g = floats::abs(line.a) + floats::abs(line.b);
     let w = (g + q / g) * (513.0 / 1024.0);
     if far(line.c, q, w, s * (129.0 / 128.0), s) {

@@ -1,4 +1,4 @@
-// A line segment and a circle: the answer, and the call that looks at its numbers first.
+// A line segment and a circle: the answer, and the call, which checks its numbers first.
 ghost use mathlib.Core.Path.{_≡_};
 ghost use Rattle.crossing.specs.LineCircleIntersect;
 use super::line_circle;
@@ -13,7 +13,7 @@ pub enum LineCircleAnswer {
     Met(LineCircleIntr),
 }
 
-// How the line of p0 and p1 and a circle meet, or the refusal of the first number at fault.
+// How the line through p0 and p1 meets a circle, or the refusal of the first number at fault.
 pub fn line_circle_intr(
     p0: Vector2,
     p1: Vector2,

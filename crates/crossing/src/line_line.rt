@@ -1,4 +1,4 @@
-// Two line segments, for any numbers: line_line_intersect.rs. The names of its locals are the Rust's.
+// Two line segments, for any numbers: line_line_intersect.rs. The local names are the Rust's.
 ghost use mathlib.Core.Path.{_≡_};
 ghost use Rattle.crossing.specs.LineLine;
 use super::line_line_intr::LineLineIntr;
@@ -9,7 +9,7 @@ use plane::fuzzy::fuzzy_lt_eps;
 use plane::vector2::Vector2;
 use ranges::range::on_segment;
 
-// The parameters at which a segment's line is entered and left.
+// Two parameters of a segment's line: the first and the last of a stretch.
 pub struct Span {
     pub t0: f64,
     pub t1: f64,
@@ -30,7 +30,7 @@ fn crossing(v: Vector2, u: Vector2, w: Vector2, v_pdot_u: f64, eps: f64) -> Line
     LineLineIntr::TrueIntersect { seg1_t, seg2_t }
 }
 
-// Two segments that are points: one point, or none.
+// Two segments that are points: the same point, or apart.
 fn both_points(v1: Vector2, u1: Vector2, eps: f64) -> LineLineIntr
     ensures { λ r. ⌜ r ≡ LineLine.bothPoints v1 u1 eps ⌝ }
 {
@@ -71,7 +71,7 @@ fn second_point(v1: Vector2, v2: Vector2, u1: Vector2, v: Vector2, eps: f64) -> 
     LineLineIntr::NoIntersect
 }
 
-// The two parameters in rising order; equal ones, and NaNs, stay as they are.
+// The two parameters in rising order. Equal ones and NaNs stay in the given order.
 fn rising(t0: f64, t1: f64) -> Span
     ensures { λ r. ⌜ r ≡ LineLine.rising t0 t1 ⌝ }
 {
@@ -81,7 +81,8 @@ fn rising(t0: f64, t1: f64) -> Span
     Span { t0, t1 }
 }
 
-// Where the ends of the first segment lie on the second's line, as the second's parameters: w and w2 lead from u1 to v1 and to v2.
+// Where the ends of the first segment lie on the second's line, as parameters of the second: w and w2 lead from u1 to v1 and to
+// v2.
 fn span_of(w: Vector2, w2: Vector2, u: Vector2, eps: f64) -> Span
     ensures { λ r. ⌜ r ≡ LineLine.spanOf w w2 u eps ⌝ }
 {
@@ -91,7 +92,7 @@ fn span_of(w: Vector2, w2: Vector2, u: Vector2, eps: f64) -> Span
     rising(w.x / u.x, w2.x / u.x)
 }
 
-// Which end of the first segment touches where the two line up end to end: its start or else its end.
+// The first segment's parameter at the end that touches the second: two segments of one line, end to end.
 fn touching_end(v1: Vector2, u1: Vector2, u2: Vector2, eps: f64) -> f64
     ensures { λ r. ⌜ r ≡ LineLine.touchingEnd v1 u1 u2 eps ⌝ }
 {
@@ -101,12 +102,13 @@ fn touching_end(v1: Vector2, u1: Vector2, u2: Vector2, eps: f64) -> f64
     1.0
 }
 
-// Two segments on one line, neither a point, whose parameters on the second are s: apart, end to end, or overlapping.
+// Two segments of one line, neither a point: apart, end to end, or overlapping. s has the first segment's ends as parameters of
+// the second.
 fn overlap(v1: Vector2, u1: Vector2, u2: Vector2, u: Vector2, s: Span, eps: f64) -> LineLineIntr
     ensures { λ r. ⌜ r ≡ LineLine.overlap v1 u1 u2 u s eps ⌝ }
 {
     let seg2_length = u.length();
-    // A near miss counts as a touch: ends are sticky.
+    // Ends are sticky: a near miss counts as a touch.
     if !fuzzy_lt_eps(s.t0 * seg2_length, seg2_length, eps)
         | !fuzzy_gt_eps(s.t1 * seg2_length, 0.0, eps)
     {
@@ -124,7 +126,7 @@ fn overlap(v1: Vector2, u1: Vector2, u2: Vector2, u: Vector2, s: Span, eps: f64)
     LineLineIntr::Overlapping { seg2_t0, seg2_t1 }
 }
 
-// Two segments that are parallel: on one line or not, points or not.
+// Two parallel segments, on one line or not, either of which may be a point.
 fn parallel(
     v1: Vector2,
     v2: Vector2,

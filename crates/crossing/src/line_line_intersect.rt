@@ -1,4 +1,4 @@
-// Two line segments: the answer, and the call that looks at its numbers first.
+// Two line segments: the answer, and the call, which checks its numbers first.
 ghost use mathlib.Core.Path.{_≡_};
 ghost use Rattle.crossing.specs.LineLineIntersect;
 use super::line_line;

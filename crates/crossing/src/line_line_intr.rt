@@ -1,10 +1,10 @@
 // How two line segments meet. A parameter t gives the point p0 + t * (p1 - p0) of its segment.
 pub enum LineLineIntr {
-    // Parallel and not on one line, or points that are apart.
+    // Parallel and apart, on one line or not. A segment that is a point counts as parallel.
     NoIntersect,
-    // One point that both segments have.
+    // The two share one point.
     TrueIntersect { seg1_t: f64, seg2_t: f64 },
-    // On one line, and a stretch of it is common; both parameters are the second segment's.
+    // The two share a stretch of one line; both parameters are the second segment's.
     Overlapping { seg2_t0: f64, seg2_t1: f64 },
     // The lines cross, but beyond an end of a segment.
     FalseIntersect { seg1_t: f64, seg2_t: f64 },

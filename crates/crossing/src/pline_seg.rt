@@ -39,8 +39,8 @@ fn process_line_line_intr(
     }
 }
 
-// How the segments v1 to v2 and u1 to u2 meet. Each is a line or an arc by the bulge of its first vertex; the bulge of its second
-// vertex plays no part. An arc's circle is given.
+// How the segments v1 to v2 and u1 to u2 meet. The bulge of its first vertex makes each a line or an arc; the bulge of its second
+// vertex has no effect. The caller gives the circle of each arc.
 pub fn pline_seg_on(
     v1: PlineVertex,
     v2: PlineVertex,

@@ -1,4 +1,4 @@
-// Two segments of polylines: the answer, and how they meet for a caller that has looked at their numbers. The pair call itself is
+// Two segments of polylines: the answer, and how they meet for a caller that has checked their numbers. The pair call itself is
 // `fast_pair::pair::pline_seg_intr`.
 ghost use mathlib.Core.Path.{_≡_};
 ghost use Rattle.crossing.specs.PlineSeg;
@@ -16,8 +16,8 @@ pub enum PlineSegAnswer {
     Met(PlineSegIntr),
 }
 
-// How the segments v1 to v2 and u1 to u2 meet, for a caller that has looked at their numbers already and has the circle of each that
-// is an arc: it owes that the look finds no fault, and that these are the circles.
+// How the segments v1 to v2 and u1 to u2 meet, for a caller that has checked their numbers and has the circle of each arc. The
+// caller must show that the check finds no fault, and that these are the circles.
 pub fn pline_seg_after_checks(
     v1: PlineVertex,
     v2: PlineVertex,

@@ -1,31 +1,30 @@
-// Tests that tell enough without a root, for the kernels' shortcuts and for a glance at a pair. None decides an answer: where one says
-// no the plain form is asked, and what a yes allows is a law of `specs/Laws`.
+// Quick tests without a root, for the kernels and for the pair call. They change no answer: a yes is proved in `specs/Workings`,
+// and if a test says no the plain form decides.
 ghost use mathlib.Core.Path.{_≡_};
 ghost use Rattle.crossing.specs.Workings.FarLine;
 ghost use Rattle.crossing.specs.Workings.Apart;
 ghost use Rattle.crossing.specs.Workings.Nested;
 
-// 2^-100 and 2^100, beyond which nothing is told.
+// 2^-100 and 2^100: beyond them the quick tests say no.
 const TINY: f64 = 1.0 / 1267650600228229401496703205376.0;
 
 const HUGE: f64 = 1267650600228229401496703205376.0;
 
-// Whether x is neither tiny nor huge, and above zero.
+// Whether x is above zero and neither tiny nor huge.
 pub fn moderate(x: f64) -> bool
     ensures { λ r. ⌜ r ≡ FarLine.moderate x ⌝ }
 {
     (x >= TINY) & (x <= HUGE)
 }
 
-// Whether two circles are far apart: `reach` is their radii and epsilon together, and d2 the square of the distance of their
-// centres.
+// Whether two circles are far apart. `reach` is the sum of their radii and epsilon, and d2 the squared distance of their centres.
 pub fn apart(d2: f64, reach: f64, eps: f64) -> bool
     ensures { λ r. ⌜ r ≡ Apart.apart d2 reach eps ⌝ }
 {
     ((reach >= 0.0) & (reach >= eps)) & (reach * reach < d2)
 }
 
-// Whether one circle lies well inside the other: `gap` is the difference of their radii, and d2 the square of the distance of their
+// Whether one circle lies well inside the other. `gap` is the difference of their radii, and d2 the squared distance of their
 // centres.
 pub fn nested(d2: f64, gap: f64, eps: f64) -> bool
     ensures { λ r. ⌜ r ≡ Nested.nested d2 gap eps ⌝ }

@@ -1,5 +1,5 @@
--- The scope's worked examples in one table: each row is a call and what its answer tells. Proved.antt proves them all by one claim.
--- Epsilon is 1e-5 unless a row says otherwise. Floats are numbers by their bits.
+-- The scope's worked examples in one table: each row is a call and its answer in numbers. Proved.antt proves all of them by one
+-- claim. Epsilon is 1e-5 unless a row says otherwise. Floats are written by their bits.
 use Prim.Native.Nat.{ℕ}
 use mathlib.Core.Bool.{true, false}
 use mathlib.Core.List.{List, [], _∷_}
@@ -64,7 +64,7 @@ n1up = ofBits binary64 0x3ff0_0000_0000_0001
 abbrev pt : Float → Float → Vector2
 pt x y = record { x = x; y = y }
 
--- a vertex where a line begins, and one where an arc with a bulge does
+-- a vertex where a line starts, and one where an arc with this bulge starts
 abbrev at : Float → Float → PlineVertex
 at x y = record { x = x; y = y; bulge = n0 }
 
@@ -72,7 +72,7 @@ abbrev arcAt : Float → Float → Float → PlineVertex
 arcAt x y bulge = record { x = x; y = y; bulge = bulge }
 
 -- ---- rows
--- what the call answers, and what it is to answer
+-- what the call answers, and what it should answer
 pub record Row : Type 0 where
   pub found : AnswerNumbers
   pub due : AnswerNumbers
@@ -83,11 +83,11 @@ met case values = record { refused = false; number = case; values = values }
 abbrev refused : ℕ → AnswerNumbers
 refused n = record { refused = true; number = n; values = [] }
 
--- a pair: v1, v2, u1, u2, epsilon, and what is due
+-- a pair: v1, v2, u1, u2, epsilon, and the answer that it should give
 abbrev pair : PlineVertex → PlineVertex → PlineVertex → PlineVertex → Float → AnswerNumbers → Row
 pair v1 v2 u1 u2 e numbers = record { found = pairs.numbersOf (pairs.plineSegIntr v1 v2 u1 u2 e); due = numbers }
 
--- the points of a pair's answer: an absent one is +0, +0
+-- the points of a pair's answer: a point that the class lacks is +0, +0
 abbrev none : AnswerNumbers
 none = met 0 (n0 ∷ n0 ∷ n0 ∷ n0 ∷ [])
 
@@ -133,11 +133,11 @@ table =
     ∷ pair (at m2 m1) (at n2 m1) (arcAt m1 n0 n1) (at n1 n0) eps (one 1 n0 m1)
     -- L: a point (1,0)-(1,0) with (0,0)-(2,0): OneIntersect (1,0)
     ∷ pair (at n1 n0) (at n1 n0) (at n0 n0) (at n2 n0) eps (one 2 n1 n0)
-    -- a coordinate of 1,048,576 passes, the next float is 2
+    -- a coordinate of 1,048,576 passes; the next float gets refusal 2
     ∷ pair (at most n0) (at n0 n0) (at n0 n0) (at n0 n1) eps (one 2 n0 n0)
     ∷ pair (at more n0) (at n0 n0) (at n0 n0) (at n0 n1) eps (refused 2)
-    -- a bulge of 1 passes (H), the next float is 3
+    -- a bulge of 1 passes (H); the next float gets refusal 3
     ∷ pair (arcAt m1 n0 n1up) (at n1 n0) (arcAt n1 n0 n1) (at m1 n0) eps (refused 3)
-    -- equal ends with bulge 0.5: 5; with bulge 0 a point (L)
+    -- equal ends with bulge 0.5 get refusal 5; with bulge 0 they are a point (L)
     ∷ pair (arcAt n1 n0 half) (at n1 n0) (at n0 n0) (at n2 n0) eps (refused 5)
     ∷ []

@@ -1,4 +1,4 @@
--- Every row of the table holds: one claim, worked out by the definitions that the calls are proved to equal.
+-- Every row of the table holds: one claim, computed by the definitions that the calls are proved to equal.
 use mathlib.Core.Path.{_≡_, refl}
 use mathlib.Core.List.{List, [], _∷_}
 use lib.Count.{trailingZeros}

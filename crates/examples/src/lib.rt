@@ -1,1 +1,1 @@
-// The worked examples of the scope, as theorems: see specs/. There is no code here.
+// The worked examples of the scope, as theorems in specs/. There is no code here.

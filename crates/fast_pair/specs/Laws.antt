@@ -1,4 +1,4 @@
--- Laws that only proofs need: what a glance tells is what the definitions say.
+-- Laws that only proofs need: a yes of a quick test means what the definitions say.
 pub mod Lines
 pub mod Line
 pub mod Pair

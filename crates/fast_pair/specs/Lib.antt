@@ -1,3 +1,4 @@
--- What is kept of a segment, when two are clearly apart, and when numbers are fine at a glance. No answer's definition names it.
+-- The quick tests of a pair, what is kept of a segment, and laws on them. No answer's definition names anything here, so a reader
+-- need not believe it.
 pub mod Workings
 pub mod Laws

@@ -1,4 +1,4 @@
-// Whether the pair call's look finds no fault, told at a glance: by comparisons alone, with no place to remember.
+// A quick test whether the pair call's check finds no fault: it uses comparisons alone, and needs no place of a fault.
 ghost use mathlib.Core.Path.{_≡_};
 ghost use Rattle.fast_pair.specs.Workings.AllFine;
 use checks::limit;
@@ -28,7 +28,7 @@ fn epsilon_fine(eps: f64) -> bool
     (eps >= limit::EPSILON_LEAST) & (eps <= limit::EPSILON_MOST)
 }
 
-// Whether all of a pair's numbers are fine, which a no leaves open.
+// Whether all of a pair's numbers are fine. A no leaves it open.
 pub fn pair_fine(
     v1: PlineVertex,
     v2: PlineVertex,

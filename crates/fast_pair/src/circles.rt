@@ -5,7 +5,7 @@ use crossing::shortcuts::apart;
 use crossing::shortcuts::nested;
 use plane::pline_seg::ArcRadiusCenter;
 
-// Whether two circles clearly do not meet, by the square of the distance of their centres.
+// A quick test whether two circles do not meet, by the squared distance of their centres.
 pub fn circles_apart(circle1: ArcRadiusCenter, circle2: ArcRadiusCenter, eps: f64) -> bool
     ensures { λ r. ⌜ r ≡ ClearlyApart.circlesApart circle1 circle2 eps ⌝ }
 {

@@ -1,4 +1,4 @@
-// What a listing keeps of a segment: what a pair would work out again each time.
+// What a listing keeps of a segment, so that no pair computes it again.
 ghost use mathlib.Core.Path.{_≡_};
 ghost use Rattle.fast_pair.specs.Workings.Kept as keeping;
 use crossing::shortcuts::moderate;
@@ -8,15 +8,16 @@ use plane::pline_seg::seg_arc_radius_and_center;
 use plane::pline_vertex::PlineVertex;
 use plane::vector2::Vector2;
 
-// The numbers that are kept of a segment. An arc keeps its radius and its centre's x and y. A line a * x + b * y + c = 0 keeps its slope,
-// 1 if it is vertical; a number that is not below the root of a * a + b * b; and 0. Its bulge tells which of the two a segment is.
+// The numbers kept of a segment. An arc keeps its radius and the x and y of its centre. A line a * x + b * y + c = 0 keeps a,
+// which is its slope, or 1 if it is vertical; then a number that is not below the root of a * a + b * b; and 0. The bulge of the
+// segment says which of the two it is.
 pub struct Kept {
     pub radius_or_slope: f64,
     pub center_x_or_root: f64,
     pub center_y_or_zero: f64,
 }
 
-// The second number of a line of which no root is guessed: 2^101, beyond what a glance takes.
+// The second number of a line if there is no good guess of its root: 2^101, too large for the quick test, which then says no.
 const NO_GUESS: f64 = 2535301200456458802993406410752.0;
 
 const HALF: f64 = 0.5;
@@ -24,8 +25,8 @@ const HALF: f64 = 0.5;
 // A little more than a half.
 const HALF_MORE: f64 = 513.0 / 1024.0;
 
-// A number that is most often a little above the root of q, from a first guess g that is not far off: two steps of Newton's, and
-// a thousandth more. Nothing hangs on how good it is.
+// A number that is most often a little above the root of q: two steps of Newton's method from a first guess g that is not far
+// off, and a thousandth more. No answer depends on how good it is.
 fn guess(g: f64, q: f64) -> f64
     ensures { λ r. ⌜ r ≡ keeping.guess g q ⌝ }
 {
@@ -33,7 +34,7 @@ fn guess(g: f64, q: f64) -> f64
     (w + q / w) * HALF_MORE
 }
 
-// What is kept of a line whose a and b are these, unless it is a point.
+// What is kept of a line with this a and b. `point` says that the segment is a point, for which no guess is kept.
 fn of_slant(a: f64, b: f64, point: bool) -> Kept
     ensures { λ r. ⌜ r ≡ keeping.ofSlant a b point ⌝ }
 {
@@ -95,7 +96,7 @@ pub fn kept_of(v1: PlineVertex, v2: PlineVertex, eps: f64) -> Kept
     of_arc(v1, v2)
 }
 
-// The circle of an arc of which this is kept.
+// The circle of an arc, from what is kept of it.
 pub fn circle_of(kept: Kept) -> ArcRadiusCenter
     ensures { λ r. ⌜ r ≡ keeping.circleOf kept ⌝ }
 {

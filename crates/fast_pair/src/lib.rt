@@ -1,5 +1,5 @@
-// Whether two segments are clearly apart, told at a glance: with no root and no division, from three numbers kept of each segment.
-// A glance that says nothing leaves the pair to `crossing`, so every answer is that of the pair call.
+// How two segments meet, with quick tests first. From three numbers kept of each segment they show, with no root and no division,
+// that two segments are clearly apart. If inconclusive, `crossing` decides, so every answer is that of the pair call.
 mod all_fine;
 mod circles;
 pub mod kept;

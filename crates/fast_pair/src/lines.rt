@@ -5,12 +5,12 @@ use plane::fuzzy::fuzzy_eq_zero_eps;
 use plane::vector2::Vector2;
 use ranges::range::usual;
 
-// A parameter is clearly outside a segment of usual length from 33/32 on, and down from -1/32.
+// On a segment of usual length a parameter is clearly outside from 33/32 up and from -1/32 down.
 const AFTER_END: f64 = 33.0 / 32.0;
 
 const BEFORE_START: f64 = -1.0 / 32.0;
 
-// Whether n / d is clearly outside, without the division: n is on one side of both limits' products with d.
+// Whether n / d is clearly outside, without the division: n is above both limits times d, or below both.
 fn quotient_outside(n: f64, d: f64) -> bool
     ensures { λ r. ⌜ r ≡ ClearlyApart.quotientOutside n d ⌝ }
 {
@@ -19,14 +19,15 @@ fn quotient_outside(n: f64, d: f64) -> bool
     ((n > end) & (n > start)) | ((n < end) & (n < start))
 }
 
-// Whether the lines of two segments that are not parallel cross clearly outside the segment, given as a vector.
+// Whether the lines of two segments that are not parallel cross clearly outside `segment`, given as a vector.
 fn crosses_outside(n: f64, d: f64, segment: Vector2, eps: f64) -> bool
     ensures { λ r. ⌜ r ≡ ClearlyApart.crossesOutside n d segment eps ⌝ }
 {
     usual(segment.length_squared(), eps) & quotient_outside(n, d)
 }
 
-// Whether two line segments are clearly apart: their lines cross, clearly outside one of the two, or are parallel and not one line.
+// A quick test whether two line segments are apart: their lines cross clearly outside one of the two, or they are parallel and
+// not on one line.
 pub fn lines_apart(v1: Vector2, v2: Vector2, u1: Vector2, u2: Vector2, eps: f64) -> bool
     ensures { λ r. ⌜ r ≡ ClearlyApart.linesApart v1 v2 u1 u2 eps ⌝ }
 {

@@ -1,5 +1,5 @@
-// How two segments meet, with a glance first: inside a listing, which has looked at the numbers already and kept what belongs to each
-// segment; and the pair call, which looks at its numbers itself.
+// How two segments meet, with quick tests first: for a listing, which has checked the numbers and keeps some numbers of each
+// segment; and as the pair call, which checks its numbers itself.
 ghost use mathlib.Core.Path.{_≡_};
 ghost use Rattle.checks.specs.Calls;
 ghost use Rattle.checks.specs.declared.fault.Checked.the-variants.{Fine};
@@ -21,7 +21,7 @@ use crossing::pline_seg_intersect::PlineSegAnswer;
 use crossing::pline_seg_intersect::pline_seg_after_checks;
 use plane::pline_vertex::PlineVertex;
 
-// Whether two segments are clearly apart.
+// A quick test whether two segments are apart.
 fn clearly_apart(
     v1: PlineVertex,
     v2: PlineVertex,
@@ -45,8 +45,8 @@ fn clearly_apart(
     circles_apart(circle_of(v), circle_of(u), eps)
 }
 
-// How the segments v1 to v2 and u1 to u2 meet, of which v and u are kept. As `pline_seg_after_checks`, it is for a caller that has
-// looked at the numbers.
+// How the segments v1 to v2 and u1 to u2 meet; v and u are kept of them. Like `pline_seg_after_checks`, it is for a caller that
+// has checked the numbers.
 pub fn pline_seg_kept(
     v1: PlineVertex,
     v2: PlineVertex,
@@ -67,7 +67,7 @@ pub fn pline_seg_kept(
     pline_seg_after_checks(v1, v2, circle_of(v), u1, u2, circle_of(u), pos_equal_eps)
 }
 
-// Whether both segments are lines, and clearly apart.
+// A quick test whether both segments are lines and apart.
 fn line_pair_apart(
     v1: PlineVertex,
     v2: PlineVertex,
@@ -86,7 +86,7 @@ fn line_pair_apart(
     lines_apart(v1.pos(), v2.pos(), u1.pos(), u2.pos(), eps)
 }
 
-// The same as `pline_seg_kept`, of segments of which nothing is kept: for one pair it does not pay to keep a line's root.
+// The same as `pline_seg_kept`, if nothing is kept of the segments: for one pair, a line's root is not worth its cost.
 fn pline_seg_once(
     v1: PlineVertex,
     v2: PlineVertex,
@@ -105,8 +105,8 @@ fn pline_seg_once(
     pline_seg_after_checks(v1, v2, circle1, u1, u2, circle2, pos_equal_eps)
 }
 
-// The pair call number by number, for numbers that comparisons alone do not tell to be fine. It has no glance at the segments, so that
-// the usual way stands in one place.
+// The pair call number by number, for numbers that the quick test leaves open. It has no quick test of the segments, so that the
+// usual way stands in one place.
 fn pline_seg_by_numbers(
     v1: PlineVertex,
     v2: PlineVertex,
@@ -135,8 +135,8 @@ fn pline_seg_by_numbers(
     }
 }
 
-// How the segments v1 to v2 and u1 to u2 meet, or the refusal of the first number at fault: the pair call, with a glance at its
-// numbers and at the segments first.
+// The pair call: how the segments v1 to v2 and u1 to u2 meet, or the refusal of the first number at fault. Quick tests of its
+// numbers and of its segments come first.
 pub fn pline_seg_intr(
     v1: PlineVertex,
     v2: PlineVertex,

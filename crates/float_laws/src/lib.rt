@@ -1,1 +1,1 @@
-// Laws on the kit's model of IEEE 754, for every proof about floats. There is no code here: see specs/.
+// Laws on the kit's model of IEEE 754, for every proof about floats, in specs/. There is no code here.

@@ -1,5 +1,5 @@
--- The functions on patterns agree with those on values: the value of what a pattern function answers is what the f64 function
--- answers for the operands' values. For every pattern of 64 bits, those of NaNs included.
+-- The functions on patterns agree with those on values: the value of a pattern function's answer is the f64 function's answer for
+-- the operands' values. This holds for every pattern of 64 bits, NaNs included.
 use mathlib.Core.Path.{_≡_, refl, sym, ap, _∙_, subst}
 use Prim.Native.Nat.{ℕ, zero, suc, _+_, _-_, _*_, _/_, _%_, _^_, _≤_, _<_}
 use native.Mathlib.Nat.{add-mod-left, mod-eq-of-lt}
@@ -13,7 +13,7 @@ use Rattle.floats.specs.F64
 use Rattle.floats.specs.Bits
 use Rattle.floats.specs.Laws.Root.{rootOf-fits}
 
--- ---- absolute value: a pattern without the sign's bit has no sign, and with it the negated value
+-- ---- absolute value: a pattern without the sign bit has no sign; with the sign bit its value is negated
 abs-neg : (v : Float) → F64.abs (neg v) ≡ F64.abs v
 unfolding F64.abs neg
 abs-neg nan = refl

@@ -1,6 +1,7 @@
--- What `floats::abs`, `min`, `max` and `sqrt` answer, for every f64: std's functions of these names, and where Rust leaves a zero's
--- sign open the scope's. A reader believes this file; Nearest.antt says in whole numbers and squares what `sqrt` means, and
--- Ieee754.antt and Ieee754Root.antt hold all four to the standard. The logic has one NaN, without bits: its bits are Bits.antt's.
+-- What `floats::abs`, `min`, `max` and `sqrt` answer, for every f64: the same as std's functions of these names; where Rust
+-- leaves the sign of a zero open, the scope's rule. A reader must believe this file. Nearest.antt says in whole numbers and
+-- squares what `sqrt` means; Ieee754.antt and Ieee754Root.antt compare all four with the standard. The logic has one NaN, without
+-- bits: Bits.antt has the bits.
 use Prim.Native.Nat.{ℕ, zero, suc, _+_, _*_, _/_, _^_}
 use mathlib.Core.Bool.{Bool, true, false, cond}
 use lib.Dec.{leb, eqb}
@@ -8,17 +9,17 @@ use lib.Ieee.{Float, nan, inf, fin, Format, binary64, low, up, down, round, size
 
 -- ---- absolute value, minimum, maximum
 
--- the sign is cleared
+-- clears the sign
 unfoldable pub abs : Float → Float
 abs nan = nan
 abs (inf s) = inf false
 abs (fin s m e) = fin false m e
 
--- one of two operands: a NaN gives way to the other, and of two numbers it is the first where `first` says so
+-- one of two operands: a NaN and a number give the number; of two numbers it is the first if `first` is true
 abbrev pub choose : Bool → Float → Float → Float
 choose first x y = cond (isNan x) y (cond (isNan y) x (cond first x y))
 
--- Equal operands give the second, and zeros of either sign are equal.
+-- Equal numbers give the second operand; zeros of either sign are equal.
 unfoldable pub min : Float → Float → Float
 min x y = choose (lt x y) x y
 
@@ -41,17 +42,17 @@ unfoldable pub isqrt : ℕ → ℕ
 unfolding rootIn size
 isqrt n = rootIn (size n) n
 
--- 1 where q is only the whole part of the root of n, and 0 where it is the root
+-- 0 if q is the root of n, and 1 if it is only the whole part of the root
 abbrev pub sticky : ℕ → ℕ → ℕ
 sticky n q = cond (eqb (q * q) n) 0 1
 
--- The root of n / 4 ^ (low f + 1), rounded once. Twice the whole part of the root of n, plus one where there is a rest, lies on the
--- same side of every value of the format, and of every point halfway between two, as twice the root itself.
+-- The root of n / 4 ^ (low f + 1), rounded once. Take twice the whole part of the root of n, plus one if there is a rest. It lies
+-- on the same side of every value of the format, and of every point halfway between two values, as twice the root itself.
 unfoldable pub rootAt : Format → ℕ → Float
 unfolding isqrt round
 rootAt f n = let q = isqrt n in round f false (2 * q + sticky n q) (2 ^ (low f + 2))
 
--- a zero keeps its sign; below zero there is no root; m * 2 ^ e is taken in units so small that n is a whole number
+-- A zero keeps its sign; a number below zero has no root. m * 2 ^ e is counted in units so small that n is a whole number.
 unfoldable pub rootOf : Format → Float → Float
 unfolding rootAt
 rootOf f nan = nan

@@ -1,5 +1,6 @@
--- Absolute value, minimum and maximum beside IEEE 754-2008's abs, minNum and maxNum, on patterns: where they agree, for every
--- pattern, and where they part. The standard's rules are told here in our own words. The root is Ieee754Root.antt's.
+-- Absolute value, minimum and maximum compared with abs, minNum and maxNum of IEEE 754-2008, on patterns: for which patterns they
+-- agree, and for which they differ. The standard's rules stand here in our own words. Ieee754Root.antt does the same for the
+-- root.
 use mathlib.Core.Path.{_≡_, refl, sym, ap, _∙_}
 use mathlib.Core.Logic.{_⊎_, inl, inr}
 use mathlib.Core.Bool.{Bool, true, false, not, cond, _&&_, _||_, true≢false}
@@ -19,7 +20,7 @@ quiet b = nanBits binary64 b && leb (2 ^ 51) (b % 2 ^ 52)
 abbrev pub signalling : ℕ → Bool
 signalling b = nanBits binary64 b && ltb (b % 2 ^ 52) (2 ^ 51)
 
--- ---- abs: the sign's bit is clear, and all others are as they were
+-- ---- abs: the sign bit is clear, and all other bits are unchanged
 
 pub record Abs (b r : ℕ) : Type 0 where
   pub clear : r < 2 ^ 63
@@ -33,15 +34,15 @@ abs-is-abs b h = record { clear = omega arith; others = go (leb (2 ^ 63) b) (leb
     go true over under = let l = over tt in inr (omega arith)
     go false over under = let l = under tt in inl (omega arith)
 
--- ---- minNum and maxNum: r is an answer that the standard allows, where `less x y` says that x is the one asked for
+-- ---- minNum and maxNum: r is an answer that the standard allows; `less x y` says that x is the wanted one
 
 pub record Num (less : Float → Float → Bool) (a b r : ℕ) : Type 0 where
-  -- of two numbers the lesser (greater) one, and of equal ones either
+  -- of two numbers the lesser (for maxNum: the greater) one, and of equal ones either
   pub first : less (ofBits binary64 a) (ofBits binary64 b) ≡ true → r ≡ a
   pub second : less (ofBits binary64 b) (ofBits binary64 a) ≡ true → r ≡ b
   pub either : nanBits binary64 a ≡ false → nanBits binary64 b ≡ false → (r ≡ a) ⊎ (r ≡ b)
-  -- a number goes before a quiet NaN, and two quiet NaNs give a quiet NaN; which digits it carries is not asked here, though the
-  -- standard would keep those of one of the two
+  -- a number and a quiet NaN give the number, and two quiet NaNs give a quiet NaN; its digits are left open here, but the
+  -- standard keeps those of one of the two
   pub number-first : nanBits binary64 a ≡ false → quiet b ≡ true → r ≡ a
   pub number-second : quiet a ≡ true → nanBits binary64 b ≡ false → r ≡ b
   pub nans : quiet a ≡ true → quiet b ≡ true → quiet r ≡ true
@@ -54,9 +55,9 @@ MinNum a b r = Num (λ x y. lt x y) a b r
 abbrev pub MaxNum : ℕ → ℕ → ℕ → Type 0
 MaxNum a b r = Num (λ x y. lt y x) a b r
 
--- A pair of patterns is mixed if one is a signalling NaN and the other a number. For a mixed pair minimum and maximum part from
--- the standard, and for every other they agree with it. So each pair falls under one of the two theorems on minimum, and under one
--- of the two on maximum; `is` stands for min-is-minNum and max-is-maxNum, `departs` for min-departs and max-departs:
+-- A pair of patterns is mixed if one is a signalling NaN and the other a number. For a mixed pair minimum and maximum differ from
+-- the standard; for every other pair they agree with it. So each pair falls under one of the two theorems on minimum, and under
+-- one of the two on maximum. `is` stands for min-is-minNum and max-is-maxNum, `departs` for min-departs and max-departs:
 --
 --                             b a number     b a quiet NaN     b a signalling NaN
 --     a a number              is             is                departs
@@ -65,13 +66,13 @@ MaxNum a b r = Num (λ x y. lt y x) a b r
 abbrev pub mixed : ℕ → ℕ → Bool
 mixed a b = (signalling a && not (nanBits binary64 b)) || (signalling b && not (nanBits binary64 a))
 
--- What is answered for a mixed pair: the number, as beside a quiet NaN. The standard would have a quiet NaN.
+-- The answer for a mixed pair: the number, as for a quiet NaN. The standard wants a quiet NaN.
 pub record Departs (a b r : ℕ) : Type 0 where
   pub first : nanBits binary64 a ≡ false → r ≡ a
   pub second : nanBits binary64 b ≡ false → r ≡ b
   pub number : nanBits binary64 r ≡ false
 
--- ---- the one argument behind both, over the comparison and over the test that picks
+-- ---- one argument for both: it works for either comparison and for the test that picks
 pub quiet-is : quiet Bits.quietNan ≡ true
 unfolding nanBits
 quiet-is = refl
@@ -151,7 +152,7 @@ pub max-is-maxNum : (a b : ℕ) → mixed a b ≡ false → MaxNum a b (Bits.max
 unfolding Bits.max Bits.below
 max-is-maxNum = agrees (λ x y. lt y x) (λ x y h. let n = lt-numbers y x h in (n .1, n .0)) (λ x y. lt-once y x)
 
--- they part for every pair that is
+-- they differ for every mixed pair
 pub min-departs : (a b : ℕ) → mixed a b ≡ true → Departs a b (Bits.min a b)
 unfolding Bits.min
 min-departs a b = departs (Bits.below a b) a b
@@ -160,13 +161,14 @@ pub max-departs : (a b : ℕ) → mixed a b ≡ true → Departs a b (Bits.max a
 unfolding Bits.max
 max-departs a b = departs (Bits.below b a) a b
 
--- and no answer does both, whatever the comparison
+-- no answer for a mixed pair does both, whatever the comparison is
 pub never-both : (less : Float → Float → Bool) (a b r : ℕ) → mixed a b ≡ true → Departs a b r → ¬ Num less a b r
 never-both less a b r h d n =
     let q = n .signalled (or-either (signalling a) (signalling b) _ _ h) in
     true≢false (sym (and-left _ _ q) ∙ d .number)
 
--- every NaN that they answer is 7FF8000000000000: of two NaNs the standard would keep the digits of one, and only that is lost
+-- every NaN that they answer is 7FF8000000000000; for two NaNs the standard keeps the digits of one, and only these digits are
+-- lost
 pub min-nan : (a b : ℕ) → nanBits binary64 (Bits.min a b) ≡ true → Bits.min a b ≡ Bits.quietNan
 unfolding Bits.min
 min-nan a b = picked-nan (Bits.below a b) a b

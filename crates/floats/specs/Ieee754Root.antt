@@ -1,5 +1,5 @@
--- The square root beside IEEE 754-2008's squareRoot, on patterns: what the standard allows, told in our own words; that
--- `Bits.sqrt` answers it for every pattern of 64 bits; and that this settles each answer but for the digits of a NaN.
+-- The square root compared with squareRoot of IEEE 754-2008, on patterns: what the standard allows, in our own words; that
+-- `Bits.sqrt` answers it for every pattern of 64 bits; and that this fixes each answer, except for the digits of a NaN.
 use mathlib.Core.Path.{_≡_, sym, ap, _∙_, subst}
 use mathlib.Core.Logic.{_⊎_, inl, inr}
 use mathlib.Core.Bool.{true, false}
@@ -49,7 +49,7 @@ pub record SquareRoot (b r : ℕ) : Type 0 where
   -- a number below zero, and -infinity: a quiet NaN
   pub below : (X : ℕ) → 0 < X → HasValue (ofBits binary64 b) true X (2 ^ low binary64) → quiet r ≡ true
   pub minus-infinity : b ≡ 0xfff0_0000_0000_0000 → quiet r ≡ true
-  -- a NaN of either kind: a quiet NaN; which digits it carries is not asked here, though the standard would keep b's
+  -- a NaN of either kind: a quiet NaN; its digits are left open here, but the standard keeps those of b
   pub quieted : quiet b ≡ true → quiet r ≡ true
   pub signalled : signalling b ≡ true → quiet r ≡ true
 
@@ -76,7 +76,7 @@ sqrt-is-squareRoot b = record {
     none : F64.sqrt (ofBits binary64 b) ≡ nan → quiet (Bits.sqrt b) ≡ true
     none h = ap quiet (none-quiet b h) ∙ quiet-is
 
--- SquareRoot tells the answer: two that it allows for one pattern are the same, or both are quiet NaNs
+-- SquareRoot fixes the answer: two answers that it allows for one pattern are the same, or both are quiet NaNs
 pub squareRoot-settled : (b r q : ℕ) → b < 2 ^ 64 → SquareRoot b r → SquareRoot b q
     → (r ≡ q) ⊎ ((quiet r ≡ true) × (quiet q ≡ true))
 squareRoot-settled b r q h s t = go (kind b h)
@@ -100,7 +100,7 @@ squareRoot-settled b r q h s t = go (kind b h)
     go (above-zero X P v) = inl (one X (s .above X P v) (t .above X P v))
     go (below-zero X P v) = inr (s .below X P v, t .below X P v)
 
--- every NaN that is answered is 7FF8000000000000: of a NaN the standard would keep the digits, and only that is lost
+-- every NaN that it answers is 7FF8000000000000; the standard keeps the digits of the given NaN, and only these digits are lost
 pub sqrt-nan : (b : ℕ) → nanBits binary64 (Bits.sqrt b) ≡ true → Bits.sqrt b ≡ Bits.quietNan
 sqrt-nan b h =
     let n = ap isNan (sym (sqrt-agrees b)) ∙ sym (nanBits-is binary64 (Bits.sqrt b)) ∙ h in

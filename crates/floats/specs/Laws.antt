@@ -1,4 +1,4 @@
--- What proofs need to know of the definitions. Nothing here has to be believed.
+-- Laws on the definitions that only proofs need. A reader need not believe them: they are proved.
 pub mod Isqrt
 pub mod Turns
 pub mod Guess

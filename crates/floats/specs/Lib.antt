@@ -1,4 +1,5 @@
--- How f64 arithmetic is written, and the four float functions on values and on patterns; then what is proved of them, and laws.
+-- The signs of f64 arithmetic (Ops); the four float functions on values (F64) and on patterns (Bits); what is proved of them
+-- (Nearest, Agree, Ieee754, Ieee754Root). A reader need not believe Workings and Laws.
 pub mod Ops
 pub mod F64
 pub mod Bits

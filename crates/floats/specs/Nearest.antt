@@ -1,10 +1,10 @@
 -- What the square root means, for a reader who knows whole numbers and squares.
 --
--- A finite value of the format f is a count of the format's smallest value, 2 ^ -low f (2 ^ -1074 for binary64):
--- HasValue x false X (2 ^ low f) says that x is +X / 2 ^ low f, and T (fits f x) that the format holds it.
--- Let x be X such units, r be R units, and N = X * 2 ^ low f. Then r is the exact root of x if R * R ≡ N. The point halfway
--- between r and another value y of Y units is (Y + R) / 2 units; it lies below the exact root if (Y + R) * (Y + R) < 4 * N, and
--- above it if 4 * N < (Y + R) * (Y + R). So r is nearer to the exact root than y if that point lies on y's side of the root.
+-- A finite value of the format f is a count of the format's smallest value, 2 ^ -low f (2 ^ -1074 for binary64): HasValue x false
+-- X (2 ^ low f) says that x is +X / 2 ^ low f, and T (fits f x) that x is a value of the format. Let x be X such units, r be R
+-- units, and N = X * 2 ^ low f. Then r is the exact root of x if R * R ≡ N. The point halfway between r and another value y of Y
+-- units is (Y + R) / 2 units. It lies below the exact root if (Y + R) * (Y + R) < 4 * N, and above it if 4 * N < (Y + R) * (Y +
+-- R). So r is nearer to the exact root than y if that point lies on y's side of the root.
 use mathlib.Core.Path.{_≡_, subst}
 use mathlib.Core.Bool.{false}
 use Prim.Native.Nat.{ℕ, _+_, _*_, _^_, _≤_, _<_}
@@ -16,7 +16,7 @@ use Rattle.float_laws.specs.Count.{count-unique, held-of}
 use Rattle.floats.specs.F64
 use Rattle.floats.specs.Laws.Root.{found, rootOf-fits}
 
--- r is a value of the format, and every other value y that is no less than zero is farther from the root of x: no tie either
+-- r is a value of the format, and every other value y that is not below zero is farther from the root of x; so there is no tie
 pub record NearestRoot (f : Format) (X : ℕ) (r : Float) : Type 0 where
   pub fit : T (fits f r)
   pub R : ℕ
@@ -44,7 +44,7 @@ sqrt-nearest x X t v P = go binary64 t v
           above = λ y Y t w l. r .above Y (held-of f y false Y t w .0) l;
         }
 
--- two values that are nearest are one value
+-- there is only one nearest value
 pub nearest-unique : (f : Format) (X : ℕ) (r q : Float) → NearestRoot f X r → NearestRoot f X q → r ≡ q
 nearest-unique f X r q a b =
     let same : a .R ≡ b .R = le-antisymm (not-above a b) (not-above b a) in

@@ -1,5 +1,5 @@
--- How definitions write f64 arithmetic, so that they read like the Rust beside them: each operation is IEEE 754's on binary64, rounded
--- once, ties to even; each comparison is false where an operand is a NaN.
+-- The signs of f64 arithmetic, so that definitions read like the Rust beside them. Each operation is IEEE 754's on binary64,
+-- rounded once, ties to even; each comparison is false if an operand is a NaN.
 use mathlib.Core.Bool.{Bool}
 use lib.Ieee.{Float, binary64, ofBits, add, sub, mul, div, lt, le, eq}
 

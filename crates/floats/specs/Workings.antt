@@ -1,2 +1,2 @@
--- The workings: how answers are found, and quick tests. No answer's definition names anything here, so a reader need not believe it.
+-- How the root is found: the guess and the digits. No answer's definition names it, so a reader need not believe it.
 pub mod Root

@@ -1,10 +1,10 @@
-// The four functions on bit patterns. Here a NaN's bits are settled too: see Bits.antt of specs/.
+// The four functions on bit patterns. Here the bits of a NaN are fixed too: specs/Bits.antt says which.
 ghost use mathlib.Core.Path.{_≡_};
 ghost use lib.Ieee.{binary64, nanBits};
 ghost use Rattle.floats.specs.Bits;
 use super::root;
 
-// Patterns, without the sign's bit: +infinity, above which the NaNs begin, and the one NaN that is answered.
+// Patterns without the sign bit: +infinity (the NaNs lie above it), and the one NaN that these functions answer.
 const INFINITY: u64 = 0x7ff0_0000_0000_0000;
 
 const QUIET_NAN: u64 = 0x7ff8_0000_0000_0000;
@@ -13,7 +13,7 @@ const MAGNITUDE: u64 = 0x7fff_ffff_ffff_ffff;
 
 const NEGATIVE_ZERO: u64 = 0x8000_0000_0000_0000;
 
-// The magnitude of a pattern: the sign's bit is cleared, of a NaN too.
+// The magnitude of a pattern: it clears the sign bit, of a NaN too.
 pub fn abs(b: u64) -> u64
     ensures { λ r. ⌜ r ≡ Bits.abs b ⌝ }
 {
@@ -27,7 +27,7 @@ fn is_nan(b: u64) -> bool
     (b & MAGNITUDE) > INFINITY
 }
 
-// Whether a's number is below b's: no where one is a NaN.
+// Whether a's number is below b's. The answer is no if one of them is a NaN.
 fn below(a: u64, b: u64) -> bool
     ensures { λ r. ⌜ r ≡ Bits.below a b ⌝ }
 {
@@ -40,7 +40,8 @@ fn below(a: u64, b: u64) -> bool
     f64::from_bits(a) < f64::from_bits(b)
 }
 
-// One of two patterns: two NaNs give QUIET_NAN, one gives way to the other; of two numbers the first where `first` says so.
+// One of two patterns. Two NaNs give QUIET_NAN; a NaN and a number give the number; of two numbers it is the first if `first` is
+// true.
 fn pick(first: bool, a: u64, b: u64) -> u64
     ensures { λ r. ⌜ r ≡ Bits.pick first a b ⌝ }
 {
@@ -56,14 +57,14 @@ fn pick(first: bool, a: u64, b: u64) -> u64
     if first { a } else { b }
 }
 
-// The smaller of two numbers' patterns. Equal ones, as zeros of either sign are, give b.
+// The smaller of two numbers' patterns. Equal numbers give b; zeros of either sign are equal.
 pub fn min(a: u64, b: u64) -> u64
     ensures { λ r. ⌜ r ≡ Bits.min a b ⌝ }
 {
     pick(below(a, b), a, b)
 }
 
-// The larger of two numbers' patterns. Equal ones, as zeros of either sign are, give b.
+// The larger of two numbers' patterns. Equal numbers give b; zeros of either sign are equal.
 pub fn max(a: u64, b: u64) -> u64
     ensures { λ r. ⌜ r ≡ Bits.max a b ⌝ }
 {

@@ -1,13 +1,14 @@
-// A guess of a root's digits, and a test of it. How good the guess is decides only how long a root takes: nothing rests on it. The
-// test is of whole numbers, and exact.
+// A guess of a root's digits, and a test of the guess. The answer does not depend on how good the guess is, only the time does.
+// The test works on whole numbers and is exact.
 ghost use mathlib.Core.Path.{_≡_};
 ghost use Prim.Native.Nat.{_^_, _<_};
 ghost use Rattle.floats.specs.Workings.Root;
 ghost use Rattle.floats.specs.Laws.Guess.{Right};
 
-// A number below the root of m * 2 ^ (odd - 52) by two parts in 100,000 at most, in units of 2 ^ -25.
+// A number below the root of m * 2 ^ (odd - 52), by at most two parts in 100,000, in units of 2 ^ -25.
 //
-// It is a polynomial in v = m * 2 ^ -52 of fourth degree, as two factors and a constant: the root of v, times that of 2 where odd is 1.
+// It is a polynomial of fourth degree in v = m * 2 ^ -52, written as two factors and a constant. It gives the root of v, times
+// the root of 2 if odd is 1.
 fn first(m: u64, odd: u64) -> u64
     requires { ⌜ m < 2 ^ 53 ⌝ ∗ ⌜ odd < 2 ⌝ }
     ensures { λ r. ⌜ r ≡ Root.first m odd ⌝ }
@@ -20,11 +21,11 @@ fn first(m: u64, odd: u64) -> u64
     (((one * two) >> 27) * scale) >> 31
 }
 
-// Two steps of Heron's rule from hi towards the root of x, with one division: hi + left * (3 * square + x) / (4 * hi * (square + x)),
-// where `left` is what hi * hi leaves of x. Both products are divided by 3 here, and then none waits for another.
+// Two steps of Heron's rule from hi towards the root of x, with one division: hi + left * (3 * square + x) / (4 * hi * (square +
+// x)), where `left` is x - hi * hi. Both products are divided by 3 here, so that none has to wait for another.
 //
-// The divisor is a little too large, and hi is below the root, so the sum comes out a little low: a root that lies hardly below the
-// middle of two numbers, as that of 1.0 and one last digit does, is not to be rounded up.
+// The divisor is a little too large and hi is below the root, so the sum comes out a little low. That is wanted: a root just
+// below the middle between two numbers (the root of the next number above 1.0 is one) must not be rounded up.
 fn near(x: f64, hi: f64) -> f64
     ensures { λ r. ⌜ r ≡ Root.near x hi ⌝ }
 {
@@ -33,9 +34,9 @@ fn near(x: f64, hi: f64) -> f64
     hi + left * (square + 0.333333333333333 * x) / (1.333333333333337 * hi * (square + x))
 }
 
-// A number that is most likely the root of m * 2 ^ (odd - 52), rounded.
+// A number that is most likely the rounded root of m * 2 ^ (odd - 52).
 //
-// The first guess has 26 digits, so that its square is exact in f64, and what that leaves of the number too.
+// The first guess has 26 digits, so f64 holds its square exactly, and the difference of the number and that square too.
 pub fn guess(m: u64, odd: u64) -> f64
     requires { ⌜ m < 2 ^ 53 ⌝ ∗ ⌜ odd < 2 ⌝ }
     ensures { λ r. ⌜ r ≡ Root.guess m odd ⌝ }
@@ -45,10 +46,10 @@ pub fn guess(m: u64, odd: u64) -> f64
     near(x, hi)
 }
 
-// Whether s is the root of n * 2 ^ 51, rounded: a yes says so. It is where n * 2 ^ 51 - s * s is above -s and not above s.
+// A yes says that s is the rounded root of n * 2 ^ 51. It is the root if n * 2 ^ 51 - s * s is above -s and not above s.
 //
-// With s = a * 2 ^ 27 + b that difference is (((n - 8 * a * a) * 2 ^ 23 - a * b) * 2 ^ 28) - b * b. It is worked out from the left,
-// 8 more than n so that nothing falls below zero, and given up where what is left is too large for s to be right.
+// With s = a * 2 ^ 27 + b that difference is (((n - 8 * a * a) * 2 ^ 23 - a * b) * 2 ^ 28) - b * b. It is computed from the left,
+// with n raised by 8 so that nothing falls below zero. The answer is no as soon as the difference is too large for s to be right.
 pub fn fits(n: u64, s: u64) -> bool
     requires { ⌜ n < 2 ^ 55 ⌝ ∗ ⌜ s < 2 ^ 53 ⌝ }
     ensures { λ r. ⌜ Right r n s ⌝ }

@@ -1,5 +1,5 @@
-// Absolute value, minimum, maximum and square root, which the language does not have. On f64 here; on bit patterns in `bits`.
-// Each answers for every input, as F64.antt and Bits.antt of specs/ say.
+// Absolute value, minimum, maximum and square root, which the language lacks: on f64 here, on bit patterns in `bits`. Each
+// function answers for every input: see F64.antt and Bits.antt in specs/.
 ghost use mathlib.Core.Path.{_≡_};
 ghost use Rattle.floats.specs.F64;
 
@@ -7,18 +7,18 @@ pub mod bits;
 mod guess;
 mod root;
 
-// The magnitude: the sign is cleared.
+// The magnitude: it clears the sign.
 pub fn abs(x: f64) -> f64
     ensures { λ r. ⌜ r ≡ F64.abs x ⌝ }
 {
-    // A NaN has no bits that can be read, and no sign that shows.
+    // The language does not show a NaN's bits, so its sign cannot be seen.
     if x != x {
         return x;
     }
     f64::from_bits(bits::abs(f64::to_bits(x)))
 }
 
-// The smaller of two numbers. Equal ones give y; a NaN gives way to the other.
+// The smaller of two numbers. Equal numbers give y; a NaN and a number give the number.
 pub fn min(x: f64, y: f64) -> f64
     ensures { λ r. ⌜ r ≡ F64.min x y ⌝ }
 {
@@ -28,7 +28,7 @@ pub fn min(x: f64, y: f64) -> f64
     if x < y { x } else { y }
 }
 
-// The larger of two numbers. Equal ones give y; a NaN gives way to the other.
+// The larger of two numbers. Equal numbers give y; a NaN and a number give the number.
 pub fn max(x: f64, y: f64) -> f64
     ensures { λ r. ⌜ r ≡ F64.max x y ⌝ }
 {
@@ -38,11 +38,11 @@ pub fn max(x: f64, y: f64) -> f64
     if y < x { x } else { y }
 }
 
-// The square root, rounded to the nearest f64. A zero keeps its sign; a number below zero has none and gives a NaN.
+// The square root, rounded to the nearest f64. A zero keeps its sign; a number below zero has no root and gives a NaN.
 pub fn sqrt(x: f64) -> f64
     ensures { λ r. ⌜ r ≡ F64.sqrt x ⌝ }
 {
-    // Below zero, and of a NaN, there is no root.
+    // A NaN and a number below zero have no root.
     if x >= 0.0 {
         return f64::from_bits(bits::sqrt(f64::to_bits(x)));
     }

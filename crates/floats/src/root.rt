@@ -1,5 +1,5 @@
-// The square root of a number above zero: its digits are guessed, and where the guess is wrong worked out one by one. That plain form
-// takes shifts, adding, subtraction and comparison only: a chip that has no 64-bit product works it out as fast as any other.
+// The square root of a number above zero. It guesses the digits; if the guess is wrong, the plain form works them out one by one.
+// The plain form only shifts, adds, subtracts and compares: a chip without a 64-bit product runs it as fast as any other.
 ghost use mathlib.Core.Path.{_≡_};
 ghost use Prim.Native.Nat.{_+_, _*_, _^_, _<_};
 ghost use Rattle.floats.specs.Bits;
@@ -7,20 +7,20 @@ ghost use Rattle.floats.specs.Workings.Root;
 ghost use Rattle.floats.specs.Laws.Turns.{Room, Sound};
 use super::guess;
 
-// A number above zero taken apart: it is m * 2 ^ (e - 2098), and m has 53 digits.
+// A number above zero in parts: it is m * 2 ^ (e - 2098), and m has 53 digits.
 pub struct Scaled {
     pub m: u64,
     pub e: u64,
 }
 
-// A root under way: its digits so far, the unit of the last of them, and what is left of the number, in units of half that unit.
+// A root under way: its digits so far, the unit of its last digit, and what is left of the number, in units of half that unit.
 pub struct Turning {
     pub rest: u64,
     pub root: u64,
     pub unit: u64,
 }
 
-// One digit more: it is taken where what it takes is left. (root + half)^2 is root^2 + (2 * root + half) * half.
+// One digit more: it is 1 if enough is left of the number. (root + half)^2 is root^2 + (2 * root + half) * half.
 fn turn(s: Turning) -> Turning
     requires { ⌜ Room s ⌝ }
     ensures { λ r. ⌜ r ≡ Root.turn s ⌝ }
@@ -55,8 +55,8 @@ fn six_turns(s: Turning) -> Turning
     turn(s5)
 }
 
-// The whole part of the root of n * 2 ^ 53: 54 digits from the top, each tried once. The turns stand in a row and in no loop,
-// since a compiler makes each of them a few moves then, where in a loop it makes a branch that cannot be predicted.
+// The whole part of the root of n * 2 ^ 53: 54 digits from the top, each tried once. The turns stand in a row, not in a loop: the
+// compiler then makes each of them a few moves, but a loop gets a branch that cannot be predicted.
 fn digits(n: u64) -> u64
     requires { ⌜ n < 2 ^ 55 ⌝ }
     ensures { λ r. ⌜ r ≡ Root.digits n ⌝ }
@@ -86,18 +86,18 @@ fn plain(n: u64) -> u64
     (digits(n) + 1) >> 1
 }
 
-// The root of m * 2 ^ (odd + 52), rounded: a guess, where the test says that it is right, and else what its digits one by one say.
+// The rounded root of m * 2 ^ (odd + 52): the guess if the test says that it is right, else the plain form.
 fn rounded(m: u64, odd: u64) -> u64
     requires { ⌜ m < 2 ^ 53 ⌝ ∗ ⌜ odd < 2 ⌝ }
     ensures { λ r. ⌜ r ≡ Root.rounded ((m + m) * 2 ^ odd) ⌝ }
 {
     let n: u64 = (m + m) << odd;
     let g: f64 = guess::guess(m, odd);
-    // A NaN has no digits that can be read.
+    // The language does not show a NaN's bits.
     if g != g {
         return plain(n);
     }
-    // Where g is from 1 to 2, what its pattern has above that of 0.5 are its digits.
+    // If g is from 1 to 2, its digits are its pattern less the pattern of 0.5.
     let s: u64 = std::num::wrapping_sub_u64(f64::to_bits(g), 0x3fe0_0000_0000_0000);
     if s >= 0x20_0000_0000_0000 {
         return plain(n);
@@ -108,7 +108,7 @@ fn rounded(m: u64, odd: u64) -> u64
     plain(n)
 }
 
-// The digits of a subnormal number, moved up to 53 places.
+// The digits of a subnormal number, shifted up to 53 places.
 fn raised(t: u64) -> Scaled
     requires { ⌜ 0 < t ⌝ ∗ ⌜ t < 2 ^ 52 ⌝ }
     ensures { λ r. ⌜ r ≡ Root.raised t ⌝ }
@@ -122,7 +122,7 @@ fn raised(t: u64) -> Scaled
     Scaled { m, e }
 }
 
-// The number of a pattern above zero and below infinity, taken apart.
+// The parts of the number of a pattern above zero and below infinity.
 fn parts(b: u64) -> Scaled
     requires { ⌜ 0 < b ⌝ ∗ ⌜ b < 0x7ff0_0000_0000_0000 ⌝ }
     ensures { λ r. ⌜ r ≡ Root.parts b ⌝ }
@@ -140,8 +140,9 @@ fn parts(b: u64) -> Scaled
 
 // The pattern of the root of a pattern above zero and below infinity.
 //
-// The root of m * 2 ^ (e - 2098) is worked out with one digit more than an f64 keeps, and that digit rounds it: it cannot be a
-// tie. An odd e lends the digits one place. The rounded digits are added to the exponent's field, and carry into it.
+// The root of m * 2 ^ (e - 2098) is computed with one digit more than an f64 keeps, and that digit rounds it: a tie cannot
+// happen. An odd e gives one place to the digits. The rounded digits are added to the exponent's field, so that they carry into
+// it.
 pub fn sqrt(b: u64) -> u64
     requires { ⌜ 0 < b ⌝ ∗ ⌜ b < 0x7ff0_0000_0000_0000 ⌝ }
     ensures { λ r. ⌜ r ≡ Bits.sqrt b ⌝ }

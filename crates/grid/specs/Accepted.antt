@@ -27,7 +27,7 @@ use Rattle.checks.specs.Edges.{powers}
 use Rattle.checks.specs.FirstFault.{AllFine, none, one, first-fine}
 use Rattle.checks.specs.Limit
 use Rattle.checks.specs.Answered.{answered}
-use Rattle.checks.specs.Laws.Fine.{NearExact, Between, epsilon-fine, coordinate-fine, bulge-fine}
+use Rattle.checks.specs.Laws.Fine.{Within, Between, epsilon-fine, coordinate-fine, bulge-fine}
 use Rattle.crossing.specs.PlineSeg.{plineSeg, processLineLineIntr}
 use Rattle.arcs.specs.declared.pline_seg_intr.PlineSegIntr.{PlineSegIntr}
 use Rattle.crossing.specs.PlineSegIntersect.{plineSegIntr}
@@ -62,7 +62,7 @@ sized s m c e z h =
 limit-value : HasValue Limit.coordinate false 1048576 1
 limit-value = subst (λ (x : Float). HasValue x false 1048576 1) (sym (powers .coordinate)) (refl, refl)
 
-coordinate-within : (x : Float) (z : ℤ) → Is x z 1 → natAbs z ≤ 1048576 → NearExact Limit.coordinate x
+coordinate-within : (x : Float) (z : ℤ) → Is x z 1 → natAbs z ≤ 1048576 → Within Limit.coordinate x
 unfolding F64.abs
 coordinate-within nan z h l = absurd h
 coordinate-within (inf s) z h l = absurd h
@@ -117,7 +117,7 @@ near-zero : fuzzyEpsilon ≡ fin false 0xabcc77118461d (negsuc 77)
 unfolding ofBits
 near-zero = refl
 
-below-near-zero : (b : Float) → T (F64.abs b ≺ fin false 0xabcc77118461d (negsuc 77)) → NearExact Limit.bulge b
+below-near-zero : (b : Float) → T (F64.abs b ≺ fin false 0xabcc77118461d (negsuc 77)) → Within Limit.bulge b
 unfolding F64.abs lt
 below-near-zero nan t = absurd t
 below-near-zero (inf s) t = absurd t
@@ -136,7 +136,7 @@ below-near-zero (fin s m e) t =
         let f : x < d = lt-of-mul-lt-mul-right k less in
         omega arith
 
-bulge-within : (v : PlineVertex) → T (bulgeIsZero v) → NearExact Limit.bulge (v .bulge)
+bulge-within : (v : PlineVertex) → T (bulgeIsZero v) → Within Limit.bulge (v .bulge)
 unfolding fuzzyEqZeroEps
 bulge-within v t = below-near-zero (v .bulge) (subst (λ (x : Float). T (F64.abs (v .bulge) ≺ x)) near-zero t)
 

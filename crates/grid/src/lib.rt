@@ -1,1 +1,1 @@
-// What is promised on the plant's grid, as theorems: see specs/. There is no code here.
+// The promise on the plant's grid, as theorems in specs/. There is no code here.

@@ -1,5 +1,5 @@
--- The answer of the scope's text program, `crossings`, to a text: "refused 10" where it breaks its form, else the listing of its
--- two paths, both open, with epsilon 1/1024 and room for 512 rows.
+-- The answer of the scope's text program, `crossings`, to a text: "refused 10" if the text breaks its form, else the listing of
+-- its two paths, both open, with epsilon 1/1024 and room for 512 rows.
 use Prim.Native.Nat.{ℕ, _*_}
 use mathlib.Core.Bool.{false}
 use mathlib.Core.List.{List}
@@ -23,11 +23,11 @@ use Rattle.listing_calls.specs.Listing.{mutualListing}
 abbrev pub epsilon : Float
 epsilon = ofBits binary64 0x3f50_0000_0000_0000
 
--- how many rows there is room for
+-- how many rows the listing has room for
 abbrev pub mostRows : ℕ
 mostRows = 512
 
--- what is lent for them
+-- that room: the two slices that are lent
 abbrev pub noIndices : List ℕ
 noIndices = replicate (mostRows * indicesARow) 0
 
@@ -53,8 +53,8 @@ answerOf (layout l) = linesFor (pathOf (l .first)) (pathOf (l .second))
 unfoldable pub answerTo : List ℕ → List ℕ
 answerTo text = answerOf (reads text)
 
--- ---- what the functions promise: these bytes on the front of the slice, or nothing where it has not the room that the most rows
--- are given
+-- ---- what the functions promise: these bytes at the front of the slice, or nothing if it has too little room for the lines of the
+-- most rows
 abbrev pub room : ℕ
 room = roomFor mostRows
 

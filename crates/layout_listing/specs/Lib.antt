@@ -1,3 +1,3 @@
--- The answer of the program `crossings` to a text, and laws on it.
+-- The answer of the program `crossings` to a text. A reader need not believe Laws.
 pub mod Answer
 pub mod Laws

@@ -1,4 +1,4 @@
-// From the text of a layout to the text of its listing: all that the program `crossings` does but reading and writing.
+// From the text of a layout to the text of its listing: everything that the program `crossings` does, except reading and writing.
 ghost use Rattle.layout_listing.specs.Answer.{AnswerTo, LinesFor};
 use answer_lines::LINE;
 use answer_lines::Written;
@@ -11,16 +11,16 @@ use listing_calls::mutual_listing::mutual_listing;
 use listing_outcomes::answer::ListingAnswer;
 use listing_pairs::row;
 
-// how near is near: 1/1024
+// epsilon: 1/1024
 pub const EPSILON: f64 = 0.0009765625;
 
-// how many rows there is room for
+// how many rows the listing has room for
 pub const ROWS: usize = 512;
 
-// how many bytes the answer's text is given: a line for the counts, and one for every row
+// how many bytes of room the answer's text needs: a line for the counts and one for every row
 pub const ROOM: usize = (ROWS + 1) * LINE;
 
-// Writes the lines of the listing of two open paths to the front of `out`, and answers how many bytes they are.
+// Writes the lines of the listing of two open paths to the front of `out`, and answers how many bytes they have.
 fn list_paths(first: &[f64], second: &[f64], out: &mut [u8]) -> Written
     ensures { λ r. ⌜ LinesFor (now (first .entry)) (now (second .entry)) r (now (out .entry)) (now (out .exit)) ⌝ }
 {
@@ -44,8 +44,8 @@ fn list_paths(first: &[f64], second: &[f64], out: &mut [u8]) -> Written
     }
 }
 
-// Writes the answer to a layout's text to the front of `out`, and answers how many bytes it is; nothing is written if `out` has not
-// the room for the longest answer.
+// Writes the answer to a layout's text to the front of `out`, and answers how many bytes it has. If `out` lacks the room for the
+// longest answer, nothing is written.
 pub fn list_layout(text: &[u8], out: &mut [u8]) -> Written
     ensures { λ r. ⌜ AnswerTo (now (text .entry)) r (now (out .entry)) (now (out .exit)) ⌝ }
 {

@@ -1,5 +1,5 @@
--- The floats of a layout's numbers are exact: that of a coordinate is the whole number, that of a bulge n is n / 65,536.
--- `HasValue x s a c` says that x is finite, has the sign s, and is a / c in magnitude.
+-- The floats of a layout's numbers are exact: the float of a coordinate is the whole number, and the float of a bulge n is n /
+-- 65,536. `HasValue x s a c` says that x is finite, has the sign s, and is a / c in magnitude.
 use Prim.Native.Nat.{ℕ, suc, _+_, _-_, _*_, _^_, _≤_, _<_}
 use mathlib.Core.Path.{_≡_, refl, sym, ap, _∙_, subst}
 use mathlib.Core.Bool.{Bool, true, false}
@@ -28,9 +28,9 @@ pub coordinate-exact : (z : ℤ) → magnitude z ≤ limit.coordinate → HasVal
 unfolding coordinate
 coordinate-exact z h = whole-exact z (omega arith)
 
--- ---- a whole number of at most 2^16 divided by 2^16
+-- ---- a whole number of at most 2^16, divided by 2^16
 
--- a fraction with a common part left out
+-- a common factor cancels in a fraction
 reduced : (x : Float) (s : Bool) (n d c : ℕ) → 0 < d → HasValue x s (n * d) (c * d) → HasValue x s n c
 reduced nan s n d c p v = v
 reduced (inf t) s n d c p v = v
@@ -44,7 +44,7 @@ room l p n h g =
     let small : n < 2 ^ 17 = omega arith in
     lt-of-lt-of-le (shl-lt 17 (l - 16) small) (pow-mono (omega arith))
 
--- in units of the smallest value: 2 ^ l of them are 1
+-- in units of the smallest value: 2 ^ l units are 1
 counted : (l n d : ℕ) → 16 ≤ l → n * d * 2 ^ l ≡ n * 2 ^ (l - 16) * (65536 * d)
 counted l n d h = go (2 ^ (l - 16)) (ap (λ (k : ℕ). 2 ^ k) back ∙ pow-add 2 (l - 16) 16)
   where

@@ -1,4 +1,4 @@
--- The reader accepts exactly the texts of the form, and reads each as the layout whose text it is.
+-- The reader accepts exactly the texts of the form, and it reads the text of a layout as that layout.
 use Prim.Native.Nat.{ℕ, _≤_}
 use mathlib.Core.Path.{_≡_, refl, sym, ap, _∙_}
 use mathlib.Core.Bool.{Bool, true, false, cond}
@@ -15,14 +15,14 @@ use Rattle.layout_text.specs.Laws.Complete.{lines-read}
 use Rattle.layout_text.specs.Laws.Sound.{lines-spelt}
 use Rattle.layout_text.specs.Laws.Long.{text-long}
 
--- nothing in the form is refused: the text of a layout is read as that layout
+-- no text of the form is refused: the text of a layout is read as that layout
 pub text-reads : (l : Layout) → Within l → reads (textOf l) ≡ layout l
 unfolding reads
 text-reads l w =
     let short : length (textOf l) ≤ limit.bytes = omega (arith, text-long l w) in
     rw (le-ltb _ _ short, lines-read l w)
 
--- nothing outside is accepted: what is read as a layout is the text of that layout, which is within the limits
+-- no other text is accepted: a text that is read as a layout is the text of that layout, which is within the limits
 pub read-is-text : (text : List ℕ) (l : Layout) → reads text ≡ layout l → (text ≡ textOf l) × Within l
 unfolding reads
 read-is-text text l e = go (ltb limit.bytes (length text)) (linesOf text) refl e
@@ -45,7 +45,7 @@ one-text l k w v e =
     let same : layout l ≡ layout k = sym (text-reads l w) ∙ ap reads e ∙ text-reads k v in
     cc
 
--- and a text is refused exactly if no layout within the limits has it
+-- a text is refused exactly if it is the text of no layout within the limits
 pub refused-no-text : (text : List ℕ) → reads text ≡ broken → (l : Layout) → Within l → text ≡ textOf l → ⊥
 refused-no-text text e l w is =
     let both : broken ≡ layout l = sym e ∙ ap reads is ∙ text-reads l w in

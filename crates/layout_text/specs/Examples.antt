@@ -1,4 +1,4 @@
--- Worked examples: the scope's own text both ways, the smallest and the largest numbers, and texts that are refused.
+-- Worked examples: the scope's own text in both directions, the smallest and the largest numbers, and texts that are refused.
 use mathlib.Core.Path.{_≡_, refl}
 use mathlib.Core.List.{List, [], _∷_, map}
 use Prim.Native.Nat.{ℕ}

@@ -1,4 +1,4 @@
--- What only proofs need.
+-- Laws that only proofs need. A reader need not believe them: they are proved.
 pub mod Decimal
 pub mod Bytes
 pub mod Complete

@@ -1,4 +1,4 @@
--- A layout of the scope's text program: two paths, whose vertices are whole numbers. It says nothing of how a layout is stored.
+-- A layout of the scope's text program: two paths, whose vertices are whole numbers. It does not say how a layout is stored.
 use Prim.Native.Nat.{ℕ, suc, _≤_}
 use mathlib.Core.List.{List, [], _∷_}
 use lib.ListN.{length}

@@ -1,4 +1,5 @@
--- A layout, its limits and its text, and what the reader promises; beside them the reader's own form, theorems and examples.
+-- A layout (Layout), its limits and its text (Form), its floats (Numbers), and what the reader promises (Read); then what is
+-- proved of them (Exactly, Exact, ReaderPromise, Examples). A reader need not believe Workings and Laws.
 pub mod Limits
 pub mod Layout
 pub mod Decimal

@@ -1,4 +1,4 @@
--- The scope's limits on texts: a layout's numbers, and how much of it there may be. Every form in which it is stored has these.
+-- The scope's limits on texts: of a layout's numbers, and of its size. They hold however a layout is stored.
 use Prim.Native.Nat.{ℕ, _*_}
 
 -- the largest magnitude of x and of y
@@ -17,10 +17,10 @@ vertices = 256
 abbrev pub bytes : ℕ
 bytes = 16_384
 
--- how many numbers a vertex is in a buffer
+-- how many numbers a buffer has for a vertex
 abbrev pub numbersAVertex : ℕ
 numbersAVertex = 3
 
--- how many numbers a buffer must have for a path of the most vertices
+-- how many numbers a buffer must hold: those of the most vertices
 abbrev pub room : ℕ
 room = vertices * numbersAVertex

@@ -1,5 +1,5 @@
--- The f64 numbers that a layout's whole numbers stand for, by the scope's part on texts. x and y are at most 2^20 in magnitude,
--- so the float is the whole number itself; 65,536 is a power of two, so the quotient is exact (Exact.antt).
+-- The f64 numbers of a layout's whole numbers, by the scope. x and y are at most 2^20 in magnitude, so the float is the whole
+-- number itself; 65,536 is a power of two, so the quotient is exact (Exact.antt).
 use mathlib.Core.List.{List, [], _∷_}
 use lib.IntN.{ℤ}
 use lib.Ieee.{Float, binary64, ofBits, ofInt, div}

@@ -1,4 +1,4 @@
--- What the reader of the scope's texts promises: its answer, and what stands in both buffers after it, for any text and buffers.
+-- What the reader of the scope's texts promises: its answer, and what both buffers hold afterwards, for any text and any buffers.
 use Prim.Native.Nat.{ℕ}
 use mathlib.Core.Path.{_≡_}
 use mathlib.Core.Bool.{Bool, _||_, cond}
@@ -17,17 +17,17 @@ use Rattle.layout_text.specs.declared.Reading.the-variants as Reading·
 abbrev pub refusal : ℕ
 refusal = 10
 
--- a buffer is too small for a path of the most vertices
+-- a buffer is too small for a path with the most vertices
 abbrev pub roomless : List Float → List Float → Bool
 roomless first second = ltb (length first) limit.room || ltb (length second) limit.room
 
--- ---- where there is room
+-- ---- if there is room
 
 abbrev pub answerOf : Taken → Reading
 answerOf broken = Reading·.Refused refusal
 answerOf (layout l) = Reading·.Counts (length (l .first)) (length (l .second))
 
--- the old contents of a buffer with a path's numbers from its front; a refused text leaves it as found
+-- a buffer's old contents, with a path's numbers written to its front; a refused text leaves it unchanged
 abbrev pub firstOf : Taken → List Float → List Float
 firstOf broken old = old
 firstOf (layout l) old = sets old 0 (pathOf (l .first))

@@ -1,5 +1,5 @@
--- The reader's promise settles the result: two answers that it allows for the same text and buffers are equal, and so are the
--- buffers' contents. And what it says in a caller's words.
+-- The reader's promise allows one result only: for the same text and buffers, two answers that it allows are equal, and so are
+-- the buffers afterwards. Then the promise in a caller's words.
 use Prim.Native.Nat.{ℕ}
 use mathlib.Core.Path.{_≡_, refl, sym, ap, _∙_}
 use mathlib.Core.Logic.{_↔_}
@@ -27,7 +27,7 @@ to-broken : (t : Taken) → answerOf t ≡ Reading·.Refused refusal → t ≡ b
 to-broken broken e = refl
 to-broken (layout l) e = let z : _≡_ {A = ℕ} 0 1 = cc in absurd (omega arith)
 
--- ---- in the caller's words, where both buffers have room
+-- ---- in a caller's words, if both buffers have room
 
 module _ {text : List ℕ} {r : Reading} {first first′ second second′ : List Float}
     (read : ReadLayout text r first first′ second second′) (room : roomless first second ≡ false) where
@@ -40,7 +40,7 @@ module _ {text : List ℕ} {r : Reading} {first first′ second second′ : List
       let is : reads text ≡ layout l = ap reads e ∙ text-reads l w in
       (read .told ∙ rw (room, is), read .first-holds ∙ rw (room, is), read .second-holds ∙ rw (room, is))
 
-  -- refusal 10 is given if and only if the text is none of a layout within the limits; then nothing is written
+  -- refusal 10 is the answer if and only if the text is that of no layout within the limits; then nothing is written
   pub refused-when : (r ≡ Reading·.Refused refusal) ↔ ((l : Layout) → Within l → text ≡ textOf l → ⊥)
   refused-when = (
     λ e. refused-no-text text (to-broken (reads text) (sym (read .told ∙ rw room) ∙ e)),

@@ -1,4 +1,4 @@
-// Bytes told apart: a digit is its worth, and these are the others.
+// The kinds of a byte: 0 to 9 are the digits, by their values, and these are the others.
 ghost use mathlib.Core.Path.{_≡_};
 ghost use Prim.Native.Nat.{_<_};
 ghost use lib.ListN.{length, drop};
@@ -10,10 +10,10 @@ pub const NEWLINE: u64 = 11;
 
 pub const MINUS: u64 = 12;
 
-// no byte of the form, or no byte at all
+// a byte that the form does not have, or no byte
 pub const OTHER: u64 = 13;
 
-// What a byte is.
+// The kind of a byte.
 pub fn kind(b: u8) -> u64
     ensures { λ r. ⌜ r ≡ kindOf b ⌝ }
 {
@@ -26,7 +26,7 @@ pub fn kind(b: u8) -> u64
     }
 }
 
-// What byte i is; past the end there is none.
+// The kind of byte i; OTHER past the end.
 pub fn kind_at(text: &[u8], i: usize) -> u64
     ensures { λ r. ⌜ r ≡ firstKind (drop i (now (text .entry))) ⌝ }
     ensures { λ r. ⌜ (r < other → i < length (now (text .entry))) ⌝ }

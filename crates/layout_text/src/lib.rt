@@ -1,4 +1,4 @@
-// A layout as a text: the reader. What it promises is in specs/Read.antt; the form of a text is in specs/Form.antt.
+// The reader: a layout from its text. specs/Read.antt has what it promises, and specs/Form.antt the form of a text.
 ghost use Rattle.layout_text.specs.Read.{ReadLayout};
 use shape::Shape;
 use shape::shape_of;
@@ -11,18 +11,18 @@ mod shape;
 mod value;
 mod vertex;
 
-// The refusal of a text that breaks its form, as the scope numbers it.
+// The scope's number of the refusal of a text that breaks its form.
 pub const TEXT: u64 = 10;
 
-// How many vertices each path has; or a refusal's number; or that a buffer is too small for a path of the most vertices.
+// How many vertices each path has; or a refusal's number; or that a buffer is too small for a path with the most vertices.
 pub enum Reading {
     Counts(usize, usize),
     Refused(u64),
     NoRoom,
 }
 
-// Reads a text. The vertices of both paths, three numbers each, stand at the front of the two buffers, and the rest of these is
-// as found. Nothing is written where the text breaks its form or a buffer is too small.
+// Reads a text. It writes the vertices of the two paths, three numbers each, to the front of the two buffers; the rest of the
+// buffers is unchanged. If the text breaks its form or a buffer is too small, nothing is written.
 pub fn read_layout(text: &[u8], first: &mut [f64], second: &mut [f64]) -> Reading
     ensures { λ r. ⌜ ReadLayout (now (text .entry)) r (now (first .entry)) (now (first .exit)) (now (second .entry)) (now (second .exit)) ⌝ }
 {

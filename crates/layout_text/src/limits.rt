@@ -1,4 +1,4 @@
-// What the numbers of a layout may be, and how much of it there may be. specs/Limits.antt has the same.
+// The limits of a layout's numbers and of its size. specs/Limits.antt has the same.
 
 // the largest magnitude of x and of y
 pub const COORDINATE: u64 = 1048576;
@@ -12,8 +12,8 @@ pub const VERTICES: u64 = 256;
 // the most bytes of a text
 pub const BYTES: usize = 16384;
 
-// how many numbers a vertex is in a buffer
+// how many numbers a buffer has for a vertex
 pub const NUMBERS: usize = 3;
 
-// how many numbers a buffer must have for a path of the most vertices
+// how many numbers a buffer must hold: those of the most vertices
 pub const ROOM: usize = VERTICES as usize * NUMBERS;

@@ -1,4 +1,4 @@
-// Numbers in a text. `end` is the kind of the byte that must stand after a number; it is read with it.
+// Numbers in a text. `end` is the kind of the byte that must follow a number; that byte is read too.
 ghost use mathlib.Core.Path.{_≡_};
 ghost use mathlib.Core.Bool.{true, false};
 ghost use Prim.Native.Nat.{_≤_, _<_};
@@ -8,13 +8,13 @@ ghost use Rattle.layout_text.specs.Workings.Reader.{digitsOf, positiveOf
 ghost use Rattle.layout_text.specs.Workings.Shown.{shownNumber};
 use super::bytes;
 
-// A whole number as its sign and its magnitude, with the place after it; or that there is none.
+// A whole number: whether it is negative, its magnitude, and the place after it. Or there is none.
 pub enum Number {
     Broken,
     Whole(bool, u64, usize),
 }
 
-// The digits from `start` up to the end.
+// The digits from `start` up to the byte `end`.
 fn digits(text: &[u8], start: usize, negative: bool, most: u64, end: u64) -> Number
     requires { ⌜ most ≤ limit.coordinate ⌝ }
     ensures { λ r. ⌜ shownNumber (now (text .entry)) r ≡ digitsOf negative most end 0 (drop start (now (text .entry))) ⌝ }
@@ -53,7 +53,7 @@ fn positive(text: &[u8], start: usize, negative: bool, most: u64, end: u64) -> N
     digits(text, start, negative, most, end)
 }
 
-// What stands after a 0.
+// The number 0, whose digit has been read.
 fn zero(text: &[u8], start: usize, end: u64) -> Number
     requires { ⌜ end < other ⌝ }
     ensures { λ r. ⌜ shownNumber (now (text .entry)) r ≡ zeroOf end (drop start (now (text .entry))) ⌝ }
@@ -76,7 +76,7 @@ pub fn count(text: &[u8], start: usize, most: u64, end: u64) -> Number
     positive(text, start, false, most, end)
 }
 
-// A number with or without one.
+// A number with or without a minus.
 pub fn whole(text: &[u8], start: usize, most: u64, end: u64) -> Number
     requires { ⌜ most ≤ limit.coordinate ⌝ }
     requires { ⌜ end < other ⌝ }

@@ -1,4 +1,4 @@
-// A text is looked through before anything is written.
+// Reads a whole text once before anything is written.
 ghost use Rattle.layout_text.specs.Workings.Shown.{Shaped};
 use super::bytes;
 use super::limits;
@@ -7,13 +7,13 @@ use super::number::Number;
 use super::vertex;
 use super::vertex::Place;
 
-// The two counts and where each path's vertices start; or that the text breaks its form.
+// The two counts and where each path's vertices start. Or the text breaks its form.
 pub enum Shape {
     Broken,
     Fits(u64, u64, usize, usize),
 }
 
-// What a text says before its vertices are taken.
+// The shape of a text, before its vertices are written.
 pub fn shape_of(text: &[u8]) -> Shape
     ensures { λ r. ⌜ Shaped (now (text .entry)) r ⌝ }
 {

@@ -3,7 +3,7 @@ ghost use mathlib.Core.Path.{_≡_};
 ghost use Rattle.layout_text.specs.Workings.Reader.{whole};
 ghost use Rattle.layout_text.specs.Numbers;
 
-// n or -n as a float; of 0 there is no negative one.
+// n or -n as a float. 0 is always +0.
 pub fn coordinate(negative: bool, n: u64) -> f64
     ensures { λ r. ⌜ r ≡ Numbers.coordinate (whole negative n) ⌝ }
 {
@@ -17,7 +17,7 @@ pub fn coordinate(negative: bool, n: u64) -> f64
     x
 }
 
-// n or -n of 65,536ths as a float.
+// n / 65,536 or its negative as a float.
 pub fn bulge(negative: bool, n: u64) -> f64
     ensures { λ r. ⌜ r ≡ Numbers.bulge (whole negative n) ⌝ }
 {

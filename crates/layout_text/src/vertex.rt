@@ -11,13 +11,13 @@ use super::number;
 use super::number::Number;
 use super::value;
 
-// A vertex as its three numbers, with the place after it; or that there is none.
+// A vertex: its three numbers, and the place after it. Or there is none.
 pub enum Corner {
     Broken,
     At(f64, f64, f64, usize),
 }
 
-// A place in the text; or that it is broken before.
+// A place in the text. Or the text breaks its form before it.
 pub enum Place {
     Broken,
     At(usize),
@@ -80,7 +80,7 @@ pub fn skip(text: &[u8], start: usize, n: u64) -> Place
     Place::At(at)
 }
 
-// Writes n vertices, three numbers each, to the front of `out`, if all of them are there.
+// Writes n vertices, three numbers each, to the front of `out`, if the text has all of them.
 pub fn fill(text: &[u8], start: usize, n: u64, out: &mut [f64])
     requires { ⌜ n * limit.numbersAVertex ≤ length (now out) ⌝ }
     ensures { λ _. ⌜ Filled (verticesOf n (drop start (now (text .entry)))) (now (out .entry)) (now (out .exit)) ⌝ }

@@ -1,5 +1,5 @@
--- No row is left out: where two paths were listed, every pair of their segments that meets in any class but NoIntersect has a row with
--- its indices.
+-- No row is left out: if two paths were listed, every pair of their segments that meets, in any class except NoIntersect, has a
+-- row with its indices.
 use mathlib.Core.Path.{_≡_, refl}
 use mathlib.Core.Bool.{Bool}
 use mathlib.Core.List.{List}
@@ -48,7 +48,7 @@ makes first second epsilon i j h =
     go zero r h = absurd (omega (arith, h))
     go (suc class) r h = refl
 
--- what was listed is what there is
+-- the rows that were listed are all rows
 listed-is : (c : Checked) (rows : List Row) (looked n m : ℕ) (old : List ℕ) (points : List Float)
     → outcomeOf c rows looked old points .answer ≡ Listed n m
     → (n ≡ length rows) × (outcomeOf c rows looked old points .indices ≡ overwrite old (numbersOfRows indicesOf rows))

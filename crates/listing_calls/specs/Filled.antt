@@ -7,6 +7,6 @@ use lib.ListN.{length, take}
 use lib.Ieee.{Float}
 use Rattle.listing_pairs.specs.Row.{pointsARow}
 
--- the first `rows` rows; the empty part where there are not as many whole rows
+-- the first `rows` rows; the empty part if there are fewer whole rows
 unfoldable pub filled : List Float → ℕ → List Float
 filled points rows = cond (leb rows (length points / pointsARow)) (take (rows * pointsARow) points) []

@@ -1,4 +1,5 @@
--- The listings of two paths and of one, with their refusals, and the rows handed back; then what is proved of them, and laws.
+-- The listings of two paths and of one, with their refusals (Listing), and the rows handed back (Filled); then what is proved of
+-- them. A reader need not believe Laws.
 pub mod Listing
 pub mod Filled
 pub mod Refusals

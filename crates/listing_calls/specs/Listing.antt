@@ -1,4 +1,4 @@
--- The listings that the crate offers, `mutualListing` and `selfListing`: their checks in order, and the outcome of their pairs.
+-- The listings of this crate, `mutualListing` and `selfListing`: their checks in order, and the outcome of their pairs.
 use mathlib.Core.Bool.{Bool}
 use mathlib.Core.List.{List, [], _∷_, _++_}
 use Prim.Native.Nat.{ℕ}

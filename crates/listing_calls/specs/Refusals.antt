@@ -1,6 +1,6 @@
--- The refusals of the listings, exactly when: a listing refuses with number n if and only if the first fault of its checks in order,
--- 8 the last of them, has that number; it lists if and only if every check passes; and a refusal leaves both slices as they were.
--- RefusalTable.antt of the crates `checks` and `paths` says of each check when it finds which fault; 8 is `too-many` here.
+-- When exactly the listings refuse: with number n if and only if the first fault of their checks in order, with 8 as the last,
+-- has that number. They list if and only if every check passes. A refusal leaves both slices unchanged. RefusalTable.antt of the
+-- crate `checks` and PathRefusals.antt of `paths` say of each check when it finds which fault; `too-many` below does so for 8.
 use mathlib.Core.Path.{_≡_, refl, sym, ap}
 use mathlib.Core.Bool.{Bool, true, false, cond, true≢false}
 use mathlib.Core.Logic.{_↔_}

@@ -1,9 +1,9 @@
-// The rows of a listing that were written, to read them.
+// The written rows of a listing, for reading.
 ghost use mathlib.Core.Path.{_≡_};
 ghost use Rattle.listing_calls.specs.Filled;
 use listing_pairs::row;
 
-// The front part of the lent float rows, `rows` rows long; the empty part if there are not as many whole rows.
+// The first `rows` rows of the lent floats; the empty part if there are fewer whole rows.
 pub fn filled(points: &[f64], rows: usize) -> &[f64]
     ensures { λ r. ⌜ now r ≡ Filled.filled (now (points .entry)) rows ⌝ }
 {

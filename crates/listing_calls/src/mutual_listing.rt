@@ -12,7 +12,7 @@ use paths::check;
 use paths::segments;
 use paths::shape;
 
-// The first fault of epsilon, of both paths' lengths, of the first path's vertices and arcs, and of the second's.
+// The first fault, in this order: epsilon, both paths' lengths, the first path's vertices and arcs, then the second's.
 fn check_mutual(
     first: &[f64],
     first_closed: bool,
@@ -29,7 +29,8 @@ fn check_mutual(
     check::check_path(a3, second, second_closed, 1)
 }
 
-// Lists which segments of the first path meet which of the second, and where, into the lent slices. The same path may be lent twice.
+// Lists into the lent slices which segments of the first path meet which of the second, and where. The same path may be lent
+// twice.
 pub fn mutual_listing(
     first: &[f64],
     first_closed: bool,

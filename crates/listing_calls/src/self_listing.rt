@@ -12,7 +12,7 @@ use paths::check;
 use paths::segments;
 use paths::shape;
 
-// The first fault of epsilon, of the path's length, and of its vertices and arcs.
+// The first fault, in this order: epsilon, the path's length, its vertices, its arcs.
 fn check_self(path: &[f64], closed: bool, epsilon: f64) -> Checked
     ensures { λ r. ⌜ r ≡ Listing.checkSelf (now (path .entry)) closed epsilon ⌝ }
 {
@@ -21,7 +21,7 @@ fn check_self(path: &[f64], closed: bool, epsilon: f64) -> Checked
     check::check_path(a1, path, closed, 0)
 }
 
-// Lists which segments of the path meet, neighbours excepted, and where, into the lent slices.
+// Lists into the lent slices which segments of the path meet, and where. Neighbours are left out.
 pub fn self_listing(
     path: &[f64],
     closed: bool,

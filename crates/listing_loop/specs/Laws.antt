@@ -1,2 +1,2 @@
--- Laws that only proofs need: pages of a listing, and the loop that fills rows. Filling also has what `fill::fill` promises.
+-- Laws on the loop that fills rows, which only proofs need. A reader need not believe them: they are proved.
 pub mod Loop

@@ -1,3 +1,3 @@
--- The loop of every listing, as pages: laws only.
+-- The loop of every listing, and laws on it. No answer's definition names anything here, so a reader need not believe it.
 pub mod Workings
 pub mod Laws

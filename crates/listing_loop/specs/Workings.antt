@@ -1,3 +1,4 @@
--- The workings: how answers are found, and quick tests. No answer's definition names anything here, so a reader need not believe it.
+-- What `fill::fill` promises (Filling), in terms of pages of a listing (Pages). No answer's definition names anything here, so a
+-- reader need not believe it.
 pub mod Filling
 pub mod Pages

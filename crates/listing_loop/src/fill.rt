@@ -1,4 +1,4 @@
-// The loop of every listing: rows from a pair on, as many as fit.
+// The loop of every listing: it makes rows from a given pair on, as many as fit.
 ghost use mathlib.Core.Path.{_≡_};
 ghost use mathlib.Core.Bool.{true};
 ghost use Prim.Native.Nat.{_≤_, _<_, _-_, _*_};
@@ -17,7 +17,8 @@ use listing_pairs::row;
 use listing_pairs::rows;
 use paths::segments;
 
-// How far it came: rows in all, pairs looked at, and the pair before which it stopped, or that it came to the end.
+// How far the loop came: the rows in all, the pairs it looked at, and the pair at which it stopped (that pair's row had no room),
+// or that it reached the end.
 pub struct Filling {
     pub rows: usize,
     pub pairs: usize,
@@ -26,8 +27,9 @@ pub struct Filling {
     pub ended: bool,
 }
 
-// Goes by the pairs from (i, j) on, to the end or before a pair that makes a row where `room` rows stand already; `at` rows stand
-// before it starts. Rows are written if `write`, and else only counted. `kept` has what is kept of the second path's segments.
+// Walks the pairs from (start_i, start_j) on. It stops at the end, or before a pair whose row has no room because there are
+// `room` rows already. `at` rows stand before it starts. It writes rows if `write`, else it only counts them. `kept` is kept of
+// the second path's segments.
 pub fn fill(
     first: &[f64],
     second: &[f64],

@@ -1,2 +1,2 @@
-// The loop of every listing: rows from a pair on, as many as fit, into slices that are lent.
+// The loop of every listing: it makes rows from a given pair on, as many as fit into lent slices.
 pub mod fill;

@@ -1,2 +1,2 @@
--- Laws that only proofs need: from pages up to the outcome of a listing. Outcome also has what `buffer::list` promises.
+-- Laws that only proofs need: on values that overwrite the front of a list. A reader need not believe them: they are proved.
 pub mod Overwrite

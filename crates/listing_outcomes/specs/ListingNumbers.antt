@@ -1,5 +1,5 @@
--- What a listing's answer tells, in whole numbers: one, the refusal's, or two, the rows written and the pairs looked at. Two answers
--- that tell the same are the same.
+-- A listing's answer in whole numbers: one number, the refusal's; or two, the rows written and the pairs looked at. Two answers
+-- with the same numbers are the same.
 use mathlib.Core.Path.{_≡_, refl, sym, ap, _∙_}
 use mathlib.Core.List.{List, [], _∷_}
 use Prim.Native.Nat.{ℕ}

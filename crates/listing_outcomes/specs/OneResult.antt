@@ -1,4 +1,4 @@
--- What a listing promises settles its result: two answers that it allows are equal, and so are the contents of both slices.
+-- A listing's promise allows one result only: two answers that it allows are equal, and so are both slices after them.
 use Prim.Native.Nat.{ℕ}
 use mathlib.Core.Path.{_≡_, sym, _∙_}
 use mathlib.Core.List.{List}

@@ -1,5 +1,5 @@
--- What a listing of any sequence of pairs answers and leaves: by its refusals in order, 8 the last of them, its rows, and how
--- many pairs are looked at.
+-- What a listing of any sequence of pairs answers, and what it leaves in the slices: its refusals in order, with 8 as the last,
+-- its rows, and how many pairs are looked at.
 use mathlib.Core.Path.{_≡_}
 use mathlib.Core.List.{List, [], _∷_, _++_}
 use Prim.Native.Nat.{ℕ, _/_, min}
@@ -26,13 +26,13 @@ pub record Outcome : Type 0 where
   pub indices : List ℕ
   pub points : List Float
 
--- what a call leaves
+-- the result of a call is this outcome
 pub record Leaves (o : Outcome) (r : ListingAnswer) (i : List ℕ) (p : List Float) : Type 0 where
   pub answer : r ≡ o .answer
   pub indices : i ≡ o .indices
   pub points : p ≡ o .points
 
--- values written overwrite the front of what was there; what stands after them is as it was
+-- written values overwrite the front; what follows them is unchanged
 abbrev pub overwrite : {A : Type 0} → List A → List A → List A
 overwrite old values = values ++ drop (length values) old
 
@@ -40,11 +40,11 @@ overwrite old values = values ++ drop (length values) old
 abbrev pub room : List ℕ → List Float → ℕ
 room indices points = min (length indices / indicesARow) (length points / pointsARow)
 
--- 8: the rows are more than fit
+-- 8: there are more rows than fit
 unfoldable pub roomCheck : List Row → List ℕ → List Float → Checked
 roomCheck rows indices points = refuse (ltb (room indices points) (length rows)) Refusal.rows (at 0 0 Rows)
 
--- by the first fault, if there is one: a refusal leaves both slices as they were
+-- the first fault, if there is one: a refusal leaves both slices unchanged
 abbrev pub outcomeOf : Checked → List Row → ℕ → List ℕ → List Float → Outcome
 outcomeOf (Bad fault) rows looked indices points =
     record { answer = Refused (fault .number); indices = indices; points = points }

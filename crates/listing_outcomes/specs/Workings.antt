@@ -1,2 +1,2 @@
--- The workings: how answers are found, and quick tests. No answer's definition names anything here, so a reader need not believe it.
+-- What `buffer::list` and its private steps promise. No answer's definition names anything here, so a reader need not believe it.
 pub mod Outcome

@@ -1,5 +1,5 @@
-// A listing of two looked-at paths into the caller's slices, if all rows fit. Refusal 8 is decided here and nowhere else: it is
-// answered if there are more rows than both slices have room for, and then nothing is written.
+// A listing of two checked paths into the caller's slices, if all rows fit. Only here is refusal 8 decided: it is the answer if
+// there are more rows than both slices have room for, and then nothing is written.
 ghost use Rattle.listing_pairs.specs.Look;
 ghost use Rattle.listing_pairs.specs.Workings.Job as job_of;
 ghost use Rattle.listing_pairs.specs.Workings.Keeping;
@@ -19,7 +19,7 @@ use listing_pairs::row;
 use listing_pairs::rows;
 use paths::path;
 
-// how many rows are held back while it is not known that all fit: 112 KiB
+// how many rows the buffer holds back until it is known that all fit: 112 KiB
 const ROWS: usize = 2048;
 
 // The smaller of two numbers.
@@ -32,8 +32,8 @@ fn lesser(x: usize, y: usize) -> usize
     y
 }
 
-// The listing of a job of which ROWS rows are held back, up to the pair (i, j), which makes one more: the rest is gone by twice, to
-// count, and if all rows fit to write.
+// The listing of a job whose first ROWS rows are held back, up to the pair (i, j), which makes one more. It walks the remaining
+// pairs twice: count, then write if all rows fit.
 fn list_behind(
     first: &[f64],
     second: &[f64],
@@ -95,7 +95,7 @@ fn list_behind(
     ListingAnswer::Refused(refusal::ROWS)
 }
 
-// The listing of a job, its rows held back in a buffer until it is known that all fit.
+// The listing of a job. A buffer holds its rows back until it is known that all fit.
 fn list_held_back(
     first: &[f64],
     second: &[f64],
@@ -155,7 +155,7 @@ fn list_held_back(
     )
 }
 
-// The listing of a job, with what is kept of the second path's segments.
+// The listing of a job; `kept` is kept of the second path's segments.
 fn list_kept(
     first: &[f64],
     second: &[f64],
@@ -171,7 +171,7 @@ fn list_kept(
         r (now (indices .exit)) (now (points .exit)) ⌝ }
 {
     let room = lesser(indices.len() / row::INDICES, points.len() / row::POINTS);
-    // where every pair could have a row, all rows fit
+    // there is room for a row of every pair
     if job.n * job.m <= room {
         let start = order::from(job, 0);
         let all = fill(
@@ -195,7 +195,7 @@ fn list_kept(
     list_held_back(first, second, kept, job, room, indices, points)
 }
 
-// The listing of a job: refused with 8 if it has more rows than fit, and then nothing is written.
+// The listing of a job. If it has more rows than fit, the answer is refusal 8, and nothing is written.
 pub fn list(
     first: &[f64],
     second: &[f64],

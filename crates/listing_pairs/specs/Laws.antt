@@ -1,5 +1,4 @@
--- Laws that only proofs need: of the sequence of pairs, of what is kept of segments, and of rows in slices. Job, Ready, Keeping
--- and Stored also have what the functions here promise and ask.
+-- Laws that only proofs need: on the sequence of pairs, and on rows in slices. A reader need not believe them: they are proved.
 pub mod Sequence
 pub mod Order
 pub mod Stores

@@ -1,4 +1,5 @@
--- Rows, the order of pairs, and what a pair gives; then laws.
+-- A row (Row), the order of pairs (Order), the rows of a sequence of pairs (Rows), and what a pair gives (Look). A reader need
+-- not believe Workings and Laws.
 pub mod Row
 pub mod Order
 pub mod Rows

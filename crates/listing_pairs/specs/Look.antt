@@ -1,4 +1,5 @@
--- What a pair of segments gives in a listing: `PlineSeg.plineSeg`, the Rust's `pline_seg_intr`, and the row that it makes.
+-- What a pair of segments gives in a listing: the answer of `PlineSeg.plineSeg`, the Rust's `pline_seg_intr`, and the row that it
+-- makes.
 use mathlib.Core.List.{List}
 use Prim.Native.Nat.{ℕ}
 use lib.Ieee.{Float}

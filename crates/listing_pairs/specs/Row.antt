@@ -1,4 +1,4 @@
--- A row of a listing, its numbers in the two lent slices, and the row that a pair of segments makes by the scope's row rule.
+-- A row of a listing, its numbers in the two lent slices, and the row that a pair of segments makes, by the scope's row rule.
 use mathlib.Core.List.{List, [], _∷_, _++_}
 use Prim.Native.Nat.{ℕ, zero, suc}
 use lib.Ieee.{Float}
@@ -27,7 +27,7 @@ abbrev pub numbersOfRows : {A : Type 0} → (Row → List A) → List Row → Li
 numbersOfRows numbers [] = []
 numbersOfRows numbers (r ∷ rows) = numbers r ++ numbersOfRows numbers rows
 
--- the row of segments i and j that meet like this
+-- the row of segments i and j if they meet like this
 abbrev pub row : ℕ → ℕ → PlineSegIntr → Row
 row i j met =
     record {
@@ -40,7 +40,7 @@ row i j met =
       y2 = point2Of met .y;
     }
 
--- no row for the class 0, NoIntersect
+-- no row for class 0, NoIntersect
 abbrev pub unlessApart : ℕ → Row → Look
 unlessApart zero r = Nothing
 unlessApart (suc class) r = Made r

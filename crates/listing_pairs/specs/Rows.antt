@@ -1,4 +1,5 @@
--- The scope's row rule: the rows of a sequence of pairs, and how many are looked at, over any `look` that says what a pair gives.
+-- The scope's row rule: the rows of a sequence of pairs, and how many pairs are looked at. `look` says what a pair gives; any
+-- will do.
 use mathlib.Core.List.{List, [], _∷_}
 use Prim.Native.Nat.{ℕ, suc}
 use Rattle.listing_pairs.specs.declared.row.Row.{Row}
@@ -6,13 +7,13 @@ use Rattle.listing_pairs.specs.declared.row.Look.{Look}
 use Rattle.listing_pairs.specs.declared.row.Look.the-variants.{Passed, Nothing, Made}
 use Rattle.listing_pairs.specs.Order.{Pair}
 
--- a row, where there is one, and then those of the rest
+-- the pair's row, if it makes one, and then the rows of the rest
 abbrev pub onto : Look → List Row → List Row
 onto Passed rows = rows
 onto Nothing rows = rows
 onto (Made r) rows = r ∷ rows
 
--- one more, where the pair is looked at
+-- one more, if the pair is looked at
 abbrev pub count : Look → ℕ → ℕ
 count Passed n = n
 count Nothing n = suc n

@@ -1,5 +1,5 @@
-// What is kept of the second path's segments while the pairs of a listing are gone by: some numbers of each, one segment after the
-// other, so that a pair need not work them out again.
+// What a listing keeps of the second path's segments while it walks the pairs: a few numbers of each segment, one segment after
+// the other, so that no pair computes them again.
 ghost use mathlib.Core.Path.{_≡_};
 ghost use Prim.Native.Nat.{_≤_, _<_, _+_, _*_};
 ghost use lib.ListN.{length};

@@ -1,5 +1,5 @@
-// What a pair of segments gives in a listing: which pairs there are, in order, what is kept of a segment, the row that a pair
-// makes, and rows in slices that are lent.
+// What a pair of segments gives in a listing: which pairs there are, in order; what is kept of a segment; the row that a pair
+// makes; and rows in lent slices.
 pub mod keeping;
 pub mod look;
 pub mod order;

@@ -1,4 +1,4 @@
-// What a pair of segments of two looked-at paths gives.
+// What a pair of segments of two checked paths gives.
 ghost use mathlib.Core.Path.{_≡_};
 ghost use Prim.Native.Nat.{_<_};
 ghost use Rattle.listing_pairs.specs.Look;
@@ -12,7 +12,7 @@ use fast_pair::pair::pline_seg_kept;
 use paths::path::Segment;
 use paths::segments;
 
-// What the pair (i, j) gives; v is segment i of the first path, of which `v_kept` is kept: a loop over j works them out once.
+// Looks at the pair (i, j). v is segment i of the first path, and `v_kept` is kept of it: a loop over j computes them once.
 pub fn look(
     v: Segment,
     v_kept: Kept,

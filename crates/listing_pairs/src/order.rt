@@ -1,11 +1,11 @@
-// Which pairs a listing goes by, in order: the first path's index outermost, both rising.
+// Which pairs a listing looks at, in order: the first path's index is the outer one, and both rise.
 ghost use mathlib.Core.Path.{_≡_};
 ghost use Prim.Native.Nat.{_≤_};
 ghost use Rattle.paths.specs.Path;
 ghost use Rattle.listing_pairs.specs.Workings.Job as job_of;
 
-// What a listing works on: n segments of the first path, m of the second, and how near is near. In a self listing, `own`, both are
-// the same path.
+// What a listing works on: n segments of the first path, m of the second, and epsilon. In a self listing (`own`) both are the
+// same path.
 pub struct Job {
     pub n: usize,
     pub m: usize,
@@ -14,7 +14,8 @@ pub struct Job {
     pub epsilon: f64,
 }
 
-// The first index that goes with i: in a self listing those before it went with i already, and the next one is its neighbour.
+// The first j of the pairs (i, j). In a self listing it is i + 2: segment i + 1 is the neighbour of i, and a pair with a smaller
+// j came earlier, as (j, i).
 pub fn from(job: Job, i: usize) -> usize
     requires { ⌜ i ≤ Path.mostVertices ⌝ }
     ensures { λ r. ⌜ r ≡ job_of.from job i ⌝ }
@@ -25,7 +26,8 @@ pub fn from(job: Job, i: usize) -> usize
     0
 }
 
-// The index after the last that goes with i: in a self listing the last segment of a closed path is the first one's neighbour.
+// The end of j in the pairs (i, j): the index after the last. In a self listing of a closed path the last segment is the
+// neighbour of the first, so the pairs of segment 0 end one earlier.
 pub fn to(job: Job, i: usize) -> usize
     ensures { λ r. ⌜ r ≡ job_of.to job i ⌝ }
 {

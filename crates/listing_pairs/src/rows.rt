@@ -8,7 +8,7 @@ ghost use Rattle.listing_pairs.specs.Workings.Stored;
 use super::row;
 use super::row::Row;
 
-// Stores the numbers of a row as row k of both slices if `write`, and else nothing.
+// Stores the numbers of a row as row k of both slices if `write`, else nothing.
 pub fn put_row(write: bool, indices: &mut [u64], points: &mut [f64], k: usize, r: Row)
     requires { ⌜ ((k + 1) * row_of.indicesARow ≤ length (now indices)) × ((k + 1) * row_of.pointsARow ≤ length (now points)) ⌝ }
     ensures { λ _. ⌜ now (indices .exit) ≡ Stored.putIndices write (now (indices .entry)) k r ⌝ }

@@ -11,7 +11,7 @@ use Rattle.paths.specs.Path.{vertexCount, vertex}
 use Rattle.paths.specs.Segments.{segmentCount, segmentFrom}
 use Rattle.checks.specs.Arc.{arcChord}
 
--- the lists of i, i + 1, .., k of them, one after the other
+-- the lists of i, i + 1, .., k lists in all, one after the other
 abbrev pub along : (ℕ → List Checked) → ℕ → ℕ → List Checked
 along checks i zero = []
 along checks i (suc k) = checks i ++ along checks (i + 1) k
@@ -24,7 +24,7 @@ ofVertex path owner i = let v = vertex path i in lists.vertexChecks (v .x) (v .y
 unfoldable pub ofSegment : List Float → ℕ → ℕ → List Checked
 ofSegment path owner i = let s = segmentFrom path i in arcChord (s .v1) (s .v2) owner i ∷ []
 
--- every vertex in order, an open path's last one too
+-- every vertex in order, also the last one of an open path
 abbrev pub vertexChecks : List Float → ℕ → List Checked
 vertexChecks path owner = along (ofVertex path owner) 0 (vertexCount path)
 

@@ -1,5 +1,5 @@
--- The chord of every segment of a path is a number where its check looks at it: the checks of all vertices come before those of the
--- arcs. Chord.antt of the crate `checks` says what `Length` and `LongIfArc` state.
+-- The chord of every segment of a path is a number when it is checked: the checks of all vertices come before those of the arcs.
+-- Chord.antt of the crate `checks` says what `Length` and `LongIfArc` mean.
 use mathlib.Core.Logic.{Iff·rfl}
 use mathlib.Core.Bool.{Bool}
 use mathlib.Core.List.{List, _++_}
@@ -19,7 +19,7 @@ use Rattle.paths.specs.Laws.Fine.{vertex-fine}
 use Rattle.paths.specs.Laws.Segments.{count-within, after-within}
 
 module _ (path : List Float) (closed : Bool) (owner : ℕ) where
-  -- where the checks of all vertices are fine, the chord of every segment is a length, that of a line too
+  -- if the checks of all vertices are fine, the chord of every segment is a length, of a line too
   pub path-chords : AllFine (vertexChecks path owner)
       → (i : ℕ) → i < segmentCount path closed → Length (chordLength (segmentFrom path i .v1) (segmentFrom path i .v2))
   unfolding segmentFrom
@@ -28,7 +28,7 @@ module _ (path : List Float) (closed : Bool) (owner : ℕ) where
       let here : i < vertexCount path = omega (arith, l, count-within path closed) in
       of-points _ _ (passed i here .point) (passed _ (after-within path i here) .point)
 
-  -- where all checks of a path are fine, every segment that is an arc has a chord of at least 2^-40
+  -- if all checks of a path are fine, every arc of it has a chord of at least 2^-40
   pub path-long : AllFine (pathChecks path closed owner)
       → (i : ℕ) → i < segmentCount path closed → LongIfArc (segmentFrom path i .v1) (segmentFrom path i .v2)
   unfolding ofSegment

@@ -1,4 +1,4 @@
--- Laws that only proofs need: of segments, of the loops that check a path, and of what a path is that was found fine.
+-- Laws that only proofs need: on segments, on the loops that check a path, and on what a path is whose check finds no fault.
 pub mod Segments
 pub mod Along
 pub mod Steps

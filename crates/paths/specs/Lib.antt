@@ -1,4 +1,5 @@
--- A lent path: its vertices, shape and segments, the check of its numbers, the view; theorems beside them, and laws.
+-- A lent path: its vertices, shape and segments, the check of its numbers, the view, and what is proved of them. A reader need
+-- not believe Workings and Laws.
 pub mod Path
 pub mod Shape
 pub mod Segments

@@ -1,4 +1,4 @@
--- What the numbers of a path stand for, as the scope has it lent: x, y and bulge of one vertex after the other.
+-- The numbers of a lent path, by the scope: x, y and bulge of one vertex after the other.
 use mathlib.Core.List.{List}
 use Prim.Native.Nat.{ℕ, _+_, _*_, _/_}
 use lib.ListN.{length, getD}
@@ -14,11 +14,11 @@ numbersAVertex = 3
 abbrev pub mostVertices : ℕ
 mostVertices = 4096
 
--- the whole vertices in the list
+-- how many whole vertices the list has
 abbrev pub vertexCount : List Float → ℕ
 vertexCount path = length path / numbersAVertex
 
--- number k of the list; the NaN stands where there is none
+-- number k of the list; the NaN if there is none
 abbrev pub number : List Float → ℕ → Float
 number path k = getD path k nan
 

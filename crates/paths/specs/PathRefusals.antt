@@ -1,5 +1,5 @@
--- The scope's table, for a path: which refusal its length and its arcs are given, and exactly when. Exactly.antt and RefusalTable.antt
--- of the crate `checks` say what `Gives` and `GivesThen` state, and the same of each number.
+-- The scope's table, for a path: which refusal its length and its arcs get, and exactly when. Exactly.antt of the crate `checks`
+-- says what `Gives` and `GivesThen` mean, and its RefusalTable.antt has the table for each number.
 use mathlib.Core.Bool.{Bool, true, false, cond, not, _&&_}
 use mathlib.Core.List.{List}
 use Prim.Native.Nat.{ℕ}

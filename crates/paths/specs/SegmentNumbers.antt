@@ -1,5 +1,5 @@
--- What the answer of `segment` tells, in numbers: none, or x, y and bulge of the segment's first vertex and then of its second.
--- Two answers that tell the same are the same.
+-- The answer of `segment` in numbers: none, or x, y and bulge of the segment's first vertex and then of its second. Two answers
+-- with the same numbers are the same.
 use mathlib.Core.Path.{_≡_, refl, sym, ap, _∙_}
 use mathlib.Core.List.{List, [], _∷_}
 use lib.Ieee.{Float}

@@ -1,4 +1,4 @@
--- The segments of a lent path, by the scope's part on paths.
+-- The segments of a lent path, by the scope.
 use mathlib.Core.Bool.{Bool, cond}
 use mathlib.Core.List.{List}
 use Prim.Native.Nat.{ℕ, _+_, _-_}
@@ -10,7 +10,8 @@ use Rattle.paths.specs.declared.path.SegmentAt.the-variants.{Nothing, At
 use Rattle.paths.specs.Path.{vertexCount, vertex}
 use Rattle.paths.specs.Shape.{refused}
 
--- n vertices have n - 1 segments open and n closed; with n below 2 there are none, and none where 6 or 7 refuses the path
+-- n vertices have n - 1 segments if the path is open and n if it is closed; none if n is below 2, and none if the path gets
+-- refusal 6 or 7
 unfoldable pub segmentCount : List Float → Bool → ℕ
 segmentCount path closed =
     cond (refused path) 0
@@ -19,13 +20,13 @@ segmentCount path closed =
     (cond closed n
     (n - 1)))
 
--- the vertex at which the segment from vertex i ends: the next one, and after the last one vertex 0
+-- the vertex at which the segment from vertex i ends: the next one; after the last one it is vertex 0
 unfoldable pub after : List Float → ℕ → ℕ
 after path i = cond (ltb (i + 1) (vertexCount path)) (i + 1) 0
 
 unfoldable pub segmentFrom : List Float → ℕ → Segment
 segmentFrom path i = record { v1 = vertex path i; v2 = vertex path (after path i) }
 
--- segment i, or that there is none
+-- segment i, or none
 unfoldable pub segment : List Float → Bool → ℕ → SegmentAt
 segment path closed i = cond (ltb i (segmentCount path closed)) (At (segmentFrom path i)) Nothing

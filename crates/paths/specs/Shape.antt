@@ -1,4 +1,5 @@
--- The scope's 6 and 7: what a lent slice is looked at for before its numbers. The place tells the path and that it is its length.
+-- The scope's refusals 6 and 7: the check of a lent slice before those of its numbers. The place of the fault is the path,
+-- `Length`.
 use mathlib.Core.Bool.{Bool, not, _||_}
 use mathlib.Core.List.{List}
 use Prim.Native.Nat.{ℕ, _%_}
@@ -19,7 +20,7 @@ broken path = not (eqb (length path % numbersAVertex) 0)
 abbrev pub tooLong : List Float → Bool
 tooLong path = ltb mostVertices (vertexCount path)
 
--- 6 or 7 refuses the path
+-- the path gets refusal 6 or 7
 unfoldable pub refused : List Float → Bool
 refused path = broken path || tooLong path
 

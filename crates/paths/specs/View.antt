@@ -1,4 +1,4 @@
--- The scope's view of a lent path: it holds the lent numbers and the flag, and its segments are the path's.
+-- The scope's view of a lent path: it holds the lent numbers and the flag, and its segments are those of the path.
 use mathlib.Core.Bool.{Bool}
 use mathlib.Core.List.{List}
 use Prim.Native.Nat.{ℕ}

@@ -1,5 +1,5 @@
-// The check of a path's numbers: its vertices in order, then its arcs in order. A fault tells the path, the vertex or segment,
-// and which of its numbers.
+// The check of a path's numbers: its vertices in order, then its arcs in order. A fault has as its place the path, the vertex or
+// segment, and which of its numbers.
 ghost use mathlib.Core.Path.{_≡_};
 ghost use Rattle.paths.specs.Check;
 ghost use Rattle.paths.specs.Workings.Inside;
@@ -10,7 +10,7 @@ use checks::chain;
 use checks::fault::Checked;
 use checks::fault::later;
 
-// Whether the numbers of every vertex are inside their limits, by comparisons alone. A no may stop at any vertex.
+// A quick test whether the numbers of every vertex are inside their limits. A no promises nothing.
 fn vertices_inside(path: &[f64]) -> bool
     ensures { λ r. ⌜ Inside.Tells (now (path .entry)) r ⌝ }
 {
@@ -47,8 +47,8 @@ fn find_in_vertices(f: Checked, path: &[f64], owner: u64) -> Checked
     g
 }
 
-// The first fault of f and of every vertex of the path in order, each x, y, then its bulge. Most often there is none, which is told
-// without a fault's place at hand.
+// The first fault of f and of every vertex of the path in order, each x, y, then its bulge. Most often there is no fault, and the
+// quick test shows it without building places.
 pub fn check_vertices(f: Checked, path: &[f64], owner: u64) -> Checked
     ensures { λ r. ⌜ r ≡ Check.checkVertices f (now (path .entry)) owner ⌝ }
 {
@@ -79,8 +79,8 @@ pub fn check_arcs(f: Checked, path: &[f64], closed: bool, owner: u64) -> Checked
     g
 }
 
-// The first fault of f, of the path's vertices, and of its arcs. It answers for every slice: one that `shape` refuses has its
-// whole vertices looked at, and no arcs.
+// The first fault of f, of the path's vertices, and of its arcs. It answers for every slice: if `shape` refuses the slice, its
+// whole vertices are checked and no arcs.
 pub fn check_path(f: Checked, path: &[f64], closed: bool, owner: u64) -> Checked
     ensures { λ r. ⌜ r ≡ Check.checkPath f (now (path .entry)) closed owner ⌝ }
 {

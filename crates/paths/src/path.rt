@@ -1,5 +1,5 @@
-// What the numbers of a lent path stand for: x, y and bulge of one vertex after the other. The bulge is that of the segment that
-// starts at the vertex. specs/Path.antt has the same.
+// The numbers of a lent path: x, y and bulge of one vertex after the other. The bulge belongs to the segment that starts at the
+// vertex. specs/Path.antt has the same.
 ghost use mathlib.Core.Path.{_≡_};
 ghost use Prim.Native.Nat.{_<_};
 ghost use Rattle.paths.specs.Path;
@@ -23,14 +23,14 @@ pub enum SegmentAt {
     At(Segment),
 }
 
-// How many whole vertices stand in the slice.
+// How many whole vertices the slice has.
 pub fn vertex_count(path: &[f64]) -> usize
     ensures { λ r. ⌜ r ≡ Path.vertexCount (now (path .entry)) ⌝ }
 {
     path.len() / NUMBERS
 }
 
-// Vertex i of a path that has one.
+// Vertex i. The path must have it.
 pub fn vertex(path: &[f64], i: usize) -> PlineVertex
     requires { ⌜ i < Path.vertexCount (now path) ⌝ }
     ensures { λ r. ⌜ r ≡ Path.vertex (now (path .entry)) i ⌝ }

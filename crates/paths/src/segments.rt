@@ -8,7 +8,7 @@ use super::path::Segment;
 use super::path::SegmentAt;
 use super::shape;
 
-// How many segments the path has: n vertices have n - 1 open and n closed, and none with n below 2.
+// How many segments the path has: of n vertices, n - 1 if it is open and n if it is closed; none if n is below 2.
 pub fn segment_count(path: &[f64], closed: bool) -> usize
     ensures { λ r. ⌜ r ≡ Segments.segmentCount (now (path .entry)) closed ⌝ }
 {
@@ -25,7 +25,7 @@ pub fn segment_count(path: &[f64], closed: bool) -> usize
     n - 1
 }
 
-// The vertex after vertex i: the next one, and after the last one vertex 0.
+// The index of the vertex after vertex i. After the last one it is 0.
 pub fn after(path: &[f64], i: usize) -> usize
     requires { ⌜ i < Path.vertexCount (now path) ⌝ }
     ensures { λ r. ⌜ r ≡ Segments.after (now (path .entry)) i ⌝ }
@@ -36,7 +36,7 @@ pub fn after(path: &[f64], i: usize) -> usize
     0
 }
 
-// The segment that starts at vertex i of a path that has one.
+// The segment that starts at vertex i. The path must have that vertex.
 pub fn segment_from(path: &[f64], i: usize) -> Segment
     requires { ⌜ i < Path.vertexCount (now path) ⌝ }
     ensures { λ r. ⌜ r ≡ Segments.segmentFrom (now (path .entry)) i ⌝ }
@@ -46,7 +46,7 @@ pub fn segment_from(path: &[f64], i: usize) -> Segment
     Segment { v1, v2 }
 }
 
-// Segment i of the path; nothing if i is no segment's index. The last segment of a closed path runs back to vertex 0.
+// Segment i of the path, or none if i is no segment's index. The last segment of a closed path runs back to vertex 0.
 pub fn segment(path: &[f64], closed: bool, i: usize) -> SegmentAt
     ensures { λ r. ⌜ r ≡ Segments.segment (now (path .entry)) closed i ⌝ }
 {

@@ -1,4 +1,4 @@
-// What a lent slice is looked at for before its numbers are.
+// The checks of a lent slice that come before those of its numbers.
 ghost use mathlib.Core.Path.{_≡_};
 ghost use Rattle.paths.specs.Shape;
 use super::path;
@@ -9,7 +9,7 @@ use checks::fault::later;
 use checks::fault::refuse;
 use checks::refusal;
 
-// Whether the slice is no whole number of vertices long.
+// Whether the length of the slice is no multiple of 3.
 pub fn broken(path: &[f64]) -> bool
     ensures { λ r. ⌜ r ≡ Shape.broken (now (path .entry)) ⌝ }
 {
@@ -23,15 +23,15 @@ pub fn too_long(path: &[f64]) -> bool
     path.len() / path::NUMBERS > path::VERTICES
 }
 
-// Whether 6 or 7 refuses the slice.
+// Whether the slice gets refusal 6 or 7.
 pub fn refused(path: &[f64]) -> bool
     ensures { λ r. ⌜ r ≡ Shape.refused (now (path .entry)) ⌝ }
 {
     broken(path) | too_long(path)
 }
 
-// Refusal 6 if the slice is no whole number of vertices long, then 7 if it has more than 4,096; `owner` is the path's number in
-// the call.
+// Refusal 6 if the length of the slice is no multiple of 3, then 7 if it has more than 4,096 vertices. `owner` is the path's
+// number in the call.
 pub fn shape(path: &[f64], owner: u64) -> Checked
     ensures { λ r. ⌜ r ≡ Shape.shape (now (path .entry)) owner ⌝ }
 {

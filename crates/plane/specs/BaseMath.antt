@@ -21,7 +21,7 @@ distSquared p0 p1 =
 unfoldable pub pointFromParametric : Vector2 → Vector2 → Float → Vector2
 pointFromParametric p0 p1 t = vector2.add p0 (vector2.scale (vector2.sub p1 p0) t)
 
--- base_math.rs 312-336; in the release build, which decides, epsilon is not read
+-- base_math.rs 312-336; the release build counts, and it does not read epsilon
 unfoldable pub parametricFromPoint : Vector2 → Vector2 → Vector2 → Float → Float
 parametricFromPoint p0 p1 point epsilon =
     let xDiff = p1 .x ⊖ p0 .x in

@@ -1,4 +1,4 @@
--- What the functions of plane answer, a file for each module of src/; then laws.
+-- What the functions of plane answer: one file for each module of src/. A reader need not believe Laws.
 pub mod Vector2
 pub mod PlineVertex
 pub mod Fuzzy

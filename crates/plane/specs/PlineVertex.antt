@@ -12,7 +12,7 @@ new x y bulge = record { x = x; y = y; bulge = bulge }
 unfoldable pub pos : PlineVertex → Vector2
 pos self = record { x = self .x; y = self .y }
 
--- a line's bulge: near zero by the default epsilon
+-- the bulge of a line: near zero by the default epsilon
 abbrev pub bulgeIsZero : PlineVertex → Bool
 bulgeIsZero self = fuzzyEqZero (self .bulge)
 

@@ -30,11 +30,11 @@ perpDot self other = self .x ⊗ other .y ⊖ self .y ⊗ other .x
 unfoldable pub perp : Vector2 → Vector2
 perp self = record { x = neg (self .y); y = self .x }
 
--- the self dot
+-- the dot product with itself
 abbrev pub lengthSquared : Vector2 → Float
 lengthSquared self = dot self self
 
--- the square root of the self dot
+-- the square root of the dot product with itself
 unfoldable pub length : Vector2 → Float
 length self = F64.sqrt (dot self self)
 
@@ -43,6 +43,6 @@ unfoldable pub fuzzyEqEps : Vector2 → Vector2 → Float → Bool
 fuzzyEqEps self other eps =
     Fuzzy.fuzzyEqEps (self .x) (other .x) eps && Fuzzy.fuzzyEqEps (self .y) (other .y) eps
 
--- position equality: exact, by the float ==, for which -0 is +0
+-- exactly the same position, by the float ==: -0 equals +0
 abbrev pub eq : Vector2 → Vector2 → Bool
 eq self other = (self .x ≈ other .x) && (self .y ≈ other .y)

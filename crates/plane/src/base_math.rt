@@ -9,7 +9,7 @@ pub struct MinMax {
     pub max: f64,
 }
 
-// The two numbers in order. Equal ones, as zeros of either sign are, come swapped, and so does a pair with a NaN.
+// The two numbers in order. Equal numbers come swapped (zeros of either sign are equal), and so does a pair with a NaN.
 pub fn min_max(v1: f64, v2: f64) -> MinMax
     ensures { λ r. ⌜ r ≡ BaseMath.minMax v1 v2 ⌝ }
 {
@@ -27,21 +27,21 @@ pub fn dist_squared(p0: Vector2, p1: Vector2) -> f64
     d.dot(d)
 }
 
-// The point at t along the segment from p0 to p1: p0 at 0, p1 but for the rounding at 1.
+// The point at t along the segment from p0 to p1: p0 at t = 0; p1, apart from rounding, at t = 1.
 pub fn point_from_parametric(p0: Vector2, p1: Vector2, t: f64) -> Vector2
     ensures { λ r. ⌜ r ≡ BaseMath.pointFromParametric p0 p1 t ⌝ }
 {
     p0.add(p1.sub(p0).scale(t))
 }
 
-// The t at which the segment from p0 to p1 comes by a point of its line. `epsilon` decides nothing: it is in the Rust's parameter
-// list, where only an assertion of a debug build reads it.
+// The t at which the segment from p0 to p1 passes a point of its line. `epsilon` has no effect: the Rust has this parameter, and
+// there only an assertion of a debug build reads it.
 pub fn parametric_from_point(p0: Vector2, p1: Vector2, point: Vector2, epsilon: f64) -> f64
     ensures { λ r. ⌜ r ≡ BaseMath.parametricFromPoint p0 p1 point epsilon ⌝ }
 {
     let x_diff = p1.x - p0.x;
     let y_diff = p1.y - p0.y;
-    // By the coordinate that changes more: the other may not change at all, and a small divisor adds to the error.
+    // It uses the coordinate that changes more: the other may not change at all, and a small divisor adds to the error.
     if floats::abs(x_diff) < floats::abs(y_diff) {
         return (point.y - p0.y) / y_diff;
     }

@@ -1,11 +1,11 @@
-// Comparisons with a tolerance. The `_eps` forms take it; the others use the default. A NaN is near nothing.
+// Comparisons with a tolerance. The `_eps` forms take it as a parameter; the others use the default. A NaN is near nothing.
 ghost use mathlib.Core.Path.{_≡_};
 ghost use Rattle.plane.specs.Fuzzy;
 
-// The tolerance where none is given.
+// The tolerance if none is given.
 pub const FUZZY_EPSILON: f64 = 1e-8;
 
-// Whether a's magnitude is below eps. Two comparisons say it too, and cost less than to clear a sign, as a NaN must keep its bits.
+// Whether a's magnitude is below eps. Two comparisons are cheaper than abs, which must preserve NaN bits.
 pub fn fuzzy_eq_zero_eps(a: f64, eps: f64) -> bool
     ensures { λ r. ⌜ r ≡ Fuzzy.fuzzyEqZeroEps a eps ⌝ }
 {
@@ -26,14 +26,14 @@ pub fn fuzzy_eq_eps(a: f64, b: f64, eps: f64) -> bool
     fuzzy_eq_zero_eps(a - b, eps)
 }
 
-// Whether a is greater than b once a is raised by eps.
+// Whether a + eps is greater than b.
 pub fn fuzzy_gt_eps(a: f64, b: f64, eps: f64) -> bool
     ensures { λ r. ⌜ r ≡ Fuzzy.fuzzyGtEps a b eps ⌝ }
 {
     a + eps > b
 }
 
-// Whether a is less than b once b is raised by eps.
+// Whether a is less than b + eps.
 pub fn fuzzy_lt_eps(a: f64, b: f64, eps: f64) -> bool
     ensures { λ r. ⌜ r ≡ Fuzzy.fuzzyLtEps a b eps ⌝ }
 {

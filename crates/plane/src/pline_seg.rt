@@ -4,13 +4,13 @@ ghost use Rattle.plane.specs.PlineSeg;
 use super::pline_vertex::PlineVertex;
 use super::vector2::Vector2;
 
-// A circle by its radius and its centre.
+// A circle: its radius and its centre.
 pub struct ArcRadiusCenter {
     pub radius: f64,
     pub center: Vector2,
 }
 
-// The radius and the centre of the arc from v1 to v2 with v1's bulge. They mean something only where that segment is an arc.
+// The radius and the centre of the arc from v1 to v2 with v1's bulge. They have a meaning only if that segment is an arc.
 pub fn seg_arc_radius_and_center(v1: PlineVertex, v2: PlineVertex) -> ArcRadiusCenter
     ensures { λ r. ⌜ r ≡ PlineSeg.segArcRadiusAndCenter v1 v2 ⌝ }
 {

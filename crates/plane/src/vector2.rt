@@ -53,7 +53,7 @@ impl Vector2 {
         self.x * other.x + self.y * other.y
     }
 
-    // The dot product with `other` after a quarter turn of this one to the left: zero where the two are parallel.
+    // The dot product of `other` and this one after a quarter turn to the left. It is zero if the two are parallel.
     pub fn perp_dot(self, other: Vector2) -> f64
         ensures { λ r. ⌜ r ≡ vector2.perpDot self other ⌝ }
     {
@@ -84,14 +84,14 @@ impl Vector2 {
         floats::sqrt(self.dot(self))
     }
 
-    // Whether the two are near each other in x and in y, whatever their distance.
+    // Whether the two are near each other in x and in y. Their distance is not used.
     pub fn fuzzy_eq_eps(self, other: Vector2, eps: f64) -> bool
         ensures { λ r. ⌜ r ≡ vector2.fuzzyEqEps self other eps ⌝ }
     {
         fuzzy::fuzzy_eq_eps(self.x, other.x, eps) & fuzzy::fuzzy_eq_eps(self.y, other.y, eps)
     }
 
-    // Whether the two are the same position exactly. Zeros of either sign are equal.
+    // Whether the two are exactly the same position. Zeros of either sign are equal.
     pub fn eq(self, other: Vector2) -> bool
         ensures { λ r. ⌜ r ≡ vector2.eq self other ⌝ }
     {

@@ -1,3 +1,4 @@
--- How the functions of plane are lent to C for the comparison.
+-- How functions of plane, paths and listings go to C for the comparison (Numbers), and that each promise allows one result only
+-- (OneResult).
 pub mod Numbers
 pub mod OneResult

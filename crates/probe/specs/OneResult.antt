@@ -1,4 +1,4 @@
--- What a call promises that hands numbers over settles its result: the count returned, and the contents of the slice.
+-- The promise of a call that writes numbers allows one result only: the returned count, and what the slice holds afterwards.
 use Prim.Native.Nat.{ℕ}
 use mathlib.Core.Path.{_≡_, sym, _∙_}
 use mathlib.Core.List.{List}

@@ -1,9 +1,9 @@
 // Functions of `plane`, `paths` and `listing_calls` under C names, so that compare/ can call each of them beside the Rust's or
-// beside a model. It is for comparison only and no part of the product: its calls stand in no header, and a library that is
-// handed out lacks them.
+// beside a model. They are only for the comparison and no part of the product: no header has them, and the product's library
+// lacks them.
 //
-// A point goes in as its two coordinates, a vertex as those and its bulge. Each call is the function of its name, with that
-// function's own contract. Answers of more than one number go into a lent slice (`out`).
+// A point goes in as its two coordinates, a vertex as its coordinates and its bulge. Each call is the function of its name, with
+// that function's contract. An answer of more than one number goes into a lent slice (`out`).
 pub mod base_math;
 pub mod filled;
 pub mod fuzzy;

@@ -1,5 +1,5 @@
-// Answers of more than one number, handed over in a lent slice: written from its front if all of them fit, and else none is. How
-// many were written is returned.
+// Answers of more than one number, in a lent slice: if all of them fit, they are written from its front, else none is written.
+// The function returns how many were written.
 ghost use mathlib.Core.List.{[], _∷_};
 ghost use Rattle.paths.specs.SegmentNumbers;
 ghost use Rattle.probe.specs.Numbers.{Given, ofVector};
@@ -29,7 +29,7 @@ pub fn three(a: f64, b: f64, c: f64, out: &mut [f64]) -> usize
     3
 }
 
-// All of a slice.
+// The whole slice.
 pub fn part(numbers: &[f64], out: &mut [f64]) -> usize
     ensures { λ r. ⌜ Given (now (numbers .entry)) r (now (out .entry)) (now (out .exit)) ⌝ }
 {
@@ -51,7 +51,7 @@ pub fn vector(v: Vector2, out: &mut [f64]) -> usize
     two(v.x, v.y, out)
 }
 
-// A segment's first vertex, then its second; of none no number.
+// A segment's first vertex, then its second. If there is no segment, no number is written.
 pub fn segment(at: SegmentAt, out: &mut [f64]) -> usize
     ensures { λ r. ⌜ Given (SegmentNumbers.segmentNumbers at) r (now (out .entry)) (now (out .exit)) ⌝ }
 {

@@ -1,4 +1,4 @@
-// Segments of a lent path, by the path's own functions and by those of its view. Where there is none, no number is written.
+// Segments of a lent path, by the path's own functions and by those of its view. If there is no segment, no number is written.
 ghost use mathlib.Core.Path.{_≡_};
 ghost use Rattle.paths.specs.Segments;
 ghost use Rattle.paths.specs.View;
@@ -16,7 +16,7 @@ pub extern "C" fn vjp_segment(path: &[f64], closed: bool, i: usize, out: &mut [f
     out::segment(segments::segment(path, closed, i), out)
 }
 
-// The same of a view of the path.
+// The same for a view of the path.
 #[no_mangle]
 pub extern "C" fn vjp_view_segment(path: &[f64], closed: bool, i: usize, out: &mut [f64]) -> usize
     ensures { λ r. ⌜

@@ -1,4 +1,4 @@
-// What a view of a path answers, for callers that have the path's slice and its flag: a view is made and asked.
+// What a view of a path answers, for callers that have the path's slice and its flag: each call makes a view and asks it.
 ghost use mathlib.Core.Path.{_≡_};
 ghost use Rattle.paths.specs.View;
 use paths::path::SegmentAt;

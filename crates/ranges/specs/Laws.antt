@@ -1,1 +1,1 @@
--- Laws that only proofs need. Within also defines the three tests of src/range.rt, which no answer's definition names.
+-- There are no laws here: those on the quick tests stand in Workings.

@@ -1,2 +1,2 @@
--- The workings: how answers are found, and quick tests. No answer's definition names anything here, so a reader need not believe it.
+-- The quick tests of src/range.rt. No answer's definition names them, so a reader need not believe them.
 pub mod OnSegment

@@ -1,2 +1,2 @@
-// Whether a parameter lies on a segment: the range test that the kernel of two lines and a line with an arc share.
+// Whether a parameter lies on a segment: the range test that the kernel of two lines shares with a line and an arc.
 pub mod range;

@@ -16,7 +16,7 @@ onPatterns call a b answer =
     (cond (eqb call MAX) (eqb (Bits.max a b) answer)
     (cond (eqb call SQRT) (eqb (Bits.sqrt a) answer) false)))
 
--- a NaN has no bits, so any NaN's pattern will do for it
+-- a NaN has no bits, so it goes with any NaN's pattern
 unfoldable pub isAnswer : Float → ℕ → Bool
 isAnswer x pattern = cond (isNan x) (nanBits binary64 pattern) (eqb (toBits binary64 x) pattern)
 
@@ -27,7 +27,7 @@ onNumbers call x y answer =
     (cond (eqb call MAX) (isAnswer (F64.max x y) answer)
     (cond (eqb call SQRT) (isAnswer (F64.sqrt x) answer) false)))
 
--- ---- both: on numbers only where the operands' patterns are numbers'
+-- ---- both; on numbers only if no operand's pattern is a NaN's
 
 unfoldable pub agreesOf : ℕ → ℕ → ℕ → ℕ → Bool
 agreesOf call a b answer =

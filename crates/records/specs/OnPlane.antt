@@ -11,7 +11,7 @@ use Rattle.plane.specs.declared.vector2.Vector2.{Vector2}
 use Rattle.plane.specs.declared.pline_vertex.PlineVertex.{PlineVertex}
 use Rattle.records.specs.Text.{numberAt}
 
--- equal, as zeros of either sign are, or two NaNs: only a NaN differs from itself
+-- equal (zeros of either sign are), or two NaNs: only a NaN differs from itself
 abbrev pub same : Float → Float → Bool
 same x y = eq x y || (ne x x && ne y y)
 

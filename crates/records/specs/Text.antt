@@ -1,4 +1,4 @@
--- What the text of a recorded list says, byte by byte.
+-- The meaning of a recorded list's text, byte by byte.
 use Prim.Native.Nat.{ℕ, zero, suc, _+_, _*_, _-_, _%_, _^_}
 use mathlib.Core.Bool.{Bool, true, false, cond}
 use mathlib.Core.List.{List, [], _∷_}
@@ -23,29 +23,29 @@ mostNumbers = 18
 
 -- ---- a field
 
--- what a byte is worth as a hex digit: '0' to '9', 'a' to 'f'; 16 where it is none
+-- the value of a byte as a hex digit: '0' to '9', 'a' to 'f'; 16 if it is none
 unfoldable pub digitOf : ℕ → ℕ
 digitOf b =
     cond (ltb b 48) 16 (cond (ltb b 58) (b - 48) (cond (ltb b 97) 16 (cond (ltb b 103) (b - 87) 16)))
 
--- what the digits of n and then those of the text spell; of more than sixteen the last sixteen count
+-- the value of the digits of n followed by those of the text; only the last sixteen digits count
 unfoldable pub spelt : ℕ → List ℕ → Field
 spelt n [] = Field·.Number n
 spelt n (b ∷ rest) = cond (ltb 15 (digitOf b)) Field·.Broken (spelt (n % 2 ^ 60 * 16 + digitOf b) rest)
 
--- the number that a field spells
+-- the value of a field
 abbrev pub wordOf : List ℕ → Field
 wordOf text = spelt 0 text
 
 -- ---- a line
 
--- five bytes as one number, the first of them the highest
+-- five bytes as one number, the first byte the highest
 unfoldable pub nameOf : List ℕ → ℕ
 nameOf head =
     (((getD head 0 0 * 256 + getD head 1 0) * 256 + getD head 2 0) * 256 + getD head 3 0) * 256
     + getD head 4 0
 
--- what stands after field i of n: a space, after the last a newline
+-- the byte after field i of n: a space, or a newline after the last
 unfoldable pub afterOf : ℕ → ℕ → ℕ
 afterOf n i = cond (eqb (i + 1) n) 10 32
 
@@ -59,7 +59,7 @@ unfoldable pub isNumber : Field → Bool
 isNumber (Field·.Number x) = true
 isNumber Field·.Broken = false
 
--- the last k of n fields, from field i on, are numbers with what belongs after each
+-- the last k of n fields, from field i on, are numbers, each followed by the right byte
 unfoldable pub fieldsFrom : ℕ → List ℕ → ℕ → ℕ → Bool
 fieldsFrom n body zero i = true
 fieldsFrom n body (suc k) i =

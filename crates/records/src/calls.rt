@@ -1,4 +1,4 @@
-// The calls that a record can be of, by the number of their name (`text::name`).
+// The calls that a record can have, by the number of their name (`text::name`).
 ghost use mathlib.Core.Path.{_≡_};
 ghost use Prim.Native.Nat.{_≤_};
 ghost use Rattle.records.specs.Text.{mostNumbers};
@@ -9,7 +9,7 @@ use super::on_floats;
 use super::on_plane;
 use super::text;
 
-// How many numbers a call's lines have, operands and answers; 0 where it is no call.
+// How many numbers a line of this call has, operands and answers; 0 if there is no such call.
 pub fn numbers(call: u64) -> usize
     ensures { λ r. ⌜ r ≡ numbersOf call ⌝ }
     ensures { λ r. ⌜ r ≤ mostNumbers ⌝ }
@@ -56,7 +56,7 @@ pub fn numbers(call: u64) -> usize
     0
 }
 
-// Whether the call on a line's operands gives the line's answers. Where it is no call, it gives none.
+// Whether the call gives the line's answers for the line's operands. No if there is no such call.
 pub fn is_ours(call: u64, body: &[u8]) -> bool
     ensures { λ r. ⌜ r ≡ isOurs call (now (body .entry)) ⌝ }
 {

@@ -1,4 +1,4 @@
-// The names of the calls that a record can be of, as numbers (`text::name`).
+// The names of the calls that a record can have, as numbers (`text::name`).
 
 // "abs_ ", "min_ ", "max_ ", "sqrt ": the four float functions.
 pub const ABS: u64 = 0x61_6273_5f20;

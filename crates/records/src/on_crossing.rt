@@ -1,5 +1,5 @@
-// Whether the crossing calls give the answers of a line. After the operands, in the order of the C calls' parameters, comes the
-// number that is returned, and the four values of an answer.
+// Whether the crossing calls give the answers of a line. A line has the operands, in the order of the C call's parameters, then
+// the number that the call returns, then the four values of the answer.
 ghost use mathlib.Core.Path.{_≡_};
 ghost use Prim.Native.Nat.{_<_, _+_};
 ghost use Rattle.records.specs.Text.{mostNumbers};
@@ -72,7 +72,7 @@ pub fn pline_seg(body: &[u8]) -> bool
     is_answer(padded::of_pline_seg(met), body, 13)
 }
 
-// Whether the answer is the one that stands from number i on: a refusal is 256 and its number.
+// Whether the answer is the one that the line has from number i on. A refusal is 256 plus its number.
 fn is_answer(numbers: PaddedAnswer, body: &[u8], i: usize) -> bool
     requires { ⌜ i + 4 < mostNumbers ⌝ }
     ensures { λ r. ⌜ r ≡ OnCrossing.isAnswer numbers (now (body .entry)) i ⌝ }

@@ -7,7 +7,7 @@ use super::names::MIN;
 use super::names::SQRT;
 use super::text::is_nan;
 
-// Whether the call gives the answer: on patterns, and on f64 where the operands are numbers.
+// Whether the call gives the answer: on patterns, and also on f64 if the operands are numbers.
 pub fn agrees(call: u64, a: u64, b: u64, answer: u64) -> bool
     ensures { λ r. ⌜ r ≡ agreesOf call a b answer ⌝ }
 {
@@ -23,7 +23,7 @@ pub fn agrees(call: u64, a: u64, b: u64, answer: u64) -> bool
     false
 }
 
-// Whether the call on patterns gives the answer; a call that is none gives none.
+// Whether the call on patterns gives the answer. No if there is no such call.
 fn on_patterns(call: u64, a: u64, b: u64, answer: u64) -> bool
     ensures { λ r. ⌜ r ≡ onPatterns call a b answer ⌝ }
 {
@@ -61,7 +61,7 @@ fn on_numbers(call: u64, x: f64, y: f64, answer: u64) -> bool
     false
 }
 
-// Whether the number has the pattern, or is a NaN and the pattern is a NaN's.
+// Whether the number has this pattern. Any NaN goes with any NaN's pattern.
 fn is_answer(x: f64, pattern: u64) -> bool
     ensures { λ r. ⌜ r ≡ isAnswer x pattern ⌝ }
 {

@@ -1,4 +1,4 @@
-// Whether `plane` gives the answers of a line: the operands come first, then the answers, in the order of the Rust's parameters
+// Whether `plane` gives the answers of a line. The operands come first, then the answers, in the order of the Rust's parameters
 // and results. Zeros of either sign are equal, and so are any two NaNs.
 ghost use mathlib.Core.Path.{_≡_};
 ghost use Prim.Native.Nat.{_<_, _+_};
@@ -55,14 +55,14 @@ pub fn seg_arc_radius_and_center(body: &[u8]) -> bool
         & same(center.y, number(body, 8))
 }
 
-// Whether a computed number may stand for a recorded one.
+// Whether a computed number counts as a recorded one.
 pub fn same(x: f64, y: f64) -> bool
     ensures { λ r. ⌜ r ≡ OnPlane.same x y ⌝ }
 {
     (x == y) | ((x != x) & (y != y))
 }
 
-// The point that numbers i and i + 1 of a line are.
+// The point whose coordinates are numbers i and i + 1 of a line.
 pub fn point(body: &[u8], i: usize) -> Vector2
     requires { ⌜ i + 2 < mostNumbers ⌝ }
     ensures { λ r. ⌜ r ≡ OnPlane.pointAt (now (body .entry)) i ⌝ }
@@ -70,7 +70,7 @@ pub fn point(body: &[u8], i: usize) -> Vector2
     Vector2::new(number(body, i), number(body, i + 1))
 }
 
-// The vertex that three numbers of a line are, from number i on.
+// The vertex whose three numbers start at number i of a line.
 pub fn vertex(body: &[u8], i: usize) -> PlineVertex
     requires { ⌜ i + 2 < mostNumbers ⌝ }
     ensures { λ r. ⌜ r ≡ OnPlane.vertexAt (now (body .entry)) i ⌝ }

@@ -1,5 +1,5 @@
-// The text of a recorded list. A line is a call's name, then numbers as fields of sixteen hex digits, one space before
-// each, and a newline. A call's name tells how many numbers follow it, and so how long its lines are.
+// The text of a recorded list. A line is a call's name, then numbers as fields of sixteen hex digits with one space before each,
+// then a newline. A call's name shows how many numbers follow it, and so how long its lines are.
 ghost use mathlib.Core.Path.{_≡_};
 ghost use Prim.Native.Nat.{_≤_, _<_};
 ghost use lib.Ieee.{nanBits, binary64};
@@ -8,7 +8,7 @@ ghost use Rattle.records.specs.Text.{valueAt, numberAt};
 use super::DIGITS;
 use super::FIELD;
 
-// What a field of hex digits spells, or that a byte in it is no digit.
+// The value of a field of hex digits. Or a byte of it is no digit.
 pub enum Field {
     Number(u64),
     Broken,
@@ -23,7 +23,7 @@ pub fn name(head: &[u8; 5]) -> u64
     four * 256 + wide(head[4])
 }
 
-// Whether the text is n fields, each with what belongs after it.
+// Whether the text is n fields, each followed by the right byte.
 pub fn is_line(body: &[u8], n: usize) -> bool
     requires { ⌜ n ≤ mostNumbers ⌝ }
     ensures { λ r. ⌜ r ≡ isLine n (now (body .entry)) ⌝ }
@@ -45,7 +45,7 @@ pub fn is_line(body: &[u8], n: usize) -> bool
     true
 }
 
-// What stands after field i of n: a space, after the last a newline.
+// The byte after field i of n: a space, or a newline after the last.
 fn after(n: usize, i: usize) -> u8
     requires { ⌜ i < n ⌝ }
     ensures { λ r. ⌜ r ≡ afterOf n i ⌝ }
@@ -78,7 +78,7 @@ fn is_number(f: Field) -> bool
     }
 }
 
-// The number of field i as a pattern; 0 where the field is broken.
+// The number of field i as a pattern; 0 if the field is broken.
 pub fn value(body: &[u8], i: usize) -> u64
     requires { ⌜ i < mostNumbers ⌝ }
     ensures { λ r. ⌜ r ≡ valueAt (now (body .entry)) i ⌝ }
@@ -109,7 +109,7 @@ pub fn is_nan(pattern: u64) -> bool
     pattern % 0x8000_0000_0000_0000 > 0x7ff0_0000_0000_0000
 }
 
-// The number that a field of hex digits spells. Of more than sixteen digits the last sixteen count.
+// The value of a field of hex digits. If there are more than sixteen, only the last sixteen count.
 fn word(text: &[u8]) -> Field
     ensures { λ r. ⌜ r ≡ wordOf (now (text .entry)) ⌝ }
 {
@@ -126,7 +126,7 @@ fn word(text: &[u8]) -> Field
     Field::Number(value)
 }
 
-// What a byte is worth as a hex digit, in lower case; 16 where it is none.
+// The value of a byte as a hex digit in lower case; 16 if it is none.
 fn digit(b: u8) -> u64
     ensures { λ r. ⌜ r ≡ digitOf b ⌝ }
 {

@@ -1,28 +1,58 @@
-// Replays a recorded list of answers from standard input, and says how many records it has and on how many of them ours
-// differ. A line that is no record counts as a difference, and so does a record that is cut short.
+// Replays a recorded list of answers from standard input. It prints how many records the list has, and for how many our answer
+// differs. A line that is no record counts as a difference, and so does a record that is cut short. If a read or a write fails, it says
+// so in one line on standard error.
 
 // What reading one record showed.
 enum Seen {
     End,
     Right,
     Wrong,
+    Unread,
 }
 
 struct Tally {
     records: u64,
     differences: u64,
+    unread: bool,
 }
 
 fn main() {
     let t = replay();
-    io::write_all(1, b"replayed ");
-    io::print_decimal(1, t.records);
-    io::write_all(1, b" differences ");
-    io::print_decimal(1, t.differences);
-    io::write_all(1, b"\n");
+    if t.unread {
+        io::write_all(
+            libc::STDERR_FILENO,
+            b"replay: standard input cannot be read\n",
+        );
+        return;
+    }
+    if !say(t.records, t.differences) {
+        io::write_all(
+            libc::STDERR_FILENO,
+            b"replay: standard output cannot be written\n",
+        );
+    }
 }
 
-// Replays the whole list. Nothing says that the input ends, so the loop ends too where the count would not fit.
+// Writes the counts; no if they could not be written.
+fn say(records: u64, differences: u64) -> bool {
+    put(b"replayed ")
+        && put_number(records)
+        && put(b" differences ")
+        && put_number(differences)
+        && put(b"\n")
+}
+
+fn put(text: &[u8]) -> bool {
+    streams::write_full(text) == text.len()
+}
+
+fn put_number(n: u64) -> bool {
+    let mut digits = [0u8; 20];
+    let k = io::decimal(n, &mut digits);
+    put(&digits[..k])
+}
+
+// Replays the whole list. Nothing promises that the input ends, so the loop also ends where the count would not fit.
 fn replay() -> Tally {
     let mut records: u64 = 0;
     let mut differences: u64 = 0;
@@ -39,18 +69,30 @@ fn replay() -> Tally {
                 records += 1;
                 differences += 1;
             }
+            Seen::Unread => {
+                return Tally {
+                    records: records,
+                    differences: differences,
+                    unread: true,
+                };
+            }
         }
     }
     Tally {
         records: records,
         differences: differences,
+        unread: false,
     }
 }
 
-// Reads and judges one record: its name, then as many numbers as follow such a name.
+// Reads and judges one record: its name, then as many numbers as belong to that name.
 fn next() -> Seen {
     let mut head = [0u8; 5];
-    if io::read_full(0, &mut head) == 0 {
+    let name = streams::read_full(&mut head);
+    if name.failed {
+        return Seen::Unread;
+    }
+    if name.bytes == 0 {
         return Seen::End;
     }
     let end = records::numbers(&head) * records::FIELD;
@@ -58,9 +100,12 @@ fn next() -> Seen {
     rest(&head, &mut body[..end])
 }
 
-// Reads and judges what follows a name. What the input lacks of it stays 0, which is no part of a record.
+// Reads and judges what follows a name. What the input lacks stays 0, and no record has a 0 byte.
 fn rest(head: &[u8; 5], body: &mut [u8]) -> Seen {
-    io::read_full(0, body);
+    let input = streams::read_full(body);
+    if input.failed {
+        return Seen::Unread;
+    }
     if records::is_right(head, body) {
         return Seen::Right;
     }

@@ -1,4 +1,4 @@
--- Bytes put one after the other are put as one; digits, and how many they are.
+-- Bytes put one after the other, taken together; and the digits of a number, and how many there are.
 use Prim.Native.Nat.{ℕ, zero, suc, _+_, _-_, _/_, _%_, _^_, _≤_, _<_}
 use mathlib.Core.Path.{_≡_, refl, ap, _∙_}
 use mathlib.Core.List.{List, [], _∷_, _++_}
@@ -33,7 +33,7 @@ put-join {a} {b} {old} {mid} {now} {at} {k} {next} p q =
     let long = length-append a b in
     record { holds = q .holds ∙ from ∙ sets-append a b old at; after = omega (arith, p .after, q .after, long) }
 
--- the same, by the most bytes that they may be
+-- the same, with the most bytes that there may be
 pub in-join : {m n : ℕ} {a b old mid now : List ℕ} {at k next : ℕ} → PutIn m a old at mid k → PutIn n b mid k now next
     → PutIn (m + n) (a ++ b) old at now next
 in-join p q = record { is-put = put-join (p .is-put) (q .is-put); short = omega (arith, p .short, q .short) }
@@ -65,7 +65,7 @@ hex-long (suc k) n =
     let rest = hex-long k (n / 16) in
     rw (length-append (hex k (n / 16)) (glyph (n % 16) ∷ [])) (omega arith)
 
--- a digit more than those of the sixteenth
+-- one digit more than n / 16 has
 pub one-more : (k n : ℕ) → 0 < k → length (hex (k - 1) n) + 1 ≡ k
 one-more k n h = let long = hex-long (k - 1) n in omega arith
 
@@ -106,7 +106,7 @@ module _ (word out : List ℕ) (at i : ℕ) where
 pub hex-after : (k n : ℕ) {old now : List ℕ} {at next : ℕ} → Put (hex k n) old at now next → next ≡ at + k
 hex-after k n {at = at} p = p .after ∙ ap (λ (l : ℕ). at + l) (hex-long k n)
 
--- a word of at most so many bytes
+-- a word of at most this many bytes
 pub word-in : (most : ℕ) {word old now : List ℕ} {at next : ℕ} → Put word old at now next → length word ≤ most
     → PutIn most word old at now next
 word-in most p h = record { is-put = p; short = omega (arith, p .after) }

@@ -1,4 +1,4 @@
--- The parts of a line have no more bytes than Sizes.antt says, and so has an answer.
+-- No part of a line has more bytes than Sizes.antt says, and no answer has.
 use Prim.Native.Nat.{ℕ, zero, suc, _+_, _*_, _^_, _≤_, _<_}
 use mathlib.Core.Path.{_≡_}
 use mathlib.Core.Bool.{Bool, true, false, cond}

@@ -1,4 +1,4 @@
--- Bytes put into a slice from a place on: what the slice holds after it, and the place after the bytes.
+-- Bytes put into a slice from a place on: what the slice holds afterwards, and the place after the bytes.
 use Prim.Native.Nat.{ℕ, _+_, _≤_}
 use mathlib.Core.Path.{_≡_}
 use mathlib.Core.List.{List}
@@ -9,7 +9,7 @@ pub record Put (bytes old : List ℕ) (at : ℕ) (now : List ℕ) (next : ℕ) :
   pub holds : now ≡ sets old at bytes
   pub after : next ≡ at + length bytes
 
--- the same, and that there are at most so many bytes
+-- the same, and there are at most this many bytes
 pub record PutIn (most : ℕ) (bytes old : List ℕ) (at : ℕ) (now : List ℕ) (next : ℕ) : Type 0 where
   pub is-put : Put bytes old at now next
   pub short : next ≤ at + most

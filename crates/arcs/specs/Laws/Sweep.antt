@@ -1,4 +1,4 @@
--- The sweep test as the Rust writes it, and the finding: one says yes exactly where the other names a rule.
+-- The sweep test as the Rust writes it, and the finding: the test says yes exactly if the finding names a rule.
 use mathlib.Core.Path.{_≡_, refl}
 use mathlib.Core.Bool.{Bool, true, false, cond, _||_}
 use Rattle.floats.specs.Ops.{_≺_}
@@ -17,7 +17,7 @@ isYes Inside = true
 isYes NearStart = true
 isYes NearEnd = true
 
--- four rules tried in order, whatever they say
+-- four rules tried in order, whatever each says
 in-order : (center inside start end : Bool)
     → cond center true (cond inside true (start || end))
     ≡ isYes (cond center NearCenter (cond inside Inside (cond start NearStart (cond end NearEnd Outside))))

@@ -1,4 +1,4 @@
--- The circle of an arc, worked out once for all its pairs.
+-- The circle of an arc, computed once for all its pairs.
 use mathlib.Core.Path.{_≡_, _∙_}
 use mathlib.Core.Bool.{false, cond}
 use Rattle.floats.specs.Ops.{f0}

@@ -1,4 +1,5 @@
--- Ends that are not as far from the other arc's centre as that arc: they lie on no part of it, so there are no end points to collect.
+-- The quick test whether ends lie on the other arc: an end whose distance from the other arc's centre is not the radius lies on
+-- no part of that arc, so there are no end points to collect.
 use mathlib.Core.Path.{_≡_, refl, sym, ap, _∙_}
 use mathlib.Core.List.{List, [], _∷_}
 use mathlib.Core.Bool.{Bool, true, false, not, _&&_, _||_, false≢true}
@@ -57,7 +58,7 @@ no-ends v1 v2 u1 u2 arc1 arc2 eps h =
       none-added none v2 arc2 eps (p .3),
     )
 
--- so what two arcs have in common is told with none
+-- so the answer for two arcs needs no end points
 pub without-ends : (v1 v2 u1 u2 point1 point2 : Vector2) (arc1 arc2 : ArcGeometry) (eps : Float) (clear : Bool) (r : PlineSegIntr)
     → clear ≡ endsClear v1 v2 u1 u2 arc1 arc2 → clear ≡ true → r ≡ twoArcArc point1 point2 (Empty ∷ (Empty ∷ [])) arc1 arc2
     → r ≡ crossingArcs v1 v2 u1 u2 point1 point2 arc1 arc2 eps

@@ -1,4 +1,4 @@
--- Lists of checks, one after another; and which numbers pass those of a point, a vertex and a circle.
+-- Lists of checks, one after another; and which numbers pass the checks of a point, a vertex and a circle.
 use mathlib.Core.Path.{_≡_, sym, ap, _∙_}
 use mathlib.Core.Logic.{_↔_, Iff·trans}
 use mathlib.Core.List.{List, [], _∷_, _++_}
@@ -40,7 +40,7 @@ pub record CircleFine (r x y : Float) : Type 0 where
   pub at-x : Within Limit.center x
   pub at-y : Within Limit.center y
 
--- a list's checks all pass exactly for such numbers
+-- the checks of a list all pass exactly for such numbers
 module _ (x y : Float) (owner : ℕ) where
   pub point-listed : (index : ℕ) → (first (pointChecks x y owner index) ≡ Fine) ↔ PointFine x y
   point-listed index =

@@ -1,5 +1,5 @@
--- An arc's chord that is long enough by its self dot: from 2^-80 on the correctly rounded root is at least 2^-40, the least chord, since a
--- rounding does not cross it. So the check needs no root there.
+-- An arc's chord is long enough if its dot product with itself is at least 2^-80: then the correctly rounded root is at least
+-- 2^-40, the least chord, since rounding does not cross it. So the check needs no root there.
 use mathlib.Core.Path.{_≡_, refl, sym, ap, subst}
 use Prim.Native.Nat.{ℕ, _+_, _-_, _*_, _^_, _≤_, _<_}
 use native.Mathlib.Omega.{arith}
@@ -68,7 +68,7 @@ long-chord v h =
     (diff-finite squareLeast 1 0 (2 ^ 80) square-is) h inf-long
     (λ f. finite-long x (add-fits binary64 (v .x ⊗ v .x) (v .y ⊗ v .y)) f h))
 
--- so the check has nothing to say of it, for any place p and for the self dot s as it was computed
+-- so the check finds it fine, for any place p and for the computed dot product s
 pub long-fine : (v : Vector2) (s : Float) → s ≡ vector2.dot v v → (s ≽ squareLeast) ≡ true
     → (p : Place) → Each.chord (vector2.length v) p ≡ Fine
 unfolding Each.chord refuse

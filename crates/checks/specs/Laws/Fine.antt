@@ -1,4 +1,5 @@
--- What a number is that its check found fine, and only such a number is found fine: the facts that callers' proofs go on with.
+-- What a check says of a number that it finds fine, and that it finds only such numbers fine. The proofs of callers use these
+-- facts.
 use mathlib.Core.Path.{_≡_, refl, sym, subst}
 use mathlib.Core.Logic.{_↔_, Iff·trans}
 use mathlib.Core.Bool.{Bool, true, false, not, _||_, true≢false}
@@ -15,7 +16,7 @@ use Rattle.checks.specs.Limit
 use Rattle.checks.specs.RefusalTable
 use Rattle.checks.specs.Laws.Order.{le-not-lt}
 
--- x is a number of a magnitude of at most `most`
+-- x is a number, at most `most` in magnitude
 pub record Within (most x : Float) : Type 0 where
   pub number : T (finite x)
   pub small : T (F64.abs x ≼ most)
@@ -26,7 +27,7 @@ pub record Between (least most x : Float) : Type 0 where
   pub above : T (least ≼ x)
   pub below : T (x ≼ most)
 
--- ---- tests that fail, as facts
+-- ---- what follows from a test that says no
 to-number : (x : Float) → (isNan x || isInfinite x) ≡ false → T (finite x)
 unfolding isNan isInfinite
 to-number nan h = absurd (true≢false h)
@@ -51,7 +52,7 @@ real-abs nan t = absurd t
 real-abs (inf s) t = absurd t
 real-abs (fin s m e) t = refl
 
--- of two that are no NaNs: not x < y, exactly if y <= x
+-- if neither is a NaN: x < y is false exactly if y <= x
 not-below : (x y : Float) → isNan x ≡ false → isNan y ≡ false → ((x ≺ y) ≡ false) ↔ T (y ≼ x)
 not-below x y a b = go (lt x y) (le y x) (le-not-lt y x b a)
   where
@@ -90,7 +91,7 @@ between least most x l m = (
       ),
 )
 
--- what is no NaN, if anything, is at least `least`
+-- if it is no NaN, it is at least `least`
 not-short : (least x : Float) → isNan least ≡ false → ((x ≺ least) ≡ false) ↔ (isNan x ≡ false → T (least ≼ x))
 unfolding isNan lt
 not-short least nan l = (λ h r. absurd (true≢false r), λ h. refl)

@@ -1,4 +1,4 @@
--- A call's checks one after the other are the first fault of their list: what each adds to what was found so far.
+-- A call's checks, one after the other, give the first fault of their list: what each step adds to the checks made so far.
 use mathlib.Core.Path.{_≡_, sym, ap, _∙_}
 use mathlib.Core.List.{List, [], _∷_, _++_}
 use Rattle.checks.specs.declared.fault.Checked.{Checked}
@@ -15,7 +15,7 @@ pub alone : {r c : Checked} → r ≡ c → Found (c ∷ []) r
 alone {c = c} e = record { is = e ∙ sym (fine-right c) }
 
 module _ {cs : List Checked} {f r : Checked} (found : Found cs f) where
-  -- by further checks
+  -- with further checks
   pub with-checks : (ds : List Checked) → r ≡ first (f ∷ ds) → Found (cs ++ ds) r
   with-checks ds e = record { is = e ∙ ap (λ (z : Checked). later z (first ds)) (found .is) ∙ sym (first-append cs ds) }
 

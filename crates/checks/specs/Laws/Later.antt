@@ -1,5 +1,5 @@
--- The first fault of two checks: `later` is associative, `Fine` its unit; it is fine exactly if both are, and bad exactly as the
--- first that is not fine.
+-- The first fault of two checks: `later` is associative, and `Fine` is its unit. It is fine exactly if both are fine; else it is
+-- the first that is not fine.
 use mathlib.Core.Path.{_≡_, refl, sym, _∙_}
 use mathlib.Core.Logic.{_↔_, _⊎_, inl, inr, Iff·trans, Iff·and}
 use mathlib.Core.Bool.{Bool, true, false, cond, true≢false}
@@ -27,7 +27,7 @@ unfolding later
 later-fine Fine g = (λ e. (refl, e), λ e. e .1)
 later-fine (Bad f) g = (λ e. (e, cc), λ e. e .0)
 
--- what a check is that passes, in other words: it is the same as another; it stands after another; it stands alone
+-- when a check passes, from another check: it is the same as the other; it stands after the other; it stands alone
 pub same-fine : {c d : Checked} {F : Type 0} → c ≡ d → ((d ≡ Fine) ↔ F) → ((c ≡ Fine) ↔ F)
 same-fine e = Iff·trans (λ h. sym e ∙ h, λ h. e ∙ h)
 
@@ -37,7 +37,7 @@ then-fine {f} {g} p q = Iff·trans (later-fine f g) (Iff·and p q)
 pub alone-fine : {c : Checked} {F : Type 0} → ((c ≡ Fine) ↔ F) → ((later c Fine ≡ Fine) ↔ F)
 alone-fine {c} = same-fine (fine-right c)
 
--- and it is made only where a test says no
+-- the same for a check that is made only if a test says no
 pub unless-fine : (test : Bool) {c : Checked} {F : Type 0} → ((c ≡ Fine) ↔ F) → ((cond test Fine c ≡ Fine) ↔ (test ≡ false → F))
 unless-fine true exact = (λ e no-test. absurd (true≢false no-test), λ f. refl)
 unless-fine false exact = (λ e no-test. exact .0 e, λ f. exact .1 (f refl))

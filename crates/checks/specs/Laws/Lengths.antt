@@ -1,6 +1,6 @@
--- The length of the way from one point to another, where no coordinate is above 2 ^ k in size: the differences, their squares,
--- the sum of these and its root are finite, since a rounding does not cross a power of two; and from the squares on there is no
--- sign. The coordinates may be any numbers, not only those of the format.
+-- The length of the way from one point to another, if no coordinate is above 2 ^ k in size. The differences, their squares, the
+-- sum of these and its root are finite, since rounding does not cross a power of two; and from the squares on nothing has a sign.
+-- The coordinates may be any numbers, not only those of the format.
 use mathlib.Core.Path.{_≡_, refl, sym, ap, _∙_, subst}
 use Prim.Native.Nat.{ℕ, zero, suc, _+_, _*_, _^_, _≤_, _<_}
 use native.Mathlib.Nat.{mul-pos, mul-le-mul-right, zero-lt-suc, pow-succ'}
@@ -25,7 +25,7 @@ use Rattle.floats.specs.Laws.Sqrt.{root-of, root-zero, root-within}
 use Rattle.checks.specs.Limit
 use Rattle.checks.specs.Laws.Fine as fine
 
--- x is a fraction of at most 2 ^ k in size
+-- x is a fraction, at most 2 ^ k in size
 pub record Small (k : ℕ) (x : Float) : Type 0 where
   pub s : Bool
   pub size : ℕ
@@ -68,7 +68,7 @@ difference f k x y a b fine =
         go false true x y z = (omega arith, omega arith)
         go false false x y z = (omega arith, omega arith)
 
--- ---- what rounds a value without a sign has none
+-- ---- rounding a value without a sign gives a value without a sign
 unsigned : (f : Format) (K a c : ℕ) (x : Float) → x ≡ round f false a c → Within f K x → Unsigned f K x
 unsigned f K a c x e w =
     let real : T (finite (round f false a c)) = subst (λ (z : Float). T (finite z)) e (within-finite f K x w) in

@@ -1,4 +1,4 @@
--- Of two values that are no NaNs, the first is at most the second exactly if the second is not below the first.
+-- If neither of two values is a NaN, the first is at most the second exactly if the second is not below the first.
 use mathlib.Core.Path.{_≡_, refl, sym, ap}
 use mathlib.Core.Logic.{inl, inr}
 use mathlib.Core.Bool.{Bool, true, false, not, _&&_, _||_, true≢false, false≢true}
@@ -9,9 +9,9 @@ use lib.Dec.{ltb, eqb}
 use lib.Ieee.{Float, nan, inf, fin, up, down, isNan, lt, le}
 use borrow.Author.Tests.{ltb-true, ltb-false, eqb-true, lt-ltb, le-ltb, eq-eqb}
 
--- ---- the tests on the two magnitudes a and b, over one denominator: of one sign, a alone not negative, a alone negative
+-- ---- tests on the two magnitudes a and b over one denominator: of one sign; only a is not negative; only a is negative
 
--- same says whether they are equal
+-- `same` says whether they are equal
 of-one-sign : (a b : ℕ) (same : Bool) → (a ≡ b → same ≡ true) → (same ≡ true → a ≡ b)
     → (ltb a b || (same && true)) ≡ not (ltb b a)
 of-one-sign a b same to from = go (ltb a b) same (ltb-true a b) (ltb-false a b) to from

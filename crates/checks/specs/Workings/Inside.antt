@@ -1,5 +1,5 @@
--- Numbers that pass their checks, told by comparisons alone: |x| is at most the limit if x is and -x is, for all floats; a NaN
--- is at most nothing. So a vertex whose three numbers are inside leaves a chain of checks as it was.
+-- Quick tests of numbers, by comparisons alone: |x| is at most the limit if x and -x are, for all floats; a NaN is at most
+-- nothing. So a vertex whose three numbers are inside adds no fault to a chain of checks.
 use mathlib.Core.Path.{_≡_, sym, ap, _∙_}
 use mathlib.Core.Bool.{Bool, true, false, not, _&&_}
 use mathlib.Core.List.{_∷_}
@@ -30,7 +30,7 @@ inside most x = (x ≼ most) && (neg most ≼ x)
 abbrev pub vertexInside : Float → Float → Float → Bool
 vertexInside x y bulge = (inside Limit.coordinate x && inside Limit.coordinate y) && inside Limit.bulge bulge
 
--- |x| <= most, where x <= most and -most <= x
+-- |x| <= most, if x <= most and -most <= x
 small : (x most : Float) → T (finite x) → T (finite most) → T (x ≼ most) → T (neg most ≼ x) → T (F64.abs x ≼ most)
 unfolding F64.abs neg
 small nan most f g h k = absurd f

@@ -1,4 +1,4 @@
--- The class and the points tell answers of the pair call apart: an answer can be made again from them.
+-- The class and the points identify an answer of the pair call: the answer can be built again from them.
 use Prim.Native.Nat.{ℕ}
 use mathlib.Core.Path.{_≡_, refl}
 use mathlib.Core.Bool.{cond}

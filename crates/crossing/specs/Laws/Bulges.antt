@@ -1,4 +1,4 @@
--- The bulge of a segment's second vertex plays no part: whatever stands there, a NaN too, the pair call answers the same.
+-- The bulge of a segment's second vertex has no effect: whatever it is, a NaN too, the pair call answers the same.
 use mathlib.Core.Path.{_≡_, refl}
 use lib.Ieee.{Float}
 use Rattle.plane.specs.PlineSeg.{segArcRadiusAndCenter}

@@ -1,6 +1,6 @@
--- Two circles that are far apart, by the square of the distance of their centres: where `reach`, the radii and epsilon together, is at
--- least epsilon and not below zero, and its square is below that of the distance, the root is at least `reach` (floats, Laws/RootBeside).
--- So the distance is neither near zero nor below `reach`, and the answer is that they do not meet.
+-- Two circles that are far apart, by the squared distance of their centres. `reach` is the sum of the radii and epsilon. If it is
+-- at least epsilon and not below zero, and its square is below the squared distance, the distance is at least `reach` (floats,
+-- Laws/RootBeside). So the distance is neither near zero nor below `reach`, and the circles do not meet.
 use mathlib.Core.Path.{_≡_, ap, _∙_}
 use mathlib.Core.Bool.{Bool, false, not, cond, _&&_, _||_}
 use lib.Dec.{T, not-T}
@@ -21,7 +21,7 @@ use Rattle.crossing.specs.CircleCircle.{circleCircle, sameCenter, meetin
 abbrev pub apart : Float → Float → Float → Bool
 apart d2 reach eps = ((reach ≽ f0) && (reach ≽ eps)) && (reach ⊗ reach ≺ d2)
 
--- the two tests that the definition has, and what it answers then
+-- the definition's two tests, and its answer then
 no-meeting : (near within nested : Bool) (a b : CircleCircleIntr) → near ≡ false → within ≡ false
     → cond near a (cond (not within || nested) NoIntersect b) ≡ NoIntersect
 no-meeting near within nested a b p q = rw (p, q)

@@ -1,6 +1,7 @@
--- A line far from a circle, without the root: c is the line's constant, q the square by whose root it is divided, s the radius and
--- epsilon together. w and z are guesses that the test itself proves good: w is no less than the root, since its square is above q,
--- and z is above s. If z * w is still below |c|, then |c| / root is at least z. Nothing here asks how w and z were found.
+-- A line far from a circle, without a root: c is the line's constant, which is divided by the root of q; s is the sum of the
+-- radius and epsilon. w and z are guesses, and the test itself shows that they are good: w is not below the root, since its
+-- square is above q, and z is above s. If z * w is still below |c|, then |c| / root is at least z. It does not matter how w and z
+-- were found.
 use mathlib.Core.Path.{_≡_, refl, sym, subst}
 use Prim.Native.Nat.{ℕ, _+_, _*_, _^_, _≤_, _<_}
 use native.Mathlib.Nat.{mul-pos, mul-le-mul-left, mul-le-mul-right, le-of-lt}
@@ -60,7 +61,7 @@ counts x f m =
     between64 x tiny huge (2 ^ 100) (2 ^ 100) 1 f tiny-is huge-is (lit< tt) (lit< tt)
     (and-l (x ≽ tiny) (x ≼ huge) m) (and-r (x ≽ tiny) (x ≼ huge) m)
 
--- all four in units
+-- all four counted in units
 module _ (k q w z : Float) (K Q W Z : ℕ)
     (k-fits : T (fits binary64 k)) (q-fits : T (fits binary64 q)) (w-fits : T (fits binary64 w)) (z-fits : T (fits binary64 z))
     (k-value : HasValue k false K unit) (q-value : HasValue q false Q unit)
@@ -106,7 +107,7 @@ module _ (k q w z : Float) (K Q W Z : ℕ)
       one : Held 53 1
       one = record { y = 1; j = 0; few = lit< tt; is = refl }
 
-      -- one unit's root is at least one unit
+      -- the root of one unit is at least one unit
       small : (Q L : ℕ) → 0 < L → 0 < Q → 1 * 1 * L ≤ Q * (L * L)
       small Q L P S =
           let a : L * 1 ≤ L * L = mul-le-mul-left L P in
@@ -138,7 +139,7 @@ far-line c k q w z s c-fits q-fits w-fits z-fits e h =
     let yes = lt-le s z (k ⊘ F64.sqrt q) (and-r ((q ≺ w ⊗ w) && (z ⊗ w ≺ k)) (s ≺ z) b) far in
     subst (λ (v : Float). (v ⊘ F64.sqrt q ≻ s) ≡ true) e (is-true (k ⊘ F64.sqrt q ≻ s) yes)
 
--- the definition's answer then
+-- the definition's answer if the test says yes
 pub line-far : (p0 p1 : Vector2) (line : Line) (radius h k eps : Float)
     → (F64.abs (line .c) ⊘ F64.sqrt (line .a ⊗ line .a ⊕ line .b ⊗ line .b) ≻ radius ⊕ eps) ≡ true
     → lineMeets p0 p1 line radius h k eps ≡ NoIntersect

@@ -1,7 +1,7 @@
--- Two circles of which one lies well inside the other, by the square of the distance of their centres. `gap` is the difference of the
--- radii, and s is less than it by twice epsilon: where the square of s is above that of the distance, the distance is at most s (floats,
--- Laws/RootBeside). Then the distance and epsilon together are at most `gap`, since s and epsilon are below it: no rounding crosses
--- the float `gap`. So the circles do not meet, be their centres near each other or not.
+-- Two circles, one well inside the other, by the squared distance of their centres. `gap` is the difference of the radii, and s
+-- is `gap` less twice epsilon. If the square of s is above the squared distance, the distance is at most s (floats,
+-- Laws/RootBeside). Then the distance plus epsilon is at most `gap`, since s plus epsilon is below it and no rounding crosses the
+-- float `gap`. So the circles do not meet, whether their centres are near each other or not.
 use mathlib.Core.Path.{_≡_, refl}
 use Prim.Native.Nat.{ℕ, _+_, _*_, _≤_, _<_}
 use native.Mathlib.Nat.{mul-le-mul-right}
@@ -33,7 +33,7 @@ nested d2 gap eps =
     let s = gap ⊖ (eps ⊕ eps) in
     ((gap ≽ eps) && (s ≽ f0)) && ((s ⊕ eps ≺ gap) && ((d2 ≽ f0) && (d2 ≺ s ⊗ s)))
 
--- ---- d is at most s, and s + e below g: then d + e is not above g
+-- ---- d is at most s, and s + e is below g: then d + e is not above g
 module _ (d s e g : Float) (d-fits : T (fits binary64 d)) (s-fits : T (fits binary64 s)) (e-fits : T (fits binary64 e))
     (g-fits : T (fits binary64 g)) (below : T (le d s)) (h : T (s ⊕ e ≺ g)) where
   sum-finite : T (finite d) → T (finite s) → T (finite e) → T (finite g) → T (not (g ≺ d ⊕ e))
@@ -54,7 +54,7 @@ module _ (d s e g : Float) (d-fits : T (fits binary64 d)) (s-fits : T (fits bina
           → (a + e) * L + h * L ≤ g * L + (b + f) * L
       sums a b c d e f g h L o t = let w = mul-le-mul-right L o in omega arith
 
--- minus infinity, or a NaN: nothing is below the one, and nothing beside the other
+-- minus infinity, or a NaN: nothing is below minus infinity, and a NaN compares with nothing
 none-below : (g : Float) → T (not (g ≺ inf true))
 unfolding lt
 none-below nan = tt
@@ -76,7 +76,7 @@ past-below (inf true) g = none-below g
 past-below (inf false) g = none-beside g
 past-below (fin s m x) g = none-below g
 
--- an s that is finite, below g with e: then e is finite, or minus infinity
+-- s is finite, and s + e is below g: then e is finite, or minus infinity
 e-cases : (P : Float → Type 0) (s e g : Float) → T (finite s) → T (s ⊕ e ≺ g) → P (inf true) → (T (finite e) → P e) → P e
 unfolding add lt
 e-cases P nan e g f h i k = absurd f
@@ -100,7 +100,7 @@ sum-not-above d s e g d-fits s-fits e-fits g-fits fs below h =
     above-any (λ (z : Float). T (not (z ≺ d ⊕ e))) (s ⊕ e) g h (not-T (inf false ≺ d ⊕ e) (none-above (d ⊕ e))) (λ fg.
     sum-finite d s e g d-fits s-fits e-fits g-fits below h fd fs fe fg)))
 
--- ---- the definition's three tests: near each other or not, it answers the same
+-- ---- the definition's three tests: its answer is the same, whether the centres are near each other or not
 no-meeting : (near equal within beyond : Bool) (m : CircleCircleIntr) → equal ≡ false → beyond ≡ false
     → cond near (cond equal Overlapping NoIntersect) (cond (not within || not beyond) NoIntersect m) ≡ NoIntersect
 no-meeting true equal within beyond m p q = rw p

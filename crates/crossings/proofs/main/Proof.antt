@@ -6,7 +6,7 @@ use Rattle.crossings.proofs.main.Statement.{statement}
 use Rattle.crossings.proofs.main.Tie as tie
 
 slice-aggregate-answer : tie.Need-slice-aggregate-answer
-slice-aggregate-answer c = sym (length-take-le _ _ (c .before .before .before .read-text .ensures))
+slice-aggregate-answer c = sym (length-take-le _ _ (c .before .before .before .read-full .ensures))
 
 pub main-spec : {M : Type 1} → statement M
 main-spec =

@@ -1,4 +1,4 @@
--- The pair call's look finds no fault: from its numbers one by one, and from the glance at them.
+-- The pair call's check finds no fault: shown from its numbers one by one, and from the quick test of them.
 use mathlib.Core.Path.{_≡_, refl, _∙_}
 use mathlib.Core.Bool.{Bool, true, false, cond, _&&_, _||_}
 use mathlib.Core.List.{List, [], _∷_, _++_}
@@ -28,11 +28,11 @@ use Rattle.checks.specs.Workings.Inside.{inside, of-coordinate, of-bulge}
 use Rattle.checks.specs.Laws.Later.{fine-right, later-fine}
 use Rattle.fast_pair.specs.Workings.AllFine.{pointFine, segmentFine, epsilonFine, pairFine}
 
--- ---- by its numbers
+-- ---- from its numbers
 both-fine : (cs ds : List Checked) → first cs ≡ Fine → first ds ≡ Fine → first (cs ++ ds) ≡ Fine
 both-fine cs ds e f = chains.first-append cs ds ∙ later-fine (first cs) (first ds) .1 (e, f)
 
--- a segment that is v's or u's
+-- one segment, v or u
 pub record Sound (v1 v2 : PlineVertex) (owner : ℕ) : Type 0 where
   pub start : chains.VertexFine (v1 .x) (v1 .y) (v1 .bulge)
   pub end : chains.PointFine (v2 .x) (v2 .y)
@@ -59,7 +59,7 @@ look-fine v1 v2 u1 u2 epsilon e fv fu =
     let f4 = both-fine (c0 ++ c1 ++ c2 ++ c3) c4 f3 (chains.point-listed (u2 .x) (u2 .y) 1 1 .1 (fu .end)) in
     both-fine (c0 ++ c1 ++ c2 ++ c3 ++ c4) c5 f4 f5
 
--- ---- by the glance
+-- ---- from the quick test
 of-epsilon : (x : Float) → T (epsilonFine x) → Between Limit.epsilonLeast Limit.epsilonMost x
 unfolding ofBits
 of-epsilon x h =

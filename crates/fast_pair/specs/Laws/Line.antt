@@ -1,5 +1,6 @@
--- A line that passes clearly beside a circle: what is kept of it has a number that is not below the root by which the definition
--- divides, or one so large that the glance does not take it. Then crossing's Laws/FarLine says that the definition finds it far.
+-- A line that passes clearly beside a circle. What is kept of the line has a number that is not below the root by which the
+-- definition divides, or a number too large for the quick test. In the first case Workings/FarLine of `crossing` says that the
+-- definition finds the line far.
 use mathlib.Core.Path.{_≡_, refl, sym, subst}
 use mathlib.Core.Bool.{Bool, true, false, cond, _&&_}
 use lib.Dec.{T}
@@ -20,7 +21,7 @@ use Rattle.fast_pair.specs.declared.kept.Kept.{Kept}
 use Rattle.fast_pair.specs.Workings.Kept.{noGuess, guess, sound, ofSlant, ofLine}
 use Rattle.fast_pair.specs.Workings.ClearlyApart.{constant, beside, more, lineBeside}
 
--- a guess that the glance takes is a sound one, and of no point
+-- a guess that the quick test uses is a sound one, and not that of a point
 too-large : T (noGuess ≼ huge) → ⊥
 unfolding le ofBits
 too-large t = t
@@ -43,7 +44,7 @@ together : (k q w z square product less : Bool) → T ((q && w) && square) → T
     → T (((k && q) && (w && z)) && ((square && product) && less))
 together true true true true true true true a b = tt
 
--- the line's distance, by a line with this a and b, and the constant c
+-- the distance of a line with this a and b and the constant c
 module _ (p0 p1 : Vector2) (line : Line) (point : Bool) (circle : ArcRadiusCenter) (eps : Float)
     (c-fits : T (fits binary64 (line .c))) where
   abbrev kept : Kept
@@ -71,7 +72,7 @@ module _ (p0 p1 : Vector2) (line : Line) (point : Bool) (circle : ArcRadiusCente
             (together (moderate k) (moderate q) (moderate w) (moderate z) (q ≺ w ⊗ w) (z ⊗ w ≺ k) (s ≺ z) (sure (sound q w) (t .1)) r)),
       )
 
--- ---- the definition's line: its a and b are those of which the number is kept, its c is what the glance works out
+-- ---- the definition's line: its a and b are those behind the kept number, and its c is the one that the quick test computes
 met : (point : Bool) (x y : LineCircleIntr) → (point ≡ false) × (y ≡ NoIntersect) → cond point x y ≡ NoIntersect
 met point x y h = rw (h .0, h .1)
 

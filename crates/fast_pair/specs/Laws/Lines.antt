@@ -1,6 +1,6 @@
--- Two line segments that are clearly apart: whether the quotient n / d lies clearly outside 0..1 is told from n and d alone.
--- No margin is needed: a product that rounds to less than a float is less than it, and a quotient that is at least 33/32, or at most
--- -1/32, rounds to such a one. What the range test says there is in Laws/Within of `ranges`.
+-- Two line segments that are clearly apart: n and d alone show that the quotient n / d lies clearly outside 0..1. No margin is
+-- needed: a product that rounds to less than a float is less than it, and a quotient of at least 33/32, or at most -1/32, rounds
+-- to such a quotient. Workings/OnSegment of `ranges` says what the range test answers then.
 use mathlib.Core.Path.{_≡_, refl, sym, ap, _∙_}
 use Prim.Native.Nat.{ℕ, _+_, _*_, _≤_, _<_}
 use native.Mathlib.Nat.{mul-pos, mul-le-mul-right, lt-of-mul-lt-mul-right, lt-of-not-le, le-of-lt}
@@ -45,7 +45,7 @@ beforeStart-is : Diff beforeStart 0 1 32
 unfolding ofBits
 beforeStart-is = omega arith
 
--- an order of sums over L times e and over L, by what is left without L
+-- L cancels in a comparison of sums
 divided : (x y p q e L : ℕ) → p * L + x * (L * e) < y * (L * e) + q * L → p + x * e < y * e + q
 divided x y p q e L h = lt-of-mul-lt-mul-right L {m = p + x * e} {n = y * e + q} (omega arith)
 
@@ -55,7 +55,7 @@ module _ (n d : Float) (s t : Bool) (X Y : ℕ) (n-fits : T (fits binary64 n)) (
   n-is : Diff n (ups s X) (downs s X) unit
   n-is = own-diff n s X unit n-value
 
-  -- d times a / e - b / e, rounded, is below n: so it is before rounding; and the same the other way round
+  -- if d times (a - b) / e, rounded, is below n, the exact product is too; and the same for above
   module _ (c : Float) (a b e : ℕ) (c-is : Diff c a b e) (E : 0 < e) where
     abbrev P : ℕ
     P = ups t Y * a + downs t Y * b
@@ -83,7 +83,7 @@ module _ (n d : Float) (s t : Bool) (X Y : ℕ) (n-fits : T (fits binary64 n)) (
   quotient : Rounded binary64 (n ⊘ d) (signed-by t (ups s X) (downs s X) * unit) (signed-by t (downs s X) (ups s X) * unit) (Y * unit)
   quotient = div-rounded binary64 n d (ups s X) (downs s X) unit t Y unit unit-pos unit-pos some n-is d-value
 
-  -- at least 33/32 where the signs are alike, at most -1/32 where they are not
+  -- at least 33/32 if the signs are equal, at most -1/32 if they differ
   at-least : s ≡ t → 33 * Y < X * 32 → T (n ⊘ d ≽ afterEnd)
   at-least e h =
       rounded-ge binary64 (n ⊘ d) _ _ (Y * unit) quotient (mul-pos some unit-pos) afterEnd 33 0 32 (lit< tt)
@@ -116,7 +116,8 @@ module _ (n d : Float) (s t : Bool) (X Y : ℕ) (n-fits : T (fits binary64 n)) (
   start : 1 * Y < X * 32 → s ≡ not t → T (outside (n ⊘ d))
   start h e = right-of (n ⊘ d ≽ afterEnd) (n ⊘ d ≼ neg step) (at-most e h)
 
-  -- on one side of both limits, the upper where r is false: past the end where n and d have one sign, else before the start
+  -- n is above both limits times d if r is false, else below both: the quotient is past the end if n and d have the same sign,
+  -- else before the start
   past : (r s t : Bool) {A : Type 0}
       → signed-by r (ups t Y * 33 + downs t Y * 0 + downs s X * 32) (ups t Y * 0 + downs t Y * 33 + ups s X * 32)
       < signed-by r (ups s X * 32 + (ups t Y * 0 + downs t Y * 33)) (downs s X * 32 + (ups t Y * 33 + downs t Y * 0))
@@ -148,7 +149,7 @@ module _ (n d : Float) (s t : Bool) (X Y : ℕ) (n-fits : T (fits binary64 n)) (
       (λ y. before (and-l (n ≺ d ⊗ afterEnd) (n ≺ d ⊗ beforeStart) y) (and-r (n ≺ d ⊗ afterEnd) (n ≺ d ⊗ beforeStart) y))
       h
 
--- ---- for every n and d, of which d is not near zero
+-- ---- for every n and d, if d is not near zero
 infinite : (s t : Bool) (m : ℕ) (e : ℤ) → T (outside (inf s ⊘ fin t m e))
 unfolding div le lt eq ofBits neg
 infinite true true m e = tt
@@ -221,7 +222,7 @@ outside-told (fin s m e) (fin t k f) eps E n-fits d-fits e-value some far h =
     both n d (A .s) (B .s) (A .size) (B .size) n-fits (A .value) (B .value)
     (not-zero d eps (B .s) (B .size) E (B .value) e-value some far) h
 
--- ---- the range test then
+-- ---- the range test's answer then
 pub not-within : (n d : Float) (v : Vector2) (eps : Float) → T (fits binary64 n) → T (fits binary64 d) → T (fits binary64 eps)
     → (F64.abs d ≺ eps) ≡ false → T (crossesOutside n d v eps) → onSegment (n ⊘ d) v eps ≡ false
 unfolding crossesOutside
@@ -246,7 +247,7 @@ beside : (near a b : Bool) (x y z : LineLineIntr) → near ≡ true → T (not b
 beside near true false x y z e t = rw e
 beside near false false x y z e t = rw e
 
--- near zero or not, told one thing of each
+-- near zero or not, with one fact for each case
 by-cases : {A : Type 0} (near a b : Bool) → T (cond near a b) → (near ≡ true → T a → A) → (near ≡ false → T b → A) → A
 by-cases true a b t f g = f refl t
 by-cases false a b t f g = g refl t
@@ -280,13 +281,13 @@ module _ (v1 v2 u1 u2 : Vector2) (eps : Float) (e-fits : T (fits binary64 eps)) 
   n2-fits : T (fits binary64 n2)
   n2-fits = sub-fits binary64 (v .x ⊗ w .y) (v .y ⊗ w .x)
 
-  -- parallel, and not one line
+  -- parallel, and not on one line
   side-by-side : fuzzyEqZeroEps d eps ≡ true → T (not (fuzzyEqZeroEps n1 eps))
       → lineLine v1 v2 u1 u2 eps ≡ lines.NoIntersect
   unfolding lineLine parallel
   side-by-side near t = beside (fuzzyEqZeroEps d eps) (fuzzyEqZeroEps n2 eps) (fuzzyEqZeroEps n1 eps) _ _ _ near t
 
-  -- neither parallel nor crossing onSegment both
+  -- not parallel, and the lines cross outside one of the segments
   cross-outside : fuzzyEqZeroEps d eps ≡ false → T (crossesOutside n1 d v eps || crossesOutside n2 d u eps)
       → lineLineOf (lineLine v1 v2 u1 u2 eps) v1 v2 u1 u2 ≡ NoIntersect
   unfolding lineLine crossing fuzzyEqZeroEps

@@ -1,4 +1,4 @@
--- Two segments that are clearly apart: the pair's definition finds no crossing, whatever kinds they are.
+-- Two segments that are clearly apart: the pair's definition finds that they do not meet, whatever kinds they are.
 use mathlib.Core.Path.{_≡_, refl, ap, _∙_, subst}
 use mathlib.Core.Bool.{Bool, true, false, not, cond, _&&_, _||_}
 use lib.Dec.{T}
@@ -33,7 +33,7 @@ pub circle-kept : (v1 v2 : PlineVertex) → circleOf (ofArc v1 v2) ≡ segArcRad
 unfolding circleOf ofArc vector2.new
 circle-kept v1 v2 = refl
 
--- so the circle that is kept of a segment is an arc's own
+-- so the circle kept of an arc is the arc's own
 pub circle-given : (v1 v2 : PlineVertex) (v : Kept) (circle : ArcRadiusCenter) (eps : Float) → v ≡ keptOf v1 v2 eps → circle ≡ circleOf v
     → OfArc v1 v2 circle
 unfolding keptOf
@@ -98,7 +98,7 @@ module _ (v1 v2 u1 u2 : PlineVertex) (eps : Float) (e-fits : T (fits binary64 ep
           (subst (λ (c : ArcRadiusCenter). T (circlesApart c (segArcRadiusAndCenter u1 u2) eps)) (circle-kept v1 v2)
           (subst (λ (c : ArcRadiusCenter). T (circlesApart (circleOf (ofArc v1 v2)) c eps)) (circle-kept u1 u2) t))
 
--- ---- two lines, of which nothing is kept
+-- ---- two lines, if nothing is kept of them
 pub apart-line-pair : (v1 v2 u1 u2 : PlineVertex) (eps : Float) → T (fits binary64 eps) → T (linePairApart v1 v2 u1 u2 eps)
     → plineSeg v1 v2 u1 u2 eps ≡ NoIntersect
 unfolding linePairApart plineSeg

@@ -1,5 +1,5 @@
--- When a pair's numbers are fine at a glance: src/all_fine.rt, function by function. Nothing here need be believed: a yes is proved to say
--- what the call's own look says (Laws/Looked).
+-- When the quick test finds a pair's numbers fine: src/all_fine.rt, function by function. A reader need not believe it:
+-- Laws/AllFine proves that after a yes the call's own check finds no fault.
 use mathlib.Core.Bool.{Bool, _&&_, _||_}
 use lib.Ieee.{Float}
 use Rattle.floats.specs.Ops.{_≼_, _≽_}

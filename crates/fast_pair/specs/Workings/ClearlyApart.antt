@@ -1,5 +1,5 @@
--- When two segments are clearly apart: src/circles.rt, line.rt, lines.rt and pair.rt, function by function. Nothing here need be
--- believed: a yes is proved to say what `plineSeg` says (Laws/Pair).
+-- When two segments are clearly apart: src/circles.rt, line.rt, lines.rt and pair.rt, function by function. A reader need not
+-- believe it: Laws/Pair proves that after a yes `plineSeg` says that they do not meet.
 use mathlib.Core.Bool.{Bool, false, not, cond, _&&_, _||_}
 use lib.Ieee.{Float, neg, binary64, ofBits}
 use Rattle.floats.specs.Ops.{_⊕_, _⊖_, _⊗_, _⊘_, _≺_, _≼_, _≻_, f2}
@@ -83,7 +83,7 @@ clearlyApart v1 v2 v u1 u2 u eps =
     (lineBeside (pos u1) (pos u2) u (circleOf v) eps)
     (circlesApart (circleOf v) (circleOf u) eps))
 
--- two lines, of which nothing is kept
+-- two lines, if nothing is kept of them
 unfoldable pub linePairApart : PlineVertex → PlineVertex → PlineVertex → PlineVertex → Float → Bool
 linePairApart v1 v2 u1 u2 eps =
     cond (not (bulgeIsZero v1))

@@ -1,4 +1,5 @@
--- What is kept of a segment: src/kept.rt, function by function. Nothing here need be believed: the pair's answer is `plineSeg`'s.
+-- What is kept of a segment: src/kept.rt, function by function. A reader need not believe it: the pair's answer is that of
+-- `plineSeg`.
 use mathlib.Core.Bool.{Bool, cond, _&&_}
 use lib.Ieee.{Float, neg, binary64, ofBits}
 use Rattle.floats.specs.Ops.{_⊕_, _⊖_, _⊗_, _⊘_, _≺_, f0, f1}
@@ -27,7 +28,7 @@ halfMore = ofBits binary64 0x3fe0_0800_0000_0000
 unfoldable pub guess : Float → Float → Float
 guess g q = let w = (g ⊕ q ⊘ g) ⊗ half in (w ⊕ q ⊘ w) ⊗ halfMore
 
--- a guess that the glance may use: its square is above q
+-- a guess that the quick test may use: its square is above q
 abbrev pub sound : Float → Float → Bool
 sound q w = (moderate q && moderate w) && (q ≺ w ⊗ w)
 

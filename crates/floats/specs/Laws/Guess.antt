@@ -1,5 +1,5 @@
--- A test of a guess, in whole numbers. s is the root of N = n * 2 ^ 51, rounded, where N lies between the squares of s - 1/2 and
--- s + 1/2: where N + s is s * s and 1 to 2 * s more. The test works this difference out of s = a * 2 ^ 27 + b from the left.
+-- The test of a guess, in whole numbers. s is the rounded root of N = n * 2 ^ 51 if N lies between the squares of s - 1/2 and s +
+-- 1/2, that is, if N + s exceeds s * s by 1 to 2 * s. The test computes this difference from the left, with s = a * 2 ^ 27 + b.
 use mathlib.Core.Path.{_≡_, sym, ap, _∙_}
 use Prim.Native.Nat.{ℕ, zero, suc, _+_, _-_, _*_, _/_, _%_, _^_, _≤_, _<_}
 use native.Mathlib.Nat.{mul-le-mul, sub-le}
@@ -28,7 +28,7 @@ rounded-is n s w e l = between (n * 2 ^ 51) s w (isqrt (n * 2 ^ 53)) e l (four (
     four : (M K : ℕ) → M ≡ K → IsRoot K (isqrt M)
     four M K e = let r = isqrt-is M in record { low = omega (arith, r .low); high = omega (arith, r .high) }
 
--- ---- the test's numbers: none of the differences wrapped
+-- ---- the test's numbers: no difference wraps
 pub products : (a b : ℕ) → a < 2 ^ 26 → b < 2 ^ 27 → (a * a < 2 ^ 52) × ((a * b < 2 ^ 53) × (b * b < 2 ^ 54))
 products a b p q =
     let u : a ≤ 2 ^ 26 - 1 = omega arith in
@@ -43,7 +43,7 @@ together n s w d e aa ab bb p q r = omega arith
 square : (s a b : ℕ) → s ≡ a * 2 ^ 27 + b → s * s ≡ 2 ^ 54 * (a * a) + 2 ^ 28 * (a * b) + b * b
 square s a b is = let e : s * s ≡ (a * 2 ^ 27 + b) * (a * 2 ^ 27 + b) = ap (λ (z : ℕ). z * z) is in omega arith
 
--- d, e and w as the code takes them
+-- d, e and w as in the code
 module _ (n s a b d e w : ℕ) (N : n < 2 ^ 55) (S : s < 2 ^ 53) (is : s ≡ a * 2 ^ 27 + b) (A : a < 2 ^ 26) (B : b < 2 ^ 27) where
   pub right : (d + a * a * 8 % 2 ^ 64) % 2 ^ 64 ≡ n + 8 → d < 2 ^ 31 → (e + a * b) % 2 ^ 64 ≡ d * 2 ^ 23 % 2 ^ 64 → e < 2 ^ 30
       → (w + (b * b + (2 ^ 54 + 1))) % 2 ^ 64 ≡ e * 2 ^ 28 % 2 ^ 64 + s → w < s + s → s ≡ Root.rounded n

@@ -1,4 +1,4 @@
--- The absolute value, minimum and maximum of finite floats, as other proofs use them: by their fractions.
+-- The absolute value, minimum and maximum of finite floats as fractions, for other proofs.
 use mathlib.Core.Path.{_≡_, refl, ap}
 use mathlib.Core.Logic.{_↔_}
 use Prim.Native.Nat.{ℕ, _+_, _*_, _^_, _<_}
@@ -12,7 +12,7 @@ use Rattle.float_laws.specs.Order.{lt-diff}
 use Rattle.float_laws.specs.Roundings.{Within}
 use Rattle.floats.specs.F64
 
--- ---- the absolute value has the size, without the sign
+-- ---- the absolute value has the same size, without the sign
 pub abs-value : (x : Float) (s : Bool) (X c : ℕ) → HasValue x s X c → HasValue (F64.abs x) false X c
 unfolding F64.abs
 abs-value nan s X c h = absurd h
@@ -29,7 +29,7 @@ pub abs-within : (f : Format) (K : ℕ) (x : Float) → Within f K x → Within 
 abs-within f K x w =
     record { s = false; count = w .count; value = abs-value x (w .s) (w .count) (2 ^ low f) (w .value); le = w .le }
 
--- it is below y where x is below y and above -y: x is (p - n) / c and y is (q - k) / d
+-- it is below y exactly if x is below y and above -y: x is (p - n) / c and y is (q - k) / d
 pub abs-lt : (x y : Float) (p n c q k d : ℕ) → 0 < c → 0 < d → Diff x p n c → Diff y q k d
     → T (lt (F64.abs x) y) ↔ ((p * d + k * c < q * c + n * d) × (n * d + k * c < q * c + p * d))
 abs-lt x y p n c q k d C D a b = let w = signed-of x p n c a in go (w .s) (w .size) (w .value) (w .is)
@@ -47,7 +47,7 @@ abs-lt x y p n c q k d C D a b = let w = signed-of x p n c a in go (w .s) (w .si
         let wide : (X + n) * d ≡ p * d = ap (λ (z : ℕ). z * d) e in
         (λ t. let l = r .0 t in (l, omega arith), λ l. r .1 (l .0))
 
--- ---- of two numbers, the one that the comparison says
+-- ---- of two numbers, the one that the comparison picks
 chosen : (first : Bool) (x y : Float) (p n c q k d : ℕ) → Diff x p n c → Diff y q k d → F64.choose first x y ≡ cond first x y
 unfolding isNan
 chosen first nan y p n c q k d a b = absurd a

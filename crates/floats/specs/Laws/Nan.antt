@@ -1,4 +1,4 @@
--- The NaN: only it differs from itself, and 0 / 0 is it.
+-- The NaN: only it differs from itself, and 0 / 0 gives it.
 use mathlib.Core.Path.{_≡_, refl, sym, ap, subst}
 use mathlib.Core.Bool.{true, false}
 use lib.Dec.{T}
@@ -15,7 +15,7 @@ number nan h = h
 number (inf s) h = refl
 number (fin s m e) h = refl
 
--- there is one
+-- there is only one
 pub the-nan : (x : Float) → isNan x ≡ true → nan ≡ x
 unfolding isNan
 the-nan nan h = refl

@@ -1,5 +1,5 @@
--- Tests joined, as the kinds of two patterns are told: s and t say that the first and the second is a signalling NaN, m and n
--- that it is a NaN. A pair is mixed if one is a signalling NaN and the other no NaN.
+-- Logic on the kinds of two patterns: s and t say that the first and the second is a signalling NaN, m and n that it is a NaN. A
+-- pair is mixed if one is a signalling NaN and the other is no NaN.
 use mathlib.Core.Path.{_≡_, refl}
 use mathlib.Core.Logic.{_⊎_, inl, inr}
 use mathlib.Core.Bool.{Bool, true, false, not, _&&_, _||_, true≢false, false≢true}
@@ -13,7 +13,7 @@ or-either true t p q h = inl refl
 or-either false true p q h = inr refl
 or-either false false p q h = absurd (false≢true h)
 
--- in a pair that is not mixed only a NaN stands beside a signalling one
+-- in a pair that is not mixed, the partner of a signalling NaN is a NaN
 pub beside-first : (s t m n : Bool) → ((s && not n) || (t && not m)) ≡ false → s ≡ true → n ≡ true
 beside-first s t m true h e = refl
 beside-first true t m false h e = absurd (true≢false h)
@@ -26,7 +26,7 @@ beside-second false true false n h e = absurd (true≢false h)
 beside-second true true false true h e = absurd (true≢false h)
 beside-second true true false false h e = absurd (true≢false h)
 
--- of a mixed pair one is a NaN and the other is none; p and q say which NaNs are signalling
+-- in a mixed pair one is a NaN and the other is not; p and q say which NaNs are signalling
 pub one-nan : (m n p q : Bool) → (((m && p) && not n) || ((n && q) && not m)) ≡ true → n ≡ not m
 one-nan true false p q h = refl
 one-nan false true p q h = refl

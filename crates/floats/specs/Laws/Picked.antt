@@ -1,4 +1,4 @@
--- What `pick` answers, by which of its operands are NaNs, and what a comparison that says yes tells of them.
+-- What `pick` answers, depending on which operands are NaNs, and what follows for the operands if a comparison says yes.
 use mathlib.Core.Path.{_≡_, refl, sym, ap, _∙_, subst}
 use mathlib.Core.Bool.{Bool, true, false, not, cond, true≢false, false≢true}
 use Prim.Native.Nat.{ℕ, _*_}
@@ -15,7 +15,7 @@ pub pick-at : (first : Bool) (a b : ℕ) (p q : Bool) → nanBits binary64 a ≡
 unfolding Bits.pick
 pick-at first a b p q e g = rw (e, g)
 
--- a NaN is picked where both are NaNs only, and it is the one that is answered
+-- `pick` answers a NaN only if both are NaNs, and then it is `quietNan`
 pub picked-nan : (first : Bool) (a b : ℕ) → nanBits binary64 (Bits.pick first a b) ≡ true → Bits.pick first a b ≡ Bits.quietNan
 picked-nan first a b h = go (nanBits binary64 a) (nanBits binary64 b) refl refl
   where
@@ -33,7 +33,7 @@ picked-nan first a b h = go (nanBits binary64 a) (nanBits binary64 b) refl refl
     go false true e g = number a e (pick-at first a b false true e g)
     go false false e g = one first e g (pick-at first a b false false e g)
 
--- ---- a comparison that says yes is one of numbers, and does not say yes the other way round
+-- ---- if a comparison says yes, both are numbers, and the comparison the other way round says no
 pub lt-numbers : (x y : Float) → lt x y ≡ true → (isNan x ≡ false) × (isNan y ≡ false)
 unfolding lt isNan
 lt-numbers nan y h = absurd (false≢true h)

@@ -1,7 +1,6 @@
--- The root of a value above zero, by its count: X units have the root that `rootAt` rounds, and among the counts that the format's
--- digits hold none is nearer or as near.
--- A tie would be a count M, halfway between two values, whose square is X * 2 ^ low. But the digits of X are few, so those of its
--- root are few too: M itself would be held, and it would be nearer than both.
+-- The root of a value above zero, by its count: `rootAt` rounds the root of X units, and of all counts that fit the format's
+-- digits none is nearer or as near. There is no tie. It would be a count M, halfway between two values, whose square is X * 2 ^
+-- low. But X has few digits, so its root has few digits too: M itself would fit the format, and it would be nearer than both.
 use mathlib.Core.Path.{_≡_, sym, ap, _∙_, subst}
 use Prim.Native.Nat.{ℕ, zero, suc, _+_, _-_, _*_, _/_, _%_, _^_, _≤_, _<_}
 use native.Mathlib.Nat.{
@@ -75,7 +74,7 @@ record Close (p N R : ℕ) : Type 0 where
   pub below : (Y : ℕ) → Held p Y → Y < R → (Y + R) * (Y + R) ≤ N
   pub above : (Y : ℕ) → Held p Y → R < Y → N ≤ (Y + R) * (Y + R)
 
--- the count that `rootAt` makes of N
+-- the count that `rootAt` answers for N
 abbrev pub made : Format → ℕ → ℕ
 made f N = grid f (2 * isqrt N + sticky N (isqrt N)) (2 ^ (low f + 2))
 
@@ -122,7 +121,7 @@ even-root S K h = go (S / 2) (S % 2) (omega arith) (omega arith)
     go k (suc zero) e l = let s : S * S ≡ (2 * k + 1) * (2 * k + 1) = ap (λ (x : ℕ). x * x) e in absurd (omega arith)
     go k (suc (suc t)) e l = absurd (omega arith)
 
--- the root of a number of few digits, moved up, has few digits
+-- the root of a number with few digits, shifted up, has few digits
 held-root : (p k x S : ℕ) → x < 2 ^ p → S * S ≡ x * 2 ^ k → Held p S
 held-root p zero x S X h = record { y = S; j = 0; few = few S X (h ∙ mul-one x); is = sym (mul-one S) }
   where
@@ -153,7 +152,7 @@ held-root p (suc (suc k)) x S X h =
     up : (y a b : ℕ) → b ≡ 2 * a → S / 2 ≡ y * a → S ≡ 2 * (S / 2) → S ≡ y * b
     up y a b e h s = let r : y * b ≡ y * (2 * a) = ap (λ (z : ℕ). y * z) e in omega arith
 
--- halfway between R and another value there is no root of a number that is held
+-- no point halfway between R and another value is the root of a number that fits
 module _ (p l X R : ℕ) (h : Held p X) (c : Close p (4 * (X * 2 ^ l)) R) where
   tie-held : (S : ℕ) → S * S ≡ 4 * (X * 2 ^ l) → (S ≡ 2 * (S / 2)) × Held p (S / 2)
   tie-held S e =
@@ -162,7 +161,7 @@ module _ (p l X R : ℕ) (h : Held p X) (c : Close p (4 * (X * 2 ^ l)) R) where
       ap (λ (z : ℕ). z * 2 ^ l) (h .is) ∙ mul-assoc (h .y) (2 ^ h .j) (2 ^ l) ∙ ap (λ (z : ℕ). h .y * z) (sym (pow-add 2 (h .j) l)) in
       (half .0, held-root p (h .j + l) (h .y) (S / 2) (h .few) (omega (arith, half .1)))
 
-  -- the point M halfway is held: it lies strictly between, and its square is the number, so R is not nearest
+  -- the halfway point M fits: it lies strictly between the two, and its square is the number, so R is not the nearest
   halfway : (S : ℕ) → S * S ≡ 4 * (X * 2 ^ l) → (S ≡ 2 * (S / 2)) × Held p (S / 2) × (2 * (S / 2) * (2 * (S / 2)) ≡ 4 * (X * 2 ^ l))
   halfway S e = let t = tie-held S e in (t .0, t .1, sym (ap (λ (z : ℕ). z * z) (t .0)) ∙ e)
 
@@ -189,7 +188,7 @@ module _ (p l X R : ℕ) (h : Held p X) (c : Close p (4 * (X * 2 ^ l)) R) where
   above-strict : (Y : ℕ) → Held p Y → R < Y → 4 * (X * 2 ^ l) < (Y + R) * (Y + R)
   above-strict Y y k = lt-of-le-ne (c .above Y y k) (λ e. no-tie-above Y k (sym e))
 
--- ---- the root is below the format's end
+-- ---- the root is below the format's greatest value
 root-under : (f : Format) (X : ℕ) → X < overflow f → made f (X * 2 ^ (low f + 2)) < overflow f
 root-under f X h =
     let N = X * 2 ^ (low f + 2) in

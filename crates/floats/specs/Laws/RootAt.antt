@@ -1,7 +1,7 @@
--- The rounded root by whole numbers: where q, the whole part of the root of n, has one digit more than the format keeps, the
--- root of n * 4 ^ g rounds to (q + 1) / 2 * 2 ^ g. That q is odd and exact, a tie, is excluded by the caller.
--- The argument: the whole part Q of the root of n * 4 ^ g lies from q * 2 ^ g up to (q + 1) * 2 ^ g, so twice Q plus its sticky
--- bit has the same leading digits as q and lies on the same side of the halfway point that the last digit of q decides.
+-- The rounded root in whole numbers. Let q be the whole part of the root of n, with one digit more than the format keeps. Then
+-- the root of n * 4 ^ g rounds to (q + 1) / 2 * 2 ^ g. The caller excludes a tie: q odd and exact. The argument: the whole part Q
+-- of the root of n * 4 ^ g lies from q * 2 ^ g up to (q + 1) * 2 ^ g. So twice Q plus its sticky bit has the same leading digits
+-- as q, and it lies on the same side of the halfway point, which the last digit of q decides.
 use mathlib.Core.Path.{_≡_, refl, sym, ap, _∙_, subst}
 use mathlib.Core.Logic.{_⊎_, inl, inr}
 use Prim.Native.Nat.{ℕ, zero, suc, _+_, _-_, _*_, _/_, _%_, _^_, _≤_, _<_}
@@ -44,7 +44,7 @@ sticky-le n q = go (eqb (q * q) n)
     go true = omega arith
     go false = omega arith
 
--- ---- Q, the whole part of the root of n * G * G, beside q, that of n
+-- ---- Q, the whole part of the root of n * G * G, compared with q, that of n
 module _ (n q G Q : ℕ) (r : IsRoot n q) (R : IsRoot (n * (G * G)) Q) where
   lower : q * G ≤ Q
   lower =
@@ -57,7 +57,7 @@ module _ (n q G Q : ℕ) (r : IsRoot n q) (R : IsRoot (n * (G * G)) Q) where
       let wide : n * (G * G) < (q + 1) * (q + 1) * (G * G) = mul-lt-mul-of-pos-right (r .high) (mul-pos p p) in
       sq-lt Q ((q + 1) * G) (omega (arith, R .low))
 
-  -- where n is no square, the rest shows
+  -- if n is no square, the sticky bit shows it
   apart : 0 < G → (q * q ≡ n → ⊥) → 2 * (q * G) < 2 * Q + sticky (n * (G * G)) Q
   apart p no-square = go (eqb (Q * Q) (n * (G * G))) (eqb→eq (Q * Q) (n * (G * G))) (eq-or-lt-of-le lower)
     where

@@ -1,6 +1,6 @@
--- A root beside a float s, by the square of s as floats compute it: where the rounded s * s is below x, the root of x is at least s, and
--- where it is above x, at most s. No margin is needed: a product that rounds to less than the float x is less than x, and a root is not
--- rounded across the float s.
+-- A root compared with a float s, by the square of s as floats compute it: if the rounded s * s is below x, the root of x is at
+-- least s, and if it is above x, at most s. No margin is needed: a product that rounds to less than the float x is less than x,
+-- and a root does not round across the float s.
 use mathlib.Core.Path.{_≡_, refl, sym, ap, subst}
 use Prim.Native.Nat.{ℕ, zero, suc, _+_, _-_, _*_, _≤_, _<_}
 use native.Mathlib.Nat.{mul-pos, lt-of-mul-lt-mul-right, zero-lt-suc, eq-or-lt-of-le}
@@ -40,7 +40,7 @@ unsigned-value nan R c v = absurd v
 unsigned-value (inf s) R c v = absurd v
 unsigned-value (fin s m e) R c v = ap (λ (z : Bool). fin z m e) (sym (v .0))
 
--- in naturals
+-- in whole numbers
 none : (a b : ℕ) → 0 < a → a + b ≡ b → ⊥
 none a b l e = omega arith
 
@@ -74,7 +74,7 @@ module _ (s x : Float) (t : Bool) (S p n : ℕ) (held : Held 53 S) (s-value : Ha
       plain true L = omega arith
       plain false L = omega arith
 
-  -- the exact square, by the rounded one
+  -- the exact square, from the rounded one
   below : T (s ⊗ s ≺ x) → S * S * unit + n * (unit * unit) < p * (unit * unit)
   below h =
       let l = rounded-below binary64 (s ⊗ s) (S * S) 0 (unit * unit) square (mul-pos unit-pos unit-pos) x p n unit unit-pos x-fits x-is h in

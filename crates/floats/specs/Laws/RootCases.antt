@@ -1,4 +1,4 @@
--- The patterns by their kinds, and the roots of those that need no digits: zeros, infinities, NaNs and numbers below zero.
+-- The kinds of patterns, and the roots of those that need no digits: zeros, infinities, NaNs and numbers below zero.
 use mathlib.Core.Path.{_≡_, refl, sym, ap, _∙_, subst}
 use Prim.Native.Nat.{ℕ, zero, suc, _+_, _-_, _*_, _^_, _≤_, _<_}
 use native.Mathlib.Nat.{mul-pos, zero-mul, zero-lt-suc}
@@ -37,7 +37,7 @@ root-nan = refl
 pub root-of-nan : (b : ℕ) → nanBits binary64 b ≡ true → F64.sqrt (ofBits binary64 b) ≡ nan
 root-of-nan b h = ap F64.sqrt (is-nan (ofBits binary64 b) (sym (nanBits-is binary64 b) ∙ h)) ∙ root-nan
 
--- a value without a sign, and not zero, negated
+-- the negative of a value that has no sign and is not zero
 negative : (v : Float) → v ≡ F64.abs v → (HasValue v false 0 (2 ^ low binary64) → ⊥) → F64.sqrt (neg v) ≡ nan
 unfolding F64.abs F64.sqrt F64.rootOf neg
 negative nan e some = refl
@@ -70,7 +70,7 @@ quiet : toBits binary64 nan ≡ Bits.quietNan
 unfolding toBits
 quiet = refl
 
--- above infinity's pattern there are the NaNs, -0 and what is below it
+-- above the pattern of infinity stand the NaNs, -0 and the numbers below zero
 pub root-none : (b : ℕ) → 0x7ff0_0000_0000_0000 < b → b < 2 ^ 64 → (b ≡ 2 ^ 63 → ⊥) → Bits.quietNan ≡ Bits.sqrt b
 unfolding Bits.sqrt
 root-none b above h no-zero = sym (ap (toBits binary64) (go (leb (2 ^ 63) b) (leb→le (2 ^ 63) b) (nleb→lt (2 ^ 63) b)) ∙ quiet)
@@ -95,7 +95,7 @@ sqrt-lt b =
     let x = ofBits binary64 b in
     toBits-lt binary64 (F64.rootOf binary64 x) (rootOf-fits binary64 x (ofBits-fits binary64 b))
 
--- ---- where there is none the answer is the one NaN; below zero there is none
+-- ---- if there is no root, the answer is the one NaN; a number below zero has none
 pub none-quiet : (b : ℕ) → F64.sqrt (ofBits binary64 b) ≡ nan → Bits.sqrt b ≡ Bits.quietNan
 unfolding Bits.sqrt
 none-quiet b h = ap (toBits binary64) h ∙ quiet

@@ -1,5 +1,6 @@
--- Bounds of a root by powers of two, without a rounding: a number of at least 1 / 4 ^ k has a root of at least 1 / 2 ^ k, and one of
--- at most 4 ^ k a root of at most 2 ^ k, since a rounding does not cross a power of two. Counted in units of binary64.
+-- Bounds of a root by powers of two, without rounding errors: a number of at least 1 / 4 ^ k has a root of at least 1 / 2 ^ k,
+-- and a number of at most 4 ^ k a root of at most 2 ^ k, since rounding does not cross a power of two. Counts are in units of
+-- binary64.
 use mathlib.Core.Path.{_≡_, sym, ap, _∙_, subst}
 use Prim.Native.Nat.{ℕ, _+_, _*_, _^_, _≤_, _<_}
 use native.Mathlib.Nat.{mul-le-mul-left, mul-le-mul-right}

@@ -1,8 +1,7 @@
--- The correctly rounded root as other proofs use it: the root of A / c is a count R of the format's units, and R * R is compared
--- with A / c times the square of the units, multiplied out. It does not cross a value of the format, it is off by about a 2 ^ prec th,
--- and greater numbers have no lesser roots.
--- The argument for the second: with R also the values next above and next below it are in the format, a last place away. The point
--- halfway to each lies beyond the exact root, and the last place is at most a 2 ^ (prec - 1) th of R.
+-- The correctly rounded root, for other proofs: the root of A / c is a count R of the format's units, and R * R is compared with
+-- A / c times the square of the units, multiplied out. Two facts: it does not cross a value of the format, and its error is about
+-- one part in 2 ^ prec. The argument for the second: the values next above and next below R are in the format too, one last place
+-- away. The halfway point to each lies beyond the exact root, and the last place is at most one part in 2 ^ (prec - 1) of R.
 use mathlib.Core.Path.{_≡_, refl, sym, ap, _∙_, subst}
 use mathlib.Core.Logic.{_⊎_, inl, inr}
 use Prim.Native.Nat.{ℕ, zero, suc, _+_, _-_, _*_, _^_, _≤_, _<_}
@@ -115,7 +114,7 @@ held-next p w j P l = go (eq-or-lt-of-le {n = w + 1} {m = 2 ^ p} (omega arith))
 held-last : (p w j : ℕ) → w < 2 ^ p → Held p ((w - 1) * 2 ^ j)
 held-last p w j l = record { y = w - 1; j = j; few = omega arith; is = refl }
 
--- ---- off by about a 2 ^ p th: a root R whose last place is u, beside the number N
+-- ---- an error of about one part in 2 ^ p: a root R whose last place is u, compared with the number N
 near-above : (P H R u N : ℕ) → P ≡ 2 * H → H * u ≤ R → 4 * N < (R + u + R) * (R + u + R) → P * P * N ≤ R * R * ((P + 1) * (P + 1))
 near-above P H R u N e l h =
     let place : P * u ≡ 2 * H * u = ap (λ (z : ℕ). z * u) e in
@@ -266,7 +265,7 @@ root-of f x A c t P C v =
     dn : (P Q M N R : ℕ) → M ≡ N * c → P * R ≤ N * Q → P * (R * c) ≤ M * Q
     dn P Q M N R e l = omega (arith, mul-le-mul-right c l, ap (λ (z : ℕ). z * Q) e)
 
--- ---- f64's root is this one, and the root of a zero is that zero
+-- ---- f64's root is this one; the root of a zero is that zero
 pub sqrt-is : (x : Float) → sqrt x ≡ rootOf binary64 x
 unfolding sqrt
 sqrt-is x = refl
@@ -284,8 +283,7 @@ root-zero f (fin t (suc m) e) s c d C h = absurd (never (suc m * up e * c) (down
     never : (a w : ℕ) → 0 < a → a ≡ 0 * w → ⊥
     never a w l e = omega arith
 
--- ---- greater numbers have no lesser roots
--- ---- magnitudes: a number of at most 2 ^ K units has a root of at most 2 ^ J, where K + low is at most twice J
+-- ---- magnitudes: a number of at most 2 ^ K units has a root of at most 2 ^ J, if K + low is at most twice J
 pub root-within : (f : Format) (x : Float) (X K J : ℕ) → T (fits f x) → HasValue x false X (2 ^ low f) → X ≤ 2 ^ K → K + low f ≤ J + J
     → Within f J (rootOf f x)
 root-within f x X K J t v l m = go X v l

@@ -1,6 +1,6 @@
--- A root under way, on plain numbers: what holds before each turn, and what a turn does to it.
--- N is n * 2 ^ 53, and the unit is 2 ^ k. Twice what is left of N after root * root is `rest` units, and that is less than twice
--- what one more unit in the root would take: (root + unit) * (root + unit) - root * root is root + root + unit units.
+-- A root under way, in whole numbers: what holds before each turn, and what a turn does. N is n * 2 ^ 53, and the unit is 2 ^ k.
+-- Twice what is left of N after root * root is `rest` units. That is less than twice what one more unit in the root would take:
+-- (root + unit) * (root + unit) - root * root is root + root + unit units.
 use mathlib.Core.Path.{_≡_, refl, sym, ap, subst}
 use Prim.Native.Nat.{ℕ, suc, _+_, _-_, _*_, _/_, _^_, _≤_, _<_}
 use native.Mathlib.Nat.{pow-succ', zero-add}
@@ -21,14 +21,14 @@ pub record Turn (n k : ℕ) (s : Turning) : Type 0 where
   pub power : s .unit ≡ 2 ^ k
   pub fits : Room s
 
--- a root of some number under way, with six turns to go at least
+-- the root of some number is under way, with at least six turns to go
 abbrev pub Sound : Turning → Type 0
 Sound s = (n : ℕ) × ((k : ℕ) × Turn n (6 + k) s)
 
 pub start : (n : ℕ) → n < 2 ^ 55 → Turn n 54 (record { rest = n; root = 0; unit = 2 ^ 54 })
 start n h = record { total = omega arith; power = refl; fits = record { under = omega arith; room = omega arith } }
 
--- at a unit of 1 the root is whole
+-- once the unit is 1, the root is the whole part
 pub done : (n : ℕ) (s : Turning) → Turn n 0 s → IsRoot (n * 2 ^ 53) (s .root)
 done n s t = go (s .unit) (t .power) (t .total) (t .fits .under)
   where
@@ -85,7 +85,7 @@ module _ (n k : ℕ) (s : Turning) (t : Turn n (suc k) s) where
       go true l m = taken half step (both .0) (both .1) refl (l tt)
       go false l m = passed half step (both .0) (both .1) refl (m tt)
 
--- one of those that are left, and six
+-- one turn, and six turns
 pub next : (n i k : ℕ) (s : Turning) → Turn n (suc i + k) s → Turn n (i + k) (Root.turn s)
 next n i k s t = let e : suc i + k ≡ suc (i + k) = omega arith in turned n (i + k) s (subst (λ (z : ℕ). Turn n z s) e t)
 
@@ -95,7 +95,7 @@ six-turned n k s t =
     subst (λ (z : ℕ). Turn n z (Root.sixTurns s)) (zero-add k)
     (next n 0 k _ (next n 1 k _ (next n 2 k _ (next n 3 k _ (next n 4 k _ (next n 5 k s t))))))
 
--- the same, of what a function answered
+-- the same for the answer of a function
 pub after : (n i k : ℕ) (s r : Turning) → r ≡ Root.turn s → Turn n (suc i + k) s → Turn n (i + k) r
 after n i k s r e t = subst (Turn n (i + k)) (sym e) (next n i k s t)
 

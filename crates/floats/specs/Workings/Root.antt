@@ -8,8 +8,8 @@ use Rattle.floats.specs.Ops.{_⊕_, _⊖_, _⊗_, _⊘_}
 use Rattle.floats.specs.declared.root.Scaled.{Scaled}
 use Rattle.floats.specs.declared.root.Turning.{Turning}
 
--- One digit more of a root under way. Where `step` units are left, the digit is taken and they are used up; either way the unit
--- halves, and what is left is twice as many of the new ones.
+-- One digit more of a root under way. If at least `step` units are left, the digit is 1 and `step` units are used up. Either way
+-- the unit halves, so what is left counts twice as many of the new units.
 unfoldable pub turn : Turning → Turning
 turn s =
     let half = s .unit / 2 in
@@ -27,17 +27,17 @@ unfoldable pub digits : ℕ → ℕ
 unfolding isqrt
 digits n = isqrt (n * 2 ^ 53)
 
--- the root of n * 2 ^ 51, rounded: half the root of four times as much, and the last digit of that one rounds
+-- the rounded root of n * 2 ^ 51: half the root of four times as much, whose last digit rounds
 unfoldable pub rounded : ℕ → ℕ
 unfolding digits
 rounded n = (digits n + 1) / 2
 
--- t, moved up to 53 digits
+-- t, shifted up to 53 digits
 unfoldable pub raised : ℕ → Scaled
 unfolding size
 raised t = let z = 53 - size t in record { m = t * 2 ^ z; e = 1024 - z }
 
--- the digits and the exponent of a pattern without a sign: a field of 0 has no leading digit
+-- the digits and the exponent of a pattern without a sign; if the exponent's field is 0 there is no leading digit
 unfoldable pub parts : ℕ → Scaled
 unfolding raised
 parts b =

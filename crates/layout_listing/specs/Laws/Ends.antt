@@ -1,4 +1,5 @@
--- The ends of answering a text: no room, a refusal's line, the lines of a listing; and what the reader's answer says of the buffers.
+-- How answering a text ends: no room, the line of a refusal, the lines of a listing; and what the reader's answer says of the
+-- buffers.
 use mathlib.Core.Path.{_≡_, refl, sym, ap, _∙_}
 use mathlib.Core.Bool.{Bool, false}
 use mathlib.Core.List.{List}
@@ -52,7 +53,7 @@ module _ (bytes old : List ℕ) where
   no-room h = let e = lt-ltb (length old) room h in record { told = rw e refl; holds = rw e refl }
 
   module _ (h : room ≤ length old) where
-    -- where there is room for more than is asked
+    -- if there is more room than needed
     enough : (roomless : Bool) → roomless ≡ false → (r : Written) (now : List ℕ) → Lines false roomless bytes r old now
         → Lines false (ltb (length old) room) bytes r old now
     enough roomless e r now l =
@@ -65,7 +66,7 @@ pub refusal-line : (n : ℕ) (old : List ℕ) → room ≤ length old → (r : W
 refusal-line n old h r now l =
     enough (refusedText n) old h (ltb (length old) line) (le-ltb (length old) line (omega (arith, h))) r now l
 
--- ---- a listing's
+-- ---- the lines of a listing
 module _ (first second : List Float) (old : List ℕ) (h : room ≤ length old) (a : ListingAnswer) (i : List ℕ) (p : List Float)
     (leaves : Leaves (mutualListing first false second false epsilon noIndices noPoints) a i p) (r : Written) (now : List ℕ) where
   lines : linesFor first second ≡ linesOf a i p
@@ -108,7 +109,7 @@ front vs n held e few is =
     ap (take (n * numbersAVertex)) (is ∙ sets-eq (pathOf vs) buffer 0 (omega (arith, long, few, buffer-long)))
     ∙ take-at (pathOf vs) (drop (0 + length (pathOf vs)) buffer) (n * numbersAVertex) (omega (arith, long, e))
 
--- what counts say
+-- what the counts say
 pub record Fronts (text : List ℕ) (n m : ℕ) (first second : List Float) : Type 0 where
   pub layout-is : Layout
   pub reads-it : reads text ≡ layout layout-is
@@ -150,7 +151,7 @@ module _ (text : List ℕ) (r : Reading) (first second : List Float) (l : read.R
             second-front = front (k .second) m second m-is (w .second-count) on-second;
           }
 
-  -- what a refusal says: it is that of a text
+  -- what a refusal says: its number is that of a text that breaks its form
   pub refused-is : (n : ℕ) → r ≡ Reading·.Refused n → (reads text ≡ broken) × (n ≡ read.refusal)
   refused-is n e = go (reads text) refl
     where

@@ -1,4 +1,4 @@
--- A byte that is no other one is told by its kind.
+-- The kind of a byte says which byte it is, unless it is of the kind `other`.
 use Prim.Native.Nat.{ℕ, _+_, _-_, _≤_, _<_}
 use mathlib.Core.Path.{_≡_, sym, ap, _∙_}
 use mathlib.Core.Bool.{Bool, true, false, not, cond}
@@ -49,6 +49,6 @@ byte-of b =
 pub byte-is : (b k : ℕ) → k < other → kindOf b ≡ k → b ≡ byteOf k
 byte-is b k h e = byte-of b (omega arith) ∙ ap byteOf e
 
--- a digit's byte
+-- the byte of a digit
 pub digit-byte : (b : ℕ) → kindOf b < 10 → b ≡ 48 + kindOf b
 digit-byte b h = byte-of b (omega arith) ∙ byte-digit (kindOf b) h

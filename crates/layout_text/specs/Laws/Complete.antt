@@ -1,4 +1,4 @@
--- What has the form is read: a number's digits with what ends it, a vertex's line, the lines of a path.
+-- A text of the form is read: a number's digits and the byte that ends it, a vertex's line, the lines of a path.
 use Prim.Native.Nat.{ℕ, zero, suc, _+_, _*_, _/_, _%_, _≤_, _<_}
 use mathlib.Core.Path.{_≡_, refl, ap, _∙_}
 use mathlib.Core.Bool.{Bool, true, false}
@@ -16,7 +16,7 @@ use Rattle.layout_text.specs.Workings.Reader.{wholeOf, vertexOf, vertice
 use Rattle.layout_text.specs.Laws.Decimal.{decimal-small, decimal-large, by-digits}
 use Rattle.layout_text.specs.Laws.Bytes.{kind-digit}
 
--- the last digit of a number of several stands before what follows
+-- the last digit of a number with several digits, then what follows
 last-digit : (m : ℕ) (t : List ℕ) → 10 ≤ m → decimal m ++ t ≡ decimal (m / 10) ++ ((48 + m % 10) ∷ t)
 last-digit m t h = rw (decimal-large m h) (append-assoc (decimal (m / 10)) ((48 + m % 10) ∷ []) t)
 
@@ -29,7 +29,7 @@ first-of : (d : ℕ) (t : List ℕ) → d < 10 → firstKind ((48 + d) ∷ t) �
 unfolding firstKind
 first-of d t h = kind-digit d h
 
--- of a number above 0 it is one of 1 to 9
+-- the first digit of a number above 0 is 1 to 9
 pub first-digit : (m : ℕ) (t : List ℕ) → 0 < m → (0 < firstKind (decimal m ++ t)) × (firstKind (decimal m ++ t) < 10)
 first-digit =
     by-digits (λ m t. 0 < m → (0 < firstKind (decimal m ++ t)) × (firstKind (decimal m ++ t) < 10))
@@ -73,7 +73,7 @@ module _ (negative : Bool) (most end : ℕ) where
         rw (ne-eqb (firstKind (decimal m ++ (e ∷ t))) 0 (λ z. omega (arith, z, first .0)), le-ltb _ _ digit)
         (digits-in m (e ∷ t) h ∙ digits-end m t)
 
--- ---- numbers, with what ends them
+-- ---- numbers, with the byte that ends them
 
 module _ (most end e : ℕ) (ends : kindOf e ≡ end) (mark : 9 < end) where
   zero-read : (t : List ℕ) → countOf most end (decimal 0 ++ (e ∷ t)) ≡ got (pos 0) t

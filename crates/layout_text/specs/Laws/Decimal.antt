@@ -1,4 +1,4 @@
--- Decimal digits: those of a number below ten, of a larger one, of n with one more digit after it; and how to argue on all of them.
+-- Decimal digits: of a number below ten, of a larger one, and of n with one more digit after it; and an argument for all of them.
 use Prim.Native.Nat.{ℕ, zero, suc, _+_, _*_, _/_, _%_, _≤_, _<_}
 use mathlib.Core.Path.{_≡_, refl, ap, _∙_}
 use mathlib.Core.Bool.{Bool, true, false, not}
@@ -9,7 +9,7 @@ use borrow.Author.Tests.{lt-ltb, le-ltb}
 use lib.Dec.{T, ltb, ltb→lt, nltb→le}
 use Rattle.layout_text.specs.Decimal.{decimal, decimalIn}
 
--- more room for digits than n + 1 adds none
+-- more places than n + 1 add no digit
 enough : (k j n : ℕ) → n < k → n < j → decimalIn k (ltb n 10) n ≡ decimalIn j (ltb n 10) n
 unfolding decimalIn
 enough zero j n h g = absurd (not-suc-le-zero h)
@@ -40,7 +40,8 @@ decimal-more n d h g =
     let last : (n * 10 + d) % 10 ≡ d = omega arith in
     decimal-large (n * 10 + d) (omega arith) ∙ rw (tenth, last)
 
--- ---- an argument on the digits of m before a text: for one digit, and for more by that on the tenth, the last digit in the text
+-- ---- an argument on the digits of m before a text: for one digit; and for more digits, from m / 10 with the last digit in the
+-- text
 
 module _ (P : ℕ → List ℕ → Type 0) (one : (m : ℕ) (t : List ℕ) → m < 10 → P m t)
     (more : (m : ℕ) (t : List ℕ) → 10 ≤ m → P (m / 10) ((48 + m % 10) ∷ t) → P m t) where

@@ -1,5 +1,4 @@
--- How long a text is: every layout within the limits has a text of fewer bytes than a text may have, so none is refused for its
--- length.
+-- The length of a text: every layout within the limits has a shorter text than is allowed, so none is refused for its length.
 use Prim.Native.Nat.{ℕ, zero, suc, _+_, _*_, _/_, _%_, _^_, _≤_, _<_}
 use mathlib.Core.Path.{_≡_}
 use mathlib.Core.Bool.{Bool, true, false, not}

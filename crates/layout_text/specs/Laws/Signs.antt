@@ -1,4 +1,4 @@
--- A whole number's float: a negative one's is that of its magnitude, negated.
+-- The float of a negative whole number is the float of its magnitude, negated.
 use Prim.Native.Nat.{ℕ, zero, suc, _+_, _*_, _^_}
 use mathlib.Core.Path.{_≡_, refl}
 use mathlib.Core.Bool.{Bool, true, false, cond}

@@ -1,4 +1,4 @@
--- What is read has the form: the bytes read are the text of what was read, and that is within the limits.
+-- What is read has the form: the bytes read are the text of what was read, which is within the limits.
 use Prim.Native.Nat.{ℕ, zero, suc, _+_, _*_, _≤_, _<_}
 use mathlib.Core.Path.{_≡_, refl, sym, ap, _∙_, subst}
 use mathlib.Core.Bool.{Bool, true, false, not, cond}
@@ -30,13 +30,13 @@ use Rattle.layout_text.specs.Workings.Reader.{wholeOf, vertexOf, vertice
 use Rattle.layout_text.specs.Laws.Decimal.{decimal-small, decimal-more}
 use Rattle.layout_text.specs.Laws.Bytes.{byteOf, byte-is, digit-byte}
 
--- ---- taking apart
+-- ---- steps
 
--- nothing is not something
+-- `nothing` is never `got`
 never : {A P : Type 0} {a : A} {rest : List ℕ} → _≡_ {A = Got A} nothing (got a rest) → P
 never e = let z : _≡_ {A = ℕ} 0 1 = cc in absurd (omega arith)
 
--- both steps of two gave something
+-- both of two steps got something
 pub record Both {A B : Type 0} (g : Got A) (next : A → List ℕ → Got B) (b : B) (rest : List ℕ) : Type 0 where
   pub a : A
   pub between : List ℕ
@@ -50,7 +50,7 @@ both (got a r) next e = record { a = a; between = r; one = refl; two = e }
 
 -- ---- digits
 
--- the digits of n and then the text are those of m with the end, then the rest
+-- the digits of n and then the text are the digits of m, the byte that ends them, and the rest
 pub record Spelt (negative : Bool) (most end n : ℕ) (text : List ℕ) (z : ℤ) (rest : List ℕ) : Type 0 where
   pub m : ℕ
   pub is : z ≡ whole negative m
@@ -132,7 +132,7 @@ module _ (negative : Bool) (most end : ℕ) (known : end < other) {z : ℤ} {res
           let one : b ∷ t ≡ decimal (kindOf b) ++ t = rw (decimal-small (kindOf b) below) first in
           record { m = s .m; is = s .is; fits = s .fits; above = omega (arith, s .grown); spelt = one ∙ s .spelt }
 
--- ---- numbers, with what ends them
+-- ---- numbers, with the byte that ends them
 
 abbrev ByteText : ℕ → ℕ → List ℕ → ℤ → List ℕ → Type 0
 ByteText most end text z rest = (text ≡ wholeText z ++ (byteOf end ∷ rest)) × (magnitude z ≤ most)
@@ -140,7 +140,7 @@ ByteText most end text z rest = (text ≡ wholeText z ++ (byteOf end ∷ rest)) 
 abbrev CountText : ℕ → ℕ → List ℕ → ℤ → List ℕ → Type 0
 CountText most end text z rest = (text ≡ decimal (magnitude z) ++ (byteOf end ∷ rest)) × (magnitude z ≤ most) × (z ≡ pos (magnitude z))
 
--- a number that has no minus is spelt by its digits
+-- the text of a number without a minus is its digits
 count-as : (most end m : ℕ) (text rest : List ℕ) (z : ℤ) → z ≡ pos m → m ≤ most → text ≡ decimal m ++ (byteOf end ∷ rest)
     → CountText most end text z rest
 count-as most end m text rest z e h t = rw e (t, h, refl)
@@ -219,7 +219,7 @@ is-newline : byteOf newline ≡ 10
 unfolding byteOf
 is-newline = refl
 
--- what holds of one thing that was got, and of its rest, holds of an equal one
+-- what holds for one result and its rest holds for an equal one
 carried : {A : Type 0} (P : A → List ℕ → Type 0) {a b : A} {s t : List ℕ} → got a s ≡ got b t → P a s → P b t
 carried {A} P {a} {b} {s} {t} e h =
     let same : a ≡ b = cc in
@@ -229,7 +229,7 @@ carried {A} P {a} {b} {s} {t} e h =
 abbrev VertexLine : List ℕ → List ℕ → Vertex → Type 0
 VertexLine text rest v = (text ≡ vertexText v ++ rest) × VertexWithin v
 
--- three numbers, each with what ends it, are a line
+-- three numbers, each with the byte that ends it, are a line
 line-spelt : (text t1 t2 rest : List ℕ) (x y b : ℤ) → ByteText limit.coordinate space text x t1
     → ByteText limit.coordinate space t1 y t2
     → ByteText limit.bulge newline t2 b rest → VertexLine text rest (record { x = x; y = y; bulge = b })

@@ -1,5 +1,5 @@
--- The reader, as a function of the bytes that are left: what it has read, and what is left after that. That it accepts the texts
--- of Form.antt, those only, and reads each as the layout whose text it is, is proved in Exactly.antt.
+-- The reader, as a function of the remaining bytes: what it has read, and what remains after that. Exactly.antt proves that it
+-- accepts the texts of Form.antt and no others, and reads the text of a layout as that layout.
 use Prim.Native.Nat.{ℕ, zero, suc, _+_, _*_, _-_}
 use mathlib.Core.Bool.{Bool, true, false, cond}
 use mathlib.Core.List.{List, [], _∷_}
@@ -9,7 +9,7 @@ use lib.IntN.{ℤ, pos, negℤ}
 use Rattle.layout_text.specs.Limits as limit
 use Rattle.layout_text.specs.Layout.{Vertex, Layout, magnitude}
 
--- ---- what was read, and what is left
+-- ---- what was read, and what remains
 
 pub data Got (A : Type 0) : Type 0 where
   nothing : Got A
@@ -19,7 +19,7 @@ abbrev pub andThen : {A B : Type 0} → Got A → (A → List ℕ → Got B) →
 andThen nothing next = nothing
 andThen (got a rest) next = next a rest
 
--- what is left alone
+-- only what remains
 pub data Passed : Type 0 where
   stuck : Passed
   over : List ℕ → Passed
@@ -37,7 +37,7 @@ whole true n = negℤ (pos n)
 
 -- ---- bytes
 
--- what a byte is: a digit's worth, or one of these
+-- the kind of a byte: a digit's value, or one of these
 abbrev pub space : ℕ
 space = 10
 
@@ -56,14 +56,14 @@ kindOf b =
     (cond (eqb b 45) minus (cond (eqb b 32) space (cond (eqb b 10) newline other)))
     (cond (ltb b 58) (b - 48) other)
 
--- what the first byte is; there may be none
+-- the kind of the first byte; `other` if there is none
 unfoldable pub firstKind : List ℕ → ℕ
 firstKind [] = other
 firstKind (b ∷ rest) = kindOf b
 
--- ---- numbers: `end` is what must stand after a number and is read with it
+-- ---- numbers: `end` is the kind of the byte that must follow a number; that byte is read too
 
--- digits after those of n, up to the end
+-- the digits after those of n, up to the byte `end`
 unfoldable pub digitsOf : Bool → ℕ → ℕ → ℕ → List ℕ → Got ℤ
 digitsOf negative most end n [] = nothing
 digitsOf negative most end n (b ∷ rest) =
@@ -77,7 +77,7 @@ positiveOf negative most end text =
     cond (eqb (firstKind text) 0) nothing
     (cond (ltb 9 (firstKind text)) nothing (digitsOf negative most end 0 text))
 
--- the end after a 0
+-- the byte `end` after a 0
 unfoldable pub zeroOf : ℕ → List ℕ → Got ℤ
 zeroOf end text = cond (eqb (firstKind text) end) (got (pos 0) (drop 1 text)) nothing
 
@@ -86,7 +86,7 @@ unfoldable pub countOf : ℕ → ℕ → List ℕ → Got ℤ
 countOf most end text =
     cond (eqb (firstKind text) 0) (zeroOf end (drop 1 text)) (positiveOf false most end text)
 
--- a number with or without one
+-- a number with or without a minus
 unfoldable pub wholeOf : ℕ → ℕ → List ℕ → Got ℤ
 wholeOf most end text =
     cond (eqb (firstKind text) minus) (positiveOf true most end (drop 1 text)) (countOf most end text)
@@ -109,12 +109,12 @@ verticesOf (suc k) text =
 
 -- ---- a text
 
--- that the text breaks its form, or the layout that it says
+-- the text breaks its form, or its layout
 pub data Taken : Type 0 where
   broken : Taken
   layout : Layout → Taken
 
--- nothing stands after a layout
+-- nothing may follow a layout
 abbrev pub atEnd : Got Layout → Taken
 atEnd nothing = broken
 atEnd (got l []) = layout l

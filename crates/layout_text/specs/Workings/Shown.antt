@@ -1,4 +1,5 @@
--- What the code's answers stand for, where they tell a place in the text for what is left of it.
+-- What the code's answers stand for: the code answers a place in the text, and the definitions what remains of the text from
+-- there.
 use mathlib.Core.Path.{_≡_}
 use mathlib.Core.List.{List, [], _∷_}
 use Prim.Native.Nat.{ℕ, _≤_}
@@ -36,11 +37,11 @@ unfoldable pub shownPlace : List ℕ → Place → Passed
 shownPlace text Place·.Broken = stuck
 shownPlace text (Place·.At next) = over (drop next text)
 
--- where vertices were read, their numbers stand at the front
+-- if vertices were read, their numbers stand at the front
 abbrev pub Filled : Got (List Vertex) → List Float → List Float → Type 0
 Filled g old now = (vs : List Vertex) (rest : List ℕ) → g ≡ got vs rest → now ≡ sets old 0 (pathOf vs)
 
--- a text that has the form, with the places where its paths' vertices start
+-- a text of the form, with the places where the vertices of its paths start
 pub record Fitting (text : List ℕ) (n m first-at second-at : ℕ) : Type 0 where
   pub first : List Vertex
   pub second : List Vertex

@@ -1,4 +1,4 @@
--- Where the row of a pair stands: a pair of the sequence, the row that it makes among the rows, and that row's numbers in the slice.
+-- Where the row of a pair stands: the pair in the sequence, its row among the rows, and that row's numbers in the slice.
 use mathlib.Core.Path.{_≡_, refl, sym, ap, _∙_}
 use mathlib.Core.Logic.{inl, inr}
 use mathlib.Core.List.{List, [], _∷_, _++_, append-assoc}
@@ -17,7 +17,7 @@ use Rattle.listing_pairs.specs.Laws.Stores.{flat-append, flat-length}
 use Rattle.listing_outcomes.specs.Outcome.{overwrite}
 use Rattle.listing_calls.specs.HasRow.{RowAt}
 
--- x stands in the list: what comes before it, and after it
+-- x stands in the list: what is before it, and what is after it
 pub record Within {A : Type 0} (x : A) (l : List A) : Type 0 where
   pub before : List A
   pub after : List A

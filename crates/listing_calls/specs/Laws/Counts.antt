@@ -1,5 +1,5 @@
--- What a caller knows of a listing that was not refused: no more rows than both slices have room for. And the slices are as long
--- as they were.
+-- What a caller knows of a listing that was not refused: it has no more rows than both slices have room for, and the slices keep
+-- their lengths.
 use mathlib.Core.Path.{_≡_, refl}
 use mathlib.Core.Logic.{Iff·rfl}
 use mathlib.Core.Bool.{Bool, true, false, cond}
@@ -41,7 +41,7 @@ never e = let z : _≡_ {A = ℕ} 0 1 = cc in omega (arith, z)
 same-rows : {n k m l : ℕ} → Listed n k ≡ Listed m l → n ≡ m
 same-rows e = cc
 
--- the check of the room finds no fault only where the rows fit
+-- the check of the room finds no fault only if the rows fit
 within : (rows : List Row) (i₀ : List ℕ) (p₀ : List Float) → roomCheck rows i₀ p₀ ≡ Fine → length rows ≤ room i₀ p₀
 unfolding roomCheck refuse
 within rows i₀ p₀ e = ltb-false _ _ (go (ltb (room i₀ p₀) (length rows)) e)

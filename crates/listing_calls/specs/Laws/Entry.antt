@@ -1,5 +1,5 @@
--- From the checks of a listing to its outcome: the chain of calls is the list of checks; found fine, every pair of the job may be
--- looked at; and the outcome is that of a listing whose numbers were found fine, or the first fault's refusal.
+-- From the checks of a listing to its outcome: the chain of calls is the list of checks; if they are fine, every pair of the job
+-- is fine for the pair call; and the outcome is that of a listing of checked paths, or the refusal of the first fault.
 use mathlib.Core.Path.{_≡_, refl, sym, ap, _∙_}
 use mathlib.Core.Bool.{Bool, true, false}
 use mathlib.Core.List.{List, [], _∷_, _++_}
@@ -51,7 +51,7 @@ module _ (checks : List Checked) (f : ℕ → ℕ → Look) (ps : List Pair) (i�
       let c = roomCheck (rowsOf f ps) i₀ p₀ in
       rw (found ∙ ap (λ (t : Checked). later t c) e) (record { answer = refl; indices = refl; points = refl })
 
--- found fine, the outcome is the listing of the job's pairs
+-- if the checks are fine, the outcome is the listing of the job's pairs
 outcome-listed : (checks : List Checked) (first second : List Float) (job : Job) (i₀ : List ℕ) (p₀ : List Float)
     {epsilon : Float} {ps : List Pair} {r : ListingAnswer} {i : List ℕ} {p : List Float}
     → firstFault checks ≡ Fine → job .epsilon ≡ epsilon → every job ≡ ps

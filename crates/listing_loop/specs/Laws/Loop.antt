@@ -1,4 +1,4 @@
--- The state of the loop that fills rows, at the pair (i, j), and its steps: what the proof of `fill` cites, place by place.
+-- The state of the loop that fills rows, at the pair (i, j), and its steps. The proof of `fill` uses them, place by place.
 use mathlib.Core.Path.{_≡_, refl, _∙_}
 use mathlib.Core.Bool.{Bool, true, false, cond, _&&_}
 use mathlib.Core.List.{List, [], _∷_}
@@ -47,12 +47,12 @@ few-on-page look job i j room n m =
     let ps = job_of.left job i j in
     omega (arith, joins look ps room .looked, few-looked look ps, few-left job i j, mul-le-mul n m)
 
--- all that a call goes by, from the pair (startI, startJ) on
+-- all pairs that a call walks, from (startI, startJ) on
 abbrev whole : (ℕ → ℕ → Look) → Job → ℕ → ℕ → ℕ → ℕ → Page
 whole look job at room startI startJ = page look (job_of.left job startI startJ) (room - at)
 
--- At the pair (i, j), with `rows` rows in all, `pairs` pairs looked at, and the slices as they stand; at the call they were i₀ and
--- p₀.
+-- At the pair (i, j), with `rows` rows in all, `pairs` pairs looked at, and the slices as they are now; when the call began they
+-- were i₀ and p₀.
 pub record State (look : ℕ → ℕ → Look) (job : Job) (write : Bool) (at room startI startJ : ℕ) (i₀ : List ℕ) (p₀ : List Float)
     (i j rows pairs : ℕ) (l : List ℕ) (p : List Float) : Type 0 where
   pub left :
@@ -84,7 +84,7 @@ module _ {look : ℕ → ℕ → Look} {job : Job} {write : Bool} {at room start
       (record { rows = rows; pairs = pairs; i = i; j = j; ended = true }) i₀ l p₀ p
   ends beyond = filling.ends look job room write at _ i₀ p₀ i j rows pairs l p (s .left) beyond (s .within)
 
-  -- on to another pair with the same rows
+  -- to another pair, with the same rows
   on : {i′ j′ pairs′ : ℕ}
       → Left write at (whole look job at room startI startJ) (page look (job_of.left job i′ j′) (room - rows)) rows pairs′ i₀ l p₀ p
       → i′ ≤ job .n → State look job write at room startI startJ i₀ p₀ i′ j′ rows pairs′ l p

@@ -1,5 +1,5 @@
--- What filling rows from a pair on leaves, as a page; and the loop that does so, step by step. The loop keeps: the page that is
--- left, put on what stands now, gives what the whole page gives.
+-- What it leaves to fill rows from a pair on, as a page; and the loop that does so, step by step. The loop keeps this true: the
+-- remaining page, added to what the slices hold now, gives what the whole page gives.
 use mathlib.Core.Path.{_≡_, refl, sym, ap, _∙_}
 use mathlib.Core.Bool.{Bool, true, false}
 use mathlib.Core.List.{List, _∷_}
@@ -19,7 +19,7 @@ use Rattle.listing_pairs.specs.Workings.Stored.{stored, stored-none, stored-one
 use Rattle.listing_loop.specs.declared.fill.Filling.{Filling}
 use Rattle.listing_loop.specs.Workings.Pages.{Page, page, stop, none, made, turn, empty}
 
--- the answer and the final contents, where `at` rows stood before
+-- the answer and what the slices hold at the end, if there were `at` rows before
 pub record Filled (job : Job) (write : Bool) (at : ℕ) (whole : Page) (r : Filling)
     (i₀ i : List ℕ) (p₀ p : List Float) : Type 0 where
   pub rows : r .rows ≡ at + length (whole .rows)
@@ -30,7 +30,7 @@ pub record Filled (job : Job) (write : Bool) (at : ℕ) (whole : Page) (r : Fill
   pub indices : i ≡ stored indicesOf indicesARow write i₀ at (whole .rows)
   pub points : p ≡ stored pointsOf pointsARow write p₀ at (whole .rows)
 
--- q is left of the whole, with `rows` rows in all and `pairs` pairs looked at
+-- q remains of the whole page, with `rows` rows in all and `pairs` pairs looked at
 pub record Left (write : Bool) (at : ℕ) (whole q : Page) (rows pairs : ℕ)
     (i₀ i : List ℕ) (p₀ p : List Float) : Type 0 where
   pub count : rows + length (q .rows) ≡ at + length (whole .rows)
@@ -85,7 +85,7 @@ module _ (look : ℕ → ℕ → Look) (job : Job) (room : ℕ) (write : Bool) (
   abbrev pub At : ℕ → ℕ → ℕ → ℕ → List ℕ → List Float → Type 0
   At i j rows pairs l p = Left write at whole (page look (job_of.left job i j) (room - rows)) rows pairs i₀ l p₀ p
 
-  -- no segment is left
+  -- no segment remains
   pub ends : At i j rows pairs l p → job .n ≤ i → i ≤ job .n
       → Filled job write at whole (record { rows = rows; pairs = pairs; i = i; j = j; ended = true }) i₀ l p₀ p
   unfolding page
@@ -96,7 +96,7 @@ module _ (look : ℕ → ℕ → Look) (job : Job) (room : ℕ) (write : Bool) (
       left-stop job i j true w (ap empty (sym e)) (rw stopped at h)
 
   module _ (inside : i < job .n) where
-    -- no index is left that goes with i
+    -- no index remains that is paired with i
     pub next-i : At i j rows pairs l p → job_of.to job i ≤ j → At (i + 1) (job_of.from job (i + 1)) rows pairs l p
     next-i h beyond = rw (left-next (job_of.from job) (job_of.to job) (job .n) i j inside beyond) at h
 

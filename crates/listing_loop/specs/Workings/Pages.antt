@@ -1,5 +1,5 @@
--- A page of a listing: the rows of a sequence of pairs up to the first pair that makes a row where no row is left. Over any
--- sequence and any `look`.
+-- A page of a listing: the rows of a sequence of pairs up to the first pair whose row has no room. For any sequence and any
+-- `look`.
 use mathlib.Core.Path.{_≡_, refl, sym, ap, _∙_}
 use mathlib.Core.Bool.{Bool, true, false, true≢false}
 use mathlib.Core.List.{List, [], _∷_, _++_, append-nil}
@@ -12,7 +12,7 @@ use Rattle.listing_pairs.specs.declared.row.Look.the-variants.{Passed, Nothing,
 use Rattle.listing_pairs.specs.Order.{Pair}
 use Rattle.listing_pairs.specs.Rows.{onto, count, rowsOf, lookedAt}
 
--- its rows, how many pairs were looked at, and the pairs that are left
+-- its rows, how many pairs were looked at, and the pairs that remain
 pub record Page : Type 0 where
   pub rows : List Row
   pub looked : ℕ
@@ -21,14 +21,14 @@ pub record Page : Type 0 where
 abbrev pub stop : List Pair → Page
 stop ps = record { rows = []; looked = 0; rest = ps }
 
--- a pair looked at, without a row and with one, and then a page
+-- a pair that is looked at, without a row and with one, and then a page
 abbrev pub none : Page → Page
 none q = record { rows = q .rows; looked = suc (q .looked); rest = q .rest }
 
 abbrev pub made : Row → Page → Page
 made r q = record { rows = r ∷ q .rows; looked = suc (q .looked); rest = q .rest }
 
--- one pair: `here` is left where the page stops before it, and `go` is the page of those after it
+-- one pair: `here` remains if the page stops before it, and `go` is the page of the pairs after it
 abbrev pub turn : Look → List Pair → (ℕ → Page) → ℕ → Page
 turn Passed here go room = go room
 turn Nothing here go room = none (go room)
@@ -39,7 +39,7 @@ unfoldable pub page : (ℕ → ℕ → Look) → List Pair → ℕ → Page
 page look [] room = stop []
 page look (p ∷ ps) room = turn (look (p .i) (p .j)) (p ∷ ps) (page look ps) room
 
--- whether no pair is left
+-- whether no pair remains
 abbrev pub empty : List Pair → Bool
 empty [] = true
 empty (p ∷ ps) = false
@@ -49,8 +49,8 @@ empty-nil [] e = refl
 empty-nil (p ∷ ps) e = absurd (true≢false (sym e))
 
 module _ (look : ℕ → ℕ → Look) where
-  -- A page and what is left join to the whole; it has no more rows than fit; and if pairs are left, it is full and one of
-  -- those makes a row.
+  -- A page and the remaining pairs make up the whole; the page has no more rows than fit; and if pairs remain, it is full and one
+  -- of them makes a row.
   pub record Joins (ps : List Pair) (room : ℕ) (q : Page) : Type 0 where
     pub rows : q .rows ++ rowsOf look (q .rest) ≡ rowsOf look ps
     pub looked : q .looked + lookedAt look (q .rest) ≡ lookedAt look ps
@@ -83,20 +83,20 @@ module _ (look : ℕ → ℕ → Look) where
   joins (p ∷ ps) room = turn-joins (look (p .i) (p .j)) p ps (page look ps) room (joins ps) refl refl
 
   module _ {ps : List Pair} {room : ℕ} {q : Page} (j : Joins ps room q) where
-    -- no pair is left: the page is the whole
+    -- if no pair remains, the page is the whole
     pub whole-rows : empty (q .rest) ≡ true → q .rows ≡ rowsOf look ps
     whole-rows e = sym (append-nil (q .rows)) ∙ ap (λ (l : List Pair). q .rows ++ rowsOf look l) (sym (empty-nil (q .rest) e)) ∙ j .rows
 
     pub whole-looked : empty (q .rest) ≡ true → q .looked ≡ lookedAt look ps
     whole-looked e = omega (arith, ap (lookedAt look) (empty-nil (q .rest) e), j .looked)
 
-    -- pairs are left: the whole has more rows than fit
+    -- if pairs remain, the whole has more rows than fit
     pub too-many : empty (q .rest) ≡ false → room < length (rowsOf look ps)
     too-many e =
         let n = length-append (q .rows) (rowsOf look (q .rest)) in
         omega (arith, ap length (j .rows), n, j .full e .0, j .full e .1)
 
-  -- where all rows fit, no pair is left
+  -- if all rows fit, no pair remains
   pub all-fit : (ps : List Pair) (room : ℕ) → length (rowsOf look ps) ≤ room → empty (page look ps room .rest) ≡ true
   all-fit ps room h = go (empty (page look ps room .rest)) refl
     where
@@ -104,7 +104,7 @@ module _ (look : ℕ → ℕ → Look) where
       go true e = refl
       go false e = absurd (omega (arith, too-many (joins ps room) e, h))
 
-  -- ---- a pair makes one row at most
+  -- ---- a pair makes at most one row
   onto-few : (s : Look) (rows : List Row) (n : ℕ) → length rows ≤ n → length (onto s rows) ≤ suc n
   onto-few Passed rows n h = omega (arith, h)
   onto-few Nothing rows n h = omega (arith, h)

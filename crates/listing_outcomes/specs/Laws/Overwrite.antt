@@ -1,4 +1,4 @@
--- Values written overwrite the front of a list: stored, copied from a list that has them on its front, and stored behind others.
+-- Values overwrite the front of a list: stored there, copied from the front of another list, and stored behind other values.
 use mathlib.Core.Path.{_≡_, sym, ap, _∙_}
 use mathlib.Core.List.{List, _++_, append-nil}
 use Prim.Native.Nat.{ℕ, _+_, _≤_}
@@ -14,7 +14,7 @@ module _ {A : Type 0} where
   sets-over l vs h =
       sets-eq vs l 0 (omega (arith, h)) ∙ ap (λ (k : ℕ). vs ++ drop k l) (zero-add (length vs))
 
-  -- copied from a list that has them on its front
+  -- copied from the front of another list
   pub paste-over : (l b vs : List A) (n : ℕ) → n ≡ length vs → paste l 0 (overwrite b vs) n ≡ overwrite l vs
   paste-over l b vs n e =
       ap (λ (front : List A). front ++ drop (0 + n) l) (take-at vs (drop (length vs) b) n (sym e))
@@ -26,7 +26,7 @@ module _ {A : Type 0} where
       ∙ ap (λ (front : List A). front ++ drop (0 + n) l) (take-length vs)
       ∙ ap (λ (k : ℕ). vs ++ drop k l) (zero-add n ∙ e)
 
-  -- nothing of what was there is left
+  -- nothing of the old list remains
   pub over-all : (l vs : List A) → length l ≡ length vs → overwrite l vs ≡ vs
   over-all l vs e =
       ap (λ (k : ℕ). vs ++ drop k l) (sym e) ∙ ap (λ (rest : List A). vs ++ rest) (drop-length l) ∙ append-nil vs

@@ -1,5 +1,5 @@
--- The outcome of a listing whose numbers were found fine, from pages: all rows on one page; rows held back and then copied; rows
--- held back, the rest counted, and then filled in behind them; and too many rows.
+-- The outcome of a listing of checked paths, from pages: all rows on one page; rows held back and then copied; rows held back,
+-- the rest counted and then filled in behind them; and too many rows.
 use mathlib.Core.Path.{_≡_, refl, sym, ap, _∙_}
 use mathlib.Core.Bool.{true, false}
 use mathlib.Core.List.{List, _++_}
@@ -43,7 +43,7 @@ use Rattle.listing_outcomes.specs.Laws.Overwrite.{sets-over, paste-over,
 abbrev pub heldRows : ℕ
 heldRows = 2048
 
--- a listing whose numbers were found fine
+-- a listing of checked paths
 abbrev pub listed : (ℕ → ℕ → Look) → List Pair → List ℕ → List Float → Outcome
 listed look ps indices points =
     let rows = rowsOf look ps in
@@ -53,7 +53,7 @@ module _ (look : ℕ → ℕ → Look) (ps : List Pair) (i₀ : List ℕ) (p₀ 
   abbrev rows : List Row
   rows = rowsOf look ps
 
-  -- ---- what is left to say of an answer
+  -- ---- refused, and listed
   pub is-refused : room i₀ p₀ < length rows → (i : List ℕ) (p : List Float) → i ≡ i₀ → p ≡ p₀
       → Leaves (listed look ps i₀ p₀) (Refused 8) i p
   unfolding roomCheck refuse
@@ -66,14 +66,14 @@ module _ (look : ℕ → ℕ → Look) (ps : List Pair) (i₀ : List ℕ) (p₀ 
   is-listed h n k i p a b c d = rw (le-ltb _ _ h) (record { answer = rw (a, b) refl; indices = c; points = d })
 
   -- ---- the numbers of rows that fit
-  -- n rows that both slices have room for
+  -- both slices have room for n rows
   pub fit-indices : (n : ℕ) → n ≤ room i₀ p₀ → n * indicesARow ≤ length i₀
   fit-indices n h = omega (arith, h)
 
   pub fit-points : (n : ℕ) → n ≤ room i₀ p₀ → n * pointsARow ≤ length p₀
   fit-points n h = omega (arith, h)
 
-  -- ---- no pair is left after a page with room for k rows
+  -- ---- no pair remains after a page with room for k rows
   module _ {k : ℕ} {q : Page} (j : Joins look ps k q) (within : k ≤ room i₀ p₀) (ended : empty (q .rest) ≡ true) where
     all : q .rows ≡ rows
     all = whole-rows look j ended
@@ -81,14 +81,14 @@ module _ (look : ℕ → ℕ → Look) (ps : List Pair) (i₀ : List ℕ) (p₀ 
     few : length rows ≤ room i₀ p₀
     few = omega (arith, ap length all, j .few, within)
 
-    -- one kind of numbers, stored where there is room for all rows
+    -- one kind of numbers, stored with room for all rows
     stored-all : {A : Type 0} (numbers : Row → List A) (width : ℕ) → ((r : Row) → length (numbers r) ≡ width)
         → (old : List A) → length rows * width ≤ length old → sets old 0 (numbersOfRows numbers (q .rows)) ≡ overwrite old (numbersOfRows numbers rows)
     stored-all numbers width each old fit =
         ap (λ (rs : List Row). sets old 0 (numbersOfRows numbers rs)) all
         ∙ sets-over old (numbersOfRows numbers rows) (omega (arith, flat-length numbers width each rows, fit))
 
-    -- filled where they are to stand
+    -- filled directly into the caller's slices
     pub on-one-page : (n m : ℕ) (i : List ℕ) (p : List Float) → n ≡ 0 + length (q .rows) → m ≡ q .looked
         → i ≡ sets i₀ 0 (numbersOfRows indicesOf (q .rows)) → p ≡ sets p₀ 0 (numbersOfRows pointsOf (q .rows))
         → Leaves (listed look ps i₀ p₀) (Listed n m) i p
@@ -141,14 +141,14 @@ module _ (look : ℕ → ℕ → Look) (job : Job) where
         few-on-page look job 0 start k n m,
       )
 
-  -- where there is room for every pair
+  -- if there is room for a row of every pair
   pub no-more : (k : ℕ) → job .n * job .m ≤ k → empty (page look (job_of.every job) k .rest) ≡ true
   no-more k h =
       let ps = job_of.every job in
       let few = few-left job 0 (job_of.from job 0) in
       all-fit look ps k (omega (arith, few-rows look ps, ap length (from-first (job_of.from job 0) refl), few, h))
 
--- ---- k rows are held back, all that fit, and pairs are left from (i, j) on
+-- ---- k rows are held back, as many as the buffer has room for, and pairs remain from (i, j) on
 pub record Held (look : ℕ → ℕ → Look) (job : Job) (k i j m : ℕ) (a : List ℕ) (b : List Float) : Type 0 where
   pub within : i ≤ job .n
   pub rest : page look (job_of.every job) k .rest ≡ job_of.left job i j
@@ -157,7 +157,7 @@ pub record Held (look : ℕ → ℕ → Look) (job : Job) (k i j m : ℕ) (a : L
   pub indices : a ≡ numbersOfRows indicesOf (page look (job_of.every job) k .rows)
   pub points : b ≡ numbersOfRows pointsOf (page look (job_of.every job) k .rows)
 
--- the numbers of k rows, stored where there is just room for them
+-- the numbers of k rows, stored with exactly enough room for them
 just-all : {A : Type 0} (numbers : Row → List A) (width : ℕ) → ((r : Row) → length (numbers r) ≡ width)
     → (rows : List Row) (old : List A) (k : ℕ) → length rows ≡ k → length old ≡ k * width
     → sets old 0 (numbersOfRows numbers rows) ≡ numbersOfRows numbers rows
@@ -165,7 +165,7 @@ just-all numbers width each rows old k n l =
     let long = flat-length numbers width each rows ∙ ap (λ (c : ℕ). c * width) n in
     sets-over old (numbersOfRows numbers rows) (omega (arith, long, l)) ∙ over-all old (numbersOfRows numbers rows) (l ∙ sym long)
 
--- a page that fills slices of just its room, and after which pairs are left
+-- a page that fills slices with exactly its room, after which pairs remain
 pub hold : (look : ℕ → ℕ → Look) (job : Job) (k m : ℕ) (r : Filling) (a₀ a : List ℕ) (b₀ b : List Float) → m ≡ k
     → Filled job true 0 (page look (job_of.every job) m) r a₀ a b₀ b → r .ended ≡ false
     → length a₀ ≡ k * indicesARow → length b₀ ≡ k * pointsARow
@@ -209,11 +209,11 @@ module _ {look : ℕ → ℕ → Look} {job : Job} {k i j m : ℕ} {a : List ℕ
       ∙ ap (λ (n : ℕ). n * pointsARow) count-front
 
   module _ (i₀ : List ℕ) (p₀ : List Float) (fits : k ≤ room i₀ p₀) where
-    -- the page behind it
+    -- the page after it
     abbrev pub behind : Page
     behind = page look (job_of.left job i j) (room i₀ p₀ - k)
 
-    -- pairs are left behind that page too
+    -- pairs remain after that page too
     pub behind-refused : empty (behind .rest) ≡ false → (x : List ℕ) (y : List Float) → x ≡ i₀ → y ≡ p₀
         → Leaves (listed look ps i₀ p₀) (Refused 8) x y
     behind-refused e =
@@ -238,7 +238,7 @@ module _ {look : ℕ → ℕ → Look} {job : Job} {k i j m : ℕ} {a : List ℕ
       few-behind : k + length (behind .rows) ≤ room i₀ p₀
       few-behind = omega (arith, joins look (job_of.left job i j) (room i₀ p₀ - k) .few, fits)
 
-      -- the numbers of one kind, copied and then stored behind
+      -- one kind of numbers, copied and then stored behind
       stored-both : {A : Type 0} (numbers : Row → List A) (width : ℕ) → ((r : Row) → length (numbers r) ≡ width)
           → (old held : List A) → held ≡ numbersOfRows numbers (front .rows) → room i₀ p₀ * width ≤ length old
           → sets (paste old 0 held (k * width)) (k * width) (numbersOfRows numbers (behind .rows)) ≡ overwrite old (numbersOfRows numbers (rowsOf look ps))
@@ -256,7 +256,7 @@ module _ {look : ℕ → ℕ → Look} {job : Job} {k i j m : ℕ} {a : List ℕ
           ∙ sets-beyond old (numbersOfRows numbers (front .rows)) (numbersOfRows numbers (behind .rows)) (k * width) (sym k-long) end
           ∙ ap (overwrite old) (sym (flat-append numbers (front .rows) (behind .rows)) ∙ ap (numbersOfRows numbers) (sym both))
 
-      -- u and v: the slices with the rows that were held back copied to their fronts
+      -- u and v: the slices after the held-back rows are copied to their fronts
       pub behind-listed : (n l : ℕ) (u x : List ℕ) (v y : List Float) → n ≡ k + length (behind .rows) → l ≡ m + behind .looked
           → u ≡ paste i₀ 0 a (k * indicesARow) → v ≡ paste p₀ 0 b (k * pointsARow)
           → x ≡ sets u (k * indicesARow) (numbersOfRows indicesOf (behind .rows))

@@ -1,5 +1,5 @@
--- The pairs that are left as a loop goes by them, over any `from` and `to`: the next pair of this i, the next i, the end. And how
--- many there are at most.
+-- The pairs that remain while a loop walks them, for any `from` and `to`: the next pair of this i, the next i, the end. And how
+-- many pairs there are at most.
 use mathlib.Core.Path.{_≡_, refl, sym, ap, _∙_}
 use mathlib.Core.List.{List, [], _∷_, _++_}
 use Prim.Native.Nat.{ℕ, zero, suc, _+_, _-_, _*_, _≤_, _<_}
@@ -35,7 +35,7 @@ module _ (from to : ℕ → ℕ) (n : ℕ) where
       let rest = pairsFrom from to (suc i) (from (suc i)) (n - suc i) in
       left-row i j h ∙ ap (λ (k : ℕ). along i j k ++ rest) e ∙ ap (λ (k : ℕ). leftFrom k (from k)) (sym (add-one i))
 
-  -- ---- at most n * m where no index goes beyond m
+  -- ---- at most n * m, if no index goes beyond m
   along-length : (i j k : ℕ) → length (along i j k) ≡ k
   along-length i j zero = refl
   along-length i j (suc k) = ap suc (along-length i (suc j) k)

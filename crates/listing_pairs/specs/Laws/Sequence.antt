@@ -1,5 +1,5 @@
--- The pairs that the loop goes by are the listing's: those of a mutual listing as they stand; those of a self listing by leaving out
--- the one after i, and the last one of a closed path where i is the first.
+-- The pairs that the loop walks are those of the listing. A mutual listing has all of them. A self listing leaves out the segment
+-- after i and, for the first segment of a closed path, the last one.
 use mathlib.Core.Path.{_≡_, refl, sym, ap, _∙_}
 use mathlib.Core.Bool.{Bool, true, false, cond, not, _&&_, _||_, true≢false}
 use mathlib.Core.List.{List, [], _∷_, _++_}
@@ -30,11 +30,11 @@ module _ (n : ℕ) (closed : Bool) where
   abbrev test : Pair → Bool
   test p = not (neighbours n closed p)
 
-  -- the next one is left out
+  -- the next segment is left out
   next-out : (i j : ℕ) → j ≡ i + 1 → test (record { i = i; j = j }) ≡ false
   next-out i j e = rw (eq-eqb j (i + 1) e) refl
 
-  -- the first and the last of a closed path
+  -- the first and the last segment of a closed path are no pair
   last-out : (i j : ℕ) → closed ≡ true → i ≡ 0 → j + 1 ≡ n → test (record { i = i; j = j }) ≡ false
   last-out i j c z e = go (eqb j (i + 1))
     where
@@ -42,7 +42,7 @@ module _ (n : ℕ) (closed : Bool) where
       go true = refl
       go false = rw (c, eq-eqb i 0 z, eq-eqb (j + 1) n e) refl
 
-  -- any other is kept
+  -- every other pair stays
   others-in : (i j : ℕ) → i + 2 ≤ j → (closed && eqb i 0) ≡ false → test (record { i = i; j = j }) ≡ true
   others-in i j h e = let no : j ≡ i + 1 → ⊥ = (λ s. omega (arith, s, h)) in rw (ne-eqb j (i + 1) no, e) refl
 
@@ -71,7 +71,7 @@ module _ (n : ℕ) (closed : Bool) where
       ap (λ (b : Bool). cond b (record { i = i; j = j } ∷ after) after) (inner-in i j h (omega (arith, e)))
       ∙ ap (λ (l : List Pair). record { i = i; j = j } ∷ l) (but-last i (suc j) k (omega (arith, h)) c z (omega (arith, e)))
 
-  -- up to which index i is paired
+  -- the end of the indices that are paired with i
   abbrev upTo : ℕ → ℕ
   upTo i = cond (closed && eqb i 0) (n - 1) n
 

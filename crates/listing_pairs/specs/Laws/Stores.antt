@@ -1,4 +1,4 @@
--- Values on the front of a list: copied there one after the other, and stored after others; and the numbers of rows.
+-- Values at the front of a list: copied there one after the other, and stored behind others; and the numbers of rows.
 use mathlib.Core.Path.{_≡_, refl, sym, ap, _∙_}
 use mathlib.Core.List.{List, [], _∷_, _++_, append-assoc}
 use Prim.Native.Nat.{ℕ, suc, _+_, _*_, _<_, _≤_, zero-le}

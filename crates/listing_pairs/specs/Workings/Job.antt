@@ -1,4 +1,4 @@
--- The sequence of pairs as the loop goes by it: from which index and up to which a segment of the first path is paired.
+-- The sequence of pairs as the loop walks it: with which indices each segment of the first path is paired.
 use mathlib.Core.Bool.{cond, _&&_}
 use mathlib.Core.List.{List}
 use Prim.Native.Nat.{ℕ, _+_, _-_}
@@ -12,7 +12,7 @@ from job i = cond (job .own) (i + 2) 0
 unfoldable pub to : Job → ℕ → ℕ
 to job i = cond (job .own && job .closed && eqb i 0) (job .m - 1) (job .m)
 
--- what is left from the pair (i, j) on
+-- the pairs that remain, from (i, j) on
 abbrev pub left : Job → ℕ → ℕ → List Pair
 left job i j = pairsFrom (from job) (to job) i j (job .n - i)
 

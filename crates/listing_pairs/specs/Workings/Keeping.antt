@@ -1,4 +1,4 @@
--- What is kept of the second path's segments, three numbers of each in a list: stored one segment after the other, and read back.
+-- What is kept of the second path's segments: three numbers of each in a list, stored one segment after the other, and read back.
 use mathlib.Core.Path.{_≡_, refl, sym, ap, _∙_}
 use mathlib.Core.List.{List}
 use mathlib.Core.Logic.{_⊎_, inl, inr}
@@ -36,7 +36,7 @@ putAt l at k = set (set (set l at (k .«radius_or_slope»)) (at + 1) (k .«cente
 abbrev put : List Float → ℕ → Kept → List Float
 put l j k = putAt l (j * numbersKept) k
 
--- those of the first m segments
+-- the numbers of the first m segments
 unfoldable pub keep : List Float → ℕ → Float → List Float → List Float
 keep path zero epsilon l = l
 keep path (suc j) epsilon l = put (keep path j epsilon l) j (ofSegment (segmentFrom path j) epsilon)
@@ -53,7 +53,7 @@ unfolding keep
 keep-length path zero epsilon l = refl
 keep-length path (suc j) epsilon l = put-length (keep path j epsilon l) (j * numbersKept) _ ∙ keep-length path j epsilon l
 
--- a number that stands before the three
+-- a number before the three is unchanged
 before : (l : List Float) (a n : ℕ) (x y z : Float) → n < a
     → getD (set (set (set l a x) (a + 1) y) (a + 2) z) n nan ≡ getD l n nan
 before l a n x y z h =
@@ -129,7 +129,7 @@ keep-more path l now j epsilon s k e f g =
     ∙ ap (put (keep path j epsilon l) j) (g ∙ ap (λ (t : Segment). ofSegment t epsilon) f)
     ∙ ap (λ (n : ℕ). keep path n epsilon l) (sym (add-one j))
 
--- ---- what a listing's loop asks: the paths looked at, and what is kept of the second
+-- ---- what a listing's loop needs: checked paths, and what is kept of the second
 pub record Keeps (second kept : List Float) (job : Job) : Type 0 where
   pub room : job .m * numbersKept ≤ length kept
   pub at : (j : ℕ) → j < job .m → keptAt kept j ≡ ofSegment (segmentFrom second j) (job .epsilon)

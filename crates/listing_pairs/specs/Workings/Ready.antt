@@ -1,4 +1,5 @@
--- What a listing's loop asks of its paths: the pair call's look finds no fault at any pair. It follows from the checks of both paths.
+-- What a listing's loop needs of its paths: the pair call's check finds no fault in any pair. It follows from the checks of both
+-- paths.
 use mathlib.Core.Path.{_≡_, ap, _∙_}
 use mathlib.Core.Bool.{Bool}
 use mathlib.Core.List.{List}
@@ -20,7 +21,7 @@ use Rattle.listing_pairs.specs.declared.order.Job.{Job}
 use Rattle.listing_pairs.specs.Row.{lookOf}
 use Rattle.listing_pairs.specs.Look.{look}
 
--- the pair of a segment v, which is i, and segment j of the second path
+-- the pair of v, which is segment i, and segment j of the second path
 unfoldable pub lookOn : Segment → List Float → Float → ℕ → ℕ → Look
 lookOn v second epsilon i j =
     let u = segmentFrom second j in
@@ -59,8 +60,8 @@ at-segment v first second job i ready h e =
           ∙ ready .fine i j h l;
     }
 
--- ---- what the checks of a listing establish
--- the look of the pair call at two segments that were found fine
+-- ---- what the checks of a listing show
+-- if two segments are fine, the pair call's check finds no fault in them
 pub pair-fine : (v u : Segment) (epsilon : Float) → Each.epsilon epsilon ≡ Fine → SegmentFine v → SegmentFine u
     → PairFine v u epsilon
 pair-fine v u epsilon e fv fu = look-fine (v .v1) (v .v2) (u .v1) (u .v2) epsilon e (sound v 0 fv) (sound u 1 fu)
@@ -68,7 +69,7 @@ pair-fine v u epsilon e fv fu = look-fine (v .v1) (v .v2) (u .v1) (u .v2) epsilo
     sound : (s : Segment) (owner : ℕ) → SegmentFine s → Sound (s .v1) (s .v2) owner
     sound s owner f = record { start = f .start; end = f .end .point; arc = arc-fine (s .v1) (s .v2) owner 0 .1 (f .arc) }
 
--- both paths found fine: every pair is
+-- if both paths are fine, every pair is
 pub paths-ready : (first second : List Float) (firstClosed secondClosed : Bool) (job : Job)
     → Each.epsilon (job .epsilon) ≡ Fine → PathFine first firstClosed → PathFine second secondClosed
     → job .n ≡ segmentCount first firstClosed → job .m ≡ segmentCount second secondClosed

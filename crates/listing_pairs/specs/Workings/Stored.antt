@@ -1,5 +1,5 @@
--- The numbers of rows, stored from a row on in one of the two lent slices, or left out where rows are only counted; and what the
--- stores of one row leave.
+-- The numbers of rows, stored from a row on in one of the two lent slices, or not at all if rows are only counted; and what the
+-- slice holds after one row is stored.
 use mathlib.Core.Path.{_≡_, refl, ap, _∙_}
 use mathlib.Core.Bool.{Bool, true, false}
 use mathlib.Core.List.{List, [], _∷_, append-nil}
@@ -13,12 +13,12 @@ use Rattle.listing_pairs.specs.declared.row.Row.{Row}
 use Rattle.listing_pairs.specs.Row.{indicesARow, pointsARow, indicesOf, pointsOf, numbersOfRows}
 use Rattle.listing_pairs.specs.Laws.Stores.{sets-append, three-set, four-set}
 
--- the rows that are written: all, or none where rows are only counted
+-- the rows that are written: all of them, or none if rows are only counted
 abbrev pub kept : Bool → List Row → List Row
 kept true rows = rows
 kept false rows = []
 
--- what stands after the numbers of rows are stored from row k on, one kind of numbers, `width` of them a row
+-- the list after the numbers of rows are stored from row k on; one kind of numbers, `width` of them for each row
 abbrev pub stored : {A : Type 0} → (Row → List A) → ℕ → Bool → List A → ℕ → List Row → List A
 stored numbers width write l k rows = sets l (k * width) (numbersOfRows numbers (kept write rows))
 
@@ -27,7 +27,7 @@ module _ {A : Type 0} (numbers : Row → List A) (width : ℕ) where
   stored-none true l k = refl
   stored-none false l k = refl
 
-  -- one row, and then the others after it
+  -- one row, then the others after it
   pub stored-one : (write : Bool) (l : List A) (k : ℕ) (r : Row) (rows : List Row) → length (numbers r) ≡ width
       → stored numbers width write (stored numbers width write l k (r ∷ [])) (k + 1) rows ≡ stored numbers width write l k (r ∷ rows)
   stored-one true l k r rows e =
@@ -37,14 +37,14 @@ module _ {A : Type 0} (numbers : Row → List A) (width : ℕ) where
       ∙ sets-append l (k * width) (numbers r) (numbersOfRows numbers rows)
   stored-one false l k r rows e = refl
 
--- a row as row k
+-- a row stored as row k
 abbrev pub putIndices : Bool → List ℕ → ℕ → Row → List ℕ
 putIndices write l k r = stored indicesOf indicesARow write l k (r ∷ [])
 
 abbrev pub putPoints : Bool → List Float → ℕ → Row → List Float
 putPoints write l k r = stored pointsOf pointsARow write l k (r ∷ [])
 
--- ---- what straight-line stores leave
+-- ---- what a row's stores leave, written out one by one
 module _ (k : ℕ) (r : Row) (write : Bool) (e : write ≡ true) where
   pub put-indices : (l : List ℕ)
       → (let at = k * indicesARow in set (set (set l at (r .i)) (at + 1) (r .j)) (at + 2) (r .class) ≡ putIndices write l k r)
@@ -55,7 +55,7 @@ module _ (k : ℕ) (r : Row) (write : Bool) (e : write ≡ true) where
       set (set (set (set l at (r .x1)) (at + 1) (r .y1)) (at + 2) (r .x2)) (at + 3) (r .y2) ≡ putPoints write l k r)
   put-points l = rw e (four-set l (k * pointsARow) (r .x1) (r .y1) (r .x2) (r .y2))
 
--- and none
+-- and if nothing is written
 module _ (k : ℕ) (r : Row) (write : Bool) (e : write ≡ false) where
   pub no-indices : (l : List ℕ) → l ≡ putIndices write l k r
   no-indices l = rw e refl

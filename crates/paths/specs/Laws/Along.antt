@@ -1,5 +1,5 @@
--- Lists of checks one after the other, `along`: what a loop over them has left at i of n, and that they are fine exactly if
--- each is.
+-- Lists of checks one after the other, `along`: what a loop over them still has to check at i of n, and that they are fine
+-- exactly if each one is.
 use mathlib.Core.Path.{_≡_, refl, sym, ap, _∙_}
 use mathlib.Core.Logic.{_↔_, inl, inr}
 use mathlib.Core.List.{List}
@@ -15,7 +15,7 @@ use Rattle.checks.specs.Laws.Chains.{first-append}
 use Rattle.checks.specs.Laws.Later.{fine-right, later-assoc, later-fine}
 use Rattle.paths.specs.Check.{along}
 
--- ---- a loop over n of them, which has found g before i: what is left after g has the first fault of the whole
+-- ---- a loop over n lists that has found g before i: g and the remaining lists have the first fault of the whole
 pub record Looking (checks : ℕ → List Checked) (n : ℕ) (whole g : Checked) (i : ℕ) : Type 0 where
   pub left : later g (first (along checks i (n - i))) ≡ whole
 
@@ -23,7 +23,7 @@ pub looking : (checks : ℕ → List Checked) (n : ℕ) (f : Checked) → Lookin
 looking checks n f = record { left = simp sub-zero }
 
 module _ {checks : ℕ → List Checked} {n : ℕ} {whole g : Checked} {i : ℕ} (l : Looking checks n whole g i) where
-  -- a fault that was found stays the first, whatever is left
+  -- a fault that was found stays the first, whatever remains
   pub found : (x : Fault) → g ≡ Bad x → Bad x ≡ whole
   unfolding later
   found x e = sym (ap (λ (f : Checked). later f (first (along checks i (n - i)))) e) ∙ l .left

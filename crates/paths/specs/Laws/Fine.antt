@@ -1,4 +1,5 @@
--- What a path is that was found fine, and only such a path is found fine: the facts that callers' proofs go on with.
+-- What the check of a path says if it finds no fault, and that it finds no fault only in such paths. The proofs of callers use
+-- these facts.
 use mathlib.Core.Path.{_≡_}
 use mathlib.Core.Logic.{_↔_, Iff·rfl, Iff·trans}
 use mathlib.Core.Bool.{Bool, false}
@@ -32,7 +33,7 @@ use Rattle.paths.specs.Laws.Segments.{count-within, after-within}
 abbrev pub VertexFine : PlineVertex → Type 0
 VertexFine v = chains.VertexFine (v .x) (v .y) (v .bulge)
 
--- if the segment from a to b is an arc, its computed chord length, where it is a number, is at least 2^-40
+-- if the segment from a to b is an arc, its computed chord length is a NaN or at least 2^-40
 pub record ArcFine (a b : PlineVertex) : Type 0 where
   pub long : bulgeIsZero a ≡ false → isNan (vector2.length (vector2.sub (pos b) (pos a))) ≡ false
       → T (Limit.chordLeast ≼ vector2.length (vector2.sub (pos b) (pos a)))
@@ -73,7 +74,7 @@ path-fine f path closed owner =
     Iff·trans (then-fine Iff·rfl all)
     (λ h. (h .0, record { vertices = h .1 .0; arcs = h .1 .1 }), λ h. (h .0, (h .1 .vertices, h .1 .arcs)))
 
--- so both ends of every segment are fine, and its arc
+-- so both ends of every segment are fine, and so is its arc
 pub segment-fine : (path : List Float) (closed : Bool) → PathFine path closed
     → (i : ℕ) → i < segmentCount path closed → SegmentFine (segmentFrom path i)
 unfolding segmentFrom

@@ -1,5 +1,5 @@
--- A path has at most as many segments as vertices, and at most 4,096; a segment ends at a vertex of the path; and what
--- `segment` answers at an index that is a segment's, and at one that is none's.
+-- A path has at most as many segments as vertices, and at most 4,096; a segment ends at a vertex of the path; and what `segment`
+-- answers for an index that is a segment's, and for one that is not.
 use mathlib.Core.Path.{_≡_, refl}
 use mathlib.Core.Bool.{Bool, true, false, cond}
 use mathlib.Core.List.{List}

@@ -1,5 +1,5 @@
--- One step of each loop of the check: what is found with the next vertex, or segment, is the first fault of what was found before
--- and of its list. And the two loops, one after the other, are the check of the path.
+-- One step of each loop of the check: after the next vertex, or segment, the result is the first fault of the result before and
+-- of its list. And the two loops, one after the other, are the check of the path.
 use mathlib.Core.Path.{_≡_, sym, ap, _∙_}
 use mathlib.Core.Bool.{Bool}
 use mathlib.Core.List.{List, _∷_}

@@ -1,5 +1,5 @@
--- A path whose vertices are all inside their limits, told by comparisons alone: its check finds no fault in them, so that what was found
--- before stays.
+-- The quick test of a path's vertices: if all are inside their limits, by comparisons alone, the check finds no fault in them, so
+-- the result before stays.
 use mathlib.Core.Path.{_≡_, sym, ap, _∙_, subst}
 use mathlib.Core.Logic.{_⊎_, inl, inr}
 use mathlib.Core.Bool.{Bool, false, not}
@@ -26,7 +26,7 @@ Inside v = T (vertexInside (v .x) (v .y) (v .bulge))
 abbrev pub InsideBelow : List Float → ℕ → Type 0
 InsideBelow path i = (j : ℕ) → j < i → Inside (vertex path j)
 
--- a yes says that all are
+-- a yes says that all vertices are inside
 pub record Tells (path : List Float) (r : Bool) : Type 0 where
   pub all : T r → InsideBelow path (vertexCount path)
 

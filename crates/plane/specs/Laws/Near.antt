@@ -1,5 +1,5 @@
--- That a magnitude is below a limit is told by two comparisons: |x| < e exactly if x < e and -e < x. For all floats: where one is a NaN
--- both say no, and an e that is not above zero leaves nothing between.
+-- Two comparisons show that a magnitude is below a limit: |x| < e exactly if x < e and -e < x. For all floats: if one is a NaN
+-- both sides say no, and if e is not above zero nothing lies between.
 use mathlib.Core.Path.{_≡_, refl}
 use mathlib.Core.Logic.{_↔_}
 use Prim.Native.Nat.{ℕ, _+_, _*_, _<_}

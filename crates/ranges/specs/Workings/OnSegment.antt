@@ -1,8 +1,8 @@
--- The range test of the line kernel without a root: where t is clearly inside 0..1, or clearly outside, for a segment and an epsilon
--- of usual sizes, the length decides nothing. t, the length and epsilon are floats T, R and E here.
--- Inside, 0 <= T <= 31/32: T * R lies below R by a 32nd, far more than its rounding is off, and is not below zero; to add E does not
--- take anything away. Outside no rounding matters, since roundings keep the order: from 33/32 on T * R is at least R + R/32, which is at
--- least R + E; up to -1/32 it is at most -R/32, which is at most -E.
+-- The quick tests whether a parameter lies on a segment, without a root: if t is clearly inside 0..1 or clearly outside, and
+-- segment and epsilon are of usual size, the length does not matter. t, the length and epsilon are written T, R and E here.
+-- Inside, 0 <= T <= 31/32: T * R is below R by a 32nd, which is far more than its rounding error, and it is not below zero;
+-- adding E does not make it smaller. Outside, rounding does not matter, since it keeps the order: from 33/32 up T * R is at least
+-- R + R/32, which is at least R + E; from -1/32 down it is at most -R/32, which is at most -E.
 use mathlib.Core.Path.{_≡_, refl, sym, _∙_, subst}
 use Prim.Native.Nat.{ℕ, _+_, _-_, _*_, _^_, _≤_, _<_}
 use native.Mathlib.Nat.{mul-pos, mul-le-mul-left, mul-le-mul-right, lt-of-mul-lt-mul-right}
@@ -43,7 +43,7 @@ use Rattle.plane.specs.declared.vector2.Vector2.{Vector2}
 use Rattle.plane.specs.Fuzzy.{fuzzyInRangeEps, fuzzyGtEps, fuzzyLtEps}
 use Rattle.ranges.specs.Range.{onSegment}
 
--- ---- the tests: 2^-40, 2^-10 and 2^50; 31/32, 33/32 and 1/32
+-- ---- the tests, with 2^-40, 2^-10 and 2^50; 31/32, 33/32 and 1/32
 abbrev pub epsLeast : Float
 epsLeast = ofBits binary64 0x3d70_0000_0000_0000
 
@@ -62,7 +62,7 @@ afterEnd = ofBits binary64 0x3ff0_8000_0000_0000
 abbrev pub step : Float
 step = ofBits binary64 0x3fa0_0000_0000_0000
 
--- epsilon is at most 2^-10, and the length between 2^-5 and 2^25, by its square
+-- epsilon is at most 2^-10, and the length from 2^-5 to 2^25, tested by its square
 abbrev pub usual : Float → Float → Bool
 usual square eps = ((eps ≽ epsLeast) && (eps ≼ thousandth)) && ((square ≽ thousandth) && (square ≼ squareMost))
 
@@ -220,7 +220,7 @@ module _ (e : Float) (E : ℕ) (e-fits : T (fits binary64 e)) (e-value : HasValu
           omega arith
 
   -- ---- before the start
-  -- a product of at most -E, with E added, is not above zero
+  -- a product of at most -E, plus E, is not above zero
   not-above : (m : Float) → T (fits binary64 m) → T (le m (neg e)) → (p n : ℕ) → Diff m p n unit → T (not (fuzzyGtEps m f0 e))
   not-above m fit h p n i =
       let minus = neg-diff e E 0 unit e-is in

@@ -13,9 +13,9 @@ point-in-sweep-spec =
     tie.close
     (tie.spec
     (search needs) (search needs)
-    (λ c. simp (← c .before .before .sub .ensures, ← c .before .onSegment .ensures, c .if1 .taken))
+    (λ c. simp (← c .before .before .sub .ensures, ← c .before .on-segment .ensures, c .if1 .taken))
     (search needs) (search needs)
     (λ c. let p = c .before .before in let w = p .before .before in
-    simp (← w .before .sub .ensures, ← w .onSegment .ensures, ← p .point-from-parametric .ensures) (search branches))
+    simp (← w .before .sub .ensures, ← w .on-segment .ensures, ← p .point-from-parametric .ensures) (search branches))
     (λ c. let p = c .before .before in let w = p .before .before in
-    simp (← w .before .sub .ensures, ← w .onSegment .ensures, ← p .point-from-parametric .ensures) (search branches)))
+    simp (← w .before .sub .ensures, ← w .on-segment .ensures, ← p .point-from-parametric .ensures) (search branches)))

@@ -23,15 +23,15 @@ parameters c = simp (← c .before .perp-dot .ensures, ← c .perp-dot2 .ensures
 returns-3 : tie.Need-returns-3
 returns-3 c =
     let w = c .before .before .before in
-    simp (parameters (w .before), ← w .onSegment .ensures, c .before .before .if1 .left, ← c .before .on-segment2 .ensures, c .if2 .left)
+    simp (parameters (w .before), ← w .on-segment .ensures, c .before .before .if1 .left, ← c .before .on-segment2 .ensures, c .if2 .left)
 
 pub crossing-spec : {M : Type 1} → statement M
 crossing-spec =
     tie.close
     (tie.spec
     (search needs) (search needs) (search needs)
-    (λ c. simp (parameters (c .before .before), ← c .before .onSegment .ensures, c .if1 .taken))
+    (λ c. simp (parameters (c .before .before), ← c .before .on-segment .ensures, c .if1 .taken))
     (search needs)
     (λ c. let w = c .before .before .before in
-    simp (parameters (w .before), ← w .onSegment .ensures, c .before .before .if1 .left, ← c .before .on-segment2 .ensures, c .if2 .taken))
+    simp (parameters (w .before), ← w .on-segment .ensures, c .before .before .if1 .left, ← c .before .on-segment2 .ensures, c .if2 .taken))
     returns-3)
