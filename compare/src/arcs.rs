@@ -1,5 +1,6 @@
-//! Tries how often touching segments with arcs are missed, and how far apart reported ones are: an exact judge in whole numbers, against
-//! the proved library and, where it is compiled in, the Rust text. The two answer alike; that they do is counted too.
+//! Tries how often touching segments with arcs are missed, and how far apart reported ones are: an exact judge in whole
+//! numbers, against the proved library and, where it is compiled in, the Rust text. The two answer alike; that they do is
+//! counted too.
 
 mod aim;
 mod apart;
@@ -23,8 +24,8 @@ use report::Report;
 
 type Caller = (&'static str, fn(&Pair) -> u64);
 
-/// Judges the answers to `count` pairs, as many of each kind. Answers how many were beyond what the search allows: missed where none
-/// may be, reported too far apart, refused, or not the same from both.
+/// Judges the answers to `count` pairs, as many of each kind. Answers how many were beyond what the search allows: missed where
+/// none may be, reported too far apart, refused, or not the same from both.
 pub fn run(count: u64, seed: u64) -> u64 {
     judge_all(&callers(), count, seed)
 }

@@ -36,8 +36,8 @@ fn turned((x, y): Way, s: f64) -> Way {
     (x * cos - y * sin, x * sin + y * cos)
 }
 
-/// The place on an arc at which its way is the chord's, turned by twice the angle whose tangent is `along` times the bulge: as seen
-/// from the start, and its way there.
+/// The place on an arc at which its way is the chord's, turned by twice the angle whose tangent is `along` times the bulge: as
+/// seen from the start, and its way there.
 pub fn at(chord: Way, bulge: f64, along: f64) -> (Way, Way) {
     let length = size(chord);
     let (x, y) = (chord.0 / length, chord.1 / length);

@@ -55,8 +55,8 @@ impl Shape {
         self.bulge == 0.0
     }
 
-    /// The distance from the circle, below 0 inside it; from a line, below 0 right of it. Not by the difference of a distance and the
-    /// radius, which for a flat arc leaves few digits.
+    /// The distance from the circle, below 0 inside it; from a line, below 0 right of it. Not by the difference of a distance
+    /// and the radius, which for a flat arc leaves few digits.
     pub fn off(&self, p: Point) -> f64 {
         let chord = less(self.to, self.from);
         let (a, b) = (less(p, self.from), less(p, self.to));

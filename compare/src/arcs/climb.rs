@@ -1,4 +1,5 @@
-//! Climbs down to the least radius at which a touching pair is missed: each miss that is found sets the next radius to try below it.
+//! Climbs down to the least radius at which a touching pair is missed: each miss that is found sets the next radius to try
+//! below it.
 
 use super::aim::{aimed, Aim};
 use super::draw::joints::{exactly, nearly, Lengths};
@@ -20,8 +21,8 @@ const EPSILONS: [i32; 6] = [10, 8, 6, 4, 2, 1];
 
 type Call = fn(&Pair) -> u64;
 
-/// Prints the least radius that was missed, for each epsilon and small arc, and for each epsilon and length of a line, with the pair;
-/// beside it the constant c for which the formula gives that radius.
+/// Prints the least radius that was missed, for each epsilon and small arc, and for each epsilon and length of a line, with the
+/// pair; beside it the constant c for which the formula gives that radius.
 pub fn climb(call: Call, turns: u64, seed: u64) {
     println!(
         "two arcs: radius r of the small one | epsilon | least R | c of R^2 = 2 r epsilon 2^53 / c"

@@ -1,4 +1,5 @@
-//! A segment of the program's own form: ends on the grid, and its bulge in 65,536ths. Of an arc all that decides is whole numbers.
+//! A segment of the program's own form: ends on the grid, and its bulge in 65,536ths. Of an arc all that decides is whole
+//! numbers.
 
 use crate::search::plane::Spot;
 

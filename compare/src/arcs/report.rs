@@ -1,5 +1,5 @@
-//! Counts what a search of arcs met: how many pairs share a point, of which how many are missed, by radius, epsilon and kind of pair;
-//! and what is reported though it shares none, with how far apart that is.
+//! Counts what a search of arcs met: how many pairs share a point, of which how many are missed, by radius, epsilon and kind of
+//! pair; and what is reported though it shares none, with how far apart that is.
 
 mod print;
 

@@ -1,5 +1,5 @@
--- Nothing of an answer can be cut: the answer to every text, of any length and form, fits the room that `list_layout` asks for. So a
--- slice of that many bytes gets all of it, and `crossings`, which lends one, meets no other end.
+-- Nothing of an answer can be cut: the answer to every text, of any length and form, fits the room that `list_layout` asks for.
+-- So a slice of that many bytes gets all of it, and `crossings`, which lends one, meets no other end.
 use mathlib.Core.Path.{_≡_, refl, sym, ap, _∙_}
 use mathlib.Core.Bool.{false}
 use mathlib.Core.List.{List}
@@ -24,8 +24,8 @@ pub answer-fits : (text : List ℕ) → length (answerTo text) ≤ room
 unfolding answerTo
 answer-fits text = taken-fits (reads text)
 
--- what `list_layout` leaves in a slice of that room: it tells how many bytes the whole answer has, which stand at the front of the
--- slice, and behind them stands what stood there
+-- what `list_layout` leaves in a slice of that room: it tells how many bytes the whole answer has, which stand at the front of
+-- the slice, and behind them stands what stood there
 pub answer-whole : (text : List ℕ) (r : Written) (old now : List ℕ) → room ≤ length old → AnswerTo text r old now
     → Whole (answerTo text) r old now
 answer-whole text r old now h a =

@@ -6,8 +6,8 @@ use super::FAR;
 use crate::rng::Rng;
 use crate::search::plane::Spot;
 
-/// The second arc is the first, moved about its centre by quarter turns or mirrored there, and for a half circle also by the angle
-/// of whole-number triangles; every third time an end or the bulge is a step off.
+/// The second arc is the first, moved about its centre by quarter turns or mirrored there, and for a half circle also by the
+/// angle of whole-number triangles; every third time an end or the bulge is a step off.
 pub fn draw(rng: &mut Rng, _: f64) -> Option<(Piece, Piece)> {
     let (center, from, to, n) = if rng.one_in(2) {
         half(rng)
@@ -61,7 +61,8 @@ fn half(rng: &mut Rng) -> (Spot, Way, Way, i64) {
     (spot(rng, FAR / 2), from, (-from.0, -from.1), n)
 }
 
-/// A bulge of 1 / 2^k, on a chord for which the centre is on the grid: chord / 2 and chord * (4^k - 1) / 2^(k + 2) from the start.
+/// A bulge of 1 / 2^k, on a chord for which the centre is on the grid: chord / 2 and chord * (4^k - 1) / 2^(k + 2) from the
+/// start.
 fn shorter(rng: &mut Rng) -> (Spot, Way, Way, i64) {
     let k = 1 + rng.below(10) as u32;
     let step = 1 << (k + 2);

@@ -35,8 +35,8 @@ pub fn draw(rng: &mut Rng, _: f64) -> Option<(Piece, Piece)> {
     Some((v, u))
 }
 
-/// An arc, and a line or, once in four, another arc from its start along its tangent there. The bulge is a fraction with a small power
-/// of two below, so that this can be exact.
+/// An arc, and a line or, once in four, another arc from its start along its tangent there. The bulge is a fraction with a
+/// small power of two below, so that this can be exact.
 pub fn exactly(rng: &mut Rng, lengths: &Lengths) -> Option<(Piece, Piece)> {
     let bulge = fraction(rng);
     let most = spread(rng, 1.0, (FAR >> (2 * bulge.1)) as f64) as i64;
