@@ -72,18 +72,28 @@ numberText x = space ++ hex 16 (toBits binary64 x)
 -- the scope's numbers of the classes; a listing has no others
 unfoldable pub classText : ℕ → List ℕ
 classText class =
-    cond (eqb class 1) tangentWord
-    (cond (eqb class 2) oneWord
-    (cond (eqb class 3) twoWord
-    (cond (eqb class 4) linesWord
-    (cond (eqb class 5) arcsWord noneWord))))
+    cond (eqb class 1)
+    tangentWord
+    (cond (eqb class 2)
+    oneWord
+    (cond (eqb class 3)
+    twoWord
+    (cond (eqb class 4)
+    linesWord
+    (cond (eqb class 5)
+    arcsWord
+    noneWord))))
 
 -- a tangent and one crossing have one point, the other classes two
 unfoldable pub pointsText : ℕ → Float → Float → Float → Float → List ℕ
 pointsText class x1 y1 x2 y2 =
-    cond (ltb class 1) []
-    (cond (ltb class 3) (numberText x1 ++ numberText y1)
-    (cond (ltb class 6) (numberText x1 ++ numberText y1 ++ numberText x2 ++ numberText y2) []))
+    cond (ltb class 1)
+    []
+    (cond (ltb class 3)
+    (numberText x1 ++ numberText y1)
+    (cond (ltb class 6)
+    (numberText x1 ++ numberText y1 ++ numberText x2 ++ numberText y2)
+    []))
 
 unfoldable pub rowText : ℕ → ℕ → ℕ → Float → Float → Float → Float → List ℕ
 rowText i j class x1 y1 x2 y2 =

@@ -1,4 +1,4 @@
--- An answer as plain numbers: it is told as the refusal, or the case, that it is.
+-- An answer as plain numbers: the refusal, or the case, that it is.
 use mathlib.Core.Path.{_≡_}
 use Rattle.answers.specs.declared.padded.PaddedAnswer.{PaddedAnswer}
 

@@ -20,7 +20,11 @@ unfoldable pub pick : Bool → ℕ → ℕ → ℕ
 pick first a b =
     cond (nanBits binary64 a)
     (cond (nanBits binary64 b) quietNan b)
-    (cond (nanBits binary64 b) a (cond first a b))
+    (cond (nanBits binary64 b)
+    a
+    (cond first
+    a
+    b))
 
 -- whether a's number is below b's: false if one is a NaN
 unfoldable pub below : ℕ → ℕ → Bool

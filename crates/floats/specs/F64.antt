@@ -17,7 +17,14 @@ abs (fin s m e) = fin false m e
 
 -- one of two operands: a NaN and a number give the number; of two numbers it is the first if `first` is true
 abbrev pub choose : Bool → Float → Float → Float
-choose first x y = cond (isNan x) y (cond (isNan y) x (cond first x y))
+choose first x y =
+    cond (isNan x)
+    y
+    (cond (isNan y)
+    x
+    (cond first
+    x
+    y))
 
 -- Equal numbers give the second operand; zeros of either sign are equal.
 unfoldable pub min : Float → Float → Float

@@ -1,4 +1,4 @@
--- A text, part by part: where a part is missing the text breaks its form, and where all are there and nothing more it says a
+-- A text, part by part: if a part is missing the text breaks its form; if all are there and nothing more, it is the text of a
 -- layout.
 use Prim.Native.Nat.{ℕ, zero, suc, _≤_, _<_}
 use mathlib.Core.Path.{_≡_, refl, sym, ap, _∙_, subst}

@@ -1,4 +1,4 @@
--- What an answer of the code, told apart, says of what the definition has read.
+-- What each case of the code's answer says of what the definition has read.
 use mathlib.Core.Path.{_≡_, sym, ap, _∙_}
 use mathlib.Core.Bool.{Bool}
 use mathlib.Core.List.{List}

@@ -14,10 +14,13 @@ use Rattle.paths.specs.Shape.{refused}
 -- refusal 6 or 7
 unfoldable pub segmentCount : List Float → Bool → ℕ
 segmentCount path closed =
-    cond (refused path) 0
+    cond (refused path)
+    0
     (let n = vertexCount path in
-    cond (ltb n 2) 0
-    (cond closed n
+    cond (ltb n 2)
+    0
+    (cond closed
+    n
     (n - 1)))
 
 -- the vertex at which the segment from vertex i ends: the next one; after the last one it is vertex 0

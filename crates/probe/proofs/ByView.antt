@@ -1,9 +1,8 @@
 -- A function of a path's slice and flag, and whatever further parameters it has, that makes a view of the path, asks it and hands
 -- the answer on. One law for all of these, over the further parameters, the result's type and what the view answers. By its
--- contract `view_of` gives the view of what it is passed, and that owns what the function of the view asks. What is left to a
--- function is the walk of its own MIR, `Walk`: a call of `view_of`, after which the function of the view can be called on what
--- was returned, is a run of the function.
--- Assumes nothing.
+-- contract `view_of` gives the view of what it is passed, and that owns what the function of the view asks. Each function still
+-- needs the walk of its own MIR, `Walk`: a call of `view_of`, after which the function of the view can be called on what was
+-- returned, is a run of the function. Assumes nothing.
 use mathlib.Core.Path.{_≡_, refl}
 use mathlib.Core.Bool.{Bool}
 use mathlib.Core.List.{List, [], _∷_}
@@ -118,8 +117,8 @@ module _ {M : Type 1} (𝓤 : URA M) (H : Heap 𝓤) (A : Atoms 𝓤) where
     OfPath = answers 𝓤 H A (lent F) (yes, (yes, F .kept)) (λ κs a. F .view-says κs (viewOf (a .0) (a .1 .0)) (a .1 .1))
 
     -- the walk that a function owes: a call of `view_of` on the slice and the flag is a run of the function, if the value
-    -- returned is a view's and the function of the view can then be called on it, and if what that returns is of the type of the
-    -- result
+    -- returned is a view's and the function of the view can then be called on it, and if what that returns is of the result's
+    -- type
     abbrev pub Walk : Tables 𝓤 H → Name → Fn → Type 2
     Walk 𝓣 f e =
         (κs : Lfts 1) (s : RefT (List Float)) (closed : Bool) (a : Denots (More F κs)) (P K : Val → SProp 𝓤)

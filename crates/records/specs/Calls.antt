@@ -25,7 +25,9 @@ numbersOf call =
     (cond (eqb call SEG-ARC) 9
     (cond (eqb call LINE-LINE) 14
     (cond (eqb call LINE-CIRCLE) 13
-    (cond (eqb call CIRCLE-CIRCLE) 12 (cond (eqb call PLINE-SEG) 18 0))))))))))))
+    (cond (eqb call CIRCLE-CIRCLE) 12
+    (cond (eqb call PLINE-SEG) 18
+    0))))))))))))
 
 unfoldable pub isOurs : ℕ → List ℕ → Bool
 isOurs call body =

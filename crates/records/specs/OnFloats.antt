@@ -14,7 +14,8 @@ onPatterns call a b answer =
     cond (eqb call ABS) (eqb (Bits.abs a) answer)
     (cond (eqb call MIN) (eqb (Bits.min a b) answer)
     (cond (eqb call MAX) (eqb (Bits.max a b) answer)
-    (cond (eqb call SQRT) (eqb (Bits.sqrt a) answer) false)))
+    (cond (eqb call SQRT) (eqb (Bits.sqrt a) answer)
+    false)))
 
 -- a NaN has no bits, so it goes with any NaN's pattern
 unfoldable pub isAnswer : Float → ℕ → Bool
@@ -25,7 +26,8 @@ onNumbers call x y answer =
     cond (eqb call ABS) (isAnswer (F64.abs x) answer)
     (cond (eqb call MIN) (isAnswer (F64.min x y) answer)
     (cond (eqb call MAX) (isAnswer (F64.max x y) answer)
-    (cond (eqb call SQRT) (isAnswer (F64.sqrt x) answer) false)))
+    (cond (eqb call SQRT) (isAnswer (F64.sqrt x) answer)
+    false)))
 
 -- ---- both; on numbers only if no operand's pattern is a NaN's
 
@@ -33,5 +35,6 @@ unfoldable pub agreesOf : ℕ → ℕ → ℕ → ℕ → Bool
 agreesOf call a b answer =
     cond (onPatterns call a b answer)
     (cond (nanBits binary64 a) true
-    (cond (nanBits binary64 b) true (onNumbers call (ofBits binary64 a) (ofBits binary64 b) answer)))
+    (cond (nanBits binary64 b) true
+    (onNumbers call (ofBits binary64 a) (ofBits binary64 b) answer)))
     false

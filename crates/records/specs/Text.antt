@@ -26,7 +26,11 @@ mostNumbers = 18
 -- the value of a byte as a hex digit: '0' to '9', 'a' to 'f'; 16 if it is none
 unfoldable pub digitOf : ℕ → ℕ
 digitOf b =
-    cond (ltb b 48) 16 (cond (ltb b 58) (b - 48) (cond (ltb b 97) 16 (cond (ltb b 103) (b - 87) 16)))
+    cond (ltb b 48) 16
+    (cond (ltb b 58) (b - 48)
+    (cond (ltb b 97) 16
+    (cond (ltb b 103) (b - 87)
+    16)))
 
 -- the value of the digits of n followed by those of the text; only the last sixteen digits count
 unfoldable pub spelt : ℕ → List ℕ → Field

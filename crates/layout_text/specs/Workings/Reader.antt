@@ -53,7 +53,9 @@ other = 13
 unfoldable pub kindOf : ℕ → ℕ
 kindOf b =
     cond (ltb b 48)
-    (cond (eqb b 45) minus (cond (eqb b 32) space (cond (eqb b 10) newline other)))
+    (cond (eqb b 45) minus
+    (cond (eqb b 32) space
+    (cond (eqb b 10) newline other)))
     (cond (ltb b 58) (b - 48) other)
 
 -- the kind of the first byte; `other` if there is none
@@ -68,14 +70,19 @@ unfoldable pub digitsOf : Bool → ℕ → ℕ → ℕ → List ℕ → Got ℤ
 digitsOf negative most end n [] = nothing
 digitsOf negative most end n (b ∷ rest) =
     cond (ltb 9 (kindOf b))
-    (cond (eqb (kindOf b) end) (got (whole negative n) rest) nothing)
-    (cond (ltb most (n * 10 + kindOf b)) nothing (digitsOf negative most end (n * 10 + kindOf b) rest))
+    (cond (eqb (kindOf b) end)
+    (got (whole negative n) rest)
+    nothing)
+    (cond (ltb most (n * 10 + kindOf b))
+    nothing
+    (digitsOf negative most end (n * 10 + kindOf b) rest))
 
 -- a number above 0: its first digit is not 0
 unfoldable pub positiveOf : Bool → ℕ → ℕ → List ℕ → Got ℤ
 positiveOf negative most end text =
     cond (eqb (firstKind text) 0) nothing
-    (cond (ltb 9 (firstKind text)) nothing (digitsOf negative most end 0 text))
+    (cond (ltb 9 (firstKind text)) nothing
+    (digitsOf negative most end 0 text))
 
 -- the byte `end` after a 0
 unfoldable pub zeroOf : ℕ → List ℕ → Got ℤ

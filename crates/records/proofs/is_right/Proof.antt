@@ -1,4 +1,4 @@
--- `records::is_right` meets its contract: each return is an end of the definition, by the calls and tests on its way.
+-- `records::is_right` meets its contract: each return is a branch of the definition, by the calls and tests before it.
 use borrow.Author.Needs.{needs}
 use Rattle.float_laws.specs.Branches.{branches}
 use Rattle.records.specs.Calls.{isRight}

@@ -1,4 +1,4 @@
--- `answers::padded::of_circle_circle` meets its contract: a refusal is told as one, and each case as that case.
+-- `answers::padded::of_circle_circle` meets its contract: a refusal gives a refusal, and each case that case.
 use borrow.Author.Needs.{needs}
 use Rattle.crossing.specs.declared.circle_circle_intersect.CircleCircleAnswer.the-variants.{Met}
 use Rattle.answers.specs.Padded.{ofCircleCircle, refusal, case}

@@ -1,4 +1,4 @@
--- `answers::padded::of_line_circle` meets its contract: a refusal is told as one, and each case as that case.
+-- `answers::padded::of_line_circle` meets its contract: a refusal gives a refusal, and each case that case.
 use borrow.Author.Needs.{needs}
 use Rattle.crossing.specs.declared.line_circle_intersect.LineCircleAnswer.the-variants.{Met}
 use Rattle.answers.specs.Padded.{ofLineCircle, refusal, case}

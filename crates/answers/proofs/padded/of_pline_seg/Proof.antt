@@ -1,4 +1,4 @@
--- `answers::padded::of_pline_seg` meets its contract: a refusal is told as one, and an answer by its class and points.
+-- `answers::padded::of_pline_seg` meets its contract: a refusal gives a refusal, and an answer its class and points.
 use mathlib.Core.Path.{_≡_, ap, _∙_}
 use borrow.Author.Needs.{needs}
 use Rattle.arcs.specs.declared.pline_seg_intr.PlineSegIntr.{PlineSegIntr}

@@ -1,5 +1,5 @@
--- `arcs::arc_sweep::exactly_within_sweep` meets its contract: each return is an end of the definition, by the calls
--- and tests on its way.
+-- `arcs::arc_sweep::exactly_within_sweep` meets its contract: each return is a branch of the definition, by the calls and tests
+-- before it.
 use Rattle.arcs.specs.ArcSweep.{exactlyWithinSweep}
 use Rattle.float_laws.specs.Branches.{branches}
 use Rattle.arcs.proofs.arc_sweep.exactly_within_sweep.Statement.{statement}

@@ -1,4 +1,4 @@
--- `arcs::circle::circle_if_arc` meets its contract: each return is an end of the definition, by the calls and tests on its way.
+-- `arcs::circle::circle_if_arc` meets its contract: each return is a branch of the definition, by the calls and tests before it.
 use borrow.Author.Needs.{needs}
 use Rattle.arcs.specs.Workings.Circles.{circleIfArc}
 use Rattle.arcs.proofs.circle.circle_if_arc.Statement.{statement}

@@ -1,5 +1,4 @@
--- `arcs::line_and_arc::in_order` meets its contract: each return is an end of the definition, by the calls and tests on its
--- way.
+-- `arcs::line_and_arc::in_order` meets its contract: each return is a branch of the definition, by the calls and tests before it.
 use borrow.Author.Needs.{needs}
 use Rattle.arcs.specs.LineAndArc.{inOrder}
 use Rattle.arcs.proofs.line_and_arc.in_order.Statement.{statement}

@@ -1,5 +1,5 @@
--- `arcs::line_and_arc::with_sticky_ends` meets its contract: each return is an end of the definition, by the calls and tests
--- on its way.
+-- `arcs::line_and_arc::with_sticky_ends` meets its contract: each return is a branch of the definition, by the calls and tests
+-- before it.
 use borrow.Author.Needs.{needs}
 use Rattle.arcs.specs.LineAndArc.{withStickyEnds}
 use Rattle.float_laws.specs.Branches.{branches}

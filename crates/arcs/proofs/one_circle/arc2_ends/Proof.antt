@@ -1,5 +1,4 @@
--- `arcs::one_circle::arc2_ends` meets its contract: each return is an end of the definition, by the calls and tests on
--- its way.
+-- `arcs::one_circle::arc2_ends` meets its contract: each return is a branch of the definition, by the calls and tests before it.
 use Rattle.arcs.specs.OneCircle.{arc2Ends}
 use Rattle.float_laws.specs.Branches.{branches}
 use Rattle.arcs.proofs.one_circle.arc2_ends.Statement.{statement}

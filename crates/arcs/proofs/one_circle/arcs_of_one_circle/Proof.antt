@@ -1,5 +1,5 @@
--- `arcs::one_circle::arcs_of_one_circle` meets its contract: each return is an end of the definition, by the calls and
--- tests on its way.
+-- `arcs::one_circle::arcs_of_one_circle` meets its contract: each return is a branch of the definition, by the calls and tests
+-- before it.
 use borrow.Author.Needs.{needs}
 use Rattle.arcs.specs.OneCircle.{arcsOfOneCircle}
 use Rattle.float_laws.specs.Branches.{branches}

@@ -1,5 +1,4 @@
--- `arcs::two_arcs::crossing_arcs` meets its contract: where the ends are clear of the circles `Laws/Ends` says that none is
--- collected.
+-- `arcs::two_arcs::crossing_arcs` meets its contract: if the ends are off the circles, Workings/Ends says that none is collected.
 use borrow.Author.Needs.{needs}
 use Rattle.arcs.specs.TwoArcs
 use Rattle.arcs.specs.Workings.Ends.{without-ends}

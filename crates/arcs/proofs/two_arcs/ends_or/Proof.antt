@@ -1,5 +1,4 @@
--- `arcs::two_arcs::ends_or` meets its contract: each return is an end of the definition, by the calls and tests on
--- its way.
+-- `arcs::two_arcs::ends_or` meets its contract: each return is a branch of the definition, by the calls and tests before it.
 use borrow.Author.Needs.{needs}
 use Rattle.arcs.proofs.two_arcs.ends_or.Statement.{statement}
 use Rattle.arcs.proofs.two_arcs.ends_or.Tie as tie

@@ -1,5 +1,5 @@
--- `arcs::two_arcs::tangent_arc_arc` meets its contract: each return is an end of the definition, by the calls and
--- tests on its way.
+-- `arcs::two_arcs::tangent_arc_arc` meets its contract: each return is a branch of the definition, by the calls and tests before
+-- it.
 use borrow.Author.Needs.{needs}
 use Rattle.arcs.specs.TwoArcs.{tangentArcArc}
 use Rattle.float_laws.specs.Branches.{branches}

@@ -1,5 +1,5 @@
--- `arcs::two_arcs::try_add_end_point_intr` meets its contract: each return is an end of the definition, by the calls
--- and tests on its way.
+-- `arcs::two_arcs::try_add_end_point_intr` meets its contract: each return is a branch of the definition, by the calls and tests
+-- before it.
 use borrow.Author.Needs.{needs}
 use Rattle.arcs.specs.TwoArcs.{tryAddEndPointIntr}
 use Rattle.arcs.proofs.two_arcs.try_add_end_point_intr.Statement.{statement}

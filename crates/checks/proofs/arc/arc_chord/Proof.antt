@@ -1,5 +1,5 @@
--- `checks::arc::arc_chord` meets its contract: past the first test it is the check of the chord that was worked out, and of a
--- chord that is long enough by its self dot that check has nothing to say (`Laws/Chord`).
+-- `checks::arc::arc_chord` meets its contract: after the first test it is the check of the computed chord; a chord that is long
+-- enough by its dot product with itself passes that check (Laws/Chord).
 use mathlib.Core.Path.{_≡_, refl}
 use borrow.Author.Needs.{needs}
 use Rattle.float_laws.specs.Branches.{said-so}

@@ -1,4 +1,4 @@
--- `vertex_after` meets its contract: numbers that are inside leave f as it was, by `Laws/Inside`; else each is looked at.
+-- `vertex_after` meets its contract: if the numbers are inside, f stays (Workings/Inside); else each is checked.
 use borrow.Author.Needs.{needs}
 use Rattle.checks.specs.Workings.Inside.{vertex-passed}
 use Rattle.checks.proofs.chain.vertex_after.Statement.{statement}

@@ -1,4 +1,4 @@
--- `refuse` meets its contract: its branch is on the test that the definition goes by.
+-- `refuse` meets its contract: its branch tests what the definition tests.
 use mathlib.Core.Path.{refl}
 use Rattle.float_laws.specs.Branches.{holds, fails}
 use Rattle.checks.specs.Fault.{refuse}

@@ -1,4 +1,4 @@
--- `crossing::arc_arc::arc_arc` meets its contract: each return is an end of the definition, by what the circles have in common
+-- `crossing::arc_arc::arc_arc` meets its contract: each return is a branch of the definition, by what the circles have in common
 -- and the calls on its way.
 use mathlib.Core.Path.{_≡_}
 use borrow.Author.Needs.{needs}

@@ -1,5 +1,5 @@
--- `crossing::circle_circle::circle_circle` meets its contract: of circles that are far apart, or one well inside the other, the
--- laws of `Laws/Apart` and `Laws/Nested` say what the distance would; elsewhere the distance is asked.
+-- `crossing::circle_circle::circle_circle` meets its contract: if the circles are far apart, or one is well inside the other,
+-- Workings/Apart and Workings/Nested say what the plain form answers; else it is the plain form.
 use mathlib.Core.Path.{sym}
 use denote.Floats.{passes}
 use borrow.Author.Needs.{needs}

@@ -1,5 +1,5 @@
--- `crossing::circle_circle_intersect::circle_circle_intr` meets its contract: each return is an end of the definition,
--- by the calls and tests on its way.
+-- `crossing::circle_circle_intersect::circle_circle_intr` meets its contract: each return is a branch of the definition, by the
+-- calls and tests before it.
 use borrow.Author.Needs.{needs}
 use Rattle.crossing.specs.CircleCircleIntersect.{circleCircleIntr}
 use Rattle.crossing.proofs.circle_circle_intersect.circle_circle_intr.Statement.{statement}

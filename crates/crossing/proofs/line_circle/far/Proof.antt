@@ -1,4 +1,4 @@
--- `crossing::line_circle::far` meets its contract: its yes is the test of `Laws/FarLine`.
+-- `crossing::line_circle::far` meets its contract: its yes is the test of Workings/FarLine.
 use mathlib.Core.Path.{_≡_, sym, ap, _∙_}
 use mathlib.Core.Bool.{Bool, true, _&&_}
 use lib.Dec.{T}

@@ -1,5 +1,5 @@
--- `crossing::line_circle::line_meets` meets its contract: of a line that is far from the circle the law of `Laws/FarLine` says
--- what the distance would; elsewhere the distance is asked.
+-- `crossing::line_circle::line_meets` meets its contract: if the line is far from the circle, Workings/FarLine says what the
+-- plain form answers; else it is the plain form.
 use mathlib.Core.Path.{sym}
 use borrow.Author.Needs.{needs}
 use Rattle.crossing.specs.Workings.FarLine.{line-far}

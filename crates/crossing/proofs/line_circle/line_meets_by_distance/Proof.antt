@@ -1,5 +1,5 @@
--- `crossing::line_circle::line_meets_by_distance` meets its contract: each return is an end of the definition, by the calls and
--- tests on its way.
+-- `crossing::line_circle::line_meets_by_distance` meets its contract: each return is a branch of the definition, by the calls and
+-- tests before it.
 use borrow.Author.Needs.{needs}
 use Rattle.crossing.specs.LineCircle.{lineMeets}
 use Rattle.crossing.proofs.line_circle.line_meets_by_distance.Statement.{statement}

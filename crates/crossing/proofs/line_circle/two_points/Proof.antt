@@ -1,5 +1,5 @@
--- `crossing::line_circle::two_points` meets its contract: each return is an end of the definition, by the calls and tests on its
--- way.
+-- `crossing::line_circle::two_points` meets its contract: each return is a branch of the definition, by the calls and tests
+-- before it.
 use borrow.Author.Needs.{needs}
 use Rattle.crossing.specs.LineCircle.{twoPoints}
 use Rattle.float_laws.specs.Branches.{branches}

@@ -1,5 +1,5 @@
--- `crossing::line_circle_intersect::line_circle_intr` meets its contract: each return is an end of the definition, by
--- the calls and tests on its way.
+-- `crossing::line_circle_intersect::line_circle_intr` meets its contract: each return is a branch of the definition, by the calls
+-- and tests before it.
 use borrow.Author.Needs.{needs}
 use Rattle.crossing.specs.LineCircleIntersect.{lineCircleIntr}
 use Rattle.crossing.proofs.line_circle_intersect.line_circle_intr.Statement.{statement}

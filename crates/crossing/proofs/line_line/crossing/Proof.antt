@@ -1,4 +1,4 @@
--- `crossing::line_line::crossing` meets its contract: each return is an end of the definition, by what the range tests said of
+-- `crossing::line_line::crossing` meets its contract: each return is a branch of the definition, by what the range tests said of
 -- the two parameters.
 use mathlib.Core.Path.{_≡_}
 use mathlib.Core.Bool.{not, cond, _||_}

@@ -1,5 +1,5 @@
--- `crossing::line_line::line_line` meets its contract: each return is an end of the definition, by the calls and tests
--- on its way.
+-- `crossing::line_line::line_line` meets its contract: each return is a branch of the definition, by the calls and tests before
+-- it.
 use mathlib.Core.Path.{_≡_}
 use mathlib.Core.Bool.{cond, not}
 use borrow.Author.Needs.{needs}

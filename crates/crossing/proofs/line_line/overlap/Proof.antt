@@ -1,5 +1,4 @@
--- `crossing::line_line::overlap` meets its contract: each return is an end of the definition, by the calls and tests on
--- its way.
+-- `crossing::line_line::overlap` meets its contract: each return is a branch of the definition, by the calls and tests before it.
 use mathlib.Core.Path.{_≡_}
 use mathlib.Core.Bool.{cond}
 use borrow.Author.Needs.{needs}

@@ -1,5 +1,4 @@
--- `crossing::line_line::rising` meets its contract: each return is an end of the definition, by the calls and tests on
--- its way.
+-- `crossing::line_line::rising` meets its contract: each return is a branch of the definition, by the calls and tests before it.
 use Rattle.crossing.specs.LineLine.{rising}
 use Rattle.float_laws.specs.Branches.{branches}
 use Rattle.crossing.proofs.line_line.rising.Statement.{statement}

@@ -1,5 +1,4 @@
--- `crossing::line_line::span_of` meets its contract: each return is an end of the definition, by the calls and tests on
--- its way.
+-- `crossing::line_line::span_of` meets its contract: each return is a branch of the definition, by the calls and tests before it.
 use borrow.Author.Needs.{needs}
 use Rattle.crossing.specs.LineLine
 use Rattle.crossing.proofs.line_line.span_of.Statement.{statement}

@@ -1,5 +1,5 @@
--- `crossing::line_line::touching_end` meets its contract: each return is an end of the definition, by the calls and
--- tests on its way.
+-- `crossing::line_line::touching_end` meets its contract: each return is a branch of the definition, by the calls and tests
+-- before it.
 use borrow.Author.Needs.{needs}
 use Rattle.crossing.specs.LineLine.{touchingEnd}
 use Rattle.crossing.proofs.line_line.touching_end.Statement.{statement}

@@ -1,5 +1,5 @@
--- `crossing::pline_seg::process_line_line_intr` meets its contract: each return is an end of the definition, by the calls and
--- tests on its way.
+-- `crossing::pline_seg::process_line_line_intr` meets its contract: each return is a branch of the definition, by the calls and
+-- tests before it.
 use borrow.Author.Needs.{needs}
 use Rattle.crossing.specs.PlineSeg
 use Rattle.crossing.proofs.pline_seg.process_line_line_intr.Statement.{statement}

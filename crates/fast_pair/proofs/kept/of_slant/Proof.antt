@@ -1,4 +1,4 @@
--- `fast_pair::kept::of_slant` meets its contract: its calls and tests lead to the definition's ends.
+-- `fast_pair::kept::of_slant` meets its contract: its calls and tests lead to the branches of the definition.
 use mathlib.Core.Path.{_≡_}
 use mathlib.Core.Bool.{cond, _&&_}
 use borrow.Author.Needs.{needs}

@@ -1,4 +1,4 @@
--- `fast_pair::line::constant` meets its contract: its calls and tests lead to the definition's ends.
+-- `fast_pair::line::constant` meets its contract: its calls and tests lead to the branches of the definition.
 use borrow.Author.Needs.{needs}
 use Rattle.float_laws.specs.Branches.{branches}
 use Rattle.fast_pair.specs.Workings.ClearlyApart

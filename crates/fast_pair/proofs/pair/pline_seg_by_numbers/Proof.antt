@@ -1,5 +1,5 @@
--- `fast_pair::pair::pline_seg_by_numbers` meets its contract: where the check finds nothing the answer is how the segments meet,
--- with the circles of what is an arc; else it is the first fault's number.
+-- `fast_pair::pair::pline_seg_by_numbers` meets its contract: if the check finds no fault the answer is how the segments meet,
+-- with the circles of the arcs; else it is the number of the first fault.
 use mathlib.Core.Path.{_≡_, sym, ap, _∙_}
 use lib.Ieee.{Float}
 use borrow.Author.Needs.{needs}

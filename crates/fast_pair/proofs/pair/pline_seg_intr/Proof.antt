@@ -1,5 +1,5 @@
--- `fast_pair::pair::pline_seg_intr` meets its contract: where the glance finds all numbers fine, so does the look, and the
--- answer is how the segments meet; elsewhere the numbers are checked one by one.
+-- `fast_pair::pair::pline_seg_intr` meets its contract: if the quick test finds all numbers fine, so does the check, and the
+-- answer is how the segments meet; else the numbers are checked one by one.
 use mathlib.Core.Path.{_≡_, sym, ap, _∙_}
 use lib.Ieee.{Float}
 use denote.Floats.{passes}

@@ -1,5 +1,5 @@
--- `fast_pair::pair::pline_seg_kept` meets its contract: of two segments that are clearly apart the law of `Laws/Pair` says what
--- the pair call would; elsewhere it is asked.
+-- `fast_pair::pair::pline_seg_kept` meets its contract: if the two are clearly apart, Laws/Pair says what `crossing` answers;
+-- else `crossing` decides.
 use mathlib.Core.Path.{_≡_, sym, ap, _∙_}
 use mathlib.Core.Bool.{Bool, true}
 use lib.Dec.{T}

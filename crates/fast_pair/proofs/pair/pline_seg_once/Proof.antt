@@ -1,5 +1,5 @@
--- `fast_pair::pair::pline_seg_once` meets its contract: of two lines that are clearly apart the law of `Laws/Pair` says what the
--- pair call would; elsewhere it is asked, with the circles of what is an arc.
+-- `fast_pair::pair::pline_seg_once` meets its contract: if the two are lines and clearly apart, Laws/Pair says what `crossing`
+-- answers; else `crossing` decides, with the circles of the arcs.
 use mathlib.Core.Path.{sym, _∙_}
 use denote.Floats.{passes}
 use borrow.Author.Needs.{needs}

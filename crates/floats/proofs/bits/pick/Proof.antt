@@ -1,4 +1,4 @@
--- `floats::bits::pick` meets its contract: each return is one end of the definition, by the tests on its way.
+-- `floats::bits::pick` meets its contract: each return is a branch of the definition, by the test before it.
 use borrow.Author.Needs.{needs}
 use Rattle.floats.specs.Bits
 use Rattle.floats.proofs.bits.pick.Statement.{statement}

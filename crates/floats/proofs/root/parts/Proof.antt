@@ -1,5 +1,5 @@
--- `floats::root::parts` meets its contract: what is left of the pattern below its field are the digits, and each return is an end
--- of the definition.
+-- `floats::root::parts` meets its contract: what is left of the pattern below its field are the digits, and each return is a
+-- branch of the definition.
 use mathlib.Core.Path.{ap, _∙_}
 use Prim.Native.Nat.{ℕ, _+_, _/_, _^_}
 use borrow.Author.Needs.{needs}

@@ -1,4 +1,4 @@
--- `listing_calls::filled::filled` meets its contract: each return is an end of the definition, by the test that led to it.
+-- `listing_calls::filled::filled` meets its contract: each return is a branch of the definition, by the test that led to it.
 use mathlib.Core.Path.{refl, sym}
 use native.Mathlib.Omega.{arith}
 use borrow.Author.Needs.{needs}

@@ -1,5 +1,5 @@
--- `listing_calls::mutual_listing::mutual_listing` meets its contract: a fault is told as it is; where there is none, every pair
--- may be looked at, and the job's listing is the two paths'.
+-- `listing_calls::mutual_listing::mutual_listing` meets its contract: a fault is answered as it is; if there is none, every pair
+-- is fine for the pair call, and the job's listing is the two paths'.
 use mathlib.Core.Path.{_≡_, refl, sym, _∙_}
 use borrow.Author.Needs.{needs}
 use denote.Ref.{now}

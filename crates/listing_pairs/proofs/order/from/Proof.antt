@@ -1,4 +1,4 @@
--- `listing_pairs::order::from` meets its contract: each return is an end of the definition, by the test that led to it.
+-- `listing_pairs::order::from` meets its contract: each return is a branch of the definition, by the test that led to it.
 use borrow.Author.Needs.{needs}
 use Rattle.listing_pairs.specs.Workings.Job.{from}
 use Rattle.listing_pairs.proofs.order.from.Statement.{statement}

@@ -1,5 +1,5 @@
--- `paths::check::check_vertices` meets its contract: vertices that are all inside leave f as it was, by `Laws/Inside`; else the
--- first fault is looked for.
+-- `paths::check::check_vertices` meets its contract: if all vertices are inside, f stays (Workings/Inside); else it searches the
+-- first fault.
 use borrow.Author.Needs.{needs}
 use Rattle.paths.specs.Workings.Inside.{inside-fine}
 use Rattle.paths.proofs.check.check_vertices.Statement.{statement}

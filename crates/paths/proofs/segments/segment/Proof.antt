@@ -1,4 +1,4 @@
--- `paths::segments::segment` meets its contract: each return is an end of the definition, by the calls and tests on its way.
+-- `paths::segments::segment` meets its contract: each return is a branch of the definition, by the calls and tests before it.
 use borrow.Author.Needs.{needs}
 use borrow.Author.Tests.{lt-ltb, le-ltb}
 use native.Mathlib.Omega.{arith}

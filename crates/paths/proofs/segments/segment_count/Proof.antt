@@ -1,5 +1,5 @@
--- `paths::segments::segment_count` meets its contract: each return is an end of the definition, by the calls and tests on its
--- way.
+-- `paths::segments::segment_count` meets its contract: each return is a branch of the definition, by the calls and tests before
+-- it.
 use mathlib.Core.Path.{_≡_, refl}
 use mathlib.Core.Bool.{cond}
 use Prim.Native.Nat.{_-_}

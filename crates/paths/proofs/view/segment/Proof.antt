@@ -1,7 +1,6 @@
 -- `paths::view::segment` meets its contract, by the law of Forwarded.antt: the path's `segment` is called on the view's slice,
--- its flag and the index. What is left is a walk of the MIR, by hand. All that the proof knows of the callee is that it meets
--- its contract.
--- Assumes nothing.
+-- its flag and the index. The rest is a walk of the MIR, by hand. All that the proof knows of the callee is that it meets its
+-- contract. Assumes nothing.
 use mathlib.Core.Path.{_≡_, refl}
 use Prim.Native.Nat.{ℕ}
 use mathlib.Core.List.{[], _∷_}

@@ -1,4 +1,4 @@
--- `plane::base_math::min_max` meets its contract: each return is one end of the definition, by the test on its way.
+-- `plane::base_math::min_max` meets its contract: each return is a branch of the definition, by the test before it.
 use mathlib.Core.Path.{refl}
 use Rattle.float_laws.specs.Branches.{holds, fails}
 use Rattle.plane.specs.BaseMath

@@ -1,4 +1,4 @@
--- `plane::base_math::parametric_from_point` meets its contract: each return is one end of the definition, by the test on the two
+-- `plane::base_math::parametric_from_point` meets its contract: each return is a branch of the definition, by the test on the two
 -- magnitudes, which are what `abs` answers.
 use borrow.Author.Needs.{needs}
 use Rattle.plane.specs.BaseMath

@@ -1,5 +1,5 @@
--- `ranges::range::on_segment` meets its contract: where t is clearly inside or outside, the law of `Laws/Within` says
--- what the length would; elsewhere the length is asked.
+-- `ranges::range::on_segment` meets its contract: if t is clearly inside or outside, Workings/OnSegment says what the plain form
+-- answers; else it is the plain form.
 use mathlib.Core.Path.{sym}
 use lib.Dec.{T}
 use denote.Floats.{passes}

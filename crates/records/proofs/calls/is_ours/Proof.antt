@@ -1,4 +1,4 @@
--- `records::calls::is_ours` meets its contract: each return is an end of the definition, by the test and the calls on its way.
+-- `records::calls::is_ours` meets its contract: each return is a branch of the definition, by the test and the calls before it.
 use borrow.Author.Needs.{needs}
 use Rattle.records.specs.Calls.{isOurs}
 use Rattle.records.proofs.Picks.{picks}

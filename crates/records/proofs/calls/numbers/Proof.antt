@@ -1,5 +1,5 @@
--- `records::calls::numbers` meets its contract: each return is an end of the definition, by the test that led to it.
--- Assumes nothing.
+-- `records::calls::numbers` meets its contract: each return is a branch of the definition, by the test that led to it. Assumes
+-- nothing.
 use borrow.Author.Needs.{needs}
 use Rattle.records.specs.Calls.{numbersOf}
 use Rattle.records.proofs.Picks.{picks}

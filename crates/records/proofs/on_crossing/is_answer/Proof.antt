@@ -1,4 +1,4 @@
--- `records::on_crossing::is_answer` meets its contract: each return is an end of the definition, by what led to it.
+-- `records::on_crossing::is_answer` meets its contract: each return is a branch of the definition, by what led to it.
 use borrow.Author.Needs.{needs}
 use Rattle.records.specs.OnCrossing.{isAnswer}
 use Rattle.records.proofs.on_crossing.is_answer.Statement.{statement}

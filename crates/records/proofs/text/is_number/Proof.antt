@@ -1,4 +1,4 @@
--- `records::text::is_number` meets its contract: each return is an end of the definition, by the calls and tests on its way.
+-- `records::text::is_number` meets its contract: each return is a branch of the definition, by the calls and tests before it.
 use borrow.Author.Needs.{needs}
 use Rattle.records.specs.Text.{isNumber}
 use Rattle.records.proofs.text.is_number.Statement.{statement}

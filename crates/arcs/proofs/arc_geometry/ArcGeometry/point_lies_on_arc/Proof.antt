@@ -1,5 +1,5 @@
--- `arcs::arc_geometry::ArcGeometry::point_lies_on_arc` meets its contract: each return is an end of the definition,
--- by the calls and tests on its way.
+-- `arcs::arc_geometry::ArcGeometry::point_lies_on_arc` meets its contract: each return is a branch of the definition, by the
+-- calls and tests before it.
 use borrow.Author.Needs.{needs}
 use Rattle.arcs.specs.ArcGeometry.{pointLiesOnArc}
 use Rattle.arcs.proofs.arc_geometry.ArcGeometry.point_lies_on_arc.Statement.{statement}
