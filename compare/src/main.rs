@@ -52,8 +52,8 @@ usage: compare check [COUNT [SEED]]  compare each float function on COUNT random
                                      are all but equal
        compare search [COUNT [SEED]] try to break what is promised of lines on the grid, on COUNT pairs (default 25165824,
                                      seed 1)
-       compare arcs [COUNT [SEED]]   count how often touching segments with arcs are missed, and how far apart reported ones are, on
-                                     COUNT pairs (default 11534336, seed 1)
+       compare arcs [COUNT [SEED]]   count how often touching segments with arcs are missed, and how far apart reported ones
+                                     are, on COUNT pairs (default 11534336, seed 1)
        compare arcs climb [TURNS [SEED]]
                                      climb down to the least radii that are missed, by TURNS draws for each (default 1048576)
        compare arcs cures [COUNT [SEED]]

@@ -1,4 +1,4 @@
--- How large the whole numbers of a listing of two paths are: a refusal's, the count of pairs, and every number in the slice of
+-- How large the whole numbers of a listing of two paths can be: a refusal's, the count of pairs, and every number in the slice of
 -- indices, those behind the rows included.
 use mathlib.Core.Path.{_≡_, sym}
 use mathlib.Core.Bool.{Bool}
@@ -97,7 +97,8 @@ module _ (b : ℕ) (wide : most ≤ b) (first second : List Float) (epsilon : Fl
   abbrev numbers : List Pair → List ℕ
   numbers ps = numbersOfRows indicesOf (rowsOf (look first second epsilon) ps)
 
-  along-below : (i j k : ℕ) → i < b → j + k ≤ b → (rest : List Pair) → Below b (numbers rest) → Below b (numbers (along i j k ++ rest))
+  along-below : (i j k : ℕ) → i < b → j + k ≤ b → (rest : List Pair) → Below b (numbers rest)
+      → Below b (numbers (along i j k ++ rest))
   along-below i j zero hi hj rest q = q
   along-below i j (suc k) hi hj rest q =
       onto-below (look first second epsilon i j) (rowsOf (look first second epsilon) (along i (suc j) k ++ rest))
@@ -137,7 +138,8 @@ module _ (b : ℕ) (rows : List Row) (looked : ℕ) (i₀ : List ℕ) (p₀ : Li
         indices = below-append b numbers (drop (length numbers) i₀) written (below-drop b (length numbers) i₀ held);
       }
 
--- with a slice of indices that holds numbers below b, which may be any from the most vertices on
+-- if the slice of indices holds numbers below b at the call, it holds such numbers after it; b is at least the most vertices that
+-- a path may have
 pub mutual-numbers : (first : List Float) (firstClosed : Bool) (second : List Float) (secondClosed : Bool) (epsilon : Float)
     (i₀ : List ℕ) (p₀ : List Float) (b : ℕ) → most ≤ b → Below b i₀
     → Numbers b (mutualListing first firstClosed second secondClosed epsilon i₀ p₀)

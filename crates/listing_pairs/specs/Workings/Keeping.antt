@@ -27,7 +27,11 @@ numbersKept = 3
 unfoldable pub keptAt : List Float → ℕ → Kept
 keptAt l j =
     let at = j * numbersKept in
-    record { «radius_or_slope» = getD l at nan; «center_x_or_root» = getD l (at + 1) nan; «center_y_or_zero» = getD l (at + 2) nan }
+    record {
+      «radius_or_slope» = getD l at nan;
+      «center_x_or_root» = getD l (at + 1) nan;
+      «center_y_or_zero» = getD l (at + 2) nan;
+    }
 
 -- stored from a place on
 abbrev putAt : List Float → ℕ → Kept → List Float

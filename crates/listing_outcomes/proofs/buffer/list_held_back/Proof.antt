@@ -63,7 +63,8 @@ few : (c : tie.After-fill) → c .fill .result .rows ≤ most c
 few c = omega (arith, done c .rows, joins (looks c) (pairs c) (most c) .few)
 
 long-indices : (c : tie.After-fill) → length (c .fill .last .1 .1 .1 .1 .1 .1 .1 .1 .1 .0) ≡ heldRows * indicesARow
-long-indices c = ap length (done c .indices) ∙ length-sets no-indices 0 (numbersOfRows indicesOf (front c .rows)) ∙ long-no-indices
+long-indices c =
+    ap length (done c .indices) ∙ length-sets no-indices 0 (numbersOfRows indicesOf (front c .rows)) ∙ long-no-indices
 
 long-points : (c : tie.After-fill) → length (c .fill .last .1 .1 .1 .1 .1 .1 .1 .1 .1 .1 .0) ≡ heldRows * pointsARow
 long-points c = ap length (done c .points) ∙ length-sets no-points 0 (numbersOfRows pointsOf (front c .rows)) ∙ long-no-points
