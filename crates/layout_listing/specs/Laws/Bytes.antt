@@ -3,23 +3,35 @@
 use mathlib.Core.Path.{_≡_, refl}
 use mathlib.Core.Bool.{false}
 use mathlib.Core.List.{List}
-use Prim.Native.Nat.{ℕ, _^_, _≤_}
+use Prim.Native.Nat.{ℕ, _*_, _^_, _≤_}
 use native.Mathlib.Omega.{arith}
 use lib.Ieee.{Float}
 use lib.ListN.{length, length-replicate}
 use Rattle.layout_text.specs.Numbers.{pathOf}
+use Rattle.layout_text.specs.Read.{refusal}
 use Rattle.layout_text.specs.Workings.Reader.{Taken, broken, layout}
 use Rattle.answer_lines.specs.Sizes.{roomFor}
 use Rattle.answer_lines.specs.Room.{refusal-fits, answer-fits}
+use Rattle.listing_pairs.specs.Row.{indicesARow}
 use Rattle.listing_outcomes.specs.declared.answer.ListingAnswer.{ListingAnswer}
 use Rattle.listing_outcomes.specs.declared.answer.ListingAnswer.the-variants.{Refused, Listed}
 use Rattle.listing_calls.specs.Laws.Counts.{mutual-fits}
 use Rattle.listing_calls.specs.Laws.Numbers.{Numbers, mutual-numbers, below-replicate}
-use Rattle.layout_listing.specs.Answer.{epsilon, noIndices, noPoints, listing, linesOf, linesFor, answerOf, room}
+use Rattle.layout_listing.specs.Answer.{
+  epsilon,
+  mostRows,
+  noIndices,
+  noPoints,
+  listing,
+  linesOf,
+  linesFor,
+  answerOf,
+  room,
+}
 
 -- how many places `noIndices` has
 abbrev places : ℕ
-places = 1536
+places = mostRows * indicesARow
 
 module _ (first second : List Float) where
   -- the rows that the slices have room for are no more than the bytes are for
@@ -54,5 +66,5 @@ module _ (first second : List Float) where
   lines-fit = of-answer (listing first second .answer) refl
 
 pub taken-fits : (t : Taken) → length (answerOf t) ≤ room
-taken-fits broken = omega (arith, refusal-fits 10 (omega arith))
+taken-fits broken = omega (arith, refusal-fits refusal (omega arith))
 taken-fits (layout l) = lines-fit (pathOf (l .first)) (pathOf (l .second))

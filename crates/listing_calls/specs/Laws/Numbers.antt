@@ -16,7 +16,7 @@ use Rattle.crossing.specs.PlineSeg.{plineSeg}
 use Rattle.crossing.specs.PlineSegIntr.{classOf}
 use Rattle.arcs.specs.declared.pline_seg_intr.PlineSegIntr.{PlineSegIntr}
 use Rattle.arcs.specs.declared.pline_seg_intr.PlineSegIntr.the-variants as met
-use Rattle.paths.specs.Path.{most}
+use Rattle.paths.specs.Path.{mostVertices}
 use Rattle.paths.specs.Segments.{segmentCount, segmentFrom}
 use Rattle.paths.specs.Laws.Segments.{few-segments}
 use Rattle.listing_pairs.specs.declared.row.Row.{Row}
@@ -40,7 +40,7 @@ Below b l = (k : ℕ) → getD l k 0 < b
 -- what a listing tells, with b for the numbers in its slice of indices
 pub record Numbers (b : ℕ) (o : Outcome) : Type 0 where
   pub refusal : (n : ℕ) → o .answer ≡ Refused n → n < refusals
-  pub pairs : (rows pairs : ℕ) → o .answer ≡ Listed rows pairs → pairs ≤ most * most
+  pub pairs : (rows pairs : ℕ) → o .answer ≡ Listed rows pairs → pairs ≤ mostVertices * mostVertices
   pub indices : Below b (o .indices)
 
 -- ---- lists
@@ -60,7 +60,7 @@ module _ (b : ℕ) where
   below-replicate (suc n) x h g (suc k) = below-replicate n x h g k
 
 -- ---- rows
-class-small : (i : PlineSegIntr) → classOf i < most
+class-small : (i : PlineSegIntr) → classOf i < mostVertices
 class-small met.NoIntersect = omega arith
 class-small (met.TangentIntersect p) = omega arith
 class-small (met.OneIntersect p) = omega arith
@@ -68,7 +68,7 @@ class-small (met.TwoIntersects p q) = omega arith
 class-small (met.OverlappingLines p q) = omega arith
 class-small (met.OverlappingArcs p q) = omega arith
 
-module _ (b : ℕ) (wide : most ≤ b) (first second : List Float) (epsilon : Float) where
+module _ (b : ℕ) (wide : mostVertices ≤ b) (first second : List Float) (epsilon : Float) where
   abbrev made : Look → List ℕ
   made s = numbersOfRows indicesOf (onto s [])
 
@@ -121,7 +121,7 @@ same-number e = cc
 same-pairs : {n k m l : ℕ} → Listed n k ≡ Listed m l → k ≡ l
 same-pairs e = cc
 
-module _ (b : ℕ) (rows : List Row) (looked : ℕ) (i₀ : List ℕ) (p₀ : List Float) (few : looked ≤ most * most)
+module _ (b : ℕ) (rows : List Row) (looked : ℕ) (i₀ : List ℕ) (p₀ : List Float) (few : looked ≤ mostVertices * mostVertices)
     (written : Below b (numbersOfRows indicesOf rows)) (held : Below b i₀) where
   of-checked : (c : Checked) → Small c → Numbers b (outcomeOf c rows looked i₀ p₀)
   of-checked (Bad fault) small =
@@ -141,7 +141,7 @@ module _ (b : ℕ) (rows : List Row) (looked : ℕ) (i₀ : List ℕ) (p₀ : Li
 -- if the slice of indices holds numbers below b at the call, it holds such numbers after it; b is at least the most vertices that
 -- a path may have
 pub mutual-numbers : (first : List Float) (firstClosed : Bool) (second : List Float) (secondClosed : Bool) (epsilon : Float)
-    (i₀ : List ℕ) (p₀ : List Float) (b : ℕ) → most ≤ b → Below b i₀
+    (i₀ : List ℕ) (p₀ : List Float) (b : ℕ) → mostVertices ≤ b → Below b i₀
     → Numbers b (mutualListing first firstClosed second secondClosed epsilon i₀ p₀)
 unfolding mutualListing outcome
 mutual-numbers first firstClosed second secondClosed epsilon i₀ p₀ b wide held =
@@ -151,7 +151,7 @@ mutual-numbers first firstClosed second secondClosed epsilon i₀ p₀ b wide he
     let ps = mutualPairs n m in
     let n-few = few-segments first firstClosed in
     let m-few = few-segments second secondClosed in
-    let few : lookedAt f ps ≤ most * most =
+    let few : lookedAt f ps ≤ mostVertices * mostVertices =
     omega (arith, few-looked f ps, few-pairs (λ i. 0) (λ i. m) n m (λ i. omega arith) 0 0 n, mul-le-mul n-few m-few) in
     of-checked b (rowsOf f ps) (lookedAt f ps) i₀ p₀ few
     (pairs-below b wide first second epsilon m (omega (arith, m-few, wide)) 0 n (omega (arith, n-few, wide))) held
