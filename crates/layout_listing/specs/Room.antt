@@ -24,8 +24,8 @@ pub answer-fits : (text : List ℕ) → length (answerTo text) ≤ room
 unfolding answerTo
 answer-fits text = taken-fits (reads text)
 
--- what `list_layout` does with a slice of at least that room: it tells how many bytes the whole answer has, puts them at the front
--- of the slice, and leaves what stands behind them as it was
+-- what `list_layout` does with a slice of at least that room: it tells how many bytes the whole answer has, puts them at the
+-- front of the slice, and leaves what stands behind them as it was
 pub answer-whole : (text : List ℕ) (r : Written) (old now : List ℕ) → room ≤ length old → AnswerTo text r old now
     → Whole (answerTo text) r old now
 answer-whole text r old now h a =
