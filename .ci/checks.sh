@@ -224,13 +224,14 @@ make_libraries() {
 # The comparison itself, two runs at a time. The quick gate takes a tenth of the inputs, but all texts: they are few, and some
 # kinds of them are rare.
 run_comparison() {
-    local compare=$1 inputs=10485760 pairs=4194304 texts=3072 check
+    local compare=$1 inputs=10485760 pairs=4194304 arcs=11534336 texts=3072 check
     if [ -n "$quick" ]; then
-        inputs=$((inputs / 10)) pairs=$((pairs / 10))
+        inputs=$((inputs / 10)) pairs=$((pairs / 10)) arcs=$((arcs / 10))
     fi
     "$compare" check "$inputs" > "$scratch/check" 2>&1 &
     check=$!
     "$compare" search "$pairs" || fail "an answer breaks what is promised on the grid"
+    search_arcs "$compare" "$arcs"
     quietly "$compare" record "$scratch/list" || fail "compare record failed"
     check_list "$scratch/list" crates/replay/stdin
     compare_texts "$compare" "$texts"
@@ -239,6 +240,15 @@ run_comparison() {
         fail "the library and Rust differ"
     }
     cat "$scratch/check"
+}
+
+# Compares answers about segments with arcs with an exact judge. Its tables are long, so they are shown only if it fails.
+search_arcs() {
+    "$1" arcs "$2" > "$scratch/arcs" 2>&1 || {
+        cat "$scratch/arcs"
+        fail "answers about arcs are beyond what the search allows"
+    }
+    sed -n '/ pairs with arcs judged, /p' "$scratch/arcs"
 }
 
 # Compares the text program with a model of it over the Rust text, and makes the stored answers again.

@@ -2,6 +2,7 @@
 
 #[cfg(feature = "rust-text")]
 mod answer;
+mod arcs;
 mod bench;
 mod capi;
 mod classes;
@@ -51,6 +52,13 @@ usage: compare check [COUNT [SEED]]  compare each float function on COUNT random
                                      are all but equal
        compare search [COUNT [SEED]] try to break what is promised of lines on the grid, on COUNT pairs (default 25165824,
                                      seed 1)
+       compare arcs [COUNT [SEED]]   count how often touching segments with arcs are missed, and how far apart reported ones
+                                     are, on COUNT pairs (default 11534336, seed 1)
+       compare arcs climb [TURNS [SEED]]
+                                     climb down to the least radii that are missed, by TURNS draws for each (default 1048576)
+       compare arcs cures [COUNT [SEED]]
+                                     ask again about the missed ones of COUNT pairs, in other ways; and how far apart short
+                                     parallel lines are reported
        compare texts PROGRAM [COUNT [SEED]]
                                      hold the text program to a model on COUNT texts (default 3072, seed 1), of the right
                                      form and damaged, and on small ones with every damage of a byte
@@ -62,6 +70,8 @@ usage: compare check [COUNT [SEED]]  compare each float function on COUNT random
 const COUNT: u64 = 10 << 20;
 const ON_AN_EDGE: u64 = 1 << 20;
 const SEARCHED: u64 = 24 << 20;
+const SEARCHED_ARCS: u64 = 11 << 20;
+const CLIMBED: u64 = 1 << 20;
 const TEXTS: u64 = 3072;
 const SEED: u64 = 1;
 const BENCHES: [&str; 3] = ["floats", "calls", "listings"];
@@ -73,6 +83,9 @@ fn main() -> ExitCode {
         ["check", ref numbers @ ..] => check(numbers),
         ["edges", ref numbers @ ..] => edges(numbers),
         ["search", ref numbers @ ..] => search(numbers),
+        ["arcs", "climb", ref numbers @ ..] => climb_arcs(numbers),
+        ["arcs", "cures", ref numbers @ ..] => cure_arcs(numbers),
+        ["arcs", ref numbers @ ..] => search_arcs(numbers),
         ["texts", program, ref numbers @ ..] => texts(program, numbers),
         ["layouts", folder] => layouts(Path::new(folder)),
         ["record", file] => record(file),
@@ -113,6 +126,26 @@ fn search(numbers: &[&str]) -> Result<(), String> {
         0 => Ok(()),
         broken => Err(format!("{broken} answers break the promise")),
     }
+}
+
+fn search_arcs(numbers: &[&str]) -> Result<(), String> {
+    let (count, seed) = count_and_seed(numbers, SEARCHED_ARCS)?;
+    match arcs::run(count, seed) {
+        0 => Ok(()),
+        broken => Err(format!("{broken} answers are not what the search allows")),
+    }
+}
+
+fn climb_arcs(numbers: &[&str]) -> Result<(), String> {
+    let (turns, seed) = count_and_seed(numbers, CLIMBED)?;
+    arcs::climb(turns, seed);
+    Ok(())
+}
+
+fn cure_arcs(numbers: &[&str]) -> Result<(), String> {
+    let (count, seed) = count_and_seed(numbers, SEARCHED_ARCS)?;
+    arcs::cures(count, seed);
+    Ok(())
 }
 
 fn texts(program: &str, numbers: &[&str]) -> Result<(), String> {

@@ -1,10 +1,10 @@
 //! Tries to break the promise on grid lines: the judge in whole numbers judges the proved library and, where it is compiled in,
 //! the Rust text.
 
-mod draw;
+pub mod draw;
 mod judge;
 mod number;
-mod plane;
+pub mod plane;
 mod report;
 mod wide;
 

@@ -57,7 +57,7 @@ pub fn pair(kind: usize, rng: &mut Rng) -> Pair {
 }
 
 /// From 1/1024 to 1/2: an end, one float beside it, a power of two, or any float between.
-fn epsilon(rng: &mut Rng) -> (f64, Epsilon) {
+pub fn epsilon(rng: &mut Rng) -> (f64, Epsilon) {
     const LEAST: u64 = 0x3f50_0000_0000_0000;
     const MOST: u64 = 0x3fe0_0000_0000_0000;
     let bits = match rng.below(8) {

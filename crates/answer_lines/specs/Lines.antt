@@ -107,11 +107,20 @@ refusedText n = refusedWord ++ decimal n ++ newline
 unfoldable pub countText : ℕ → ℕ → List ℕ
 countText pairs rows = pairsWord ++ decimal pairs ++ rowsWord ++ decimal rows ++ newline
 
--- the line of row k: the index rows have three numbers each, the float rows four
+-- how many whole numbers and how many floats a row has
+abbrev pub indicesARow : ℕ
+indicesARow = 3
+
+abbrev pub pointsARow : ℕ
+pointsARow = 4
+
+-- the line of row k, by its numbers among the index rows and among the float rows
 unfoldable pub rowAt : List ℕ → List Float → ℕ → List ℕ
 rowAt index points k =
-    rowText (getD index (k * 3) 0) (getD index (k * 3 + 1) 0) (getD index (k * 3 + 2) 0)
-    (getD points (k * 4) nan) (getD points (k * 4 + 1) nan) (getD points (k * 4 + 2) nan) (getD points (k * 4 + 3) nan)
+    let i = k * indicesARow in
+    let p = k * pointsARow in
+    rowText (getD index i 0) (getD index (i + 1) 0) (getD index (i + 2) 0)
+    (getD points p nan) (getD points (p + 1) nan) (getD points (p + 2) nan) (getD points (p + 3) nan)
 
 -- n rows from row k on
 unfoldable pub rowsText : List ℕ → List Float → ℕ → ℕ → List ℕ

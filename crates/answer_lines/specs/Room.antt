@@ -10,7 +10,7 @@ use borrow.Author.Tests.{le-ltb, lt-leb}
 use lib.ListN.{length, getD, drop}
 use lib.Seq.{sets-eq}
 use lib.Ieee.{Float}
-use Rattle.answer_lines.specs.Lines.{refusedText, countText, rowText, answerText}
+use Rattle.answer_lines.specs.Lines.{indicesARow, pointsARow, refusedText, countText, rowText, answerText}
 use Rattle.answer_lines.specs.Sizes as sizes
 use Rattle.answer_lines.specs.Sizes.{line, roomFor}
 use Rattle.answer_lines.specs.Written.{Lines, RefusalLine, AnswerLines}
@@ -65,12 +65,12 @@ refusal-whole n r old now h room l =
 
 pub answer-whole : (pairs rows : ℕ) (index : List ℕ) (points : List Float) (r : Written) (old now : List ℕ)
     → pairs < 2 ^ 64 → rows < 2 ^ 64 → ((k : ℕ) → getD index k 0 < 2 ^ 64)
-    → rows * 3 ≤ length index → rows * 4 ≤ length points → roomFor rows ≤ length old
+    → rows * indicesARow ≤ length index → rows * pointsARow ≤ length points → roomFor rows ≤ length old
     → AnswerLines pairs rows index points r old now
     → Whole (answerText pairs rows index points) r old now
 answer-whole pairs rows index points r old now p q below wide long room l =
-    let one = le-ltb (length index / 3) rows (omega arith) in
-    let two = le-ltb (length points / 4) rows (omega arith) in
+    let one = le-ltb (length index / indicesARow) rows (omega arith) in
+    let two = le-ltb (length points / pointsARow) rows (omega arith) in
     let three = lt-leb (length old / line) rows (omega arith) in
     let k : Lines false false (answerText pairs rows index points) r old now = rw (one, two, three) at l in
     lines-whole (answerText pairs rows index points) r old now k (omega (arith, answer-fits pairs rows index points p q below))

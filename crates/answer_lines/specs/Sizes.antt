@@ -1,6 +1,7 @@
 -- How much room a line needs, and how many bytes its parts have at most. The contracts of src/ use these sizes; LINE of
 -- src/lib.rt is `line`. Room.antt proves them for the text of every answer.
 use Prim.Native.Nat.{ℕ, _+_, _*_}
+use Rattle.answer_lines.specs.Lines.{pointsARow}
 
 -- how many bytes of room a line needs
 abbrev pub line : ℕ
@@ -24,7 +25,7 @@ name = 7
 
 -- two points
 abbrev pub points : ℕ
-points = 4 * float
+points = pointsARow * float
 
 -- ---- lines, each with its newline
 

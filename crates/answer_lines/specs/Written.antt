@@ -9,7 +9,7 @@ use lib.Dec.{leb, ltb}
 use lib.ListN.{length}
 use lib.Seq.{sets}
 use lib.Ieee.{Float}
-use Rattle.answer_lines.specs.Lines.{refusedText, answerText}
+use Rattle.answer_lines.specs.Lines.{indicesARow, pointsARow, refusedText, answerText}
 use Rattle.answer_lines.specs.Sizes.{line}
 use Rattle.answer_lines.specs.declared.Written.{Written}
 use Rattle.answer_lines.specs.declared.Written.the-variants as Written·
@@ -26,5 +26,5 @@ RefusalLine number r old now = Lines false (ltb (length old) line) (refusedText 
 -- the counts and the rows
 abbrev pub AnswerLines : ℕ → ℕ → List ℕ → List Float → Written → List ℕ → List ℕ → Type 0
 AnswerLines pairs rows index points r old now =
-    Lines (ltb (length index / 3) rows || ltb (length points / 4) rows) (leb (length old / line) rows)
+    Lines (ltb (length index / indicesARow) rows || ltb (length points / pointsARow) rows) (leb (length old / line) rows)
     (answerText pairs rows index points) r old now

@@ -12,6 +12,11 @@ mod rows;
 // how many bytes of room a line needs: `line` of specs/Sizes.antt
 pub const LINE: usize = 128;
 
+// how many whole numbers and how many floats a row has in the two slices that rows are read from
+pub const INDICES: usize = 3;
+
+pub const POINTS: usize = 4;
+
 // How many bytes were written; or that the rows' slices hold fewer rows than `rows`; or that the text has too little room.
 pub enum Written {
     Length(usize),
@@ -32,7 +37,7 @@ pub fn write_refusal(number: u64, out: &mut [u8]) -> Written
     Written::Length(c)
 }
 
-// Writes the line with the counts and a line for each row: index rows have three numbers, float rows four.
+// Writes the line with the counts and a line for each row.
 pub fn write_answer(
     pairs: usize,
     rows: usize,
@@ -42,10 +47,10 @@ pub fn write_answer(
 ) -> Written
     ensures { λ r. ⌜ AnswerLines pairs rows (now (index .entry)) (now (points .entry)) r (now (out .entry)) (now (out .exit)) ⌝ }
 {
-    if index.len() / 3 < rows {
+    if index.len() / INDICES < rows {
         return Written::NoRows;
     }
-    if points.len() / 4 < rows {
+    if points.len() / POINTS < rows {
         return Written::NoRows;
     }
     if out.len() / LINE <= rows {

@@ -4,6 +4,8 @@ ghost use lib.ListN.{length};
 ghost use Rattle.answer_lines.specs.Lines as lines;
 ghost use Rattle.answer_lines.specs.Workings.Put.{Put, PutIn};
 ghost use Rattle.answer_lines.specs.Sizes as sizes;
+use super::INDICES;
+use super::POINTS;
 use super::put::put_byte;
 use super::put::put_number;
 use super::put::put_whole;
@@ -91,8 +93,8 @@ pub fn put_counts(out: &mut [u8], pairs: u64, rows: u64) -> usize
 
 // The lines of the rows.
 pub fn put_rows(out: &mut [u8], start: usize, rows: usize, index: &[u64], points: &[f64]) -> usize
-    requires { ⌜ rows * 3 ≤ length (now index) ⌝ }
-    requires { ⌜ rows * 4 ≤ length (now points) ⌝ }
+    requires { ⌜ rows * lines.indicesARow ≤ length (now index) ⌝ }
+    requires { ⌜ rows * lines.pointsARow ≤ length (now points) ⌝ }
     requires { ⌜ start + rows * sizes.line ≤ length (now out) ⌝ }
     ensures { λ r. ⌜
         Put (lines.rowsText (now (index .entry)) (now (points .entry)) rows 0) (now (out .entry)) start (now (out .exit)) r ⌝ }
@@ -100,8 +102,8 @@ pub fn put_rows(out: &mut [u8], start: usize, rows: usize, index: &[u64], points
     let mut at = start;
     let mut k = 0;
     while k < rows {
-        let i = k * 3;
-        let p = k * 4;
+        let i = k * INDICES;
+        let p = k * POINTS;
         at = put_row(
             out,
             at,

@@ -8,24 +8,24 @@ use lib.ListN.{length}
 use lib.Seq.{sets}
 use lib.Ieee.{Float}
 use Rattle.answers.specs.declared.padded.PaddedAnswer.{PaddedAnswer}
-use Rattle.capi.specs.Handed.{Handed}
+use Rattle.capi.specs.Handed.{places, noRoomCode, refusedCode, Handed}
 
 module _ (f : PaddedAnswer) (old : List Float) where
-  pub no-room : length old < 4 → Handed f 512 old old
+  pub no-room : length old < places → Handed f noRoomCode old old
   no-room h = record { code-is = simp (lt-ltb _ _ h); holds = simp (lt-ltb _ _ h) }
 
-  pub refused : 4 ≤ length old → f .refused ≡ true → Handed f (256 + f .number) old old
+  pub refused : places ≤ length old → f .refused ≡ true → Handed f (refusedCode + f .number) old old
   refused h e = record { code-is = simp (le-ltb _ _ h, e); holds = simp (le-ltb _ _ h, e) }
 
-  pub written : 4 ≤ length old → f .refused ≡ false
+  pub written : places ≤ length old → f .refused ≡ false
       → Handed f (f .number) old (sets old 0 (f .a ∷ f .b ∷ f .c ∷ f .d ∷ []))
   written h e = record { code-is = simp (le-ltb _ _ h, e); holds = simp (le-ltb _ _ h, e) }
 
--- what a call answers, put into numbers by `tell` and handed over; and its number is below 256
+-- what a call answers, put into numbers by `tell` and handed over; and its number is below that of refusals
 module _ {Answer : Type 0} (tell : Answer → PaddedAnswer) (padded : PaddedAnswer) (answer called : Answer) where
   pub handed : (n : ℕ) (old now : List Float) → padded ≡ tell answer → answer ≡ called → Handed padded n old now
       → Handed (tell called) n old now
   handed n old now code-is is = subst (λ (f : PaddedAnswer). Handed f n old now) (code-is ∙ ap tell is)
 
-  pub small : padded ≡ tell answer → answer ≡ called → tell called .number < 256 → padded .number < 256
-  small code-is is = subst (λ (f : PaddedAnswer). f .number < 256) (sym (code-is ∙ ap tell is))
+  pub small : padded ≡ tell answer → answer ≡ called → tell called .number < refusedCode → padded .number < refusedCode
+  small code-is is = subst (λ (f : PaddedAnswer). f .number < refusedCode) (sym (code-is ∙ ap tell is))

@@ -1,4 +1,5 @@
--- Every number that an answer tells is below 256: the refusals' by the checks that give them, the cases' one by one.
+-- Every number that an answer tells is below the code of refusals: those of refusals by the checks that give them, those of cases
+-- one by one.
 use Prim.Native.Nat.{ℕ, _<_}
 use native.Mathlib.Omega.{arith}
 use mathlib.Core.Path.{_≡_, refl, sym, subst}
@@ -40,15 +41,16 @@ use Rattle.arcs.specs.declared.pline_seg_intr.PlineSegIntr.the-variants as plin
 use Rattle.crossing.specs.declared.pline_seg_intersect.PlineSegAnswer.{PlineSegAnswer}
 use Rattle.crossing.specs.declared.pline_seg_intersect.PlineSegAnswer.the-variants as ofPairs
 use Rattle.answers.specs.Padded.{ofLineLine, ofLineCircle, ofCircleCircle, ofPlineSeg}
+use Rattle.capi.specs.Handed.{refusedCode}
 
 -- ---- a check's
 pub record Small (c : Checked) : Type 0 where
-  pub below : refusal c < 256
+  pub below : refusal c < refusedCode
 
 pub fine : Small Fine
 fine = record { below = omega arith }
 
-pub refused : (test : Bool) (n : ℕ) (p : Place) → n < 256 → Small (refuse test n p)
+pub refused : (test : Bool) (n : ℕ) (p : Place) → n < refusedCode → Small (refuse test n p)
 unfolding refuse
 refused true n p h = record { below = h }
 refused false n p h = fine
@@ -99,38 +101,38 @@ pub ruleset smalls = (and, fine, epsilon, coordinate, bulge, radius, center, arc
 
 -- ---- a call's
 module _ {I A : Type 0} (refused : ℕ → A) (met : I → A) (number : A → ℕ) where
-  settled : (c : Checked) (i : I) → Small c → ((n : ℕ) → number (refused n) ≡ n) → ((j : I) → number (met j) < 256)
-      → number (answered refused met c i) < 256
+  settled : (c : Checked) (i : I) → Small c → ((n : ℕ) → number (refused n) ≡ n) → ((j : I) → number (met j) < refusedCode)
+      → number (answered refused met c i) < refusedCode
   settled Fine i small own cases = cases i
-  settled (Bad f) i small own cases = subst (λ (n : ℕ). n < 256) (sym (own (f .number))) (small .below)
+  settled (Bad f) i small own cases = subst (λ (n : ℕ). n < refusedCode) (sym (own (f .number))) (small .below)
 
-line-line-case : (i : LineLineIntr) → ofLineLine (ofLines.Met i) .number < 256
+line-line-case : (i : LineLineIntr) → ofLineLine (ofLines.Met i) .number < refusedCode
 unfolding ofLineLine
 line-line-case lineLineIs.NoIntersect = omega arith
 line-line-case (lineLineIs.TrueIntersect a b) = omega arith
 line-line-case (lineLineIs.Overlapping a b) = omega arith
 line-line-case (lineLineIs.FalseIntersect a b) = omega arith
 
-pub line-line : (v1 v2 u1 u2 : Vector2) (eps : Float) → ofLineLine (lines.lineLineIntr v1 v2 u1 u2 eps) .number < 256
+pub line-line : (v1 v2 u1 u2 : Vector2) (eps : Float) → ofLineLine (lines.lineLineIntr v1 v2 u1 u2 eps) .number < refusedCode
 unfolding ofLineLine lines.lineLineIntr calls.checkLineLine
 line-line v1 v2 u1 u2 eps =
     settled ofLines.Refused ofLines.Met (λ (a : LineLineAnswer). ofLineLine a .number)
     (calls.checkLineLine v1 v2 u1 u2 eps) (lineLine v1 v2 u1 u2 eps) (search smalls depth 20) (λ n. refl) line-line-case
 
-line-circle-case : (i : LineCircleIntr) → ofLineCircle (ofLineAndCircle.Met i) .number < 256
+line-circle-case : (i : LineCircleIntr) → ofLineCircle (ofLineAndCircle.Met i) .number < refusedCode
 unfolding ofLineCircle
 line-circle-case lineCircleIs.NoIntersect = omega arith
 line-circle-case (lineCircleIs.TangentIntersect a) = omega arith
 line-circle-case (lineCircleIs.TwoIntersects a b) = omega arith
 
 pub line-circle : (p0 p1 : Vector2) (r : Float) (c : Vector2) (eps : Float)
-    → ofLineCircle (lineAndCircle.lineCircleIntr p0 p1 r c eps) .number < 256
+    → ofLineCircle (lineAndCircle.lineCircleIntr p0 p1 r c eps) .number < refusedCode
 unfolding ofLineCircle lineAndCircle.lineCircleIntr calls.checkLineCircle
 line-circle p0 p1 r c eps =
     settled ofLineAndCircle.Refused ofLineAndCircle.Met (λ (a : LineCircleAnswer). ofLineCircle a .number)
     (calls.checkLineCircle p0 p1 r c eps) (lineCircle p0 p1 r c eps) (search smalls depth 20) (λ n. refl) line-circle-case
 
-circle-circle-case : (i : CircleCircleIntr) → ofCircleCircle (ofCircles.Met i) .number < 256
+circle-circle-case : (i : CircleCircleIntr) → ofCircleCircle (ofCircles.Met i) .number < refusedCode
 unfolding ofCircleCircle
 circle-circle-case circleCircleIs.NoIntersect = omega arith
 circle-circle-case (circleCircleIs.TangentIntersect p) = omega arith
@@ -138,14 +140,14 @@ circle-circle-case (circleCircleIs.TwoIntersects p q) = omega arith
 circle-circle-case circleCircleIs.Overlapping = omega arith
 
 pub circle-circle : (r1 : Float) (c1 : Vector2) (r2 : Float) (c2 : Vector2) (eps : Float)
-    → ofCircleCircle (circles.circleCircleIntr r1 c1 r2 c2 eps) .number < 256
+    → ofCircleCircle (circles.circleCircleIntr r1 c1 r2 c2 eps) .number < refusedCode
 unfolding ofCircleCircle circles.circleCircleIntr calls.checkCircleCircle
 circle-circle r1 c1 r2 c2 eps =
     settled ofCircles.Refused ofCircles.Met (λ (a : CircleCircleAnswer). ofCircleCircle a .number)
     (calls.checkCircleCircle r1 c1 r2 c2 eps) (circleCircle r1 c1 r2 c2 eps) (search smalls depth 20) (λ n. refl)
     circle-circle-case
 
-pline-seg-case : (i : PlineSegIntr) → ofPlineSeg (ofPairs.Met i) .number < 256
+pline-seg-case : (i : PlineSegIntr) → ofPlineSeg (ofPairs.Met i) .number < refusedCode
 unfolding ofPlineSeg
 pline-seg-case plineSegIs.NoIntersect = omega arith
 pline-seg-case (plineSegIs.TangentIntersect p) = omega arith
@@ -154,7 +156,7 @@ pline-seg-case (plineSegIs.TwoIntersects p q) = omega arith
 pline-seg-case (plineSegIs.OverlappingLines p q) = omega arith
 pline-seg-case (plineSegIs.OverlappingArcs p q) = omega arith
 
-pub pline-seg : (v1 v2 u1 u2 : PlineVertex) (eps : Float) → ofPlineSeg (pairs.plineSegIntr v1 v2 u1 u2 eps) .number < 256
+pub pline-seg : (v1 v2 u1 u2 : PlineVertex) (eps : Float) → ofPlineSeg (pairs.plineSegIntr v1 v2 u1 u2 eps) .number < refusedCode
 unfolding ofPlineSeg pairs.plineSegIntr calls.checkPlineSeg
 pline-seg v1 v2 u1 u2 eps =
     settled ofPairs.Refused ofPairs.Met (λ (a : PlineSegAnswer). ofPlineSeg a .number)

@@ -19,13 +19,25 @@ point x y = record { x = x; y = y }
 abbrev pub vertex : Float → Float → Float → PlineVertex
 vertex x y bulge = record { x = x; y = y; bulge = bulge }
 
--- ---- out: 512 if the slice has fewer than four places, else 256 plus the number of a refusal, else the number of the case
+-- ---- out: one code if the slice has too few places, else another plus the number of a refusal, else the number of the case
+
+-- how many places an answer takes
+abbrev pub places : ℕ
+places = 4
+
+-- what is returned if the slice has too few places
+abbrev pub noRoomCode : ℕ
+noRoomCode = 512
+
+-- what is returned of a refusal: this plus its number
+abbrev pub refusedCode : ℕ
+refusedCode = 256
 
 abbrev pub short : List Float → Bool
-short old = ltb (length old) 4
+short old = ltb (length old) places
 
 abbrev pub code : PaddedAnswer → List Float → ℕ
-code f old = cond (short old) 512 (cond (f .refused) (256 + f .number) (f .number))
+code f old = cond (short old) noRoomCode (cond (f .refused) (refusedCode + f .number) (f .number))
 
 abbrev pub written : PaddedAnswer → List Float → List Float
 written f old = cond (short old || f .refused) old (sets old 0 (f .a ∷ f .b ∷ f .c ∷ f .d ∷ []))

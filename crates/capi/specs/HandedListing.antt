@@ -11,13 +11,19 @@ use lib.Ieee.{Float}
 use Rattle.listing_outcomes.specs.declared.answer.ListingAnswer.{ListingAnswer}
 use Rattle.listing_outcomes.specs.declared.answer.ListingAnswer.the-variants.{Refused, Listed}
 use Rattle.listing_outcomes.specs.Outcome.{Outcome}
+use Rattle.capi.specs.Handed.{noRoomCode, refusedCode}
 
--- 512 if the counts' slice has fewer than two places, else 256 plus the number of a refusal, else 0
+-- how many places the counts take
+abbrev pub countPlaces : ℕ
+countPlaces = 2
+
+-- the counts' slice has too few
 abbrev pub short : List ℕ → Bool
-short counts = ltb (length counts) 2
+short counts = ltb (length counts) countPlaces
 
+-- the code and number of a refusal; of a listing 0
 abbrev pub code : ListingAnswer → ℕ
-code (Refused n) = 256 + n
+code (Refused n) = refusedCode + n
 code (Listed rows pairs) = 0
 
 -- rows written, pairs looked at
@@ -26,7 +32,7 @@ counted (Refused n) old = old
 counted (Listed rows pairs) old = sets old 0 (rows ∷ pairs ∷ [])
 
 pub record HandedListing (o : Outcome) (returned : ℕ) (c₀ c i₀ i : List ℕ) (p₀ p : List Float) : Type 0 where
-  pub code-is : returned ≡ cond (short c₀) 512 (code (o .answer))
+  pub code-is : returned ≡ cond (short c₀) noRoomCode (code (o .answer))
   pub counts : c ≡ cond (short c₀) c₀ (counted (o .answer) c₀)
   pub indices : i ≡ cond (short c₀) i₀ (o .indices)
   pub points : p ≡ cond (short c₀) p₀ (o .points)

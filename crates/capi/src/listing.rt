@@ -3,21 +3,27 @@ ghost use mathlib.Core.Path.{_≡_};
 ghost use Prim.Native.Nat.{_≤_, _<_};
 ghost use lib.ListN.{length};
 ghost use Rattle.listing_calls.specs.Listing;
+ghost use Rattle.capi.specs.Handed.{noRoomCode};
 ghost use Rattle.capi.specs.HandedListing as handed;
+use super::hand_over::NO_ROOM;
+use super::hand_over::REFUSED;
 use listing_calls::mutual_listing;
 use listing_calls::self_listing;
 use listing_outcomes::answer::ListingAnswer;
 
+// how many counts a listing hands over
+const COUNTS: usize = 2;
+
 // Writes the counts of an answer to the front of `counts` and returns 0. A refusal writes nothing and returns 256 plus its
 // number.
 fn hand_counts(answer: ListingAnswer, counts: &mut [u64]) -> u64
-    requires { ⌜ 2 ≤ length (now counts) ⌝ }
-    requires { ⌜ handed.code answer < 512 ⌝ }
+    requires { ⌜ handed.countPlaces ≤ length (now counts) ⌝ }
+    requires { ⌜ handed.code answer < noRoomCode ⌝ }
     ensures { λ r. ⌜ r ≡ handed.code answer ⌝ }
     ensures { λ r. ⌜ now (counts .exit) ≡ handed.counted answer (now (counts .entry)) ⌝ }
 {
     match answer {
-        ListingAnswer::Refused(n) => 256 + n,
+        ListingAnswer::Refused(n) => REFUSED + n,
         ListingAnswer::Listed { rows, pairs } => {
             counts[0] = rows as u64;
             counts[1] = pairs as u64;
@@ -45,8 +51,8 @@ pub extern "C" fn vj_mutual(
         r (now (counts .entry)) (now (counts .exit)) (now (indices .entry)) (now (indices .exit))
         (now (points .entry)) (now (points .exit)) ⌝ }
 {
-    if counts.len() < 2 {
-        return 512;
+    if counts.len() < COUNTS {
+        return NO_ROOM;
     }
     let answer = mutual_listing::mutual_listing(
         first,
@@ -76,8 +82,8 @@ pub extern "C" fn vj_self(
         r (now (counts .entry)) (now (counts .exit)) (now (indices .entry)) (now (indices .exit))
         (now (points .entry)) (now (points .exit)) ⌝ }
 {
-    if counts.len() < 2 {
-        return 512;
+    if counts.len() < COUNTS {
+        return NO_ROOM;
     }
     let answer = self_listing::self_listing(path, closed, epsilon, indices, points);
     hand_counts(answer, counts)

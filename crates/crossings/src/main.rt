@@ -1,10 +1,11 @@
 // Lists where the two paths of a layout meet: it reads the layout's text from standard input and writes the listing's text to
 // standard output. If a read or a write fails, it says so in one line on standard error.
 use answer_lines::Written;
+use layout_text::limits;
 
 fn main() {
     // one byte more than a text may have, so that a longer text is noticed
-    let mut text = [0u8; 16385];
+    let mut text = [0u8; limits::BYTES + 1];
     let input = streams::read_full(&mut text);
     if input.failed {
         io::write_all(
@@ -17,9 +18,10 @@ fn main() {
     answer(&text[..n]);
 }
 
-// Writes the answer to a text. There is room for the longest answer, so the last line is never reached.
+// Writes the answer to a text. There is room for the longest answer, so the last line is never reached: `answer-whole` of
+// layout_listing/specs/Room.antt proves it for every text.
 fn answer(text: &[u8]) {
-    let mut out = [0u8; 65664];
+    let mut out = [0u8; layout_listing::ROOM];
     let written = layout_listing::list_layout(text, &mut out);
     match written {
         Written::Length(n) => {

@@ -1,12 +1,15 @@
 // From the text of a layout to the text of its listing: everything that the program `crossings` does, except reading and writing.
 ghost use Rattle.layout_listing.specs.Answer.{AnswerTo, LinesFor};
+use answer_lines::LINE;
 use answer_lines::Written;
 use answer_lines::write_answer;
 use answer_lines::write_refusal;
 use layout_text::Reading;
+use layout_text::limits;
 use layout_text::read_layout;
 use listing_calls::mutual_listing::mutual_listing;
 use listing_outcomes::answer::ListingAnswer;
+use listing_pairs::row;
 
 // epsilon: 1/1024
 pub const EPSILON: f64 = 0.0009765625;
@@ -14,8 +17,8 @@ pub const EPSILON: f64 = 0.0009765625;
 // how many rows the listing has room for
 pub const ROWS: usize = 512;
 
-// how many bytes of room the answer's text needs: 128 for each line, for the counts and every row
-pub const ROOM: usize = 65664;
+// how many bytes of room the answer's text needs: a line for the counts and one for every row
+pub const ROOM: usize = (ROWS + 1) * LINE;
 
 // Writes the lines of the listing of two open paths to the front of `out`, and answers how many bytes they have.
 fn list_paths(first: &[f64], second: &[f64], out: &mut [u8]) -> Written
@@ -24,8 +27,8 @@ fn list_paths(first: &[f64], second: &[f64], out: &mut [u8]) -> Written
     if out.len() < ROOM {
         return Written::NoRoom;
     }
-    let mut indices = [0u64; 1536];
-    let mut points = [0.0f64; 2048];
+    let mut indices = [0u64; ROWS * row::INDICES];
+    let mut points = [0.0f64; ROWS * row::POINTS];
     let listed = mutual_listing(
         first,
         false,
@@ -49,13 +52,13 @@ pub fn list_layout(text: &[u8], out: &mut [u8]) -> Written
     if out.len() < ROOM {
         return Written::NoRoom;
     }
-    let mut first = [0.0f64; 768];
-    let mut second = [0.0f64; 768];
+    let mut first = [0.0f64; limits::ROOM];
+    let mut second = [0.0f64; limits::ROOM];
     let read = read_layout(text, &mut first, &mut second);
     match read {
         Reading::Counts(n, m) => {
-            let a = n * 3;
-            let b = m * 3;
+            let a = n * limits::NUMBERS;
+            let b = m * limits::NUMBERS;
             list_paths(&first[..a], &second[..b], out)
         }
         Reading::Refused(n) => write_refusal(n, out),

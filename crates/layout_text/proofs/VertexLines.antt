@@ -8,6 +8,7 @@ use lib.ListN.{drop, set}
 use lib.Seq.{sets}
 use lib.Ieee.{Float}
 use Rattle.layout_text.specs.Limits as limit
+use Rattle.layout_text.specs.Limits.{numbersAVertex}
 use Rattle.layout_text.specs.Layout.{Vertex}
 use Rattle.layout_text.specs.Numbers.{coordinate, bulge, pathOf}
 use Rattle.layout_text.specs.Workings.Reader.{
@@ -163,10 +164,11 @@ module _ (text : List ℕ) (n i at : ℕ) (all : Stored) (old : List Float) (k :
     store-broken e = rw (lines-broken n i _ inside (no-line text is e)) at inv
 
     pub store-line : (x y b : Float) (next : ℕ) → r ≡ Corner·.At x y b next
-        → stored (verticesOf (n - (i + 1)) (drop next text)) (set (set (set old k x) (k + 1) y) (k + 2) b) (k + 3) ≡ all
+        → stored (verticesOf (n - (i + 1)) (drop next text)) (set (set (set old k x) (k + 1) y) (k + 2) b) (k + numbersAVertex)
+        ≡ all
     store-line x y b next e =
         let line = a-line text is e in
-        let three : k + 3 ≡ suc (suc (suc k)) = omega arith in
+        let three : k + numbersAVertex ≡ suc (suc (suc k)) = omega arith in
         let written = three-set old k x y b ∙ ap (sets old k) (line .numbered) in
         rw (written, three) (after-stored (line .v) (verticesOf (n - (i + 1)) (drop next text)) old k)
         ∙ rw (lines-read n i _ inside (line .is)) at inv

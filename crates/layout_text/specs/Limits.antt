@@ -1,5 +1,5 @@
 -- The scope's limits on texts: of a layout's numbers, and of its size. They hold however a layout is stored.
-use Prim.Native.Nat.{ℕ}
+use Prim.Native.Nat.{ℕ, _*_}
 
 -- the largest magnitude of x and of y
 abbrev pub coordinate : ℕ
@@ -17,6 +17,10 @@ vertices = 256
 abbrev pub bytes : ℕ
 bytes = 16_384
 
--- how many numbers a buffer must hold: three for each of the most vertices
+-- how many numbers a buffer has for a vertex
+abbrev pub numbersAVertex : ℕ
+numbersAVertex = 3
+
+-- how many numbers a buffer must hold: those of the most vertices
 abbrev pub room : ℕ
-room = 768
+room = vertices * numbersAVertex

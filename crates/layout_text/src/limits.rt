@@ -12,5 +12,8 @@ pub const VERTICES: u64 = 256;
 // the most bytes of a text
 pub const BYTES: usize = 16384;
 
-// how many numbers a buffer must hold: three for each of the most vertices
-pub const ROOM: usize = 768;
+// how many numbers a buffer has for a vertex
+pub const NUMBERS: usize = 3;
+
+// how many numbers a buffer must hold: those of the most vertices
+pub const ROOM: usize = VERTICES as usize * NUMBERS;

@@ -2,6 +2,7 @@
 ghost use mathlib.Core.Path.{_≡_};
 ghost use Prim.Native.Nat.{_≤_, _*_};
 ghost use lib.ListN.{drop, length};
+ghost use Rattle.layout_text.specs.Limits as limit;
 ghost use Rattle.layout_text.specs.Workings.Reader.{vertexOf, verticesOf, passed};
 ghost use Rattle.layout_text.specs.Workings.Shown.{shownVertex, shownPlace, numbersOf, Filled};
 use super::bytes;
@@ -81,7 +82,7 @@ pub fn skip(text: &[u8], start: usize, n: u64) -> Place
 
 // Writes n vertices, three numbers each, to the front of `out`, if the text has all of them.
 pub fn fill(text: &[u8], start: usize, n: u64, out: &mut [f64])
-    requires { ⌜ n * 3 ≤ length (now out) ⌝ }
+    requires { ⌜ n * limit.numbersAVertex ≤ length (now out) ⌝ }
     ensures { λ _. ⌜ Filled (verticesOf n (drop start (now (text .entry)))) (now (out .entry)) (now (out .exit)) ⌝ }
 {
     let mut at = start;
@@ -100,7 +101,7 @@ pub fn fill(text: &[u8], start: usize, n: u64, out: &mut [f64])
                 at = next;
             }
         }
-        to += 3;
+        to += limits::NUMBERS;
         i += 1;
     }
 }

@@ -3,6 +3,7 @@ ghost use mathlib.Core.Path.{_≡_};
 ghost use mathlib.Core.Bool.{true};
 ghost use Prim.Native.Nat.{_≤_, _<_, _-_, _*_};
 ghost use lib.ListN.{length};
+ghost use Rattle.listing_pairs.specs.Row as row_of;
 ghost use Rattle.listing_pairs.specs.Look;
 ghost use Rattle.listing_pairs.specs.Workings.Job as job_of;
 ghost use Rattle.listing_pairs.specs.Workings.Keeping;
@@ -45,7 +46,7 @@ pub fn fill(
     requires { ⌜ Keeping.Ready (now first) (now second) (now kept) job ⌝ }
     requires { ⌜ «start_i» ≤ job .n ⌝ }
     requires { ⌜ at ≤ room ⌝ }
-    requires { ⌜ (room * 3 ≤ length (now indices)) × (room * 4 ≤ length (now points)) ⌝ }
+    requires { ⌜ (room * row_of.indicesARow ≤ length (now indices)) × (room * row_of.pointsARow ≤ length (now points)) ⌝ }
     ensures { λ r. ⌜
         filling.Filled job write at
         (Pages.page (Look.look (now (first .entry)) (now (second .entry)) (job .epsilon)) (job_of.left job «start_i» «start_j»)

@@ -17,6 +17,7 @@ use listing_pairs::order;
 use listing_pairs::order::Job;
 use listing_pairs::row;
 use listing_pairs::rows;
+use paths::path;
 
 // how many rows the buffer holds back until it is known that all fit: 112 KiB
 const ROWS: usize = 2048;
@@ -49,9 +50,9 @@ fn list_behind(
 ) -> ListingAnswer
     requires { ⌜ Keeping.Ready (now first) (now second) (now kept) job ⌝ }
     requires { ⌜ room ≡ Outcome.room (now indices) (now points) ⌝ }
-    requires { ⌜ 2048 ≤ room ⌝ }
+    requires { ⌜ outcome_of.heldRows ≤ room ⌝ }
     requires { ⌜
-        outcome_of.Held (Look.look (now first) (now second) (job .epsilon)) job 2048 i j pairs
+        outcome_of.Held (Look.look (now first) (now second) (job .epsilon)) job outcome_of.heldRows i j pairs
         (now «held_indices») (now «held_points») ⌝ }
     ensures { λ r. ⌜
         Outcome.Leaves (outcome_of.listed (Look.look (now (first .entry)) (now (second .entry)) (job .epsilon)) (job_of.every job)
@@ -111,8 +112,8 @@ fn list_held_back(
         (now (indices .entry)) (now (points .entry)))
         r (now (indices .exit)) (now (points .exit)) ⌝ }
 {
-    let mut held_indices = [0u64; 6144];
-    let mut held_points = [0.0f64; 8192];
+    let mut held_indices = [0u64; ROWS * row::INDICES];
+    let mut held_points = [0.0f64; ROWS * row::POINTS];
     let start = order::from(job, 0);
     let most = lesser(room, ROWS);
     let held = fill(
@@ -208,8 +209,8 @@ pub fn list(
         (now (indices .entry)) (now (points .entry)))
         r (now (indices .exit)) (now (points .exit)) ⌝ }
 {
-    // three numbers for each segment that a path may have: 96 KiB
-    let mut kept = [0.0f64; 12288];
+    // for each segment that a path may have: 96 KiB
+    let mut kept = [0.0f64; path::VERTICES * keeping::NUMBERS];
     keeping::keep(second, job.m, job.epsilon, &mut kept);
     list_kept(first, second, &kept, job, indices, points)
 }

@@ -10,12 +10,12 @@ use fast_pair::kept::kept_of;
 use paths::segments;
 
 // how many numbers are kept of a segment
-const NUMBERS: usize = 3;
+pub const NUMBERS: usize = 3;
 
 // Stores what is kept of the path's first m segments.
 pub fn keep(path: &[f64], m: usize, epsilon: f64, kept: &mut [f64])
     requires { ⌜ m ≤ Path.vertexCount (now path) ⌝ }
-    requires { ⌜ (m ≤ 4096) × (m * 3 ≤ length (now kept)) ⌝ }
+    requires { ⌜ (m ≤ Path.mostVertices) × (m * Keeping.numbersKept ≤ length (now kept)) ⌝ }
     ensures { λ _. ⌜ now (kept .exit) ≡ Keeping.keep (now (path .entry)) m epsilon (now (kept .entry)) ⌝ }
 {
     let mut j = 0;
@@ -32,7 +32,7 @@ pub fn keep(path: &[f64], m: usize, epsilon: f64, kept: &mut [f64])
 
 // What is kept of segment j.
 pub(crate) fn kept_at(kept: &[f64], j: usize) -> Kept
-    requires { ⌜ (j + 1) * 3 ≤ length (now kept) ⌝ }
+    requires { ⌜ (j + 1) * Keeping.numbersKept ≤ length (now kept) ⌝ }
     ensures { λ r. ⌜ r ≡ Keeping.keptAt (now (kept .entry)) j ⌝ }
 {
     let at = j * NUMBERS;

@@ -1,6 +1,7 @@
 // Which pairs a listing looks at, in order: the first path's index is the outer one, and both rise.
 ghost use mathlib.Core.Path.{_≡_};
 ghost use Prim.Native.Nat.{_≤_};
+ghost use Rattle.paths.specs.Path;
 ghost use Rattle.listing_pairs.specs.Workings.Job as job_of;
 
 // What a listing works on: n segments of the first path, m of the second, and epsilon. In a self listing (`own`) both are the
@@ -16,7 +17,7 @@ pub struct Job {
 // The first j of the pairs (i, j). In a self listing it is i + 2: segment i + 1 is the neighbour of i, and a pair with a smaller
 // j came earlier, as (j, i).
 pub fn from(job: Job, i: usize) -> usize
-    requires { ⌜ i ≤ 4096 ⌝ }
+    requires { ⌜ i ≤ Path.mostVertices ⌝ }
     ensures { λ r. ⌜ r ≡ job_of.from job i ⌝ }
 {
     if job.own {

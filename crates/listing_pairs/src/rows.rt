@@ -3,13 +3,14 @@ ghost use mathlib.Core.Path.{_≡_};
 ghost use Prim.Native.Nat.{_≤_, _<_, _+_, _*_};
 ghost use lib.ListN.{length};
 ghost use lib.Seq.{paste};
+ghost use Rattle.listing_pairs.specs.Row as row_of;
 ghost use Rattle.listing_pairs.specs.Workings.Stored;
 use super::row;
 use super::row::Row;
 
 // Stores the numbers of a row as row k of both slices if `write`, else nothing.
 pub fn put_row(write: bool, indices: &mut [u64], points: &mut [f64], k: usize, r: Row)
-    requires { ⌜ ((k + 1) * 3 ≤ length (now indices)) × ((k + 1) * 4 ≤ length (now points)) ⌝ }
+    requires { ⌜ ((k + 1) * row_of.indicesARow ≤ length (now indices)) × ((k + 1) * row_of.pointsARow ≤ length (now points)) ⌝ }
     ensures { λ _. ⌜ now (indices .exit) ≡ Stored.putIndices write (now (indices .entry)) k r ⌝ }
     ensures { λ _. ⌜ now (points .exit) ≡ Stored.putPoints write (now (points .entry)) k r ⌝ }
 {
@@ -58,10 +59,12 @@ pub fn copy_rows(
     indices: &mut [u64],
     points: &mut [f64],
 )
-    requires { ⌜ (n * 3 ≤ length (now «from_indices»)) × (n * 4 ≤ length (now «from_points»)) ⌝ }
-    requires { ⌜ (n * 3 ≤ length (now indices)) × (n * 4 ≤ length (now points)) ⌝ }
-    ensures { λ _. ⌜ now (indices .exit) ≡ paste (now (indices .entry)) 0 (now («from_indices» .entry)) (n * 3) ⌝ }
-    ensures { λ _. ⌜ now (points .exit) ≡ paste (now (points .entry)) 0 (now («from_points» .entry)) (n * 4) ⌝ }
+    requires { ⌜ (n * row_of.indicesARow ≤ length (now «from_indices»)) × (n * row_of.pointsARow ≤ length (now «from_points»)) ⌝ }
+    requires { ⌜ (n * row_of.indicesARow ≤ length (now indices)) × (n * row_of.pointsARow ≤ length (now points)) ⌝ }
+    ensures { λ _. ⌜
+        now (indices .exit) ≡ paste (now (indices .entry)) 0 (now («from_indices» .entry)) (n * row_of.indicesARow) ⌝ }
+    ensures { λ _. ⌜
+        now (points .exit) ≡ paste (now (points .entry)) 0 (now («from_points» .entry)) (n * row_of.pointsARow) ⌝ }
 {
     copy_indices(from_indices, n * row::INDICES, indices);
     copy_points(from_points, n * row::POINTS, points);

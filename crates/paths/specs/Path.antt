@@ -7,16 +7,16 @@ use Rattle.plane.specs.declared.pline_vertex.PlineVertex.{PlineVertex}
 use Rattle.plane.specs.PlineVertex as vertices
 
 -- how many numbers a vertex has
-abbrev pub numbers : ℕ
-numbers = 3
+abbrev pub numbersAVertex : ℕ
+numbersAVertex = 3
 
 -- the most vertices that a path may have
-abbrev pub most : ℕ
-most = 4096
+abbrev pub mostVertices : ℕ
+mostVertices = 4096
 
 -- how many whole vertices the list has
 abbrev pub vertexCount : List Float → ℕ
-vertexCount path = length path / numbers
+vertexCount path = length path / numbersAVertex
 
 -- number k of the list; the NaN if there is none
 abbrev pub number : List Float → ℕ → Float
@@ -25,5 +25,5 @@ number path k = getD path k nan
 -- vertex i
 unfoldable pub vertex : List Float → ℕ → PlineVertex
 vertex path i =
-    let start = i * numbers in
+    let start = i * numbersAVertex in
     vertices.new (number path start) (number path (start + 1)) (number path (start + 2))

@@ -10,15 +10,15 @@ use Rattle.checks.specs.declared.fault.Item.the-variants.{Length}
 use Rattle.checks.specs.declared.fault.Checked.{Checked}
 use Rattle.checks.specs.Fault.{at, refuse, later}
 use Rattle.checks.specs.Refusal
-use Rattle.paths.specs.Path.{numbers, most, vertexCount}
+use Rattle.paths.specs.Path.{numbersAVertex, mostVertices, vertexCount}
 
 -- the length is no multiple of 3
 abbrev pub broken : List Float → Bool
-broken path = not (eqb (length path % numbers) 0)
+broken path = not (eqb (length path % numbersAVertex) 0)
 
 -- there are more than 4,096 vertices
 abbrev pub tooLong : List Float → Bool
-tooLong path = ltb most (vertexCount path)
+tooLong path = ltb mostVertices (vertexCount path)
 
 -- the path gets refusal 6 or 7
 unfoldable pub refused : List Float → Bool

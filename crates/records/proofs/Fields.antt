@@ -7,7 +7,7 @@ use native.Mathlib.Omega.{arith}
 use native.Mathlib.Nat.{sub-eq-zero-of-le}
 use borrow.Author.Tests.{eq-eqb, ne-eqb}
 use lib.ListN.{getD}
-use Rattle.records.specs.Text.{afterOf, fieldAt, fieldsFrom, isNumber}
+use Rattle.records.specs.Text.{fieldDigits, fieldBytes, afterOf, fieldAt, fieldsFrom, isNumber}
 use Rattle.records.specs.declared.text.Field.{Field}
 
 -- what is left from field i on: this field, then the rest
@@ -21,12 +21,12 @@ module _ (n : ℕ) (body : List ℕ) (i : ℕ) (all : Bool) (inv : fieldsFrom n 
   at-end h = rw (sub-eq-zero-of-le h) at inv
 
   module _ (inside : i < n) (after : ℕ) (after-is : after ≡ afterOf n i) where
-    pub at-other : (getD body (i * 17 + 16) 0 ≡ after → ⊥) → false ≡ all
+    pub at-other : (getD body (i * fieldBytes + fieldDigits) 0 ≡ after → ⊥) → false ≡ all
     unfolding fieldsFrom
     at-other h = rw (left n i inside, ← after-is, ne-eqb _ _ h) at inv
 
-    module _ (ends : getD body (i * 17 + 16) 0 ≡ after) (field : Field) (field-is : field ≡ fieldAt body i) (said : Bool)
-        (said-is : said ≡ isNumber field) where
+    module _ (ends : getD body (i * fieldBytes + fieldDigits) 0 ≡ after) (field : Field) (field-is : field ≡ fieldAt body i)
+        (said : Bool) (said-is : said ≡ isNumber field) where
       pub at-broken : said ≡ false → false ≡ all
       unfolding fieldsFrom
       at-broken h = rw (left n i inside, ← after-is, eq-eqb _ _ ends, ← field-is, ← said-is, h) at inv

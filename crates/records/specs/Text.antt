@@ -8,6 +8,19 @@ use lib.Ieee.{Float, binary64, ofBits}
 use Rattle.records.specs.declared.text.Field.{Field}
 use Rattle.records.specs.declared.text.Field.the-variants as Field·
 
+-- ---- how long a line is
+
+-- the hex digits of a number, and the bytes that it takes in a line with what stands after it
+abbrev pub fieldDigits : ℕ
+fieldDigits = 16
+
+abbrev pub fieldBytes : ℕ
+fieldBytes = fieldDigits + 1
+
+-- the most numbers that a line has
+abbrev pub mostNumbers : ℕ
+mostNumbers = 18
+
 -- ---- a field
 
 -- the value of a byte as a hex digit: '0' to '9', 'a' to 'f'; 16 if it is none
@@ -40,10 +53,11 @@ nameOf head =
 unfoldable pub afterOf : ℕ → ℕ → ℕ
 afterOf n i = cond (eqb (i + 1) n) 10 32
 
--- field i of a text: sixteen bytes of every seventeen
+-- field i of a text: its digits, without what stands after them
 unfoldable pub fieldAt : List ℕ → ℕ → Field
 fieldAt body i =
-    cond (ltb (length body) (i * 17 + 16)) Field·.Broken (wordOf (take 16 (drop (i * 17) body)))
+    let at = i * fieldBytes in
+    cond (ltb (length body) (at + fieldDigits)) Field·.Broken (wordOf (take fieldDigits (drop at body)))
 
 unfoldable pub isNumber : Field → Bool
 isNumber (Field·.Number x) = true
@@ -53,12 +67,12 @@ isNumber Field·.Broken = false
 unfoldable pub fieldsFrom : ℕ → List ℕ → ℕ → ℕ → Bool
 fieldsFrom n body zero i = true
 fieldsFrom n body (suc k) i =
-    cond (eqb (getD body (i * 17 + 16) 0) (afterOf n i))
+    cond (eqb (getD body (i * fieldBytes + fieldDigits) 0) (afterOf n i))
     (cond (isNumber (fieldAt body i)) (fieldsFrom n body k (i + 1)) false)
     false
 
 unfoldable pub isLine : ℕ → List ℕ → Bool
-isLine n body = cond (eqb (length body) (n * 17)) (fieldsFrom n body n 0) false
+isLine n body = cond (eqb (length body) (n * fieldBytes)) (fieldsFrom n body n 0) false
 
 -- ---- the numbers of a line, as patterns and as numbers
 

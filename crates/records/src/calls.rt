@@ -1,6 +1,7 @@
 // The calls that a record can have, by the number of their name (`text::name`).
 ghost use mathlib.Core.Path.{_≡_};
 ghost use Prim.Native.Nat.{_≤_};
+ghost use Rattle.records.specs.Text.{mostNumbers};
 ghost use Rattle.records.specs.Calls.{numbersOf, isOurs};
 use super::names;
 use super::on_crossing;
@@ -11,7 +12,7 @@ use super::text;
 // How many numbers a line of this call has, operands and answers; 0 if there is no such call.
 pub fn numbers(call: u64) -> usize
     ensures { λ r. ⌜ r ≡ numbersOf call ⌝ }
-    ensures { λ r. ⌜ r ≤ 18 ⌝ }
+    ensures { λ r. ⌜ r ≤ mostNumbers ⌝ }
 {
     if call == names::ABS {
         return 3;

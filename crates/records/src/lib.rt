@@ -1,7 +1,7 @@
 // Recorded answers: it reads a line of a recorded list and judges it. The program `replay` uses it on a whole list.
 ghost use mathlib.Core.Path.{_≡_};
 ghost use Prim.Native.Nat.{_≤_};
-ghost use Rattle.records.specs.Text.{nameOf};
+ghost use Rattle.records.specs.Text.{mostNumbers, nameOf};
 ghost use Rattle.records.specs.Calls.{numbersOf, isRight};
 
 mod calls;
@@ -11,8 +11,11 @@ mod on_floats;
 mod on_plane;
 mod text;
 
+// How many hex digits a number has.
+pub const DIGITS: usize = 16;
+
 // How many bytes a number takes in a line, with the byte after it.
-pub const FIELD: usize = 17;
+pub const FIELD: usize = DIGITS + 1;
 
 // The most numbers that a line has.
 pub const MOST: usize = 18;
@@ -20,7 +23,7 @@ pub const MOST: usize = 18;
 // How many numbers follow a name, which is the head of a line; 0 if it is no call's name.
 pub fn numbers(head: &[u8; 5]) -> usize
     ensures { λ r. ⌜ r ≡ numbersOf (nameOf (now (head .entry))) ⌝ }
-    ensures { λ r. ⌜ r ≤ 18 ⌝ }
+    ensures { λ r. ⌜ r ≤ mostNumbers ⌝ }
 {
     calls::numbers(text::name(head))
 }

@@ -1,7 +1,8 @@
 // Whether the crossing calls give the answers of a line. A line has the operands, in the order of the C call's parameters, then
 // the number that the call returns, then the four values of the answer.
 ghost use mathlib.Core.Path.{_≡_};
-ghost use Prim.Native.Nat.{_<_};
+ghost use Prim.Native.Nat.{_<_, _+_};
+ghost use Rattle.records.specs.Text.{mostNumbers};
 ghost use Rattle.records.specs.OnCrossing;
 use super::on_plane::point;
 use super::on_plane::same;
@@ -73,7 +74,7 @@ pub fn pline_seg(body: &[u8]) -> bool
 
 // Whether the answer is the one that the line has from number i on. A refusal is 256 plus its number.
 fn is_answer(numbers: PaddedAnswer, body: &[u8], i: usize) -> bool
-    requires { ⌜ i < 14 ⌝ }
+    requires { ⌜ i + 4 < mostNumbers ⌝ }
     ensures { λ r. ⌜ r ≡ OnCrossing.isAnswer numbers (now (body .entry)) i ⌝ }
 {
     let told = value(body, i);

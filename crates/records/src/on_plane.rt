@@ -1,7 +1,8 @@
 // Whether `plane` gives the answers of a line. The operands come first, then the answers, in the order of the Rust's parameters
 // and results. Zeros of either sign are equal, and so are any two NaNs.
 ghost use mathlib.Core.Path.{_≡_};
-ghost use Prim.Native.Nat.{_<_};
+ghost use Prim.Native.Nat.{_<_, _+_};
+ghost use Rattle.records.specs.Text.{mostNumbers};
 ghost use Rattle.records.specs.OnPlane;
 use super::text::number;
 use plane::base_math;
@@ -63,7 +64,7 @@ pub fn same(x: f64, y: f64) -> bool
 
 // The point whose coordinates are numbers i and i + 1 of a line.
 pub fn point(body: &[u8], i: usize) -> Vector2
-    requires { ⌜ i < 16 ⌝ }
+    requires { ⌜ i + 2 < mostNumbers ⌝ }
     ensures { λ r. ⌜ r ≡ OnPlane.pointAt (now (body .entry)) i ⌝ }
 {
     Vector2::new(number(body, i), number(body, i + 1))
@@ -71,7 +72,7 @@ pub fn point(body: &[u8], i: usize) -> Vector2
 
 // The vertex whose three numbers start at number i of a line.
 pub fn vertex(body: &[u8], i: usize) -> PlineVertex
-    requires { ⌜ i < 16 ⌝ }
+    requires { ⌜ i + 2 < mostNumbers ⌝ }
     ensures { λ r. ⌜ r ≡ OnPlane.vertexAt (now (body .entry)) i ⌝ }
 {
     PlineVertex::new(number(body, i), number(body, i + 1), number(body, i + 2))

@@ -3,7 +3,10 @@
 ghost use mathlib.Core.Path.{_≡_};
 ghost use Prim.Native.Nat.{_≤_, _<_};
 ghost use lib.Ieee.{nanBits, binary64};
-ghost use Rattle.records.specs.Text.{digitOf, wordOf, nameOf, afterOf, fieldAt, isNumber, isLine, valueAt, numberAt};
+ghost use Rattle.records.specs.Text.{mostNumbers, digitOf, wordOf, nameOf, afterOf, fieldAt, isNumber, isLine};
+ghost use Rattle.records.specs.Text.{valueAt, numberAt};
+use super::DIGITS;
+use super::FIELD;
 
 // The value of a field of hex digits. Or a byte of it is no digit.
 pub enum Field {
@@ -22,15 +25,15 @@ pub fn name(head: &[u8; 5]) -> u64
 
 // Whether the text is n fields, each followed by the right byte.
 pub fn is_line(body: &[u8], n: usize) -> bool
-    requires { ⌜ n ≤ 18 ⌝ }
+    requires { ⌜ n ≤ mostNumbers ⌝ }
     ensures { λ r. ⌜ r ≡ isLine n (now (body .entry)) ⌝ }
 {
-    if body.len() != n * 17 {
+    if body.len() != n * FIELD {
         return false;
     }
     let mut i = 0;
     while i < n {
-        if body[i * 17 + 16] != after(n, i) {
+        if body[i * FIELD + DIGITS] != after(n, i) {
             return false;
         }
         if is_number(field_at(body, i)) {
@@ -55,11 +58,11 @@ fn after(n: usize, i: usize) -> u8
 
 // Field i of a text.
 fn field_at(body: &[u8], i: usize) -> Field
-    requires { ⌜ i < 18 ⌝ }
+    requires { ⌜ i < mostNumbers ⌝ }
     ensures { λ r. ⌜ r ≡ fieldAt (now (body .entry)) i ⌝ }
 {
-    let at = i * 17;
-    let end = at + 16;
+    let at = i * FIELD;
+    let end = at + DIGITS;
     if body.len() < end {
         return Field::Broken;
     }
@@ -77,7 +80,7 @@ fn is_number(f: Field) -> bool
 
 // The number of field i as a pattern; 0 if the field is broken.
 pub fn value(body: &[u8], i: usize) -> u64
-    requires { ⌜ i < 18 ⌝ }
+    requires { ⌜ i < mostNumbers ⌝ }
     ensures { λ r. ⌜ r ≡ valueAt (now (body .entry)) i ⌝ }
 {
     let f = field_at(body, i);
@@ -89,7 +92,7 @@ pub fn value(body: &[u8], i: usize) -> u64
 
 // The number of field i. Each NaN's pattern gives a NaN.
 pub fn number(body: &[u8], i: usize) -> f64
-    requires { ⌜ i < 18 ⌝ }
+    requires { ⌜ i < mostNumbers ⌝ }
     ensures { λ r. ⌜ r ≡ numberAt (now (body .entry)) i ⌝ }
 {
     let pattern = value(body, i);

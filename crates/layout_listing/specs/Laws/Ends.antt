@@ -2,7 +2,7 @@
 -- buffers.
 use mathlib.Core.Path.{_≡_, refl, sym, ap, _∙_}
 use mathlib.Core.Bool.{Bool, false}
-use mathlib.Core.List.{List, [], _∷_}
+use mathlib.Core.List.{List}
 use Prim.Native.Nat.{ℕ, _+_, _*_, _/_, _≤_, _<_}
 use native.Mathlib.Omega.{arith}
 use borrow.Author.Tests.{lt-ltb, le-ltb, lt-leb}
@@ -10,6 +10,8 @@ use lib.Dec.{ltb}
 use lib.Ieee.{Float, binary64, ofBits}
 use lib.ListN.{length, replicate, length-replicate, take, drop}
 use lib.Seq.{sets, sets-eq, length-sets, take-at}
+use Rattle.layout_text.specs.Limits as limit
+use Rattle.layout_text.specs.Limits.{numbersAVertex}
 use Rattle.layout_text.specs.Layout.{Vertex, Layout}
 use Rattle.layout_text.specs.Numbers.{pathOf}
 use Rattle.layout_text.specs.Workings.Reader.{Taken, broken, layout, reads}
@@ -19,15 +21,20 @@ use Rattle.layout_text.specs.declared.Reading.{Reading}
 use Rattle.layout_text.specs.declared.Reading.the-variants as Reading·
 use Rattle.answer_lines.specs.declared.Written.{Written}
 use Rattle.answer_lines.specs.declared.Written.the-variants as Written·
+use Rattle.answer_lines.specs.Lines as lines_of
 use Rattle.answer_lines.specs.Lines.{refusedText, answerText}
+use Rattle.answer_lines.specs.Sizes.{line}
 use Rattle.answer_lines.specs.Written.{Lines, RefusalLine, AnswerLines}
+use Rattle.listing_pairs.specs.Row.{indicesARow, pointsARow}
 use Rattle.listing_outcomes.specs.declared.answer.ListingAnswer.{ListingAnswer}
 use Rattle.listing_outcomes.specs.declared.answer.ListingAnswer.the-variants.{Refused, Listed}
 use Rattle.listing_outcomes.specs.Outcome.{Leaves}
 use Rattle.listing_calls.specs.Listing.{mutualListing}
 use Rattle.listing_calls.specs.Laws.Counts.{mutual-fits}
+use Rattle.layout_listing.specs.Laws.Widths.{path-long}
 use Rattle.layout_listing.specs.Answer.{
   epsilon,
+  mostRows,
   noIndices,
   noPoints,
   listing,
@@ -57,7 +64,7 @@ module _ (bytes old : List ℕ) where
 pub refusal-line : (n : ℕ) (old : List ℕ) → room ≤ length old → (r : Written) (now : List ℕ) → RefusalLine n r old now
     → Lines false (ltb (length old) room) (refusedText n) r old now
 refusal-line n old h r now l =
-    enough (refusedText n) old h (ltb (length old) 128) (le-ltb (length old) 128 (omega (arith, h))) r now l
+    enough (refusedText n) old h (ltb (length old) line) (le-ltb (length old) line (omega (arith, h))) r now l
 
 -- ---- the lines of a listing
 module _ (first second : List Float) (old : List ℕ) (h : room ≤ length old) (a : ListingAnswer) (i : List ℕ) (p : List Float)
@@ -77,46 +84,42 @@ module _ (first second : List Float) (old : List ℕ) (h : room ≤ length old) 
       let fits = mutual-fits first false second false epsilon noIndices noPoints in
       let z : ℕ = 0 in
       let y : Float = ofBits binary64 0 in
-      let wide : length noIndices ≡ 1536 = length-replicate 1536 z in
-      let long : length noPoints ≡ 2048 = length-replicate 2048 y in
-      let few : rows ≤ 512 = omega (arith, fits .few rows pairs (sym (leaves .answer) ∙ e), wide, long) in
-      let i-long : length i ≡ 1536 = ap length (leaves .indices) ∙ fits .indices ∙ wide in
-      let p-long : length p ≡ 2048 = ap length (leaves .points) ∙ fits .points ∙ long in
-      let one = le-ltb (length i / 3) rows (omega (arith, few, i-long)) in
-      let two = le-ltb (length p / 4) rows (omega (arith, few, p-long)) in
-      let three = lt-leb (length old / 128) rows (omega (arith, few, h)) in
+      let wide : length noIndices ≡ mostRows * indicesARow = length-replicate (mostRows * indicesARow) z in
+      let long : length noPoints ≡ mostRows * pointsARow = length-replicate (mostRows * pointsARow) y in
+      let few : rows ≤ mostRows = omega (arith, fits .few rows pairs (sym (leaves .answer) ∙ e), wide, long) in
+      let i-long : length i ≡ mostRows * indicesARow = ap length (leaves .indices) ∙ fits .indices ∙ wide in
+      let p-long : length p ≡ mostRows * pointsARow = ap length (leaves .points) ∙ fits .points ∙ long in
+      let one = le-ltb (length i / lines_of.indicesARow) rows (omega (arith, few, i-long)) in
+      let two = le-ltb (length p / lines_of.pointsARow) rows (omega (arith, few, p-long)) in
+      let three = lt-leb (length old / line) rows (omega (arith, few, h)) in
       let k : Lines false false (answerText pairs rows i p) r old now = rw (one, two, three) at l in
       rw (lines ∙ ap (λ (t : ListingAnswer). linesOf t i p) e) (enough (answerText pairs rows i p) old h false refl r now k)
 
 -- ---- the buffers after reading
 abbrev pub buffer : List Float
-buffer = replicate 768 (ofBits binary64 0)
+buffer = replicate limit.room (ofBits binary64 0)
 
-buffer-long : length buffer ≡ 768
-buffer-long = let y : Float = ofBits binary64 0 in length-replicate 768 y
-
-path-long : (vs : List Vertex) → length (pathOf vs) ≡ length vs * 3
-path-long [] = omega arith
-path-long (v ∷ vs) = omega (arith, path-long vs)
+buffer-long : length buffer ≡ limit.room
+buffer-long = let y : Float = ofBits binary64 0 in length-replicate limit.room y
 
 -- a path's numbers are the front of its buffer
-front : (vs : List Vertex) (n : ℕ) (held : List Float) → n ≡ length vs → length vs ≤ 256 → held ≡ sets buffer 0 (pathOf vs)
-    → take (n * 3) held ≡ pathOf vs
+front : (vs : List Vertex) (n : ℕ) (held : List Float) → n ≡ length vs → length vs ≤ limit.vertices
+    → held ≡ sets buffer 0 (pathOf vs) → take (n * numbersAVertex) held ≡ pathOf vs
 front vs n held e few is =
     let long = path-long vs in
-    ap (take (n * 3)) (is ∙ sets-eq (pathOf vs) buffer 0 (omega (arith, long, few, buffer-long)))
-    ∙ take-at (pathOf vs) (drop (0 + length (pathOf vs)) buffer) (n * 3) (omega (arith, long, e))
+    ap (take (n * numbersAVertex)) (is ∙ sets-eq (pathOf vs) buffer 0 (omega (arith, long, few, buffer-long)))
+    ∙ take-at (pathOf vs) (drop (0 + length (pathOf vs)) buffer) (n * numbersAVertex) (omega (arith, long, e))
 
 -- what the counts say
 pub record Fronts (text : List ℕ) (n m : ℕ) (first second : List Float) : Type 0 where
   pub layout-is : Layout
   pub reads-it : reads text ≡ layout layout-is
-  pub few-first : n ≤ 256
-  pub few-second : m ≤ 256
-  pub first-long : length first ≡ 768
-  pub second-long : length second ≡ 768
-  pub first-front : take (n * 3) first ≡ pathOf (layout-is .first)
-  pub second-front : take (m * 3) second ≡ pathOf (layout-is .second)
+  pub few-first : n ≤ limit.vertices
+  pub few-second : m ≤ limit.vertices
+  pub first-long : length first ≡ limit.room
+  pub second-long : length second ≡ limit.room
+  pub first-front : take (n * numbersAVertex) first ≡ pathOf (layout-is .first)
+  pub second-front : take (m * numbersAVertex) second ≡ pathOf (layout-is .second)
 
 module _ (text : List ℕ) (r : Reading) (first second : List Float) (l : read.ReadLayout text r buffer first buffer second) where
   answer-is : r ≡ read.answerOf (reads text)
@@ -127,7 +130,7 @@ module _ (text : List ℕ) (r : Reading) (first second : List Float) (l : read.R
     where
       go : (t : Taken) → reads text ≡ t → Fronts text n m first second
       go broken is =
-          let both : Reading·.Refused 10 ≡ Reading·.Counts n m = sym (answer-is ∙ ap read.answerOf is) ∙ e in
+          let both : Reading·.Refused read.refusal ≡ Reading·.Counts n m = sym (answer-is ∙ ap read.answerOf is) ∙ e in
           let z : _≡_ {A = ℕ} 0 1 = cc in
           absurd (omega (arith, z))
       go (layout k) is =
@@ -151,13 +154,13 @@ module _ (text : List ℕ) (r : Reading) (first second : List Float) (l : read.R
             second-front = front (k .second) m second m-is (w .second-count) on-second;
           }
 
-  -- what a refusal says: its number is 10
-  pub refused-is : (n : ℕ) → r ≡ Reading·.Refused n → (reads text ≡ broken) × (n ≡ 10)
+  -- what a refusal says: its number is that of a text that breaks its form
+  pub refused-is : (n : ℕ) → r ≡ Reading·.Refused n → (reads text ≡ broken) × (n ≡ read.refusal)
   refused-is n e = go (reads text) refl
     where
-      go : (t : Taken) → reads text ≡ t → (t ≡ broken) × (n ≡ 10)
+      go : (t : Taken) → reads text ≡ t → (t ≡ broken) × (n ≡ read.refusal)
       go broken is =
-          let both : Reading·.Refused 10 ≡ Reading·.Refused n = sym (answer-is ∙ ap read.answerOf is) ∙ e in
+          let both : Reading·.Refused read.refusal ≡ Reading·.Refused n = sym (answer-is ∙ ap read.answerOf is) ∙ e in
           (refl, cc)
       go (layout k) is =
           let both : Reading·.Counts (length (k .first)) (length (k .second)) ≡ Reading·.Refused n =
@@ -171,7 +174,7 @@ module _ (text : List ℕ) (r : Reading) (first second : List Float) (l : read.R
     where
       go : (t : Taken) → reads text ≡ t → ⊥
       go broken is =
-          let both : Reading·.Refused 10 ≡ Reading·.NoRoom = sym (answer-is ∙ ap read.answerOf is) ∙ e in
+          let both : Reading·.Refused read.refusal ≡ Reading·.NoRoom = sym (answer-is ∙ ap read.answerOf is) ∙ e in
           let z : _≡_ {A = ℕ} 0 1 = cc in
           omega (arith, z)
       go (layout k) is =
@@ -182,12 +185,12 @@ module _ (text : List ℕ) (r : Reading) (first second : List Float) (l : read.R
 
 -- ---- the answer to a text
 module _ (text old : List ℕ) (r : Written) (now : List ℕ) where
-  pub broken-answer : (n : ℕ) → room ≤ length old → reads text ≡ broken → n ≡ 10 → RefusalLine n r old now
+  pub broken-answer : (n : ℕ) → room ≤ length old → reads text ≡ broken → n ≡ read.refusal → RefusalLine n r old now
       → AnswerTo text r old now
   unfolding answerTo
-  broken-answer n h is e l = rw is (refusal-line 10 old h r now (rw e at l))
+  broken-answer n h is e l = rw is (refusal-line read.refusal old h r now (rw e at l))
 
   pub listed-answer : (n m : ℕ) (first second : List Float) → Fronts text n m first second
-      → LinesFor (take (n * 3) first) (take (m * 3) second) r old now → AnswerTo text r old now
+      → LinesFor (take (n * numbersAVertex) first) (take (m * numbersAVertex) second) r old now → AnswerTo text r old now
   unfolding answerTo
   listed-answer n m first second f l = rw (f .reads-it) (rw (f .first-front, f .second-front) at l)

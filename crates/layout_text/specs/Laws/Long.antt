@@ -1,4 +1,4 @@
--- The length of a text: every layout within the limits has a text of at most 12,808 bytes, so none is refused for its length.
+-- The length of a text: every layout within the limits has a shorter text than is allowed, so none is refused for its length.
 use Prim.Native.Nat.{ℕ, zero, suc, _+_, _*_, _/_, _%_, _^_, _≤_, _<_}
 use mathlib.Core.Path.{_≡_}
 use mathlib.Core.Bool.{Bool, true, false, not}
@@ -8,10 +8,18 @@ use native.Mathlib.Omega.{arith}
 use lib.Dec.{T, ltb, ltb→lt, nltb→le}
 use lib.ListN.{length, length-append}
 use lib.IntN.{ℤ, pos, negsuc}
+use Rattle.layout_text.specs.Limits as limit
 use Rattle.layout_text.specs.Layout.{Vertex, Layout, VertexWithin, EachWithin, none, more, Within, magnitude}
 use Rattle.layout_text.specs.Decimal.{decimal}
 use Rattle.layout_text.specs.Form.{wholeText, vertexText, verticesText, textOf}
 use Rattle.layout_text.specs.Laws.Decimal.{decimal-small, decimal-large}
+
+-- the most bytes of a vertex's line, and of the line with the counts
+abbrev pub vertexLine : ℕ
+vertexLine = 25
+
+abbrev pub countsLine : ℕ
+countsLine = 8
 
 -- a number below 10 ^ (k + 1) has at most k + 1 digits
 pub decimal-long : (k n : ℕ) → n < 10 ^ suc k → length (decimal n) ≤ suc k
@@ -32,7 +40,7 @@ unfolding wholeText
 whole-long k (pos n) h = omega (arith, decimal-long k n h)
 whole-long k (negsuc n) h = omega (arith, decimal-long k (suc n) h)
 
-vertex-long : (v : Vertex) → VertexWithin v → length (vertexText v) ≤ 25
+vertex-long : (v : Vertex) → VertexWithin v → length (vertexText v) ≤ vertexLine
 unfolding vertexText
 vertex-long v w =
     let x = whole-long 6 (v .x) (omega (arith, w .x-within)) in
@@ -40,7 +48,7 @@ vertex-long v w =
     let b = whole-long 4 (v .bulge) (omega (arith, w .bulge-within)) in
     simp length-append (omega arith)
 
-vertices-long : (vs : List Vertex) → EachWithin vs → length (verticesText vs) ≤ 25 * length vs
+vertices-long : (vs : List Vertex) → EachWithin vs → length (verticesText vs) ≤ vertexLine * length vs
 unfolding verticesText
 vertices-long [] none = omega arith
 vertices-long (v ∷ vs) (more w ws) =
@@ -48,7 +56,7 @@ vertices-long (v ∷ vs) (more w ws) =
     let rest = vertices-long vs ws in
     simp length-append (omega arith)
 
-pub text-long : (l : Layout) → Within l → length (textOf l) ≤ 12_808
+pub text-long : (l : Layout) → Within l → length (textOf l) ≤ countsLine + 2 * limit.vertices * vertexLine
 unfolding textOf
 text-long l w =
     let n = decimal-long 2 (length (l .first)) (omega (arith, w .first-count)) in

@@ -20,7 +20,7 @@ use Rattle.checks.specs.Laws.Later.{alone-fine}
 use Rattle.paths.specs.Segments.{segmentCount}
 use Rattle.listing_pairs.specs.declared.row.Row.{Row}
 use Rattle.listing_pairs.specs.declared.row.Look.{Look}
-use Rattle.listing_pairs.specs.Row.{indicesOf, pointsOf, numbersOfRows}
+use Rattle.listing_pairs.specs.Row.{indicesARow, pointsARow, indicesOf, pointsOf, numbersOfRows}
 use Rattle.listing_pairs.specs.Order.{Pair, mutualPairs}
 use Rattle.listing_pairs.specs.Rows.{rowsOf, lookedAt}
 use Rattle.listing_pairs.specs.Look.{look}
@@ -59,10 +59,12 @@ module _ (rows : List Row) (looked : ℕ) (i₀ : List ℕ) (p₀ : List Float) 
   of-checked (Bad fault) h = record { few = λ n m e. absurd (never e); indices = refl; points = refl }
   of-checked Fine h =
       let fits = within rows i₀ p₀ (h refl) in
+      let wide = flat-length indicesOf indicesARow (λ r. refl) rows in
+      let long = flat-length pointsOf pointsARow (λ r. refl) rows in
       record {
         few = λ n m e. omega (arith, fits, same-rows e);
-        indices = over-long i₀ (numbersOfRows indicesOf rows) (omega (arith, fits, flat-length indicesOf 3 (λ r. refl) rows));
-        points = over-long p₀ (numbersOfRows pointsOf rows) (omega (arith, fits, flat-length pointsOf 4 (λ r. refl) rows));
+        indices = over-long i₀ (numbersOfRows indicesOf rows) (omega (arith, fits, wide));
+        points = over-long p₀ (numbersOfRows pointsOf rows) (omega (arith, fits, long));
       }
 
 outcome-fits : (checks : List Checked) (f : ℕ → ℕ → Look) (ps : List Pair) (i₀ : List ℕ) (p₀ : List Float)

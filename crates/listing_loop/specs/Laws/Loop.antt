@@ -9,6 +9,7 @@ use lib.Dec.{eqb}
 use lib.Ieee.{Float}
 use lib.ListN.{length}
 use lib.Seq.{length-sets}
+use Rattle.paths.specs.Path.{mostVertices}
 use Rattle.listing_pairs.specs.declared.row.Row.{Row}
 use Rattle.listing_pairs.specs.declared.row.Look.{Look}
 use Rattle.listing_pairs.specs.declared.row.Look.the-variants.{Passed, Nothing, Made}
@@ -21,7 +22,10 @@ use Rattle.listing_loop.specs.Workings.Pages.{Page, page, joins, few-loo
 use Rattle.listing_loop.specs.Workings.Filling as filling
 use Rattle.listing_loop.specs.Workings.Filling.{Left, Filled}
 
--- ---- at most 4,096 by 4,096 pairs
+-- ---- at most as many pairs as each segment of one path with each of another
+abbrev pub mostPairs : ℕ
+mostPairs = mostVertices * mostVertices
+
 pub to-within : (job : Job) (i : ℕ) → job_of.to job i ≤ job .m
 unfolding job_of.to
 to-within job i = go (job .own && job .closed && eqb i 0) (job .m)
@@ -37,8 +41,8 @@ few-left job i j =
     let same : job .m ≤ job .m = omega arith in
     omega (arith, some, mul-le-mul fewer same)
 
-pub few-on-page : (look : ℕ → ℕ → Look) (job : Job) (i j room : ℕ) → job .n ≤ 4096 → job .m ≤ 4096
-    → page look (job_of.left job i j) room .looked ≤ 16777216
+pub few-on-page : (look : ℕ → ℕ → Look) (job : Job) (i j room : ℕ) → job .n ≤ mostVertices → job .m ≤ mostVertices
+    → page look (job_of.left job i j) room .looked ≤ mostPairs
 few-on-page look job i j room n m =
     let ps = job_of.left job i j in
     omega (arith, joins look ps room .looked, few-looked look ps, few-left job i j, mul-le-mul n m)
@@ -72,7 +76,7 @@ starts look job write at room startI startJ i₀ p₀ h w =
 module _ {look : ℕ → ℕ → Look} {job : Job} {write : Bool} {at room startI startJ : ℕ} {i₀ : List ℕ} {p₀ : List Float}
     {i j rows pairs : ℕ} {l : List ℕ} {p : List Float}
     (s : State look job write at room startI startJ i₀ p₀ i j rows pairs l p) where
-  pub few : job .n ≤ 4096 → job .m ≤ 4096 → pairs ≤ 16777216
+  pub few : job .n ≤ mostVertices → job .m ≤ mostVertices → pairs ≤ mostPairs
   few n m = omega (arith, s .left .looked, few-on-page look job startI startJ (room - at) n m)
 
   pub ends : job .n ≤ i

@@ -11,10 +11,11 @@ use lib.Ieee.{Float}
 use lib.ListN.{length, length-append}
 use lib.Seq.{paste, sets}
 use Rattle.checks.specs.Fault.{refuse}
+use Rattle.paths.specs.Path.{mostVertices}
 use Rattle.listing_pairs.specs.declared.row.Row.{Row}
 use Rattle.listing_pairs.specs.declared.row.Look.{Look}
 use Rattle.listing_pairs.specs.declared.order.Job.{Job}
-use Rattle.listing_pairs.specs.Row.{indicesOf, pointsOf, numbersOfRows}
+use Rattle.listing_pairs.specs.Row.{indicesARow, pointsARow, indicesOf, pointsOf, numbersOfRows}
 use Rattle.listing_pairs.specs.Order.{Pair, pairsFrom}
 use Rattle.listing_pairs.specs.Rows.{rowsOf, lookedAt}
 use Rattle.listing_pairs.specs.Workings.Job as job_of
@@ -33,10 +34,14 @@ use Rattle.listing_loop.specs.Workings.Pages.{
   few-rows,
 }
 use Rattle.listing_loop.specs.Workings.Filling.{Filled}
-use Rattle.listing_loop.specs.Laws.Loop.{few-left, few-on-page}
+use Rattle.listing_loop.specs.Laws.Loop.{mostPairs, few-left, few-on-page}
 use Rattle.listing_outcomes.specs.declared.answer.ListingAnswer.the-variants.{Refused, Listed}
 use Rattle.listing_outcomes.specs.Outcome.{Outcome, Leaves, overwrite, room, roomCheck, outcomeOf}
 use Rattle.listing_outcomes.specs.Laws.Overwrite.{sets-over, paste-over, paste-all, over-all, sets-beyond}
+
+-- how many rows are held back while it is not known that all fit
+abbrev pub heldRows : ℕ
+heldRows = 2048
 
 -- a listing of checked paths
 abbrev pub listed : (ℕ → ℕ → Look) → List Pair → List ℕ → List Float → Outcome
@@ -62,10 +67,10 @@ module _ (look : ℕ → ℕ → Look) (ps : List Pair) (i₀ : List ℕ) (p₀ 
 
   -- ---- the numbers of rows that fit
   -- both slices have room for n rows
-  pub fit-indices : (n : ℕ) → n ≤ room i₀ p₀ → n * 3 ≤ length i₀
+  pub fit-indices : (n : ℕ) → n ≤ room i₀ p₀ → n * indicesARow ≤ length i₀
   fit-indices n h = omega (arith, h)
 
-  pub fit-points : (n : ℕ) → n ≤ room i₀ p₀ → n * 4 ≤ length p₀
+  pub fit-points : (n : ℕ) → n ≤ room i₀ p₀ → n * pointsARow ≤ length p₀
   fit-points n h = omega (arith, h)
 
   -- ---- no pair remains after a page with room for k rows
@@ -90,8 +95,8 @@ module _ (look : ℕ → ℕ → Look) (ps : List Pair) (i₀ : List ℕ) (p₀ 
         → Leaves (listed look ps i₀ p₀) (Listed n m) i p
     on-one-page n m i p a b c d =
         is-listed few n m i p (omega (arith, a, ap length all)) (b ∙ whole-looked look j ended)
-        (c ∙ stored-all indicesOf 3 (λ r. refl) i₀ (fit-indices (length rows) few))
-        (d ∙ stored-all pointsOf 4 (λ r. refl) p₀ (fit-points (length rows) few))
+        (c ∙ stored-all indicesOf indicesARow (λ r. refl) i₀ (fit-indices (length rows) few))
+        (d ∙ stored-all pointsOf pointsARow (λ r. refl) p₀ (fit-points (length rows) few))
 
     -- one kind of numbers, stored in a buffer a and copied from there
     copied-all : {A : Type 0} (numbers : Row → List A) (width : ℕ) → ((r : Row) → length (numbers r) ≡ width)
@@ -107,15 +112,15 @@ module _ (look : ℕ → ℕ → Look) (ps : List Pair) (i₀ : List ℕ) (p₀ 
 
     -- filled into other slices, which have room for k rows, and copied
     pub held-back : (n m : ℕ) (a₀ a i : List ℕ) (b₀ b p : List Float) → n ≡ 0 + length (q .rows) → m ≡ q .looked
-        → k * 3 ≤ length a₀ → k * 4 ≤ length b₀
+        → k * indicesARow ≤ length a₀ → k * pointsARow ≤ length b₀
         → a ≡ sets a₀ 0 (numbersOfRows indicesOf (q .rows)) → b ≡ sets b₀ 0 (numbersOfRows pointsOf (q .rows))
-        → i ≡ paste i₀ 0 a (n * 3) → p ≡ paste p₀ 0 b (n * 4)
+        → i ≡ paste i₀ 0 a (n * indicesARow) → p ≡ paste p₀ 0 b (n * pointsARow)
         → Leaves (listed look ps i₀ p₀) (Listed n m) i p
     held-back n m a₀ a i b₀ b p e f x y c d g h =
         let count : n ≡ length rows = omega (arith, e, ap length all) in
         is-listed few n m i p count (f ∙ whole-looked look j ended)
-        (g ∙ copied-all indicesOf 3 (λ r. refl) i₀ a₀ a n count x c)
-        (h ∙ copied-all pointsOf 4 (λ r. refl) p₀ b₀ b n count y d)
+        (g ∙ copied-all indicesOf indicesARow (λ r. refl) i₀ a₀ a n count x c)
+        (h ∙ copied-all pointsOf pointsARow (λ r. refl) p₀ b₀ b n count y d)
 
 -- ---- filled from the first pair on
 module _ (look : ℕ → ℕ → Look) (job : Job) where
@@ -129,7 +134,7 @@ module _ (look : ℕ → ℕ → Look) (job : Job) where
       → Filled job true 0 (page look (job_of.every job) k) r i₀ i p₀ p
   filled-first start k r i₀ i p₀ p e f = rw (from-first start e, sub-zero k) at f
 
-  pub few-on-every : (k : ℕ) → job .n ≤ 4096 → job .m ≤ 4096 → page look (job_of.every job) k .looked ≤ 16777216
+  pub few-on-every : (k : ℕ) → job .n ≤ mostVertices → job .m ≤ mostVertices → page look (job_of.every job) k .looked ≤ mostPairs
   few-on-every k n m =
       let start = job_of.from job 0 in
       omega (
@@ -164,7 +169,8 @@ just-all numbers width each rows old k n l =
 
 -- a page that fills slices with exactly its room, after which pairs remain
 pub hold : (look : ℕ → ℕ → Look) (job : Job) (k m : ℕ) (r : Filling) (a₀ a : List ℕ) (b₀ b : List Float) → m ≡ k
-    → Filled job true 0 (page look (job_of.every job) m) r a₀ a b₀ b → r .ended ≡ false → length a₀ ≡ k * 3 → length b₀ ≡ k * 4
+    → Filled job true 0 (page look (job_of.every job) m) r a₀ a b₀ b → r .ended ≡ false
+    → length a₀ ≡ k * indicesARow → length b₀ ≡ k * pointsARow
     → Held look job k (r .i) (r .j) (r .pairs) a b
 hold look job k m r a₀ a b₀ b same g e x y =
     let f = rw same at g in
@@ -176,8 +182,8 @@ hold look job k m r a₀ a b₀ b same g e x y =
       rest = f .rest;
       more = more;
       pairs = f .pairs;
-      indices = f .indices ∙ just-all indicesOf 3 (λ r. refl) (q .rows) a₀ k n x;
-      points = f .points ∙ just-all pointsOf 4 (λ r. refl) (q .rows) b₀ k n y;
+      indices = f .indices ∙ just-all indicesOf indicesARow (λ r. refl) (q .rows) a₀ k n x;
+      points = f .points ∙ just-all pointsOf pointsARow (λ r. refl) (q .rows) b₀ k n y;
     }
 
 module _ {look : ℕ → ℕ → Look} {job : Job} {k i j m : ℕ} {a : List ℕ} {b : List Float} (held : Held look job k i j m a b) where
@@ -194,11 +200,15 @@ module _ {look : ℕ → ℕ → Look} {job : Job} {k i j m : ℕ} {a : List ℕ
   count-front : length (front .rows) ≡ k
   count-front = joins look ps k .full (held .more) .0
 
-  pub held-indices : length a ≡ k * 3
-  held-indices = ap length (held .indices) ∙ flat-length indicesOf 3 (λ r. refl) (front .rows) ∙ ap (λ (n : ℕ). n * 3) count-front
+  pub held-indices : length a ≡ k * indicesARow
+  held-indices =
+      ap length (held .indices) ∙ flat-length indicesOf indicesARow (λ r. refl) (front .rows)
+      ∙ ap (λ (n : ℕ). n * indicesARow) count-front
 
-  pub held-points : length b ≡ k * 4
-  held-points = ap length (held .points) ∙ flat-length pointsOf 4 (λ r. refl) (front .rows) ∙ ap (λ (n : ℕ). n * 4) count-front
+  pub held-points : length b ≡ k * pointsARow
+  held-points =
+      ap length (held .points) ∙ flat-length pointsOf pointsARow (λ r. refl) (front .rows)
+      ∙ ap (λ (n : ℕ). n * pointsARow) count-front
 
   module _ (i₀ : List ℕ) (p₀ : List Float) (fits : k ≤ room i₀ p₀) where
     -- the page after it
@@ -252,16 +262,16 @@ module _ {look : ℕ → ℕ → Look} {job : Job} {k i j m : ℕ} {a : List ℕ
 
       -- u and v: the slices after the held-back rows are copied to their fronts
       pub behind-listed : (n l : ℕ) (u x : List ℕ) (v y : List Float) → n ≡ k + length (behind .rows) → l ≡ m + behind .looked
-          → u ≡ paste i₀ 0 a (k * 3) → v ≡ paste p₀ 0 b (k * 4)
-          → x ≡ sets u (k * 3) (numbersOfRows indicesOf (behind .rows))
-          → y ≡ sets v (k * 4) (numbersOfRows pointsOf (behind .rows))
+          → u ≡ paste i₀ 0 a (k * indicesARow) → v ≡ paste p₀ 0 b (k * pointsARow)
+          → x ≡ sets u (k * indicesARow) (numbersOfRows indicesOf (behind .rows))
+          → y ≡ sets v (k * pointsARow) (numbersOfRows pointsOf (behind .rows))
           → Leaves (listed look ps i₀ p₀) (Listed n l) x y
       behind-listed n l u x v y count pairs to-u to-v to-x to-y =
           let all = room i₀ p₀ in
-          let front-indices = ap (λ (d : List ℕ). sets d (k * 3) (numbersOfRows indicesOf (behind .rows))) to-u in
-          let front-points = ap (λ (d : List Float). sets d (k * 4) (numbersOfRows pointsOf (behind .rows))) to-v in
+          let front-indices = ap (λ (d : List ℕ). sets d (k * indicesARow) (numbersOfRows indicesOf (behind .rows))) to-u in
+          let front-points = ap (λ (d : List Float). sets d (k * pointsARow) (numbersOfRows pointsOf (behind .rows))) to-v in
           let long-indices = fit-indices look ps i₀ p₀ all (le-refl all) in
           let long-points = fit-points look ps i₀ p₀ all (le-refl all) in
           is-listed look ps i₀ p₀ (omega (arith, count-both, few-behind)) n l x y (count ∙ sym count-both) (pairs ∙ sym looked)
-          (to-x ∙ front-indices ∙ stored-both indicesOf 3 (λ r. refl) i₀ a (held .indices) long-indices)
-          (to-y ∙ front-points ∙ stored-both pointsOf 4 (λ r. refl) p₀ b (held .points) long-points)
+          (to-x ∙ front-indices ∙ stored-both indicesOf indicesARow (λ r. refl) i₀ a (held .indices) long-indices)
+          (to-y ∙ front-points ∙ stored-both pointsOf pointsARow (λ r. refl) p₀ b (held .points) long-points)

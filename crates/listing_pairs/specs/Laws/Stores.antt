@@ -37,6 +37,21 @@ module _ {A : Type 0} where
       let all : k ≡ n = omega arith in s .front ∙ ap (paste before 0 from) all
 
   -- ---- stores
+  -- one after the other, from a place on
+  pub three-set : (l : List A) (at : ℕ) (x y z : A) → set (set (set l at x) (at + 1) y) (at + 2) z ≡ sets l at (x ∷ y ∷ z ∷ [])
+  three-set l at x y z =
+      let one : at + 1 ≡ suc at = omega arith in
+      let two : at + 2 ≡ suc (suc at) = omega arith in
+      rw (one, two) refl
+
+  pub four-set : (l : List A) (at : ℕ) (x y z w : A)
+      → set (set (set (set l at x) (at + 1) y) (at + 2) z) (at + 3) w ≡ sets l at (x ∷ y ∷ z ∷ w ∷ [])
+  four-set l at x y z w =
+      let one : at + 1 ≡ suc at = omega arith in
+      let two : at + 2 ≡ suc (suc at) = omega arith in
+      let three : at + 3 ≡ suc (suc (suc at)) = omega arith in
+      rw (one, two, three) refl
+
   pub sets-append : (l : List A) (i : ℕ) (vs ws : List A) → sets (sets l i vs) (i + length vs) ws ≡ sets l i (vs ++ ws)
   sets-append l i [] ws = ap (λ (k : ℕ). sets l k ws) (add-zero i)
   sets-append l i (v ∷ vs) ws =

@@ -19,20 +19,26 @@ use Rattle.listing_pairs.specs.Workings.Ready as paths
 abbrev pub ofSegment : Segment → Float → Kept
 ofSegment s epsilon = keptOf (s .v1) (s .v2) epsilon
 
+-- how many numbers are kept of a segment
+abbrev pub numbersKept : ℕ
+numbersKept = 3
+
 -- ---- three numbers
 unfoldable pub keptAt : List Float → ℕ → Kept
 keptAt l j =
-    let at = j * 3 in
+    let at = j * numbersKept in
     record {
       «radius_or_slope» = getD l at nan;
       «center_x_or_root» = getD l (at + 1) nan;
       «center_y_or_zero» = getD l (at + 2) nan;
     }
 
+-- stored from a place on
+abbrev putAt : List Float → ℕ → Kept → List Float
+putAt l at k = set (set (set l at (k .«radius_or_slope»)) (at + 1) (k .«center_x_or_root»)) (at + 2) (k .«center_y_or_zero»)
+
 abbrev put : List Float → ℕ → Kept → List Float
-put l j k =
-    let at = j * 3 in
-    set (set (set l at (k .«radius_or_slope»)) (at + 1) (k .«center_x_or_root»)) (at + 2) (k .«center_y_or_zero»)
+put l j k = putAt l (j * numbersKept) k
 
 -- the numbers of the first m segments
 unfoldable pub keep : List Float → ℕ → Float → List Float → List Float
@@ -40,17 +46,16 @@ keep path zero epsilon l = l
 keep path (suc j) epsilon l = put (keep path j epsilon l) j (ofSegment (segmentFrom path j) epsilon)
 
 -- ---- stored and read
-put-length : (l : List Float) (j : ℕ) (k : Kept) → length (put l j k) ≡ length l
-put-length l j k =
-    length-set (set (set l (j * 3) (k .«radius_or_slope»)) (j * 3 + 1) (k .«center_x_or_root»)) (j * 3 + 2)
-    (k .«center_y_or_zero»)
-    ∙ length-set (set l (j * 3) (k .«radius_or_slope»)) (j * 3 + 1) (k .«center_x_or_root»)
-    ∙ length-set l (j * 3) (k .«radius_or_slope»)
+put-length : (l : List Float) (at : ℕ) (k : Kept) → length (putAt l at k) ≡ length l
+put-length l at k =
+    length-set (set (set l at (k .«radius_or_slope»)) (at + 1) (k .«center_x_or_root»)) (at + 2) (k .«center_y_or_zero»)
+    ∙ length-set (set l at (k .«radius_or_slope»)) (at + 1) (k .«center_x_or_root»)
+    ∙ length-set l at (k .«radius_or_slope»)
 
 pub keep-length : (path : List Float) (m : ℕ) (epsilon : Float) (l : List Float) → length (keep path m epsilon l) ≡ length l
 unfolding keep
 keep-length path zero epsilon l = refl
-keep-length path (suc j) epsilon l = put-length (keep path j epsilon l) j _ ∙ keep-length path j epsilon l
+keep-length path (suc j) epsilon l = put-length (keep path j epsilon l) (j * numbersKept) _ ∙ keep-length path j epsilon l
 
 -- a number before the three is unchanged
 before : (l : List Float) (a n : ℕ) (x y z : Float) → n < a
@@ -61,7 +66,7 @@ before l a n x y z h =
     ∙ getD-set-other l a n x nan (λ (e : n ≡ a). omega arith)
 
 -- the three
-module _ (l : List Float) (a : ℕ) (x y z : Float) (room : a + 3 ≤ length l) where
+module _ (l : List Float) (a : ℕ) (x y z : Float) (room : a + numbersKept ≤ length l) where
   first-is : getD (set (set (set l a x) (a + 1) y) (a + 2) z) a nan ≡ x
   first-is =
       getD-set-other (set (set l a x) (a + 1) y) (a + 2) a z nan (λ (e : a ≡ a + 2). omega arith)
@@ -97,24 +102,25 @@ three a b e f g =
       «center_y_or_zero» = x;
     }) g
 
-put-same : (l : List Float) (j : ℕ) (k : Kept) → suc j * 3 ≤ length l → keptAt (put l j k) j ≡ k
+put-same : (l : List Float) (j : ℕ) (k : Kept) → suc j * numbersKept ≤ length l → keptAt (put l j k) j ≡ k
 unfolding keptAt
 put-same l j k h =
-    let room : j * 3 + 3 ≤ length l = omega arith in
+    let at = j * numbersKept in
+    let room : at + numbersKept ≤ length l = omega arith in
     three _ k
-    (first-is l (j * 3) (k .«radius_or_slope») (k .«center_x_or_root») (k .«center_y_or_zero») room)
-    (second-is l (j * 3) (k .«radius_or_slope») (k .«center_x_or_root») (k .«center_y_or_zero») room)
-    (third-is l (j * 3) (k .«radius_or_slope») (k .«center_x_or_root») (k .«center_y_or_zero») room)
+    (first-is l at (k .«radius_or_slope») (k .«center_x_or_root») (k .«center_y_or_zero») room)
+    (second-is l at (k .«radius_or_slope») (k .«center_x_or_root») (k .«center_y_or_zero») room)
+    (third-is l at (k .«radius_or_slope») (k .«center_x_or_root») (k .«center_y_or_zero») room)
 
 put-other : (l : List Float) (i j : ℕ) (k : Kept) → i < j → keptAt (put l j k) i ≡ keptAt l i
 unfolding keptAt
 put-other l i j k h =
     three _ _
-    (before l (j * 3) (i * 3) _ _ _ (omega arith))
-    (before l (j * 3) (i * 3 + 1) _ _ _ (omega arith))
-    (before l (j * 3) (i * 3 + 2) _ _ _ (omega arith))
+    (before l (j * numbersKept) (i * numbersKept) _ _ _ (omega arith))
+    (before l (j * numbersKept) (i * numbersKept + 1) _ _ _ (omega arith))
+    (before l (j * numbersKept) (i * numbersKept + 2) _ _ _ (omega arith))
 
-pub keep-at : (path : List Float) (m : ℕ) (epsilon : Float) (l : List Float) → m * 3 ≤ length l → (j : ℕ) → j < m
+pub keep-at : (path : List Float) (m : ℕ) (epsilon : Float) (l : List Float) → m * numbersKept ≤ length l → (j : ℕ) → j < m
     → keptAt (keep path m epsilon l) j ≡ ofSegment (segmentFrom path j) epsilon
 unfolding keep
 keep-at path zero epsilon l h j b = absurd (omega arith)
@@ -134,8 +140,7 @@ keep-at path (suc m) epsilon l h j b =
 -- one turn of the loop that stores them
 pub keep-more : (path l now : List Float) (j : ℕ) (epsilon : Float) (s : Segment) (k : Kept)
     → now ≡ keep path j epsilon l → s ≡ segmentFrom path j → k ≡ ofSegment s epsilon
-    → set (set (set now (j * 3) (k .«radius_or_slope»)) (j * 3 + 1) (k .«center_x_or_root»)) (j * 3 + 2) (k .«center_y_or_zero»)
-    ≡ keep path (j + 1) epsilon l
+    → put now j k ≡ keep path (j + 1) epsilon l
 unfolding keep
 keep-more path l now j epsilon s k e f g =
     ap (λ (a : List Float). put a j k) e
@@ -144,14 +149,14 @@ keep-more path l now j epsilon s k e f g =
 
 -- ---- what a listing's loop needs: checked paths, and what is kept of the second
 pub record Keeps (second kept : List Float) (job : Job) : Type 0 where
-  pub room : job .m * 3 ≤ length kept
+  pub room : job .m * numbersKept ≤ length kept
   pub at : (j : ℕ) → j < job .m → keptAt kept j ≡ ofSegment (segmentFrom second j) (job .epsilon)
 
 pub record Ready (first second kept : List Float) (job : Job) : Type 0 where
   pub pairs : paths.Ready first second job
   pub keeps : Keeps second kept job
 
-pub kept-ready : (first second l kept : List Float) (job : Job) → paths.Ready first second job → job .m * 3 ≤ length l
+pub kept-ready : (first second l kept : List Float) (job : Job) → paths.Ready first second job → job .m * numbersKept ≤ length l
     → kept ≡ keep second (job .m) (job .epsilon) l → Ready first second kept job
 kept-ready first second l kept job ready room e =
     record {

@@ -12,7 +12,7 @@ use Rattle.checks.specs.Calls.{checkPlineSeg}
 use Rattle.crossing.specs.PlineSeg.{plineSeg}
 use Rattle.fast_pair.specs.Laws.AllFine.{Sound, look-fine}
 use Rattle.paths.specs.declared.path.Segment.{Segment}
-use Rattle.paths.specs.Path.{vertexCount}
+use Rattle.paths.specs.Path.{mostVertices, vertexCount}
 use Rattle.paths.specs.Segments.{segmentFrom, segmentCount}
 use Rattle.paths.specs.Laws.Segments.{count-within, few-segments}
 use Rattle.paths.specs.Laws.Fine.{SegmentFine, PathFine, arc-fine, segment-fine}
@@ -44,8 +44,8 @@ pub record SegmentReady (v : Segment) (second : List Float) (job : Job) : Type 0
 pub record Ready (first second : List Float) (job : Job) : Type 0 where
   pub n-within : job .n ≤ vertexCount first
   pub m-within : job .m ≤ vertexCount second
-  pub few : job .n ≤ 4096
-  pub few-second : job .m ≤ 4096
+  pub few : job .n ≤ mostVertices
+  pub few-second : job .m ≤ mostVertices
   pub fine : (i j : ℕ) → i < job .n → j < job .m → PairFine (segmentFrom first i) (segmentFrom second j) (job .epsilon)
 
 pub at-segment : (v : Segment) (first second : List Float) (job : Job) (i : ℕ) → Ready first second job → i < job .n

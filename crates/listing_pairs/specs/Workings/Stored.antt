@@ -3,7 +3,7 @@
 use mathlib.Core.Path.{_≡_, refl, ap, _∙_}
 use mathlib.Core.Bool.{Bool, true, false}
 use mathlib.Core.List.{List, [], _∷_, append-nil}
-use Prim.Native.Nat.{ℕ, suc, _+_, _*_}
+use Prim.Native.Nat.{ℕ, _+_, _*_}
 use native.Mathlib.Nat.{add-mul}
 use native.Mathlib.Omega.{arith}
 use lib.Ieee.{Float}
@@ -11,7 +11,7 @@ use lib.ListN.{length, set}
 use lib.Seq.{sets}
 use Rattle.listing_pairs.specs.declared.row.Row.{Row}
 use Rattle.listing_pairs.specs.Row.{indicesARow, pointsARow, indicesOf, pointsOf, numbersOfRows}
-use Rattle.listing_pairs.specs.Laws.Stores.{sets-append}
+use Rattle.listing_pairs.specs.Laws.Stores.{sets-append, three-set, four-set}
 
 -- the rows that are written: all of them, or none if rows are only counted
 abbrev pub kept : Bool → List Row → List Row
@@ -48,20 +48,13 @@ putPoints write l k r = stored pointsOf pointsARow write l k (r ∷ [])
 -- ---- what a row's stores leave, written out one by one
 module _ (k : ℕ) (r : Row) (write : Bool) (e : write ≡ true) where
   pub put-indices : (l : List ℕ)
-      → set (set (set l (k * 3) (r .i)) (k * 3 + 1) (r .j)) (k * 3 + 2) (r .class) ≡ putIndices write l k r
-  put-indices l =
-      let one : k * 3 + 1 ≡ suc (k * 3) = omega arith in
-      let two : k * 3 + 2 ≡ suc (suc (k * 3)) = omega arith in
-      rw (e, one, two) refl
+      → (let at = k * indicesARow in set (set (set l at (r .i)) (at + 1) (r .j)) (at + 2) (r .class) ≡ putIndices write l k r)
+  put-indices l = rw e (three-set l (k * indicesARow) (r .i) (r .j) (r .class))
 
   pub put-points : (l : List Float)
-      → set (set (set (set l (k * 4) (r .x1)) (k * 4 + 1) (r .y1)) (k * 4 + 2) (r .x2)) (k * 4 + 3) (r .y2)
-      ≡ putPoints write l k r
-  put-points l =
-      let one : k * 4 + 1 ≡ suc (k * 4) = omega arith in
-      let two : k * 4 + 2 ≡ suc (suc (k * 4)) = omega arith in
-      let three : k * 4 + 3 ≡ suc (suc (suc (k * 4))) = omega arith in
-      rw (e, one, two, three) refl
+      → (let at = k * pointsARow in
+      set (set (set (set l at (r .x1)) (at + 1) (r .y1)) (at + 2) (r .x2)) (at + 3) (r .y2) ≡ putPoints write l k r)
+  put-points l = rw e (four-set l (k * pointsARow) (r .x1) (r .y1) (r .x2) (r .y2))
 
 -- and if nothing is written
 module _ (k : ℕ) (r : Row) (write : Bool) (e : write ≡ false) where

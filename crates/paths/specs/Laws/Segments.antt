@@ -9,7 +9,7 @@ use lib.Dec.{ltb}
 use lib.Ieee.{Float}
 use borrow.Author.Tests.{ltb-true, ltb-false}
 use Rattle.checks.specs.Laws.Fine.{neither}
-use Rattle.paths.specs.Path.{most, vertexCount}
+use Rattle.paths.specs.Path.{mostVertices, vertexCount}
 use Rattle.paths.specs.Shape.{broken, tooLong, refused}
 use Rattle.paths.specs.Segments.{segmentCount, after}
 
@@ -31,16 +31,16 @@ after-within path i h = go (ltb (i + 1) (vertexCount path)) (ltb-true (i + 1) (v
     go true below = below refl
     go false below = omega (arith, h)
 
-pub few-vertices : (path : List Float) → refused path ≡ false → vertexCount path ≤ most
+pub few-vertices : (path : List Float) → refused path ≡ false → vertexCount path ≤ mostVertices
 unfolding refused
-few-vertices path e = ltb-false most (vertexCount path) (neither (broken path) (tooLong path) .0 e .1)
+few-vertices path e = ltb-false mostVertices (vertexCount path) (neither (broken path) (tooLong path) .0 e .1)
 
-pub few-segments : (path : List Float) (closed : Bool) → segmentCount path closed ≤ most
+pub few-segments : (path : List Float) (closed : Bool) → segmentCount path closed ≤ mostVertices
 unfolding segmentCount
 few-segments path closed = go (refused path) (few-vertices path) (ltb (vertexCount path) 2) closed (vertexCount path) refl
   where
-    go : (a : Bool) → (a ≡ false → vertexCount path ≤ most) → (b c : Bool) (n : ℕ) → n ≡ vertexCount path
-        → cond a 0 (cond b 0 (cond c n (n - 1))) ≤ most
+    go : (a : Bool) → (a ≡ false → vertexCount path ≤ mostVertices) → (b c : Bool) (n : ℕ) → n ≡ vertexCount path
+        → cond a 0 (cond b 0 (cond c n (n - 1))) ≤ mostVertices
     go true few b c n e = omega arith
     go false few true c n e = omega arith
     go false few false true n e = omega (arith, few refl, e)

@@ -9,24 +9,25 @@ use borrow.Author.Tests.{ne-eqb}
 use lib.Dec.{lit≤}
 use lib.ListN.{length}
 use Rattle.answer_lines.specs.Lines.{classText}
+use Rattle.answer_lines.specs.Sizes.{name}
 use Rattle.answer_lines.specs.Workings.Put.{Put, PutIn}
 use Rattle.answer_lines.specs.Laws.Put.{word-in}
 use Rattle.answer_lines.proofs.rows.put_class.Statement.{statement}
 use Rattle.answer_lines.proofs.rows.put_class.Tie as tie
 
--- a class's name has at most seven bytes
-either : (test : Bool) (a b : List ℕ) → length a ≤ 7 → length b ≤ 7 → length (cond test a b) ≤ 7
+-- a class's name is no longer than the longest
+either : (test : Bool) (a b : List ℕ) → length a ≤ name → length b ≤ name → length (cond test a b) ≤ name
 either true a b h k = h
 either false a b h k = k
 
-short : (class : ℕ) → length (classText class) ≤ 7
+short : (class : ℕ) → length (classText class) ≤ name
 unfolding classText
 short class = search (either, lit≤) depth 8
 
 -- the name of n, put where the class is n
 named : (class n : ℕ) (old now : List ℕ) (at next : ℕ) → class ≡ n → Put (classText n) old at now next
-    → PutIn 7 (classText class) old at now next
-named class n old now at next e p = rw e (word-in 7 p (short n))
+    → PutIn name (classText class) old at now next
+named class n old now at next e p = rw e (word-in name p (short n))
 
 pub put-class-spec : {M : Type 1} → statement M
 unfolding classText
@@ -48,4 +49,4 @@ put-class-spec =
       ne-eqb _ 3 (test .before .before .if3 .left),
       ne-eqb _ 4 (test .before .if4 .left),
       ne-eqb _ 5 (test .if5 .left),
-    ) (word-in 7 (put .put-word6 .ensures) (omega arith))))
+    ) (word-in name (put .put-word6 .ensures) (omega arith))))

@@ -8,4 +8,4 @@ pub coordinate-spec : {M : Type 1} → statement M
 unfolding coordinate
 coordinate-spec =
     tie.close
-    (tie.spec (λ c. search needs) (λ c. search needs) (λ c. simp (← c .before .beyond .ensures, ← c .finite-then .ensures)))
+    (tie.spec (λ c. search needs) (λ c. search needs) (λ c. simp (c .before .beyond .ensures, c .finite-then .ensures)))

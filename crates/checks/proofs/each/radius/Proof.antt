@@ -8,4 +8,4 @@ pub radius-spec : {M : Type 1} → statement M
 unfolding radius
 radius-spec =
     tie.close
-    (tie.spec (λ c. search needs) (λ c. search needs) (λ c. simp (← c .before .outside .ensures, ← c .finite-then .ensures)))
+    (tie.spec (λ c. search needs) (λ c. search needs) (λ c. simp (c .before .outside .ensures, c .finite-then .ensures)))

@@ -6,6 +6,7 @@ use native.Mathlib.Nat.{sub-zero}
 use native.Mathlib.Omega.{arith}
 use borrow.Author.Needs.{needs}
 use lib.ListN.{length, drop, length-set}
+use Rattle.layout_text.specs.Limits.{numbersAVertex}
 use Rattle.layout_text.specs.Workings.Reader.{verticesOf}
 use Rattle.layout_text.proofs.VertexLines.{stored, store-broken, store-line, store-end, filled-broken, filled-end}
 use Rattle.layout_text.proofs.vertex.fill.Statement.{statement}
@@ -13,7 +14,7 @@ use Rattle.layout_text.proofs.vertex.fill.Tie as tie
 
 abbrev Inv-loop : tie.InvT-loop
 Inv-loop text start n out₀ at₀ to₀ i₀ out at to i =
-    (to ≡ i * 3) × (length out ≡ length out₀)
+    (to ≡ i * numbersAVertex) × (length out ≡ length out₀)
     × (stored (verticesOf (n - i) (drop at text)) out to ≡ stored (verticesOf n (drop start text)) out₀ 0)
 
 abbrev μ-loop : tie.MeasureT-loop

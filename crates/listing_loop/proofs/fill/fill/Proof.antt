@@ -9,7 +9,8 @@ use lib.Ieee.{Float}
 use Rattle.listing_pairs.specs.Look.{look}
 use Rattle.listing_pairs.specs.Workings.Job as job_of
 use Rattle.listing_pairs.specs.Workings.Ready.{at-segment, look-on}
-use Rattle.listing_loop.specs.Laws.Loop.{State, to-within, starts, few, ends, next-i, passes, looks, makes, stops}
+use Rattle.listing_loop.specs.Laws.Loop.{mostPairs, State, to-within, starts, few, ends, next-i, passes, looks, makes}
+use Rattle.listing_loop.specs.Laws.Loop.{stops}
 use Rattle.listing_loop.proofs.fill.fill.Statement.{statement}
 use Rattle.listing_loop.proofs.fill.fill.Tie as tie
 
@@ -72,7 +73,7 @@ seen c =
     let s = c .before .before .before .before .before in
     sym (look-on _ _ _ _ _ _ (s .segment-from .ensures)) ∙ sym (c .look .ensures)
 
-few-pairs : (c : At-loop2) → c .loop2 .pairs ≤ 16777216
+few-pairs : (c : At-loop2) → c .loop2 .pairs ≤ mostPairs
 few-pairs c = let ready = start (outer c) .pre .0 .pairs in few (inner c) (ready .few) (ready .few-second)
 
 loop-holds : tie.Need-loop-holds Inv-loop2 μ-loop2 Inv-loop μ-loop

@@ -1,17 +1,22 @@
 -- `listing_outcomes::buffer::list` meets its contract: what is kept is that of the second path's segments, and the listing is
 -- that of `list_kept`.
 use mathlib.Core.Path.{_≡_}
+use Prim.Native.Nat.{ℕ, _*_}
 use native.Mathlib.Omega.{arith}
 use lib.Ieee.{Float, binary64, ofBits}
 use lib.ListN.{length, replicate, length-replicate}
-use Rattle.listing_pairs.specs.Workings.Keeping.{kept-ready}
+use Rattle.paths.specs.Path.{mostVertices}
+use Rattle.listing_pairs.specs.Workings.Keeping.{numbersKept, kept-ready}
 use borrow.Author.Needs.{needs}
 use Rattle.listing_outcomes.proofs.buffer.list.Statement.{statement}
 use Rattle.listing_outcomes.proofs.buffer.list.Tie as tie
 
 -- the numbers, at first
-long : length (let z : Float = ofBits binary64 0 in replicate 12288 z) ≡ 12288
-long = let z : Float = ofBits binary64 0 in length-replicate 12288 z
+abbrev all : ℕ
+all = mostVertices * numbersKept
+
+long : length (let z : Float = ofBits binary64 0 in replicate all z) ≡ all
+long = let z : Float = ofBits binary64 0 in length-replicate all z
 
 keep-requires : tie.Need-keep-requires
 keep-requires c κs =

@@ -1,15 +1,23 @@
 -- `listing_outcomes::buffer::list_behind` meets its contract: counting leaves the slices as they were; where the rest ends on its
 -- page, the rows that were held back and those of that page are all rows.
 use mathlib.Core.Path.{_≡_, sym, ap, _∙_}
-use Prim.Native.Nat.{ℕ, _+_, _-_}
+use Prim.Native.Nat.{ℕ, _+_, _*_, _-_}
 use native.Mathlib.Omega.{arith}
 use borrow.Author.Needs.{needs}
 use denote.Ref.{now}
 use lib.ListN.{length}
 use lib.Seq.{paste}
+use Rattle.listing_pairs.specs.Row.{indicesARow, pointsARow}
 use Rattle.listing_pairs.specs.Look.{look}
 use Rattle.listing_loop.specs.Laws.Loop.{few-on-page}
-use Rattle.listing_outcomes.specs.Workings.Outcome.{few-on-every, held-indices, held-points, behind-listed, behind-refused}
+use Rattle.listing_outcomes.specs.Workings.Outcome.{
+  heldRows,
+  few-on-every,
+  held-indices,
+  held-points,
+  behind-listed,
+  behind-refused,
+}
 use Rattle.listing_outcomes.proofs.buffer.list_behind.Statement.{statement}
 use Rattle.listing_outcomes.proofs.buffer.list_behind.Tie as tie
 
@@ -29,15 +37,17 @@ same-points c = c .fill .ensures .points
 -- the rows that were held back are copied
 copied-indices : (c : tie.After-copy-rows)
     → (let a = start (counted c) .args in
-    c .copy-rows .last .1 .1 .1 .0 ≡ paste (now (a .indices)) 0 (now (a .held-indices)) 6144)
+    c .copy-rows .last .1 .1 .1 .0 ≡ paste (now (a .indices)) 0 (now (a .held-indices)) (heldRows * indicesARow))
 copied-indices c =
-    c .copy-rows .ensures .0 ∙ ap (λ l. paste l 0 (now (start (counted c) .args .held-indices)) 6144) (same-indices (counted c))
+    c .copy-rows .ensures .0
+    ∙ ap (λ l. paste l 0 (now (start (counted c) .args .held-indices)) (heldRows * indicesARow)) (same-indices (counted c))
 
 copied-points : (c : tie.After-copy-rows)
     → (let a = start (counted c) .args in
-    c .copy-rows .last .1 .1 .1 .1 .0 ≡ paste (now (a .points)) 0 (now (a .held-points)) 8192)
+    c .copy-rows .last .1 .1 .1 .1 .0 ≡ paste (now (a .points)) 0 (now (a .held-points)) (heldRows * pointsARow))
 copied-points c =
-    c .copy-rows .ensures .1 ∙ ap (λ l. paste l 0 (now (start (counted c) .args .held-points)) 8192) (same-points (counted c))
+    c .copy-rows .ensures .1
+    ∙ ap (λ l. paste l 0 (now (start (counted c) .args .held-points)) (heldRows * pointsARow)) (same-points (counted c))
 
 fill-requires : tie.Need-fill-requires
 fill-requires c κs =
@@ -68,8 +78,8 @@ add-t29 c =
     let F = look (now (a .first)) (now (a .second)) (a .job .epsilon) in
     let ready = s .pre .0 .pairs in
     let held = s .pre .1 .1 .1 in
-    let few = few-on-every F (a .job) 2048 (ready .few) (ready .few-second) in
-    let more = few-on-page F (a .job) (a .i) (a .j) (a .room - 2048) (ready .few) (ready .few-second) in
+    let few = few-on-every F (a .job) heldRows (ready .few) (ready .few-second) in
+    let more = few-on-page F (a .job) (a .i) (a .j) (a .room - heldRows) (ready .few) (ready .few-second) in
     omega (arith, held .pairs, few, k .fill2 .ensures .pairs, more)
 
 returns : tie.Need-returns

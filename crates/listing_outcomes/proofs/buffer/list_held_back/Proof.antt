@@ -3,7 +3,7 @@
 use mathlib.Core.Path.{_≡_, refl, sym, ap, _∙_}
 use mathlib.Core.Bool.{true}
 use mathlib.Core.List.{List}
-use Prim.Native.Nat.{ℕ, _≤_}
+use Prim.Native.Nat.{ℕ, _*_, _≤_}
 use native.Mathlib.Omega.{arith}
 use borrow.Author.Needs.{needs}
 use denote.Ref.{now}
@@ -12,12 +12,12 @@ use lib.ListN.{length, replicate, length-replicate}
 use lib.Seq.{length-sets}
 use Rattle.listing_pairs.specs.declared.row.Look.{Look}
 use Rattle.listing_pairs.specs.Order.{Pair}
-use Rattle.listing_pairs.specs.Row.{indicesOf, pointsOf, numbersOfRows}
+use Rattle.listing_pairs.specs.Row.{indicesARow, pointsARow, indicesOf, pointsOf, numbersOfRows}
 use Rattle.listing_pairs.specs.Look.{look}
 use Rattle.listing_pairs.specs.Workings.Job as job_of
 use Rattle.listing_loop.specs.Workings.Pages.{Page, page, joins, too-many}
 use Rattle.listing_loop.specs.Workings.Filling.{Filled}
-use Rattle.listing_outcomes.specs.Workings.Outcome.{filled-first, is-refused, held-back, hold}
+use Rattle.listing_outcomes.specs.Workings.Outcome.{heldRows, filled-first, is-refused, held-back, hold}
 use Rattle.listing_outcomes.proofs.buffer.list_held_back.Statement.{statement}
 use Rattle.listing_outcomes.proofs.buffer.list_held_back.Tie as tie
 
@@ -26,16 +26,16 @@ start c = c .before .before .before .before .before .before .before .before .bef
 
 -- the buffer, at first
 abbrev no-indices : List ℕ
-no-indices = replicate 6144 0
+no-indices = replicate (heldRows * indicesARow) 0
 
 abbrev no-points : List Float
-no-points = replicate 8192 (ofBits binary64 0)
+no-points = replicate (heldRows * pointsARow) (ofBits binary64 0)
 
-long-no-indices : length no-indices ≡ 6144
-long-no-indices = let z : ℕ = 0 in length-replicate 6144 z
+long-no-indices : length no-indices ≡ heldRows * indicesARow
+long-no-indices = let z : ℕ = 0 in length-replicate (heldRows * indicesARow) z
 
-long-no-points : length no-points ≡ 8192
-long-no-points = let z : Float = ofBits binary64 0 in length-replicate 8192 z
+long-no-points : length no-points ≡ heldRows * pointsARow
+long-no-points = let z : Float = ofBits binary64 0 in length-replicate (heldRows * pointsARow) z
 
 -- the pairs, and the page of them that the buffer is
 abbrev looks : tie.After-fill → ℕ → ℕ → Look
@@ -62,11 +62,11 @@ done c =
 few : (c : tie.After-fill) → c .fill .result .rows ≤ most c
 few c = omega (arith, done c .rows, joins (looks c) (pairs c) (most c) .few)
 
-long-indices : (c : tie.After-fill) → length (c .fill .last .1 .1 .1 .1 .1 .1 .1 .1 .1 .0) ≡ 6144
+long-indices : (c : tie.After-fill) → length (c .fill .last .1 .1 .1 .1 .1 .1 .1 .1 .1 .0) ≡ heldRows * indicesARow
 long-indices c =
     ap length (done c .indices) ∙ length-sets no-indices 0 (numbersOfRows indicesOf (front c .rows)) ∙ long-no-indices
 
-long-points : (c : tie.After-fill) → length (c .fill .last .1 .1 .1 .1 .1 .1 .1 .1 .1 .1 .0) ≡ 8192
+long-points : (c : tie.After-fill) → length (c .fill .last .1 .1 .1 .1 .1 .1 .1 .1 .1 .1 .0) ≡ heldRows * pointsARow
 long-points c = ap length (done c .points) ∙ length-sets no-points 0 (numbersOfRows pointsOf (front c .rows)) ∙ long-no-points
 
 fill-requires : tie.Need-fill-requires
@@ -110,8 +110,8 @@ list-behind-requires : tie.Need-list-behind-requires
 list-behind-requires c κs =
     let o = c .before .before .before .before in
     let f = o .before .before .before .before in
-    let all : most f ≡ 2048 = omega (arith, f .before .before .before .lesser .ensures, o .if2 .left) in
-    let behind = hold (looks f) (start f .args .job) 2048 (most f) (f .fill .result) no-indices _ no-points _ all (done f)
+    let all : most f ≡ heldRows = omega (arith, f .before .before .before .lesser .ensures, o .if2 .left) in
+    let behind = hold (looks f) (start f .args .job) heldRows (most f) (f .fill .result) no-indices _ no-points _ all (done f)
     (o .before .if1 .left) long-no-indices long-no-points in
     (start f .pre .0, (start f .pre .1, (omega (arith, o .if2 .left), behind)))
 

@@ -7,13 +7,13 @@ use native.Mathlib.Nat.{sub-zero}
 use borrow.Author.Needs.{needs}
 use borrow.Author.Tests.{eq-eqb, ne-eqb}
 use lib.ListN.{length}
-use Rattle.records.specs.Text.{fieldsFrom, isLine}
+use Rattle.records.specs.Text.{fieldBytes, fieldsFrom, isLine}
 use Rattle.records.proofs.Fields.{at-end, at-number, at-broken, at-other}
 use Rattle.records.proofs.text.is_line.Statement.{statement}
 use Rattle.records.proofs.text.is_line.Tie as tie
 
 abbrev Inv-loop : tie.InvT-loop
-Inv-loop body n i₀ i = (i ≤ n) × (length body ≡ n * 17) × (fieldsFrom n body (n - i) i ≡ isLine n body)
+Inv-loop body n i₀ i = (i ≤ n) × (length body ≡ n * fieldBytes) × (fieldsFrom n body (n - i) i ≡ isLine n body)
 
 abbrev μ-loop : tie.MeasureT-loop
 μ-loop body n i₀ i = n - i
