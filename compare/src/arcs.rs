@@ -1,6 +1,5 @@
-//! Tries how often touching segments with arcs are missed, and how far apart reported ones are: an exact judge in whole
-//! numbers, against the proved library and, where it is compiled in, the Rust text. The two answer alike; that they do is
-//! counted too.
+//! Searches how often touching segments with arcs are missed, and how far apart reported ones are. An exact judge in whole
+//! numbers judges the proved library and, where it is compiled in, the Rust text. Whether the two answer the same is counted too.
 
 mod aim;
 mod apart;
@@ -24,18 +23,19 @@ use report::Report;
 
 type Caller = (&'static str, fn(&Pair) -> u64);
 
-/// Judges the answers to `count` pairs, as many of each kind. Answers how many were beyond what the search allows: missed where
-/// none may be, reported too far apart, refused, or not the same from both.
+/// Judges the answers to `count` pairs, as many of each kind. Answers how many broke the rules of the search: a miss that may not
+/// be, a report too far apart, a refusal, or two different answers.
 pub fn run(count: u64, seed: u64) -> u64 {
     judge_all(&callers(), count, seed)
 }
 
-/// Climbs down to the least radii that are missed, by so many turns for each.
+/// Searches the least radii that are missed, with this many turns for each.
 pub fn climb(turns: u64, seed: u64) {
     climb::climb(ours, turns, seed);
 }
 
-/// Asks again, in other ways, about the missed ones of `count` pairs; and how far apart short parallel lines are reported.
+/// Asks again, in other ways, about the missed ones of `count` pairs; and measures how far apart short parallel lines are
+/// reported.
 pub fn cures(count: u64, seed: u64) {
     cures::run(count, seed);
     cures::short_lines();
@@ -59,7 +59,7 @@ fn judge_all(callers: &[Caller], count: u64, seed: u64) -> u64 {
     if differ > 0 {
         println!("{differ} pairs are answered by two classes");
     }
-    // where all answer alike, so are the tables
+    // if all answers are the same, so are the tables
     reports[0].print_tables();
     reports.iter().map(Report::print).sum::<u64>() + differ
 }
@@ -86,7 +86,7 @@ fn numbers(pair: &Pair) -> [f64; 13] {
     segments(cures::floats(pair.v), cures::floats(pair.u), pair.epsilon)
 }
 
-/// What our library answers to two segments in floats, the first of them before or behind the other.
+/// What our library answers to two segments in floats; `before` says that the first comes first.
 fn told(one: Floats, other: Floats, before: bool, epsilon: f64) -> u64 {
     let (v, u) = if before { (one, other) } else { (other, one) };
     capi::vj_pair(segments(v, u, epsilon), &mut [0.0; 4])

@@ -1,4 +1,4 @@
-//! Places one segment beside another by construction: a given point of it at a given distance, its way at a given angle.
+//! Places one segment beside another: a given point of it at a given distance, and its direction at a given angle.
 
 use super::apart::{size, Shape};
 use super::draw::parts::{bent, signed, spread};
@@ -8,18 +8,18 @@ use crate::rng::Rng;
 use crate::search::plane::Spot;
 
 pub struct Aim {
-    /// The first segment's, 0 for a line's.
+    /// The first segment's radius, 0 for a line.
     pub radius: f64,
     /// The second segment's chord and bulge, not below 0.
     pub chord: (i64, i64),
     pub n: i64,
     /// Where on the second segment: -1 is its start, 1 its end.
     pub along: f64,
-    /// Half the angle's tangent by which the second one's way turns from the first one's there.
+    /// The tangent of half the angle by which the second one's direction turns from the first one's there.
     pub turn: f64,
     /// The first runs the other way.
     pub backward: bool,
-    /// How far the second one's place is to lie beyond the first segment, by its own way: less than 0 is before it.
+    /// How far the second one's place should lie beyond the first segment, along its own direction: below 0 is before it.
     pub beyond: (f64, f64),
     /// Where on the first segment, from -1 to 1.
     pub place: f64,
@@ -58,7 +58,7 @@ pub fn aimed(rng: &mut Rng, aim: &Aim) -> Option<(Piece, Piece)> {
     let shape = Shape::of(first);
     let (x, y) = (first.to.x - first.from.x, first.to.y - first.from.y);
     let (place, ahead) = at(float((x, y)), shape.bulge, aim.place);
-    // beyond is on the left where the second one turns left, and the other way round before its start
+    // beyond is on the left if the second one turns left; before its start it is the other way round
     let side = if (aim.turn < 0.0) != aim.backward {
         -1.0
     } else {
@@ -118,7 +118,7 @@ fn laid(rng: &mut Rng, aim: &Aim, way: Way) -> Option<Piece> {
     ((dx, dy) != (0, 0)).then_some(Piece { from, to, n })
 }
 
-/// A few steps aside and along, after which the distance is nearest to the wanted one, or within the width of it.
+/// A few steps aside and along, so that the distance is nearest to the wanted one, or within the width of it.
 fn stepped(
     rng: &mut Rng,
     now: f64,
@@ -135,7 +135,7 @@ fn stepped(
         (radius.sqrt() as i64).min(STEPS)
     };
     let steep = normal.0.abs() > normal.1.abs();
-    // along the axis that the way is nearer to, and across it
+    // along the axis nearer to the way, and across it
     let (by_step, across) = if steep {
         (normal.1, normal.0)
     } else {
@@ -155,7 +155,7 @@ fn stepped(
             start + i
         };
         let s = step as f64;
-        // so far along, the arc has bent to the left
+        // this far along, the arc has bent to the left
         let along = s / step_ahead;
         let aside = ((wanted - now - s * by_step + bend * along * along) / across).round();
         let along = s * step_ahead + aside * across_ahead;

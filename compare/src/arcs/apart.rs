@@ -1,4 +1,5 @@
-//! How far apart two segments are that share no point, in floats: to some 2^-16 at the largest radii, far better below.
+//! How far apart two segments are that share no point, in floats: with an error of some 2^-16 at the largest radii, and far less
+//! below.
 
 use super::piece::Piece;
 
@@ -55,8 +56,8 @@ impl Shape {
         self.bulge == 0.0
     }
 
-    /// The distance from the circle, below 0 inside it; from a line, below 0 right of it. Not by the difference of a distance
-    /// and the radius, which for a flat arc leaves few digits.
+    /// The distance from the circle, below 0 inside it; from a line, below 0 right of it. It is not the difference of a distance
+    /// and the radius, which has few digits for a flat arc.
     pub fn off(&self, p: Point) -> f64 {
         let chord = less(self.to, self.from);
         let (a, b) = (less(p, self.from), less(p, self.to));

@@ -1,5 +1,4 @@
-//! Climbs down to the least radius at which a touching pair is missed: each miss that is found sets the next radius to try
-//! below it.
+//! Searches the least radius at which a touching pair is missed: each miss sets the next radius to try below it.
 
 use super::aim::{aimed, Aim};
 use super::draw::joints::{exactly, nearly, Lengths};
@@ -10,7 +9,7 @@ use super::piece::Piece;
 use super::rules::{largest, roundings};
 use crate::rng::Rng;
 
-/// What a caller answers where it finds nothing.
+/// What a call answers if it finds nothing.
 const NONE: u64 = 0;
 
 /// The radii of small arcs, and the lengths of lines, by powers of two.
@@ -21,8 +20,8 @@ const EPSILONS: [i32; 6] = [10, 8, 6, 4, 2, 1];
 
 type Call = fn(&Pair) -> u64;
 
-/// Prints the least radius that was missed, for each epsilon and small arc, and for each epsilon and length of a line, with the
-/// pair; beside it the constant c for which the formula gives that radius.
+/// Prints the least missed radius for each epsilon and small arc, and for each epsilon and length of a line, with the pair, and
+/// the constant c with which the formula gives that radius.
 pub fn climb(call: Call, turns: u64, seed: u64) {
     println!(
         "two arcs: radius r of the small one | epsilon | least R | c of R^2 = 2 r epsilon 2^53 / c"
@@ -72,7 +71,7 @@ fn print(what: f64, epsilon: f64, found: Option<Pair>) {
     println!("| {what} | 1/{} | {told} |", 1.0 / epsilon);
 }
 
-/// The missed pair of the least radius. Draws are asked for below the least so far, and either segment is the first.
+/// The missed pair with the least radius. Each draw is below the least so far, and either segment comes first.
 fn descend(
     call: Call,
     turns: u64,

@@ -1,4 +1,4 @@
-//! What helps where a touching pair is missed: the missed ones of the search, asked about again in other ways.
+//! What helps if a touching pair is missed: the missed pairs of the search, asked about again in other ways.
 
 use super::aim::at;
 use super::draw::{self, Pair, GRID_EPSILON, KINDS};
@@ -29,7 +29,7 @@ impl Again {
     }
 }
 
-/// What is missed in either order and has no end in common, and the least radius of these.
+/// Pairs that are missed in either order and share no end, and the least radius of these.
 #[derive(Clone, Copy)]
 struct Rest {
     pairs: u64,
@@ -74,7 +74,7 @@ const WAYS: [&str; 9] = [
     "the larger arc cut in eight, off the grid",
 ];
 
-/// Asks again about every missed pair among `count` that the search draws, and prints what was found then.
+/// Asks again about every missed pair among `count` drawn ones, and prints what is found then.
 pub fn run(count: u64, seed: u64) {
     let mut rng = Rng::new(seed);
     let mut again = [[Again::default(); WAYS.len()]; 2];
@@ -158,7 +158,7 @@ pub fn floats(s: Piece) -> Floats {
     [x, y, z, w, s.bulge()]
 }
 
-/// In pieces, each through the same angle about.
+/// The arc in pieces of about the same angle.
 fn cut(s: Piece) -> [Floats; CUT] {
     let s = s.turned();
     let b = s.bulge();
@@ -182,7 +182,7 @@ fn cut(s: Piece) -> [Floats; CUT] {
     })
 }
 
-/// The same with each end and each bulge at the nearest of the form; a bulge below half a step is a line's.
+/// The same, with each end and each bulge rounded to the form; a bulge below half a step makes a line.
 fn cut_on_grid(s: Piece) -> [Piece; CUT] {
     cut(s).map(|[x, y, z, w, bulge]| {
         let spot = |x: f64, y: f64| Spot {
@@ -197,7 +197,8 @@ fn cut_on_grid(s: Piece) -> [Piece; CUT] {
     })
 }
 
-/// Two parallel lines off the grid, side by side: how far apart at most they are still reported, for lines of each length.
+/// Two parallel lines off the grid, side by side: the greatest distance at which they are still reported, for lines of each
+/// length.
 pub fn short_lines() {
     println!("two parallel lines of one length, side by side: length | epsilon | reported up to a distance of");
     for epsilon in [1.0 / 1024.0, 1.0 / 64.0, 0.5] {

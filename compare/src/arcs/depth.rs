@@ -5,7 +5,7 @@ use super::piece::Piece;
 use super::whole::Whole;
 use crate::search::plane::Spot;
 
-/// Binary digits of a root behind the point.
+/// How many binary digits of a root are computed after the point.
 const DIGITS: u32 = 64;
 
 /// The largest distance of a crossing inside both from the nearest of the four ends, to some 15 digits. Not for two lines.

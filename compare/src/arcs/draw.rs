@@ -1,5 +1,5 @@
-//! Pairs of segments to try, each with an arc but for the last kind: of each kind those on which a slip would show. No more than
-//! + - * / and roots is used, so that a seed gives the same pairs on every machine.
+//! Pairs of segments to try; all kinds except the last have an arc, and each kind would show a certain slip. Only + - * / and
+//! roots are used, so that a seed gives the same pairs on every machine.
 
 mod circles;
 pub mod joints;
@@ -19,7 +19,7 @@ pub const FAR: i64 = 1 << 20;
 /// The largest radius of the form: the longest chord with the least bulge.
 pub const WIDEST: f64 = 5.0e10;
 
-/// The least epsilon that is not refused, and the least of those that are promised something on the grid.
+/// The least epsilon that is not refused, and the least for which the grid has a promise.
 const LEAST_EPSILON: f64 = 1.0 / (1u64 << 40) as f64;
 pub const GRID_EPSILON: f64 = 1.0 / 1024.0;
 
@@ -76,7 +76,7 @@ pub fn pair(kind: usize, rng: &mut Rng) -> Pair {
     Pair { v, u, epsilon }
 }
 
-/// As for lines, from 1/1024 to 1/2; one in eight is a finer one, down to the least that is not refused.
+/// As for lines, from 1/1024 to 1/2; one in eight is finer, down to the least that is not refused.
 fn epsilon(rng: &mut Rng) -> f64 {
     if rng.one_in(8) {
         spread(rng, LEAST_EPSILON, GRID_EPSILON)
@@ -221,7 +221,7 @@ fn place(rng: &mut Rng) -> f64 {
     }
 }
 
-/// Coordinates at the limit or one below, at 0 or 1, now and then any; bulges likewise.
+/// Coordinates at the limit or one below it, at 0 or 1, now and then any; the same for bulges.
 fn at_limit(rng: &mut Rng, _: f64) -> Option<(Piece, Piece)> {
     let one = |rng: &mut Rng, most: i64| {
         let size = match rng.below(8) {

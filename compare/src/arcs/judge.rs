@@ -1,4 +1,4 @@
-//! Do two segments share a point? Decided exactly, by whole numbers: where a root stands in a sum, its sign is told by squares.
+//! Whether two segments share a point, decided exactly by whole numbers: squares decide the sign of a sum with a root.
 
 use super::piece::{Circle, Piece, ONE};
 use super::whole::Whole;
@@ -8,9 +8,9 @@ use std::cmp::Ordering;
 /// How two segments share a point.
 #[derive(Clone, Copy, Debug, PartialEq, Eq)]
 pub enum Way {
-    /// They have an end in common, and go on in one another's direction there or turn back in it: their tangents are parallel.
+    /// They share an end, and continue each other's direction there or turn back in it: their tangents are parallel.
     Joint,
-    /// They have an end in common, at an angle.
+    /// They share an end, at an angle.
     Corner,
     /// An end of one lies on the other, not at its end.
     End,
@@ -28,7 +28,7 @@ pub const WAYS: [(Way, &str); 5] = [
     (Way::Cross, "crossing inside both"),
 ];
 
-/// Where they meet inside both, if they do: the points of `spots` at the roots of `roots` by these signs.
+/// Where they meet inside both, if they do: the points of `spots` at the roots of `roots` with these signs.
 pub struct Inside {
     pub spots: Spots,
     pub roots: Roots,
@@ -50,7 +50,7 @@ pub struct Roots {
     pub under: Whole,
 }
 
-/// Exactly whether they share a point, and how. The first of the ways that fits is told.
+/// Whether they share a point, exactly, and how: the first way that fits.
 pub fn share(v: Piece, u: Piece) -> Option<Way> {
     if let Some(way) = common_end(v, u) {
         return Some(way);
@@ -64,7 +64,7 @@ pub fn share(v: Piece, u: Piece) -> Option<Way> {
     if boxes_apart(v, u) {
         return None;
     }
-    // no end of one lies on the other, so arcs of one circle share nothing, and elsewhere a side of 0 is not met
+    // no end of one lies on the other, so arcs of one circle share nothing, and otherwise no side is 0
     let inside = inside(v, u)?;
     match (inside.signs, inside.roots.under.sign()) {
         ([false, false], _) => None,
@@ -73,11 +73,11 @@ pub fn share(v: Piece, u: Piece) -> Option<Way> {
     }
 }
 
-/// Each arc's chord, wider by its height: of arcs up to half a circle, no more than that.
+/// Whether the boxes are apart: each is the arc's chord, wider by the arc's height. That is enough for arcs up to half a circle.
 fn boxes_apart(v: Piece, u: Piece) -> bool {
     let wide = |s: Piece| {
         let (x, y) = s.chord();
-        // not less than the height: half the chord times the bulge
+        // at least the height, which is half the chord times the bulge
         let up = (x.abs() + y.abs()) as i64 * s.n.abs() / (2 * ONE) + 1;
         let up = if s.is_line() { 0 } else { up };
         let span = |a: i64, b: i64| (a.min(b) - up, a.max(b) + up);
@@ -96,7 +96,7 @@ pub fn lies_on(s: Piece, p: Spot) -> bool {
     c.side(p) <= 0 && c.at(p) == 0
 }
 
-/// Not for a line that is a point, which has no direction: it is an end on the other.
+/// A line that is a point has no direction and is left out: it is an end on the other.
 fn common_end(v: Piece, u: Piece) -> Option<Way> {
     let mut found = None;
     for ((vx, vy), (ux, uy)) in common_ends(v, u) {
@@ -108,7 +108,7 @@ fn common_end(v: Piece, u: Piece) -> Option<Way> {
     found
 }
 
-/// The directions in which the two leave each end that they have in common. None where one is a point.
+/// The directions in which the two leave each shared end. None if one is a point.
 pub fn common_ends(v: Piece, u: Piece) -> impl Iterator<Item = (Direction, Direction)> {
     let both = move |v: Piece| [(v, u), (v, u.reversed())];
     let lines = v.from != v.to && u.from != u.to;
@@ -130,7 +130,7 @@ fn leaving(s: Piece) -> Direction {
     (along * x + right * y, along * y - right * x)
 }
 
-/// None where the circle is not met by the line or the other circle, or has its centre. Not for two lines.
+/// None if the circle does not meet the line or the other circle, or shares its centre. Not for two lines.
 pub fn inside(v: Piece, u: Piece) -> Option<Inside> {
     match (v.is_line(), u.is_line()) {
         (true, _) => line_and_arc(v, u.circle()),
@@ -223,7 +223,7 @@ impl Roots {
 
     /// Whether each x + s y is below 0 at the root s with the plus, or the minus.
     fn below_zero(&self, plus: bool, sums: &[(Whole, Whole)]) -> bool {
-        // s is (-b + r) / 2a, with r the root of what is under it, or its negative
+        // s is (-b + r) / 2a, where r is the root of `under` or its negative
         sums.iter().all(|(x, y)| {
             let two = Whole::from(2).times(&self.a).times(x);
             let y_signed = if plus { *y } else { y.negated() };

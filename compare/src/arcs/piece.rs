@@ -1,5 +1,5 @@
-//! A segment of the program's own form: ends on the grid, and its bulge in 65,536ths. Of an arc all that decides is whole
-//! numbers.
+//! A segment in the program's own form: ends on the grid, and its bulge in 65,536ths. Whole numbers decide everything about an
+//! arc.
 
 use crate::search::plane::Spot;
 
@@ -16,7 +16,7 @@ pub struct Piece {
 
 /// `a x^2 + a y^2 + x gx + y gy + g`, and the side of a chord, `x mx + y my + m`.
 ///
-/// The first is 0 on the arc's circle and below 0 inside it; the second is below 0 where the arc lies, 0 on its ends.
+/// The first is 0 on the arc's circle and below 0 inside it; the second is below 0 on the arc's side and 0 at its ends.
 #[derive(Clone, Copy, Debug)]
 pub struct Circle {
     pub a: i128,
@@ -61,8 +61,8 @@ impl Piece {
         )
     }
 
-    /// Of an arc. A circle through the ends p and q of a chord c is (P - p).(P - q) + k c x (P - p) = 0, and its top lies where
-    /// the bulge b says if k = (b^2 - 1) / 2b. All is multiplied by 2b * 65,536^2.
+    /// The circle of an arc. A circle through the ends p and q of a chord c is (P - p).(P - q) + k c x (P - p) = 0, and its top
+    /// lies where the bulge b says if k = (b^2 - 1) / 2b. Everything is multiplied by 2b * 65,536^2.
     pub fn circle(self) -> Circle {
         let Piece { from, to, n } = self.turned();
         let (n, one) = (i128::from(n), i128::from(ONE));
@@ -81,7 +81,7 @@ impl Piece {
         }
     }
 
-    /// As a layout has its two vertices.
+    /// Its two vertices as in a layout.
     pub fn written(self) -> String {
         let Piece { from, to, n } = self;
         format!("{} {} {n}; {} {} 0", from.x, from.y, to.x, to.y)
@@ -114,7 +114,7 @@ impl Piece {
 }
 
 impl Circle {
-    /// The arc's bulge in 65,536ths, of which `a` is a multiple.
+    /// The arc's bulge in 65,536ths; `a` is a multiple of it.
     pub fn bulge(&self) -> i128 {
         self.a / (2 * i128::from(ONE))
     }

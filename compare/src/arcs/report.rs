@@ -1,5 +1,5 @@
-//! Counts what a search of arcs met: how many pairs share a point, of which how many are missed, by radius, epsilon and kind of
-//! pair; and what is reported though it shares none, with how far apart that is.
+//! Counts what a search of arcs met: how many pairs share a point and how many of these are missed, by radius, epsilon and kind
+//! of pair; and what is reported though it shares no point, with its distance.
 
 mod print;
 
@@ -9,7 +9,7 @@ use super::draw::{Pair, GRID_EPSILON, KINDS};
 use super::judge::{Way, WAYS};
 use super::rules::{largest, may_miss, may_report, roundings};
 
-/// The epsilons are told apart by where they lie: each class ends below the next.
+/// The classes of epsilons: each ends where the next begins.
 pub const CLASSES: [(f64, &str); 8] = [
     (0.0, "below 2^-30"),
     (1.0 / (1u64 << 30) as f64, "below 2^-20"),
@@ -21,10 +21,10 @@ pub const CLASSES: [(f64, &str); 8] = [
     (0.5, "1/2"),
 ];
 
-/// How many of the classes are finer than what is promised of the grid.
+/// How many of the classes are finer than the promise on the grid.
 const FINE: usize = 3;
 
-/// Radii by powers of two: a band is that of radii from 2^k on, the first from 0 on.
+/// Radii by powers of two: a band has the radii from 2^k on, the first one those from 0 on.
 const BANDS: usize = 37;
 
 /// The text program's epsilon.
@@ -32,9 +32,9 @@ const PROGRAM: f64 = GRID_EPSILON;
 
 const SHOWN: u64 = 5;
 
-/// What the pair call answers where it finds nothing.
+/// What the pair call answers if it finds nothing.
 const NONE: u64 = 0;
-/// The classes' numbers end below this one; beyond are refusals.
+/// The numbers of classes are below this one; those from here on are refusals.
 const CLASS_END: u64 = 6;
 
 #[derive(Clone, Copy, Default)]
@@ -43,7 +43,7 @@ struct Cell {
     missed: u64,
     /// The deepest of the missed that cross inside both.
     deepest: f64,
-    /// Reported without a shared point, and the farthest apart, as it is and in epsilons.
+    /// Reported without a shared point, and the greatest distance, as it is and in epsilons.
     apart: u64,
     farthest: f64,
     epsilons: f64,
@@ -63,7 +63,7 @@ const PAIRS: [&str; 3] = ["two lines", "a line and an arc", "two arcs"];
 
 pub struct Report {
     name: &'static str,
-    /// By kind of pair, way, epsilon, radius; without a shared point the way is 0.
+    /// By kind of pair, way, epsilon and radius; the way is 0 if no point is shared.
     cells: Vec<[[Bands; CLASSES.len()]; WAYS.len()]>,
     drawn: [Drawn; KINDS.len()],
     broken: u64,
@@ -103,7 +103,7 @@ impl Report {
         }
     }
 
-    /// Takes an answer's class beside what the judge told.
+    /// Counts an answer's class and what the judge says.
     pub fn take(&mut self, kind: usize, pair: &Pair, way: Option<Way>, class: u64) {
         let arcs = usize::from(!pair.v.is_line()) + usize::from(!pair.u.is_line());
         let at = way.map_or(0, |way| {

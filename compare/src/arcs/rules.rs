@@ -1,19 +1,19 @@
-//! What the search allows: which touching pairs may be missed, and how far apart reported ones may be. It is what was found,
-//! not what is proved, but for two lines.
+//! What the search allows: which touching pairs may be missed, and how far apart reported ones may be. Except for two lines, this
+//! was found, not proved.
 
 use super::draw::{Pair, GRID_EPSILON};
 use super::judge::common_ends;
 
-/// By how many roundings the square of half a chord is taken to be off at most, each its size over 2^53. No pair is missed that
-/// would need more, as far as the search has shown; one that is fails it. Two arcs: counted on paper. A line and an arc: twice
-/// what was found.
+/// By how many roundings, each its size over 2^53, the square of half a chord is off at most. As far as the search has shown, no
+/// pair is missed that would need more; such a miss fails the search. For two arcs it was counted on paper; for a line and an arc
+/// it is twice what was found.
 pub const ARC_ROUNDINGS: f64 = 8.0;
 pub const LINE_ROUNDINGS: f64 = 16.0;
-/// What a rounding is over: 2^53.
+/// The divisor of a rounding: 2^53.
 pub const ROUNDED: f64 = (1u64 << 53) as f64;
 
-/// Up to this radius what is reported is never farther apart than so many epsilons, as far as the search has shown. An end may
-/// be the root of two epsilons from the point that is found: a quarter turn of a circle whose radius is epsilon.
+/// Up to this radius a reported pair is never farther apart than this many epsilons, as far as the search has shown. An end may
+/// lie sqrt(2) epsilons from the found point: a quarter turn of a circle whose radius is epsilon.
 pub const NEAR_RADIUS: f64 = 1_048_576.0;
 pub const NEAR: f64 = 2.0 * std::f64::consts::SQRT_2;
 
@@ -44,8 +44,8 @@ fn far(pair: &Pair) -> f64 {
     far.into_iter().fold(0, i64::max) as f64 + line.length()
 }
 
-/// Whether a pair that shares a point may be missed: where the search has shown that it happens. Not two lines, of which it is
-/// proved.
+/// Whether a pair that shares a point may be missed: the search has shown that it happens. Not two lines with an epsilon of the
+/// promise, for which it is proved that they are not.
 pub fn may_miss(pair: &Pair) -> bool {
     match (pair.v.is_line(), pair.u.is_line()) {
         _ if pair.epsilon < GRID_EPSILON => true,
@@ -55,12 +55,12 @@ pub fn may_miss(pair: &Pair) -> bool {
     }
 }
 
-/// The sine of the widest angle at which a line and an arc may meet at a common end and be missed.
+/// The sine of the widest angle at which a line and an arc may meet at a shared end and be missed.
 fn widest(pair: &Pair) -> f64 {
     LINE_ROUNDINGS * (largest(pair) + far(pair)) / (2.0 * ROUNDED * pair.epsilon)
 }
 
-/// The sine of the widest angle at a common end, 0 where there is none.
+/// The sine of the widest angle at a shared end, 0 if there is none.
 fn angle(pair: &Pair) -> f64 {
     let size = |(x, y): (i128, i128)| ((x * x + y * y) as f64).sqrt();
     common_ends(pair.v, pair.u)

@@ -1,4 +1,4 @@
-//! The stored layouts whose names say that a touching pair is missed: that they are what their names say.
+//! The stored layouts whose names say that a touching pair is missed: a test that they do what their names say.
 
 use super::draw::{Pair, GRID_EPSILON};
 use super::judge::share;
@@ -11,7 +11,7 @@ use std::path::Path;
 /// How the names begin.
 const MISSED: &str = "missed_";
 
-/// The two segments of a text with two vertices a path.
+/// The two segments of a text with two vertices in each path.
 fn pair(text: &str) -> Pair {
     let rows: Vec<Vec<i64>> = text
         .lines()

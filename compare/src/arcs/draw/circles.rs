@@ -1,4 +1,4 @@
-//! Two arcs of one circle, or nearly.
+//! Two arcs of one circle, or nearly of one.
 
 use super::super::piece::{Piece, ONE};
 use super::parts::{sign, signed, spot, spread};
@@ -6,8 +6,8 @@ use super::FAR;
 use crate::rng::Rng;
 use crate::search::plane::Spot;
 
-/// The second arc is the first, moved about its centre by quarter turns or mirrored there, and for a half circle also by the
-/// angle of whole-number triangles; every third time an end or the bulge is a step off.
+/// The second arc is the first one, turned around its centre by quarters or mirrored there; a half circle is also turned by the
+/// angle of whole-number triangles. Every third time an end or the bulge is one step off.
 pub fn draw(rng: &mut Rng, _: f64) -> Option<(Piece, Piece)> {
     let (center, from, to, n) = if rng.one_in(2) {
         half(rng)

@@ -1,4 +1,4 @@
-//! Two segments that share an end and go on in one another's direction there, or nearly.
+//! Two segments that share an end and continue each other's direction there, or nearly.
 
 use super::super::piece::{Piece, ONE};
 use super::parts::{bent, direction, radius, sign, signed, spread};
@@ -35,8 +35,8 @@ pub fn draw(rng: &mut Rng, _: f64) -> Option<(Piece, Piece)> {
     Some((v, u))
 }
 
-/// An arc, and a line or, once in four, another arc from its start along its tangent there. The bulge is a fraction with a
-/// small power of two below, so that this can be exact.
+/// An arc, and from its start along its tangent a line or, once in four, another arc. The bulge is a fraction over a small power
+/// of two, so that this can be exact.
 pub fn exactly(rng: &mut Rng, lengths: &Lengths) -> Option<(Piece, Piece)> {
     let bulge = fraction(rng);
     let most = spread(rng, 1.0, (FAR >> (2 * bulge.1)) as f64) as i64;

@@ -19,7 +19,7 @@ fn every_kind_is_within_the_form() {
     }
 }
 
-/// Each kind meets often what it is there for.
+/// Each kind often meets the case for which it is there.
 #[test]
 fn kinds_do_what_they_say() {
     let mut rng = Rng::new(6);

@@ -1,5 +1,4 @@
-//! Segments that meet at a whole point inside an arc: touching there, ending there, or starting there along the tangent or
-//! nearly.
+//! Segments that meet at a whole point inside an arc: they touch there, end there, or start there along the tangent or nearly.
 
 use super::super::piece::{Piece, ONE};
 use super::parts::{sign, signed, spot, spread};

@@ -1,4 +1,4 @@
-//! Known cases, and wrong answers held against the judge.
+//! Known cases, and wrong answers that the judge must notice.
 
 use super::*;
 use crate::arcs::piece::tests::piece;
@@ -97,7 +97,7 @@ fn the_scopes_examples() {
     assert_eq!(shared(point, piece(0, 0, 2, 0, 0)), Some(Way::End));
 }
 
-/// What the Rust, and we, answer with "none".
+/// Pairs for which the Rust, and we, answer "none".
 #[test]
 fn missed_pairs_share_a_point() {
     let (v, u) = (
@@ -112,7 +112,7 @@ fn missed_pairs_share_a_point() {
     assert_eq!(shared(v, u), Some(Way::Corner));
 }
 
-/// A step of the grid or of the bulge decides, far below what a float would tell.
+/// A step of the grid or of the bulge decides, far below what a float shows.
 #[test]
 fn a_step_decides() {
     // the largest height of the flattest arc: 2^20 / 65,536 * 2 / 2, at (0, -16) from end to end at y = 0
@@ -130,7 +130,8 @@ fn a_step_decides() {
     assert_eq!(shared(flat, piece(1, -17, 5, -16, 100)), None);
 }
 
-/// Against a slower way: both as chains of short lines, of which two cross. Only a pair within some 10^-4 of touching may differ.
+/// Compared with a slower way: both as chains of short lines, two of which cross. Only a pair within some 10^-4 of touching may
+/// differ.
 #[test]
 fn chains_of_lines_agree() {
     let mut rng = Rng::new(9);
