@@ -147,7 +147,7 @@ impl Run {
                 for [first_closed, second_closed] in FLAGS {
                     let mut path = |vertices: usize, closed: bool| {
                         let path = shapes::on_grid(vertices, 2, &mut self.rng);
-                        Drawn::new(&shapes::mended(path), closed)
+                        Drawn::new(&shapes::straightened(path), closed)
                     };
                     let first = path(first, first_closed);
                     let second = path(second, second_closed);
@@ -190,7 +190,7 @@ impl Run {
             let rng = &mut self.rng;
             let mut path = |vertices: usize, closed: bool| {
                 let path = shapes::on_grid(vertices, 1000, rng);
-                Drawn::new(&shapes::mended(path), closed)
+                Drawn::new(&shapes::straightened(path), closed)
             };
             let (long, short) = (path(vertices, flags[0]), path(3, flags[1]));
             let mut faulty = long.clone();

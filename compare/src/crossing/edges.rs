@@ -88,7 +88,7 @@ impl Edge {
     }
 
     /// A quick test decides, which comes first in the pair call and in a listing, but in no kernel.
-    fn at_a_glance(self) -> Edge {
+    fn by_quick_test(self) -> Edge {
         Edge {
             by_kernels: false,
             listed_least: Some(32),

@@ -2,7 +2,7 @@
 //! epsilon; one at a time, and every two at once.
 
 use super::layout::{Drawn, Layout};
-use super::shapes::{mended, on_grid};
+use super::shapes::{straightened, on_grid};
 use crate::crossing::faults::two_to;
 use crate::crossing::specials;
 use crate::inputs::values::epsilon;
@@ -82,7 +82,7 @@ fn numbers(layout: &mut Layout, path: usize) -> &mut Vec<f64> {
 pub fn accepted(vertices: [usize; 2], closed: [bool; 2], rng: &mut Rng) -> Layout {
     let [first, second] = [0, 1].map(|path| {
         let vertices = on_grid(vertices[path], 3, rng);
-        Drawn::new(&mended(vertices), closed[path])
+        Drawn::new(&straightened(vertices), closed[path])
     });
     let epsilon = epsilon(rng);
     Layout {

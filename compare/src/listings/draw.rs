@@ -2,7 +2,7 @@
 
 use super::layout::{Drawn, Layout};
 use super::shapes::{
-    anywhere, arcs, circle, coil, meander, mended, on_grid, placed, polygon, reversed, vertex,
+    anywhere, arcs, circle, coil, meander, straightened, on_grid, placed, polygon, reversed, vertex,
 };
 use crate::inputs::values::{epsilon, nudge, whole};
 use crate::inputs::{Pair, Point, Segment, Vertex};
@@ -53,7 +53,7 @@ pub fn of_pair(pair: &Pair, closed: [bool; 2]) -> Layout {
 pub fn joined(pair: &Pair, closed: bool) -> Layout {
     let path = [pair.v.from, pair.v.to, pair.u.from, pair.u.to];
     Layout {
-        first: Drawn::new(&mended(path.to_vec()), closed),
+        first: Drawn::new(&straightened(path.to_vec()), closed),
         second: Drawn::default(),
         epsilon: pair.epsilon,
     }
@@ -86,7 +86,7 @@ fn size(rng: &mut Rng, most: u64) -> usize {
 }
 
 fn either_way(path: Vec<Vertex>, closed: bool, rng: &mut Rng) -> Drawn {
-    let path = mended(path);
+    let path = straightened(path);
     let path = if rng.one_in(2) { path } else { reversed(&path) };
     Drawn::new(&path, closed)
 }

@@ -184,7 +184,7 @@ pub fn reversed(path: &[Vertex]) -> Vec<Vertex> {
 }
 
 /// Makes a line of each arc whose chord is too short, also of the closing one.
-pub fn mended(mut path: Vec<Vertex>) -> Vec<Vertex> {
+pub fn straightened(mut path: Vec<Vertex>) -> Vec<Vertex> {
     let n = path.len();
     for i in 0..n {
         let chord = path[i].at.to(path[(i + 1) % n].at).length();

@@ -1,7 +1,7 @@
 //! Texts of the right form: random layouts, and layouts with chosen sizes, numbers and rows.
 
 use super::model::{BULGE, COORDINATE, MOST_VERTICES};
-use super::sheet::{bulge, mended, nearest, number, of_numbers, sign, whole, Place, Sheet};
+use super::sheet::{bulge, straightened, nearest, number, of_numbers, sign, whole, Place, Sheet};
 use crate::inputs::Vertex;
 use crate::listings::draw;
 use crate::listings::shapes::{crossed, on_grid};
@@ -70,7 +70,7 @@ pub fn small(rng: &mut Rng) -> Sheet {
         _ => {
             let size = 1 + rng.below(20) as usize;
             let path = on_grid(size, 12, rng);
-            let path = mended(whole(&path, 1.0));
+            let path = straightened(whole(&path, 1.0));
             Sheet::new(path, vec![[-9, -9, 0], [9, 12, 100]])
         }
     }
@@ -98,7 +98,7 @@ fn few(rng: &mut Rng) -> Sheet {
         let mut next = || [number(reach, rng), number(reach, rng), bulge(rng)];
         (0..vertices).map(|_| next()).collect()
     };
-    Sheet::new(path(0), path(1)).map(mended)
+    Sheet::new(path(0), path(1)).map(straightened)
 }
 
 /// Coils, meanders, pads, walks of arcs, random vertices: in whole numbers, with more or less rounding.
@@ -111,7 +111,7 @@ fn as_cut(rng: &mut Rng) -> Sheet {
         let path: Vec<Place> = vertices
             .map(|n| of_numbers([n[0], n[1], n[2]], size))
             .collect();
-        mended(path)
+        straightened(path)
     };
     Sheet::new(path(&layout.first.numbers), path(&layout.second.numbers))
 }
@@ -127,7 +127,7 @@ fn at_limits(rng: &mut Rng) -> Sheet {
         let mut next = || [near(COORDINATE), near(COORDINATE), near(BULGE)];
         (0..vertices).map(|_| next()).collect()
     };
-    Sheet::new(path(0), path(1)).map(mended)
+    Sheet::new(path(0), path(1)).map(straightened)
 }
 
 /// Much touches and overlaps: there may be more rows than there is room for.
@@ -138,7 +138,7 @@ fn coarse(rng: &mut Rng) -> Sheet {
         let vertices = 1 + rng.below(most) as usize;
         whole(&on_grid(vertices, reach, rng), 1.0)
     };
-    Sheet::new(path(0), path(1)).map(mended)
+    Sheet::new(path(0), path(1)).map(straightened)
 }
 
 /// Walks of short steps over a wide sheet, which meet here and there.
@@ -156,7 +156,7 @@ fn any_counts(rng: &mut Rng) -> Sheet {
         };
         (0..vertices).map(|_| next()).collect()
     };
-    Sheet::new(path(0), path(1)).map(mended)
+    Sheet::new(path(0), path(1)).map(straightened)
 }
 
 /// As many vertices as there may be, each number as long as it can be written: no text of the right form is longer. The paths are
@@ -177,7 +177,7 @@ pub fn longest(rng: &mut Rng) -> Sheet {
         };
         (0..MOST_VERTICES).map(&mut next).collect()
     };
-    Sheet::new(path(0), path(1)).map(mended)
+    Sheet::new(path(0), path(1)).map(straightened)
 }
 
 /// A line that ends a little more or less than the epsilon beside another line or an arc; or an arc about as flat as the epsilon,
@@ -196,7 +196,7 @@ fn about_epsilon(rng: &mut Rng) -> Sheet {
         if rng.one_in(2) {
             [from, to] = [[to[0], to[1], -from[2]], [from[0], from[1], 0]];
         }
-        mended(vec![from, to])
+        straightened(vec![from, to])
     };
     let (first, second) = (placed(first), placed(second));
     if rng.one_in(2) {

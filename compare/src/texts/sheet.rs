@@ -73,7 +73,7 @@ pub fn of_numbers([x, y, bulge]: [f64; 3], size: f64) -> Place {
 }
 
 /// Makes a line of each arc whose ends are equal.
-pub fn mended(mut path: Vec<Place>) -> Vec<Place> {
+pub fn straightened(mut path: Vec<Place>) -> Vec<Place> {
     for i in 1..path.len() {
         if path[i - 1][..2] == path[i][..2] {
             path[i - 1][2] = 0;

@@ -33,14 +33,14 @@ module _ (index : List ℕ) (points : List Float) (rows k : ℕ) where
 
 module _ (rowless roomless : Bool) (bytes old : List ℕ) where
   pub no-rows : rowless ≡ true → Lines rowless roomless bytes Written·.NoRows old old
-  no-rows e = record { told = rw e; holds = rw e }
+  no-rows e = record { answer-is = rw e; holds = rw e }
 
   module _ (rowed : rowless ≡ false) where
     pub no-room : roomless ≡ true → Lines rowless roomless bytes Written·.NoRoom old old
-    no-room e = record { told = rw (rowed, e); holds = rw (rowed, e) }
+    no-room e = record { answer-is = rw (rowed, e); holds = rw (rowed, e) }
 
     pub written : roomless ≡ false → (now : List ℕ) (next : ℕ) → Put bytes old 0 now next
         → Lines rowless roomless bytes (Written·.Length next) old now
     written e now next p =
         let long : next ≡ length bytes = omega (arith, p .after) in
-        record { told = rw (rowed, e, long); holds = rw (rowed, e) (p .holds) }
+        record { answer-is = rw (rowed, e, long); holds = rw (rowed, e) (p .holds) }

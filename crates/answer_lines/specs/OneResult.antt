@@ -8,4 +8,4 @@ use Rattle.answer_lines.specs.declared.Written.{Written}
 
 pub lines-one-result : {rowless roomless : Bool} {bytes old a b : List ℕ} {r s : Written}
     → Lines rowless roomless bytes r old a → Lines rowless roomless bytes s old b → (r ≡ s) × (a ≡ b)
-lines-one-result p q = (p .told ∙ sym (q .told), p .holds ∙ sym (q .holds))
+lines-one-result p q = (p .answer-is ∙ sym (q .answer-is), p .holds ∙ sym (q .holds))

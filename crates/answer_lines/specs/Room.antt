@@ -46,7 +46,7 @@ room-for-512 = refl
 
 -- all the bytes stand at the front of the slice, and what follows them is unchanged
 pub record Whole (bytes : List ℕ) (r : Written) (old now : List ℕ) : Type 0 where
-  pub told : r ≡ Written·.Length (length bytes)
+  pub answer-is : r ≡ Written·.Length (length bytes)
   pub inside : length bytes ≤ length old
   pub holds : now ≡ bytes ++ drop (length bytes) old
 
@@ -55,7 +55,7 @@ pub lines-whole : (bytes : List ℕ) (r : Written) (old now : List ℕ)
     → Lines false false bytes r old now → length bytes ≤ length old → Whole bytes r old now
 lines-whole bytes r old now l h =
     let e : 0 + length bytes ≡ length bytes = omega arith in
-    record { told = l .told; inside = h; holds = l .holds ∙ rw e at (sets-eq bytes old 0 (omega arith)) }
+    record { answer-is = l .answer-is; inside = h; holds = l .holds ∙ rw e at (sets-eq bytes old 0 (omega arith)) }
 
 pub refusal-whole : (n : ℕ) (r : Written) (old now : List ℕ) → n < 2 ^ 64 → line ≤ length old → RefusalLine n r old now
     → Whole (refusedText n) r old now

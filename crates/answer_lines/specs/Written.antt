@@ -16,7 +16,7 @@ use Rattle.answer_lines.specs.declared.Written.the-variants as Written·
 
 -- bytes written to the front of a slice, or nothing
 pub record Lines (rowless roomless : Bool) (bytes : List ℕ) (r : Written) (old now : List ℕ) : Type 0 where
-  pub told : r ≡ cond rowless Written·.NoRows (cond roomless Written·.NoRoom (Written·.Length (length bytes)))
+  pub answer-is : r ≡ cond rowless Written·.NoRows (cond roomless Written·.NoRoom (Written·.Length (length bytes)))
   pub holds : now ≡ cond rowless old (cond roomless old (sets old 0 bytes))
 
 -- a refusal's line

@@ -29,20 +29,20 @@ pub record Distinct {I A : Type 0} (refused : ℕ → A) (met : I → A) : Type 
   pub numbers : (n m : ℕ) → refused n ≡ refused m → n ≡ m
   pub kinds : (n : ℕ) (i : I) → refused n ≡ met i → ⊥
 
-module _ {I A : Type 0} (refused : ℕ → A) (met : I → A) (apart : Distinct refused met) (checks : List Checked) (intr : I) where
+module _ {I A : Type 0} (refused : ℕ → A) (met : I → A) (distinct : Distinct refused met) (checks : List Checked) (intr : I) where
   abbrev answer : Checked → A
   answer c = answered refused met c intr
 
   to-first : (n : ℕ) (c : Checked) → first checks ≡ c → answer (first checks) ≡ refused n → FirstIs n checks
-  to-first n Fine e h = absurd (apart .kinds n intr (sym h ∙ ap answer e))
-  to-first n (Bad f) e h = (f, (first-bad checks f .0 e, apart .numbers (f .number) n (sym (ap answer e) ∙ h)))
+  to-first n Fine e h = absurd (distinct .kinds n intr (sym h ∙ ap answer e))
+  to-first n (Bad f) e h = (f, (first-bad checks f .0 e, distinct .numbers (f .number) n (sym (ap answer e) ∙ h)))
 
   from-first : (n : ℕ) → FirstIs n checks → answer (first checks) ≡ refused n
   from-first n (f, (is, number)) = ap answer (first-bad checks f .1 is) ∙ ap refused number
 
   to-fine : (c : Checked) → first checks ≡ c → answer (first checks) ≡ met intr → AllFine checks
   to-fine Fine e h = first-fine checks .0 e
-  to-fine (Bad f) e h = absurd (apart .kinds (f .number) intr (sym (ap answer e) ∙ h))
+  to-fine (Bad f) e h = absurd (distinct .kinds (f .number) intr (sym (ap answer e) ∙ h))
 
   pub exactly-when : ExactlyWhen refused met (answered refused met (first checks) intr) checks intr
   exactly-when = record {

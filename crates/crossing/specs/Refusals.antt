@@ -26,8 +26,8 @@ pub line-line : (v1 v2 u1 u2 : Vector2) (epsilon : Float)
     (lineLine v1 v2 u1 u2 epsilon)
 unfolding lines.lineLineIntr calls.checkLineLine
 line-line v1 v2 u1 u2 epsilon =
-    let apart : Distinct ofLines.Refused ofLines.Met = record { numbers = λ n m e. cc; kinds = λ n i e. no-number cc } in
-    exactly-when ofLines.Refused ofLines.Met apart (calls.lineLineChecks v1 v2 u1 u2 epsilon) (lineLine v1 v2 u1 u2 epsilon)
+    let distinct : Distinct ofLines.Refused ofLines.Met = record { numbers = λ n m e. cc; kinds = λ n i e. no-number cc } in
+    exactly-when ofLines.Refused ofLines.Met distinct (calls.lineLineChecks v1 v2 u1 u2 epsilon) (lineLine v1 v2 u1 u2 epsilon)
 
 pub line-circle : (p0 p1 : Vector2) (radius : Float) (circleCenter : Vector2) (epsilon : Float)
     → ExactlyWhen ofLineAndCircle.Refused ofLineAndCircle.Met
@@ -36,9 +36,9 @@ pub line-circle : (p0 p1 : Vector2) (radius : Float) (circleCenter : Vector2) (e
     (lineCircle p0 p1 radius circleCenter epsilon)
 unfolding lineAndCircle.lineCircleIntr calls.checkLineCircle
 line-circle p0 p1 radius circleCenter epsilon =
-    let apart : Distinct ofLineAndCircle.Refused ofLineAndCircle.Met =
+    let distinct : Distinct ofLineAndCircle.Refused ofLineAndCircle.Met =
     record { numbers = λ n m e. cc; kinds = λ n i e. no-number cc } in
-    exactly-when ofLineAndCircle.Refused ofLineAndCircle.Met apart
+    exactly-when ofLineAndCircle.Refused ofLineAndCircle.Met distinct
     (calls.lineCircleChecks p0 p1 radius circleCenter epsilon)
     (lineCircle p0 p1 radius circleCenter epsilon)
 
@@ -49,8 +49,8 @@ pub circle-circle : (radius1 : Float) (center1 : Vector2) (radius2 : Float) (cen
     (circleCircle radius1 center1 radius2 center2 epsilon)
 unfolding circles.circleCircleIntr calls.checkCircleCircle
 circle-circle radius1 center1 radius2 center2 epsilon =
-    let apart : Distinct ofCircles.Refused ofCircles.Met = record { numbers = λ n m e. cc; kinds = λ n i e. no-number cc } in
-    exactly-when ofCircles.Refused ofCircles.Met apart
+    let distinct : Distinct ofCircles.Refused ofCircles.Met = record { numbers = λ n m e. cc; kinds = λ n i e. no-number cc } in
+    exactly-when ofCircles.Refused ofCircles.Met distinct
     (calls.circleCircleChecks radius1 center1 radius2 center2 epsilon)
     (circleCircle radius1 center1 radius2 center2 epsilon)
 
@@ -61,6 +61,6 @@ pub pline-seg : (v1 v2 u1 u2 : PlineVertex) (posEqualEps : Float)
     (plineSeg v1 v2 u1 u2 posEqualEps)
 unfolding pairs.plineSegIntr calls.checkPlineSeg
 pline-seg v1 v2 u1 u2 posEqualEps =
-    let apart : Distinct ofPairs.Refused ofPairs.Met = record { numbers = λ n m e. cc; kinds = λ n i e. no-number cc } in
-    exactly-when ofPairs.Refused ofPairs.Met apart (calls.plineSegChecks v1 v2 u1 u2 posEqualEps)
+    let distinct : Distinct ofPairs.Refused ofPairs.Met = record { numbers = λ n m e. cc; kinds = λ n i e. no-number cc } in
+    exactly-when ofPairs.Refused ofPairs.Met distinct (calls.plineSegChecks v1 v2 u1 u2 posEqualEps)
     (plineSeg v1 v2 u1 u2 posEqualEps)

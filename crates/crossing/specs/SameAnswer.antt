@@ -25,9 +25,9 @@ use Rattle.crossing.specs.declared.pline_seg_intersect.PlineSegAnswer.{P
 use Rattle.crossing.specs.declared.pline_seg_intersect.PlineSegAnswer.the-variants as ofPairs
 
 -- if answers can be built again from their numbers, equal numbers mean equal answers
-apart-by : {A : Type 0} (numbers : A → AnswerNumbers) (back : AnswerNumbers → A) → ((a : A) → back (numbers a) ≡ a) → (a b : A)
+same-by : {A : Type 0} (numbers : A → AnswerNumbers) (back : AnswerNumbers → A) → ((a : A) → back (numbers a) ≡ a) → (a b : A)
     → numbers a ≡ numbers b → a ≡ b
-apart-by numbers back is a b e = sym (is a) ∙ ap back e ∙ is b
+same-by numbers back is a b e = sym (is a) ∙ ap back e ∙ is b
 
 -- one, two or four values, and what stands for any other count
 abbrev one : {A : Type 0} → (Float → A) → A → List Float → A
@@ -70,7 +70,7 @@ line-line-again (ofLines.Met (lineLineIs.Overlapping t0 t1)) = refl
 line-line-again (ofLines.Met (lineLineIs.FalseIntersect t1 t2)) = refl
 
 pub line-line : (a b : LineLineAnswer) → lines.numbersOf a ≡ lines.numbersOf b → a ≡ b
-line-line = apart-by lines.numbersOf line-line-back line-line-again
+line-line = same-by lines.numbersOf line-line-back line-line-again
 
 -- ---- a line and a circle
 line-circle-back : AnswerNumbers → LineCircleAnswer
@@ -92,7 +92,7 @@ line-circle-again (ofLineAndCircle.Met (lineCircleIs.TangentIntersect t0)) = ref
 line-circle-again (ofLineAndCircle.Met (lineCircleIs.TwoIntersects t0 t1)) = refl
 
 pub line-circle : (a b : LineCircleAnswer) → lineAndCircle.numbersOf a ≡ lineAndCircle.numbersOf b → a ≡ b
-line-circle = apart-by lineAndCircle.numbersOf line-circle-back line-circle-again
+line-circle = same-by lineAndCircle.numbersOf line-circle-back line-circle-again
 
 -- ---- two circles
 circle-circle-back : AnswerNumbers → CircleCircleAnswer
@@ -116,7 +116,7 @@ circle-circle-again (ofCircles.Met (circleCircleIs.TwoIntersects p q)) = refl
 circle-circle-again (ofCircles.Met circleCircleIs.Overlapping) = refl
 
 pub circle-circle : (a b : CircleCircleAnswer) → circles.numbersOf a ≡ circles.numbersOf b → a ≡ b
-circle-circle = apart-by circles.numbersOf circle-circle-back circle-circle-again
+circle-circle = same-by circles.numbersOf circle-circle-back circle-circle-again
 
 -- ---- the pair call
 pline-seg-back : AnswerNumbers → PlineSegAnswer
@@ -130,4 +130,4 @@ pline-seg-again (ofPairs.Refused n) = refl
 pline-seg-again (ofPairs.Met r) = ap ofPairs.Met (sym (again r))
 
 pub pline-seg : (a b : PlineSegAnswer) → pairs.numbersOf a ≡ pairs.numbersOf b → a ≡ b
-pline-seg = apart-by pairs.numbersOf pline-seg-back pline-seg-again
+pline-seg = same-by pairs.numbersOf pline-seg-back pline-seg-again

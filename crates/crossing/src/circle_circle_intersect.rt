@@ -23,8 +23,8 @@ pub fn circle_circle_intr(
 ) -> CircleCircleAnswer
     ensures { λ r. ⌜ r ≡ CircleCircleIntersect.circleCircleIntr radius1 center1 radius2 center2 epsilon ⌝ }
 {
-    let looked = check_circle_circle(radius1, center1, radius2, center2, epsilon);
-    match looked {
+    let checked = check_circle_circle(radius1, center1, radius2, center2, epsilon);
+    match checked {
         Checked::Fine => CircleCircleAnswer::Met(circle_circle::circle_circle(
             radius1,
             center1,

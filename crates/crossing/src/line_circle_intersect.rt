@@ -23,8 +23,8 @@ pub fn line_circle_intr(
 ) -> LineCircleAnswer
     ensures { λ r. ⌜ r ≡ LineCircleIntersect.lineCircleIntr p0 p1 radius «circle_center» epsilon ⌝ }
 {
-    let looked = check_line_circle(p0, p1, radius, circle_center, epsilon);
-    match looked {
+    let checked = check_line_circle(p0, p1, radius, circle_center, epsilon);
+    match checked {
         Checked::Fine => LineCircleAnswer::Met(line_circle::line_circle(
             p0,
             p1,

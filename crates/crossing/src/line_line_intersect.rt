@@ -23,8 +23,8 @@ pub fn line_line_intr(
 ) -> LineLineAnswer
     ensures { λ r. ⌜ r ≡ LineLineIntersect.lineLineIntr v1 v2 u1 u2 epsilon ⌝ }
 {
-    let looked = check_line_line(v1, v2, u1, u2, epsilon);
-    match looked {
+    let checked = check_line_line(v1, v2, u1, u2, epsilon);
+    match checked {
         Checked::Fine => LineLineAnswer::Met(line_line::line_line(v1, v2, u1, u2, epsilon)),
         Checked::Bad(fault) => LineLineAnswer::Refused(fault.number),
     }

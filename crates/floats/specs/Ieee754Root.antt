@@ -77,9 +77,9 @@ sqrt-is-squareRoot b = record {
     none h = ap quiet (none-quiet b h) ∙ quiet-is
 
 -- SquareRoot fixes the answer: two answers that it allows for one pattern are the same, or both are quiet NaNs
-pub squareRoot-settled : (b r q : ℕ) → b < 2 ^ 64 → SquareRoot b r → SquareRoot b q
+pub squareRoot-one-result : (b r q : ℕ) → b < 2 ^ 64 → SquareRoot b r → SquareRoot b q
     → (r ≡ q) ⊎ ((quiet r ≡ true) × (quiet q ≡ true))
-squareRoot-settled b r q h s t = go (kind b h)
+squareRoot-one-result b r q h s t = go (kind b h)
   where
     back : (r : ℕ) → r < 2 ^ 64 → (X : ℕ) → NearestRoot binary64 X (ofBits binary64 r) → toBits binary64 (ofBits binary64 r) ≡ r
     back r l X n = toBits-ofBits binary64 r l (valued (ofBits binary64 r) false (n .R) (2 ^ low binary64) (n .value))

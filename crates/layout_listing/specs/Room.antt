@@ -41,7 +41,7 @@ pub written-is-answer : (text : List ℕ) (n : ℕ) (old now : List ℕ) → roo
 written-is-answer text n old now h a =
     let bytes = answerTo text in
     let w = answer-whole text (Written·.Length n) old now h a in
-    let is : n ≡ length bytes = same-length (w .told) in
+    let is : n ≡ length bytes = same-length (w .answer-is) in
     let behind = drop (length bytes) old in (
       omega (arith, is, ap length (w .holds) ∙ length-append bytes behind),
       ap (take n) (w .holds) ∙ take-at bytes behind n (sym is),

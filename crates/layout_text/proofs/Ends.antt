@@ -17,7 +17,7 @@ use Rattle.layout_text.specs.declared.shape.Shape.the-variants as Shape�
 
 module _ (text : List ℕ) (first second : List Float) where
   no-room : roomless first second ≡ true → ReadLayout text Reading·.NoRoom first first second second
-  no-room e = record { told = rw e; first-holds = rw e; second-holds = rw e }
+  no-room e = record { answer-is = rw e; first-holds = rw e; second-holds = rw e }
 
   pub first-short : length first < limit.room → ReadLayout text Reading·.NoRoom first first second second
   first-short h = no-room (rw (lt-ltb _ _ h))
@@ -34,7 +34,7 @@ module _ (text : List ℕ) (first second : List Float) where
           → ReadLayout text (Reading·.Refused refusal) first first second second
       form-broken s shaped e =
           let is : reads text ≡ broken = rw e at shaped in
-          record { told = rw (roomy, is); first-holds = rw (roomy, is); second-holds = rw (roomy, is) }
+          record { answer-is = rw (roomy, is); first-holds = rw (roomy, is); second-holds = rw (roomy, is) }
 
       pub both-written : (n m a b : ℕ) (first′ second′ : List Float) → Fitting text n m a b
           → Filled (verticesOf n (drop a text)) first first′ → Filled (verticesOf m (drop b text)) second second′
@@ -43,7 +43,7 @@ module _ (text : List ℕ) (first second : List Float) where
           let f = vertices-spelt n (drop a text) (fit .first-read) in
           let s = vertices-spelt m (drop b text) (fit .second-read) in
           record {
-            told = rw (roomy, fit .is, f .count, s .count);
+            answer-is = rw (roomy, fit .is, f .count, s .count);
             first-holds = rw (roomy, fit .is) (wrote-first (fit .first) _ (fit .first-read));
             second-holds = rw (roomy, fit .is) (wrote-second (fit .second) _ (fit .second-read));
           }

@@ -39,6 +39,6 @@ secondOf (layout l) old = sets old 0 (pathOf (l .second))
 -- ---- the promise
 
 pub record ReadLayout (text : List ℕ) (r : Reading) (first first′ second second′ : List Float) : Type 0 where
-  pub told : r ≡ cond (roomless first second) Reading·.NoRoom (answerOf (reads text))
+  pub answer-is : r ≡ cond (roomless first second) Reading·.NoRoom (answerOf (reads text))
   pub first-holds : first′ ≡ cond (roomless first second) first (firstOf (reads text) first)
   pub second-holds : second′ ≡ cond (roomless first second) second (secondOf (reads text) second)

@@ -18,10 +18,10 @@ use Rattle.layout_text.specs.Exactly.{text-reads, refused-no-text, no-te
 use Rattle.layout_text.specs.declared.Reading.{Reading}
 use Rattle.layout_text.specs.declared.Reading.the-variants as Reading·
 
-pub read-settled : {text : List ℕ} {r s : Reading} {first a b second c d : List Float}
+pub read-one-result : {text : List ℕ} {r s : Reading} {first a b second c d : List Float}
     → ReadLayout text r first a second c → ReadLayout text s first b second d → (r ≡ s) × (a ≡ b) × (c ≡ d)
-read-settled p q =
-    (p .told ∙ sym (q .told), p .first-holds ∙ sym (q .first-holds), p .second-holds ∙ sym (q .second-holds))
+read-one-result p q =
+    (p .answer-is ∙ sym (q .answer-is), p .first-holds ∙ sym (q .first-holds), p .second-holds ∙ sym (q .second-holds))
 
 to-broken : (t : Taken) → answerOf t ≡ Reading·.Refused refusal → t ≡ broken
 to-broken broken e = refl
@@ -38,17 +38,17 @@ module _ {text : List ℕ} {r : Reading} {first first′ second second′ : List
       × (second′ ≡ sets second 0 (pathOf (l .second)))
   read-when l w e =
       let is : reads text ≡ layout l = ap reads e ∙ text-reads l w in
-      (read .told ∙ rw (room, is), read .first-holds ∙ rw (room, is), read .second-holds ∙ rw (room, is))
+      (read .answer-is ∙ rw (room, is), read .first-holds ∙ rw (room, is), read .second-holds ∙ rw (room, is))
 
   -- refusal 10 is the answer if and only if the text is that of no layout within the limits; then nothing is written
   pub refused-when : (r ≡ Reading·.Refused refusal) ↔ ((l : Layout) → Within l → text ≡ textOf l → ⊥)
   refused-when = (
-    λ e. refused-no-text text (to-broken (reads text) (sym (read .told ∙ rw room) ∙ e)),
+    λ e. refused-no-text text (to-broken (reads text) (sym (read .answer-is ∙ rw room) ∙ e)),
     λ none.
-        read .told ∙ rw (room, no-text-refused text none),
+        read .answer-is ∙ rw (room, no-text-refused text none),
   )
 
   pub refused-writes-nothing : r ≡ Reading·.Refused refusal → (first′ ≡ first) × (second′ ≡ second)
   refused-writes-nothing e =
-      let is = to-broken (reads text) (sym (read .told ∙ rw room) ∙ e) in
+      let is = to-broken (reads text) (sym (read .answer-is ∙ rw room) ∙ e) in
       (read .first-holds ∙ rw (room, is), read .second-holds ∙ rw (room, is))

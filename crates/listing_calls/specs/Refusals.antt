@@ -55,10 +55,10 @@ counted c = Listed (c .rows) (c .pairs)
 
 -- what a refusal leaves
 pub record Untouched (o : Outcome) (indices : List ℕ) (points : List Float) : Type 0 where
-  pub kept : (n : ℕ) → o .answer ≡ Refused n → (o .indices ≡ indices) × (o .points ≡ points)
+  pub as-found : (n : ℕ) → o .answer ≡ Refused n → (o .indices ≡ indices) × (o .points ≡ points)
 
-apart : Distinct Refused counted
-apart = record { numbers = λ n m e. cc; kinds = λ n i e. no-number cc }
+distinct : Distinct Refused counted
+distinct = record { numbers = λ n m e. cc; kinds = λ n i e. no-number cc }
 
 -- ---- any listing
 module _ (checks : List Checked) (f : ℕ → ℕ → Look) (ps : List Pair) (indices : List ℕ) (points : List Float) where
@@ -74,11 +74,11 @@ module _ (checks : List Checked) (f : ℕ → ℕ → Look) (ps : List Pair) (in
 
   outcome-when : ExactlyWhen Refused counted (outcome checks f ps indices points .answer) all counts
   unfolding outcome
-  outcome-when = rw (← same (firstFault all)) (exactly-when Refused counted apart all counts)
+  outcome-when = rw (← same (firstFault all)) (exactly-when Refused counted distinct all counts)
 
   left-alone : (c : Checked) → Untouched (outcomeOf c (rowsOf f ps) (lookedAt f ps) indices points) indices points
-  left-alone Fine = record { kept = λ n e. absurd (apart .kinds n counts (sym e)) }
-  left-alone (Bad fault) = record { kept = λ n e. (refl, refl) }
+  left-alone Fine = record { as-found = λ n e. absurd (distinct .kinds n counts (sym e)) }
+  left-alone (Bad fault) = record { as-found = λ n e. (refl, refl) }
 
   outcome-untouched : Untouched (outcome checks f ps indices points) indices points
   unfolding outcome
@@ -93,12 +93,12 @@ module _ (first : List Float) (firstClosed : Bool) (second : List Float) (second
   abbrev these : List Checked
   these = mutualChecks first firstClosed second secondClosed epsilon
 
-  pub mutual-settled :
+  pub mutual-when :
       ExactlyWhen Refused counted (mutualListing first firstClosed second secondClosed epsilon indices points .answer)
       (all (mutualChecks first firstClosed second secondClosed epsilon) (look first second epsilon) between indices points)
       (counts (mutualChecks first firstClosed second secondClosed epsilon) (look first second epsilon) between indices points)
   unfolding mutualListing
-  mutual-settled = outcome-when these (look first second epsilon) between indices points
+  mutual-when = outcome-when these (look first second epsilon) between indices points
 
   pub mutual-untouched : Untouched (mutualListing first firstClosed second secondClosed epsilon indices points) indices points
   unfolding mutualListing
@@ -106,16 +106,16 @@ module _ (first : List Float) (firstClosed : Bool) (second : List Float) (second
 
 -- ---- one path
 module _ (path : List Float) (closed : Bool) (epsilon : Float) (indices : List ℕ) (points : List Float) where
-  abbrev pub within : List Pair
-  within = selfPairs (segmentCount path closed) closed
+  abbrev pub own : List Pair
+  own = selfPairs (segmentCount path closed) closed
 
-  pub self-settled :
+  pub self-when :
       ExactlyWhen Refused counted (selfListing path closed epsilon indices points .answer)
-      (all (selfChecks path closed epsilon) (look path path epsilon) within indices points)
-      (counts (selfChecks path closed epsilon) (look path path epsilon) within indices points)
+      (all (selfChecks path closed epsilon) (look path path epsilon) own indices points)
+      (counts (selfChecks path closed epsilon) (look path path epsilon) own indices points)
   unfolding selfListing
-  self-settled = outcome-when (selfChecks path closed epsilon) (look path path epsilon) within indices points
+  self-when = outcome-when (selfChecks path closed epsilon) (look path path epsilon) own indices points
 
   pub self-untouched : Untouched (selfListing path closed epsilon indices points) indices points
   unfolding selfListing
-  self-untouched = outcome-untouched (selfChecks path closed epsilon) (look path path epsilon) within indices points
+  self-untouched = outcome-untouched (selfChecks path closed epsilon) (look path path epsilon) own indices points

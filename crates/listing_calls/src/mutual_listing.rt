@@ -45,8 +45,8 @@ pub fn mutual_listing(
         (now (indices .entry)) (now (points .entry)))
         r (now (indices .exit)) (now (points .exit)) ⌝ }
 {
-    let looked = check_mutual(first, first_closed, second, second_closed, epsilon);
-    match looked {
+    let checked = check_mutual(first, first_closed, second, second_closed, epsilon);
+    match checked {
         Checked::Fine => {
             let n = segments::segment_count(first, first_closed);
             let m = segments::segment_count(second, second_closed);

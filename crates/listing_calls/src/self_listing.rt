@@ -33,8 +33,8 @@ pub fn self_listing(
         Outcome.Leaves (Listing.selfListing (now (path .entry)) closed epsilon (now (indices .entry)) (now (points .entry)))
         r (now (indices .exit)) (now (points .exit)) ⌝ }
 {
-    let looked = check_self(path, closed, epsilon);
-    match looked {
+    let checked = check_self(path, closed, epsilon);
+    match checked {
         Checked::Fine => {
             let n = segments::segment_count(path, closed);
             let job = Job {

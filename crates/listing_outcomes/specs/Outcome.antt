@@ -46,11 +46,11 @@ roomCheck rows indices points = refuse (ltb (room indices points) (length rows))
 
 -- the first fault, if there is one: a refusal leaves both slices unchanged
 abbrev pub outcomeOf : Checked → List Row → ℕ → List ℕ → List Float → Outcome
-outcomeOf (Bad fault) rows looked indices points =
+outcomeOf (Bad fault) rows pairs indices points =
     record { answer = Refused (fault .number); indices = indices; points = points }
-outcomeOf Fine rows looked indices points =
+outcomeOf Fine rows pairs indices points =
     record {
-      answer = Listed (length rows) looked;
+      answer = Listed (length rows) pairs;
       indices = overwrite indices (numbersOfRows indicesOf rows);
       points = overwrite points (numbersOfRows pointsOf rows);
     }

@@ -12,10 +12,10 @@ use Rattle.probe.specs.Numbers.{Given}
 
 module _ (numbers old : List Float) where
   pub none : length old < length numbers → Given numbers 0 old old
-  none h = record { told = simp (lt-ltb _ _ h); holds = simp (lt-ltb _ _ h) }
+  none h = record { returned-is = simp (lt-ltb _ _ h); holds = simp (lt-ltb _ _ h) }
 
   pub all : length numbers ≤ length old → Given numbers (length numbers) old (sets old 0 numbers)
-  all h = record { told = simp (le-ltb _ _ h); holds = simp (le-ltb _ _ h) }
+  all h = record { returned-is = simp (le-ltb _ _ h); holds = simp (le-ltb _ _ h) }
 
 -- after k turns of the loop that writes: to write what is left behind them gives what is to be given
 pub record Writing (numbers old now : List Float) (k : ℕ) : Type 0 where

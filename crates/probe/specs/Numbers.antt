@@ -37,5 +37,5 @@ abbrev pub short : List Float → List Float → Bool
 short numbers old = ltb (length old) (length numbers)
 
 pub record Given (numbers : List Float) (written : ℕ) (old now : List Float) : Type 0 where
-  pub told : written ≡ cond (short numbers old) 0 (length numbers)
+  pub returned-is : written ≡ cond (short numbers old) 0 (length numbers)
   pub holds : now ≡ cond (short numbers old) old (sets old 0 numbers)

@@ -7,4 +7,4 @@ use Rattle.probe.specs.Numbers.{Given}
 
 pub given-one-result : {numbers old a b : List Float} {r s : ℕ} → Given numbers r old a → Given numbers s old b
     → (r ≡ s) × (a ≡ b)
-given-one-result p q = (p .told ∙ sym (q .told), p .holds ∙ sym (q .holds))
+given-one-result p q = (p .returned-is ∙ sym (q .returned-is), p .holds ∙ sym (q .holds))

@@ -15,9 +15,9 @@ use Rattle.records.specs.OnPlane.{same, pointAt, vertexAt}
 
 unfoldable pub isAnswer : PaddedAnswer → List ℕ → ℕ → Bool
 isAnswer f body i =
-    let told = valueAt body i in
-    cond (f .refused) (eqb (told / 256) 1 && eqb (told % 256) (f .number))
-    ((((eqb told (f .number) && same (f .a) (numberAt body (i + 1)))
+    let recorded = valueAt body i in
+    cond (f .refused) (eqb (recorded / 256) 1 && eqb (recorded % 256) (f .number))
+    ((((eqb recorded (f .number) && same (f .a) (numberAt body (i + 1)))
     && same (f .b) (numberAt body (i + 2)))
     && same (f .c) (numberAt body (i + 3)))
     && same (f .d) (numberAt body (i + 4)))

@@ -77,11 +77,11 @@ fn is_answer(numbers: PaddedAnswer, body: &[u8], i: usize) -> bool
     requires { ⌜ i + 4 < mostNumbers ⌝ }
     ensures { λ r. ⌜ r ≡ OnCrossing.isAnswer numbers (now (body .entry)) i ⌝ }
 {
-    let told = value(body, i);
+    let recorded = value(body, i);
     if numbers.refused {
-        return (told / 256 == 1) & (told % 256 == numbers.number);
+        return (recorded / 256 == 1) & (recorded % 256 == numbers.number);
     }
-    (told == numbers.number)
+    (recorded == numbers.number)
         & same(numbers.a, number(body, i + 1))
         & same(numbers.b, number(body, i + 2))
         & same(numbers.c, number(body, i + 3))

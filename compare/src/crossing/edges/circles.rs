@@ -129,7 +129,7 @@ pub fn edges() -> Vec<Edge> {
             edge.and(*name, |n| more(Circles::of(n)))
         })
     };
-    let at_a_glance = [
+    let by_quick_test = [
         Edge::new(
             "(r1 + r2 + eps)^2 at d^2, two arcs at a glance",
             |rng| arcs(outside(true, rng), rng),
@@ -142,7 +142,7 @@ pub fn edges() -> Vec<Edge> {
         ),
     ];
     let all = ENTRIES.iter().map(edge);
-    all.chain(at_a_glance.map(Edge::by_what_is_kept)).collect()
+    all.chain(by_quick_test.map(Edge::by_what_is_kept)).collect()
 }
 
 /// As two arcs, or as circles by themselves.

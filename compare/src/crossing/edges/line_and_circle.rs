@@ -77,7 +77,7 @@ impl Meeting {
 
     /// The number with which the pair's quick test compares |c|: the same, with a better guess. For a line that is a point it
     /// says no.
-    fn glanced(&self) -> f64 {
+    fn quick_tested(&self) -> f64 {
         let q = self.square();
         let sides = self.a.abs() + self.b.abs();
         let first = (sides + q / sides) * 0.5;
@@ -189,7 +189,7 @@ pub fn edges() -> Vec<Edge> {
         },
     ));
     for line_first in [true, false] {
-        all.extend([false, true].map(|upright| at_a_glance(upright, line_first)));
+        all.extend([false, true].map(|upright| by_quick_test(upright, line_first)));
         all.extend(near_zero(line_first).map(Edge::of_pairs_only));
     }
     all
@@ -214,13 +214,13 @@ const NOWHERE: Beside = Beside {
     size: f64::NAN,
 };
 
-fn at_a_glance(upright: bool, line_first: bool) -> Edge {
+fn by_quick_test(upright: bool, line_first: bool) -> Edge {
     let line = if upright { "upright" } else { "slanted" };
     let edge = Edge::new(
         format!("|c| at the glance's guess, {line}, {}", order(line_first)),
-        move |rng| glanced(upright, line_first, rng),
+        move |rng| quick_tested(upright, line_first, rng),
         move |n| match in_order(line_first, n) {
-            Some(m) if m.is_upright() == upright => Beside::new(m.c.abs(), m.glanced()),
+            Some(m) if m.is_upright() == upright => Beside::new(m.c.abs(), m.quick_tested()),
             _ => NOWHERE,
         },
     );
@@ -325,7 +325,7 @@ fn ordered(line_first: bool, line: Segment, arc: Segment, epsilon: f64) -> (Pair
 }
 
 /// A line so far from an arc's circle that the quick test only just says yes.
-fn glanced(upright: bool, line_first: bool, rng: &mut Rng) -> Way {
+fn quick_tested(upright: bool, line_first: bool, rng: &mut Rng) -> Way {
     let circle = some_circle(rng);
     let epsilon = some_epsilon(rng);
     let way = if upright {

@@ -87,13 +87,13 @@ pub fn edges() -> Vec<Edge> {
     );
     all.push(parallel);
     all.extend(of_points());
-    all.extend(at_a_glance());
+    all.extend(by_quick_test());
     all.extend(near_zero());
     all
 }
 
 /// The quick test needs no quotient n / d: it compares n with both limits times d, and says yes if n is above both or below both.
-fn at_a_glance() -> Vec<Edge> {
+fn by_quick_test() -> Vec<Edge> {
     let limits = [PARAMETERS[0], PARAMETERS[4]];
     let mut all = Vec::new();
     for (which, name) in ["u perp w", "v perp w"].into_iter().enumerate() {
@@ -109,7 +109,7 @@ fn at_a_glance() -> Vec<Edge> {
                         Beside::new(number, d * limit)
                     },
                 );
-                all.push(edge.at_a_glance());
+                all.push(edge.by_quick_test());
             }
         }
     }

@@ -105,9 +105,9 @@ of-segment v1 v2 owner h =
       arc = of-arc v1 v2 owner (and-r ends long h);
     }
 
-pub glance-fine : (v1 v2 u1 u2 : PlineVertex) (eps : Float) → T (pairFine v1 v2 u1 u2 eps) → checkPlineSeg v1 v2 u1 u2 eps ≡ Fine
+pub fine-by-tests : (v1 v2 u1 u2 : PlineVertex) (eps : Float) → T (pairFine v1 v2 u1 u2 eps) → checkPlineSeg v1 v2 u1 u2 eps ≡ Fine
 unfolding pairFine
-glance-fine v1 v2 u1 u2 eps h =
+fine-by-tests v1 v2 u1 u2 eps h =
     let v = segmentFine v1 v2 in
     let u = segmentFine u1 u2 in
     let both = and-r (epsilonFine eps) (v && u) h in

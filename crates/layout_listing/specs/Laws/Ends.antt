@@ -50,7 +50,7 @@ use Rattle.layout_listing.specs.Answer.{
 -- ---- lines
 module _ (bytes old : List ℕ) where
   pub no-room : length old < room → Lines false (ltb (length old) room) bytes Written·.NoRoom old old
-  no-room h = let e = lt-ltb (length old) room h in record { told = rw e refl; holds = rw e refl }
+  no-room h = let e = lt-ltb (length old) room h in record { answer-is = rw e refl; holds = rw e refl }
 
   module _ (h : room ≤ length old) where
     -- if there is more room than needed
@@ -59,7 +59,7 @@ module _ (bytes old : List ℕ) where
     enough roomless e r now l =
         let f = le-ltb (length old) room h in
         let k = rw e at l in
-        record { told = rw f (k .told); holds = rw f (k .holds) }
+        record { answer-is = rw f (k .answer-is); holds = rw f (k .holds) }
 
 pub refusal-line : (n : ℕ) (old : List ℕ) → room ≤ length old → (r : Written) (now : List ℕ) → RefusalLine n r old now
     → Lines false (ltb (length old) room) (refusedText n) r old now
@@ -123,7 +123,7 @@ pub record Fronts (text : List ℕ) (n m : ℕ) (first second : List Float) : Ty
 
 module _ (text : List ℕ) (r : Reading) (first second : List Float) (l : read.ReadLayout text r buffer first buffer second) where
   answer-is : r ≡ read.answerOf (reads text)
-  answer-is = l .told
+  answer-is = l .answer-is
 
   pub counted : (n m : ℕ) → r ≡ Reading·.Counts n m → Fronts text n m first second
   counted n m e = go (reads text) refl

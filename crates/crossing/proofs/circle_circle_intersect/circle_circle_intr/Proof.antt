@@ -14,4 +14,4 @@ circle-circle-intr-spec =
     (λ c. let t = c .before in
     simp (← t .before .before .check-circle-circle .ensures, t .enum-told .given .1, ← c .circle-circle .ensures))
     (λ c. let t = c .before in
-    simp (← t .before .before .check-circle-circle .ensures, t .looked .given .1)))
+    simp (← t .before .before .check-circle-circle .ensures, t .checked .given .1)))

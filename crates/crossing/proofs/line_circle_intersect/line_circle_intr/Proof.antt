@@ -14,4 +14,4 @@ line-circle-intr-spec =
     (λ c. let t = c .before in
     simp (← t .before .before .check-line-circle .ensures, t .enum-told .given .1, ← c .line-circle .ensures))
     (λ c. let t = c .before in
-    simp (← t .before .before .check-line-circle .ensures, t .looked .given .1)))
+    simp (← t .before .before .check-line-circle .ensures, t .checked .given .1)))

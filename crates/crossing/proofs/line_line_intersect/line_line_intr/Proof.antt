@@ -14,4 +14,4 @@ line-line-intr-spec =
     (λ c. let t = c .before in
     simp (← t .before .before .check-line-line .ensures, t .enum-told .given .1, ← c .line-line .ensures))
     (λ c. let t = c .before in
-    simp (← t .before .before .check-line-line .ensures, t .looked .given .1)))
+    simp (← t .before .before .check-line-line .ensures, t .checked .given .1)))

@@ -11,7 +11,7 @@ use Rattle.crossing.specs.PlineSeg.{plineSeg}
 use Rattle.crossing.specs.PlineSegIntersect.{plineSegIntr}
 use Rattle.arcs.specs.declared.pline_seg_intr.PlineSegIntr.{PlineSegIntr}
 use Rattle.crossing.specs.declared.pline_seg_intersect.PlineSegAnswer.the-variants.{Met}
-use Rattle.fast_pair.specs.Laws.AllFine.{glance-fine}
+use Rattle.fast_pair.specs.Laws.AllFine.{fine-by-tests}
 use Rattle.fast_pair.proofs.pair.pline_seg_intr.Statement.{statement}
 use Rattle.fast_pair.proofs.pair.pline_seg_intr.Tie as tie
 
@@ -20,16 +20,16 @@ met : (v1 v2 u1 u2 : PlineVertex) (eps : Float) (r : PlineSegIntr) → checkPlin
 unfolding plineSegIntr
 met v1 v2 u1 u2 eps r h e = rw h (ap Met e)
 
-looked : (c : tie.Then1)
+all-fine : (c : tie.Then1)
     → let a = c .before .before .args in
     checkPlineSeg (a .v1) (a .v2) (a .u1) (a .u2) (a .pos-equal-eps) ≡ Fine
-looked c = glance-fine _ _ _ _ _ (passes _ (sym (c .before .pair-fine .ensures) ∙ c .if1 .taken))
+all-fine c = fine-by-tests _ _ _ _ _ (passes _ (sym (c .before .pair-fine .ensures) ∙ c .if1 .taken))
 
 pline-seg-once-requires : tie.Need-pline-seg-once-requires
-pline-seg-once-requires c κs = looked c
+pline-seg-once-requires c κs = all-fine c
 
 returns : tie.Need-returns
-returns c = met _ _ _ _ _ _ (looked (c .before)) (c .pline-seg-once .ensures)
+returns c = met _ _ _ _ _ _ (all-fine (c .before)) (c .pline-seg-once .ensures)
 
 pub pline-seg-intr-spec : {M : Type 1} → statement M
 pline-seg-intr-spec =

@@ -34,7 +34,7 @@ returns c =
 
 returns-2 : tie.Need-returns-2
 returns-2 c =
-    mutual-refused _ _ _ _ _ _ _ _ (sym (c .before .before .before .check-mutual .ensures) ∙ c .before .looked .given .1)
+    mutual-refused _ _ _ _ _ _ _ _ (sym (c .before .before .before .check-mutual .ensures) ∙ c .before .checked .given .1)
 
 pub mutual-listing-spec : {M : Type 1} → statement M
 mutual-listing-spec =

@@ -30,7 +30,7 @@ returns c =
     (l .list .ensures)
 
 returns-2 : tie.Need-returns-2
-returns-2 c = self-refused _ _ _ _ _ _ (sym (c .before .before .before .check-self .ensures) ∙ c .before .looked .given .1)
+returns-2 c = self-refused _ _ _ _ _ _ (sym (c .before .before .before .check-self .ensures) ∙ c .before .checked .given .1)
 
 pub self-listing-spec : {M : Type 1} → statement M
 self-listing-spec =
