@@ -131,12 +131,12 @@ pub fn edges() -> Vec<Edge> {
     };
     let by_quick_test = [
         Edge::new(
-            "(r1 + r2 + eps)^2 at d^2, two arcs at a glance",
+            "(r1 + r2 + eps)^2 at d^2, two arcs by a quick test",
             |rng| arcs(outside(true, rng), rng),
             |n| square_at_d2(Circles::of(n)),
         ),
         Edge::new(
-            "(|r1 - r2| - 2 eps)^2 at d^2, two arcs at a glance",
+            "(|r1 - r2| - 2 eps)^2 at d^2, two arcs by a quick test",
             |rng| arcs(nested(-2.0, rng), rng),
             |n| inside_at_d2(Circles::of(n)),
         ),

@@ -217,7 +217,7 @@ const NOWHERE: Beside = Beside {
 fn by_quick_test(upright: bool, line_first: bool) -> Edge {
     let line = if upright { "upright" } else { "slanted" };
     let edge = Edge::new(
-        format!("|c| at the glance's guess, {line}, {}", order(line_first)),
+        format!("|c| at the quick test's guess, {line}, {}", order(line_first)),
         move |rng| quick_tested(upright, line_first, rng),
         move |n| match in_order(line_first, n) {
             Some(m) if m.is_upright() == upright => Beside::new(m.c.abs(), m.quick_tested()),

@@ -105,7 +105,8 @@ of-segment v1 v2 owner h =
       arc = of-arc v1 v2 owner (and-r ends long h);
     }
 
-pub fine-by-tests : (v1 v2 u1 u2 : PlineVertex) (eps : Float) → T (pairFine v1 v2 u1 u2 eps) → checkPlineSeg v1 v2 u1 u2 eps ≡ Fine
+pub fine-by-tests : (v1 v2 u1 u2 : PlineVertex) (eps : Float) → T (pairFine v1 v2 u1 u2 eps)
+    → checkPlineSeg v1 v2 u1 u2 eps ≡ Fine
 unfolding pairFine
 fine-by-tests v1 v2 u1 u2 eps h =
     let v = segmentFine v1 v2 in
