@@ -193,7 +193,7 @@ module _ {M : Type 1} (𝓤 : URA M) (H : Heap 𝓤) (A : Atoms 𝓤) where
 
       module _ (r : Result F κs .Denot) where
         abbrev told : SProp 𝓤
-        returned-is = fact 𝓤 (r ≡ F .view-says κs d a)
+        told = fact 𝓤 (r ≡ F .view-says κs d a)
 
         abbrev tells : Fins κs (lent F .params) (yes, (yes, F .kept)) (s, (closed, a)) → SProp 𝓤
         tells ws = sep 𝓤 (sem 𝓤 H A (path-lasts ws)) told

@@ -27,21 +27,21 @@ fit c = fits-of _ (c .before .before .shape-of .ensures) (c .n .given .1)
 
 fill-requires : tie.Need-fill-requires
 fill-requires c κs =
-    let answer-is = c .before .before in
-    omega (arith, fit told .n-within, told .before .before .before .before .if1 .left)
+    let counts = c .before .before in
+    omega (arith, fit counts .n-within, counts .before .before .before .before .if1 .left)
 
 fill-requires-2 : tie.Need-fill-requires-2
 fill-requires-2 c κs =
-    let answer-is = c .before .before .before .before .before .before in
-    omega (arith, fit told .m-within, told .before .before .before .if2 .left)
+    let counts = c .before .before .before .before .before .before in
+    omega (arith, fit counts .m-within, counts .before .before .before .if2 .left)
 
 returns-4 : tie.Need-returns-4
 returns-4 c =
     let second = c .before .before in
     let first = second .before .before .before .before in
-    let answer-is = first .before .before .before in
-    let room = told .before .before .before in
-    both-written _ _ _ (room .before .if1 .left) (room .if2 .left) _ _ _ _ _ _ (fit told)
+    let counts = first .before .before .before in
+    let room = counts .before .before .before in
+    both-written _ _ _ (room .before .if1 .left) (room .if2 .left) _ _ _ _ _ _ (fit counts)
     (first .fill .ensures) (second .fill2 .ensures)
 
 pub read-layout-spec : {M : Type 1} → statement M
