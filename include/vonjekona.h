@@ -149,6 +149,9 @@ uint64_t vj_circle_circle_intr(double radius1, double c1x, double c1y,
  *   3  two shared points;
  *   4  two lines with a shared stretch, from the first point to the second;
  *   5  two arcs with a shared stretch, from the first point to the second.
+ *
+ * The answer is the Rust's. Some pairs with an arc that share a point get 0:
+ * docs/LIMITS.md says which, and what to do about it.
  */
 uint64_t vj_pair(double v1x, double v1y, double v1_bulge,
                            double v2x, double v2y, double v2_bulge,
