@@ -1,52 +1,23 @@
--- Every number that a listing's answer tells is below the code of refusals, by the checks that give it; so what is returned of it
+-- Every number of a listing's answer is below the code of refusals, by the checks that give it; so what is returned of it
 -- is below the code of no room. And the ends of handing a listing over.
-use Prim.Native.Nat.{ℕ, zero, suc, _+_, _<_, _≤_}
+use Prim.Native.Nat.{ℕ, _<_, _≤_}
 use native.Mathlib.Omega.{arith}
-use mathlib.Core.Path.{_≡_, sym, ap, _∙_, subst}
+use mathlib.Core.Path.{_≡_, ap, _∙_}
 use mathlib.Core.Bool.{Bool}
-use mathlib.Core.List.{List, _++_}
+use mathlib.Core.List.{List}
 use borrow.Author.Tests.{lt-ltb, le-ltb}
 use lib.Ieee.{Float}
 use lib.ListN.{length}
 use Rattle.checks.specs.declared.fault.Checked.{Checked}
 use Rattle.checks.specs.declared.fault.Checked.the-variants.{Fine, Bad}
-use Rattle.checks.specs.First.{first as firstFault}
-use Rattle.checks.specs.Laws.Chains.{first-append}
-use Rattle.paths.specs.Path.{vertexCount}
-use Rattle.paths.specs.Segments.{segmentCount}
-use Rattle.paths.specs.Shape.{shape}
-use Rattle.paths.specs.Check.{along, ofVertex, ofSegment, vertexChecks, arcChecks, pathChecks}
+use Rattle.checks.specs.Laws.RefusalNumbers.{Small}
 use Rattle.listing_pairs.specs.declared.row.Row.{Row}
-use Rattle.listing_pairs.specs.declared.row.Look.{Look}
-use Rattle.listing_pairs.specs.Order.{Pair, mutualPairs, selfPairs}
-use Rattle.listing_pairs.specs.Look.{look}
 use Rattle.listing_outcomes.specs.declared.answer.ListingAnswer.{ListingAnswer}
-use Rattle.listing_outcomes.specs.Outcome.{Outcome, Leaves, roomCheck, outcomeOf, outcome}
-use Rattle.listing_calls.specs.Listing.{mutualChecks, mutualListing, selfChecks, selfListing}
+use Rattle.listing_outcomes.specs.Outcome.{Outcome, Leaves, outcomeOf, outcome}
+use Rattle.listing_calls.specs.Listing.{mutualListing, selfListing}
+use Rattle.listing_calls.specs.Laws.RefusalNumbers as laws
 use Rattle.capi.specs.Handed.{noRoomCode}
 use Rattle.capi.specs.HandedListing.{HandedListing, countPlaces, code, counted}
-use Rattle.capi.proofs.Numbers.{Small, fine, refused, and, smalls}
-
--- ---- lists of checks
-append : (cs ds : List Checked) → Small (firstFault cs) → Small (firstFault ds) → Small (firstFault (cs ++ ds))
-append cs ds a b = subst Small (sym (first-append cs ds)) (and a b)
-
-each : (checks : ℕ → List Checked) → ((i : ℕ) → Small (firstFault (checks i))) → (i k : ℕ) → Small (firstFault (along checks i k))
-each checks small i zero = fine
-each checks small i (suc k) = append (checks i) (along checks (i + 1) k) (small i) (each checks small (i + 1) k)
-
-shape-small : (path : List Float) (owner : ℕ) → Small (shape path owner)
-unfolding shape
-shape-small path owner = and (refused _ 6 _ (omega arith)) (refused _ 7 _ (omega arith))
-
-path-small : (path : List Float) (closed : Bool) (owner : ℕ) → Small (firstFault (pathChecks path closed owner))
-unfolding ofVertex ofSegment
-path-small path closed owner =
-    append (vertexChecks path owner) (arcChecks path closed owner)
-    (each (ofVertex path owner) (λ i. search smalls depth 8) 0 (vertexCount path))
-    (each (ofSegment path owner) (λ i. search smalls depth 4) 0 (segmentCount path closed))
-
-ruleset listings = (shape-small, path-small, append, smalls)
 
 -- ---- an outcome's code
 of-checked : (c : Checked) (rows : List Row) (looked : ℕ) (i : List ℕ) (p : List Float) → Small c
@@ -54,25 +25,16 @@ of-checked : (c : Checked) (rows : List Row) (looked : ℕ) (i : List ℕ) (p : 
 of-checked Fine rows looked i p small = omega arith
 of-checked (Bad fault) rows looked i p small = omega (arith, small .below)
 
-of-outcome : (checks : List Checked) (f : ℕ → ℕ → Look) (ps : List Pair) (i : List ℕ) (p : List Float) → Small (firstFault checks)
-    → code (outcome checks f ps i p .answer) < noRoomCode
-unfolding outcome roomCheck
-of-outcome checks f ps i p small =
-    of-checked _ _ _ i p (append checks _ small (and (refused _ 8 _ (omega arith)) fine))
-
 pub mutual-small : (first : List Float) (firstClosed : Bool) (second : List Float) (secondClosed : Bool) (eps : Float)
     (i : List ℕ) (p : List Float) → code (mutualListing first firstClosed second secondClosed eps i p .answer) < noRoomCode
-unfolding mutualListing
+unfolding mutualListing outcome
 mutual-small first firstClosed second secondClosed eps i p =
-    of-outcome (mutualChecks first firstClosed second secondClosed eps) (look first second eps)
-    (mutualPairs (segmentCount first firstClosed) (segmentCount second secondClosed)) i p (search listings depth 10)
+    of-checked _ _ _ i p (laws.mutual-small _ i p first firstClosed second secondClosed eps)
 
 pub self-small : (path : List Float) (closed : Bool) (eps : Float) (i : List ℕ) (p : List Float)
     → code (selfListing path closed eps i p .answer) < noRoomCode
-unfolding selfListing
-self-small path closed eps i p =
-    of-outcome (selfChecks path closed eps) (look path path eps) (selfPairs (segmentCount path closed) closed) i p
-    (search listings depth 10)
+unfolding selfListing outcome
+self-small path closed eps i p = of-checked _ _ _ i p (laws.self-small _ i p path closed eps)
 
 -- ---- the two ends
 module _ (o : Outcome) (a : ListingAnswer) (i : List ℕ) (p : List Float) where

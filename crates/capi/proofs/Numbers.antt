@@ -1,21 +1,16 @@
--- Every number that an answer tells is below the code of refusals: those of refusals by the checks that give them, those of cases
+-- Every number of an answer is below the code of refusals: those of refusals by the checks that give them, those of cases
 -- one by one.
 use Prim.Native.Nat.{ℕ, _<_}
 use native.Mathlib.Omega.{arith}
 use mathlib.Core.Path.{_≡_, refl, sym, subst}
-use mathlib.Core.Bool.{Bool, true, false, cond}
 use lib.Ieee.{Float}
 use Rattle.plane.specs.declared.vector2.Vector2.{Vector2}
 use Rattle.plane.specs.declared.pline_vertex.PlineVertex.{PlineVertex}
-use Rattle.plane.specs.PlineVertex.{bulgeIsZero}
-use Rattle.checks.specs.declared.fault.Place.{Place}
 use Rattle.checks.specs.declared.fault.Checked.{Checked}
 use Rattle.checks.specs.declared.fault.Checked.the-variants.{Fine, Bad}
-use Rattle.checks.specs.Fault.{refusal, refuse, later}
-use Rattle.checks.specs.Arc.{arcChord}
-use Rattle.checks.specs.Each
 use Rattle.checks.specs.Calls as calls
 use Rattle.checks.specs.Answered.{answered}
+use Rattle.checks.specs.Laws.RefusalNumbers.{Small, smalls}
 use Rattle.crossing.specs.LineLine.{lineLine}
 use Rattle.crossing.specs.LineCircle.{lineCircle}
 use Rattle.crossing.specs.CircleCircle.{circleCircle}
@@ -42,62 +37,6 @@ use Rattle.crossing.specs.declared.pline_seg_intersect.PlineSegAnswer.{PlineSeg
 use Rattle.crossing.specs.declared.pline_seg_intersect.PlineSegAnswer.the-variants as ofPairs
 use Rattle.answers.specs.Padded.{ofLineLine, ofLineCircle, ofCircleCircle, ofPlineSeg}
 use Rattle.capi.specs.Handed.{refusedCode}
-
--- ---- a check's
-pub record Small (c : Checked) : Type 0 where
-  pub below : refusal c < refusedCode
-
-pub fine : Small Fine
-fine = record { below = omega arith }
-
-pub refused : (test : Bool) (n : ℕ) (p : Place) → n < refusedCode → Small (refuse test n p)
-unfolding refuse
-refused true n p h = record { below = h }
-refused false n p h = fine
-
-both : (a b : Checked) → Small a → Small b → Small (later a b)
-unfolding later
-both Fine b ha hb = hb
-both (Bad f) b ha hb = ha
-
-pub and : {a b : Checked} → Small a → Small b → Small (later a b)
-and {a} {b} = both a b
-
-pub epsilon : (x : Float) → Small (Each.epsilon x)
-unfolding Each.epsilon
-epsilon x = refused _ 4 _ (omega arith)
-
-module _ (x : Float) (p : Place) where
-  finite : Small (Each.finite x p)
-  unfolding Each.finite
-  finite = refused _ 1 p (omega arith)
-
-  pub coordinate : Small (Each.coordinate x p)
-  unfolding Each.coordinate Each.finiteThen
-  coordinate = and finite (refused _ 2 p (omega arith))
-
-  pub bulge : Small (Each.bulge x p)
-  unfolding Each.bulge Each.finiteThen
-  bulge = and finite (refused _ 3 p (omega arith))
-
-  pub radius : Small (Each.radius x p)
-  unfolding Each.radius Each.finiteThen
-  radius = and finite (refused _ 9 p (omega arith))
-
-  pub center : Small (Each.center x p)
-  unfolding Each.center Each.finiteThen
-  center = and finite (refused _ 9 p (omega arith))
-
-  chord : (is-line : Bool) → Small (cond is-line Fine (Each.chord x p))
-  unfolding Each.chord
-  chord true = fine
-  chord false = refused _ 5 p (omega arith)
-
-pub arc-chord : (a b : PlineVertex) (owner index : ℕ) → Small (arcChord a b owner index)
-unfolding arcChord
-arc-chord a b owner index = chord _ _ (bulgeIsZero a)
-
-pub ruleset smalls = (and, fine, epsilon, coordinate, bulge, radius, center, arc-chord)
 
 -- ---- a call's
 module _ {I A : Type 0} (refused : ℕ → A) (met : I → A) (number : A → ℕ) where

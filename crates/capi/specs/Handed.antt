@@ -9,6 +9,7 @@ use lib.Seq.{sets}
 use lib.Ieee.{Float}
 use Rattle.plane.specs.declared.vector2.Vector2.{Vector2}
 use Rattle.plane.specs.declared.pline_vertex.PlineVertex.{PlineVertex}
+use Rattle.checks.specs.Refusal
 use Rattle.answers.specs.declared.padded.PaddedAnswer.{PaddedAnswer}
 
 -- ---- in
@@ -31,7 +32,7 @@ noRoomCode = 512
 
 -- what is returned of a refusal: this plus its number
 abbrev pub refusedCode : ℕ
-refusedCode = 256
+refusedCode = Refusal.numbersBelow
 
 abbrev pub short : List Float → Bool
 short old = ltb (length old) places

@@ -2,12 +2,13 @@
 ghost use Prim.Native.Nat.{_<_};
 ghost use Rattle.capi.specs.Handed;
 use answers::padded::PaddedAnswer;
+use checks::refusal;
 
 // how many values an answer has
 pub const PLACES: usize = 4;
 
 // what is returned of a refusal: this plus its number
-pub const REFUSED: u64 = 256;
+pub const REFUSED: u64 = refusal::NUMBERS_BELOW;
 
 // what is returned if a slice has too few places
 pub const NO_ROOM: u64 = 512;

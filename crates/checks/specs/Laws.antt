@@ -6,3 +6,4 @@ pub mod Chains
 pub mod Found
 pub mod Chord
 pub mod Lengths
+pub mod RefusalNumbers

@@ -36,3 +36,7 @@ rows = 8
 -- a circle's radius is out of its range, or a coordinate of its centre is too large
 abbrev pub circle : ℕ
 circle = 9
+
+-- every refusal's number is below this, so that a code in C can be this plus the number
+abbrev pub numbersBelow : ℕ
+numbersBelow = 256

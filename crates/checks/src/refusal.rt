@@ -27,3 +27,6 @@ pub const ROWS: u64 = 8;
 
 // a circle's radius is out of its range, or a coordinate of its centre is too large
 pub const CIRCLE: u64 = 9;
+
+// every refusal's number is below this, so that a code in C can be this plus the number
+pub const NUMBERS_BELOW: u64 = 256;

@@ -3,3 +3,4 @@ pub mod Segments
 pub mod Along
 pub mod Steps
 pub mod Fine
+pub mod RefusalNumbers

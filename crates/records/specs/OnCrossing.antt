@@ -1,9 +1,10 @@
--- Whether a line's answers are what the definitions of `crossing` say for its operands: the number that a C call returns (256
--- plus its number for a refusal), and the four values of an answer.
+-- Whether a line's answers are what the definitions of `crossing` say for its operands: the number that a C call returns
+-- (`numbersBelow` plus its number for a refusal), and the four values of an answer.
 use Prim.Native.Nat.{ℕ, _+_, _/_, _%_}
 use mathlib.Core.Bool.{Bool, cond, _&&_}
 use mathlib.Core.List.{List}
 use lib.Dec.{eqb}
+use Rattle.checks.specs.Refusal.{numbersBelow}
 use Rattle.crossing.specs.LineLineIntersect.{lineLineIntr}
 use Rattle.crossing.specs.LineCircleIntersect.{lineCircleIntr}
 use Rattle.crossing.specs.CircleCircleIntersect.{circleCircleIntr}
@@ -16,7 +17,7 @@ use Rattle.records.specs.OnPlane.{same, pointAt, vertexAt}
 unfoldable pub isAnswer : PaddedAnswer → List ℕ → ℕ → Bool
 isAnswer f body i =
     let recorded = valueAt body i in
-    cond (f .refused) (eqb (recorded / 256) 1 && eqb (recorded % 256) (f .number))
+    cond (f .refused) (eqb (recorded / numbersBelow) 1 && eqb (recorded % numbersBelow) (f .number))
     ((((eqb recorded (f .number) && same (f .a) (numberAt body (i + 1)))
     && same (f .b) (numberAt body (i + 2)))
     && same (f .c) (numberAt body (i + 3)))

@@ -11,6 +11,7 @@ use super::text::number;
 use super::text::value;
 use answers::padded;
 use answers::padded::PaddedAnswer;
+use checks::refusal;
 use crossing::circle_circle_intersect;
 use crossing::line_circle_intersect;
 use crossing::line_line_intersect;
@@ -72,14 +73,15 @@ pub fn pline_seg(body: &[u8]) -> bool
     is_answer(padded::of_pline_seg(met), body, 13)
 }
 
-// Whether the answer is the one that the line has from number i on. A refusal is 256 plus its number.
+// Whether the answer is the one that the line has from number i on. A refusal is `NUMBERS_BELOW` plus its number.
 fn is_answer(numbers: PaddedAnswer, body: &[u8], i: usize) -> bool
     requires { ⌜ i + 4 < mostNumbers ⌝ }
     ensures { λ r. ⌜ r ≡ OnCrossing.isAnswer numbers (now (body .entry)) i ⌝ }
 {
     let recorded = value(body, i);
     if numbers.refused {
-        return (recorded / 256 == 1) & (recorded % 256 == numbers.number);
+        return (recorded / refusal::NUMBERS_BELOW == 1)
+            & (recorded % refusal::NUMBERS_BELOW == numbers.number);
     }
     (recorded == numbers.number)
         & same(numbers.a, number(body, i + 1))

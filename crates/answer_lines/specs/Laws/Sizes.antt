@@ -77,7 +77,7 @@ row-short i j class x1 y1 x2 y2 h k =
 module _ (index : List ℕ) (points : List Float) (below : (k : ℕ) → getD index k 0 < 2 ^ 64) where
   one-short : (k : ℕ) → length (Lines.rowAt index points k) ≤ Sizes.row
   unfolding Lines.rowAt
-  one-short k = row-short _ _ _ _ _ _ _ (below (k * Lines.indicesARow)) (below (k * Lines.indicesARow + 1))
+  one-short k = row-short _ _ _ _ _ _ _ (below _) (below _)
 
   rows-short : (n k : ℕ) → length (Lines.rowsText index points n k) ≤ n * Sizes.row
   unfolding Lines.rowsText

@@ -12,6 +12,8 @@ use lib.Seq.{getD-drop}
 use Rattle.checks.specs.declared.fault.Checked.{Checked}
 use Rattle.checks.specs.declared.fault.Checked.the-variants.{Fine, Bad}
 use Rattle.checks.specs.First.{first as firstFault}
+use Rattle.checks.specs.Refusal.{numbersBelow}
+use Rattle.checks.specs.Laws.RefusalNumbers.{Small}
 use Rattle.crossing.specs.PlineSeg.{plineSeg}
 use Rattle.crossing.specs.PlineSegIntr.{classOf}
 use Rattle.arcs.specs.declared.pline_seg_intr.PlineSegIntr.{PlineSegIntr}
@@ -31,15 +33,15 @@ use Rattle.listing_loop.specs.Workings.Pages.{few-looked}
 use Rattle.listing_outcomes.specs.declared.answer.ListingAnswer.the-variants.{Refused, Listed}
 use Rattle.listing_outcomes.specs.Outcome.{Outcome, roomCheck, outcomeOf, outcome}
 use Rattle.listing_calls.specs.Listing.{mutualChecks, mutualListing}
-use Rattle.listing_calls.specs.Laws.RefusalNumbers.{refusals, Small, mutual-small}
+use Rattle.listing_calls.specs.Laws.RefusalNumbers.{mutual-small}
 
 -- every number of the list is below b
 abbrev pub Below : ℕ → List ℕ → Type 0
 Below b l = (k : ℕ) → getD l k 0 < b
 
--- what a listing tells, with b for the numbers in its slice of indices
+-- what a listing answers, with b for the numbers in its slice of indices
 pub record Numbers (b : ℕ) (o : Outcome) : Type 0 where
-  pub refusal : (n : ℕ) → o .answer ≡ Refused n → n < refusals
+  pub refusal : (n : ℕ) → o .answer ≡ Refused n → n < numbersBelow
   pub pairs : (rows pairs : ℕ) → o .answer ≡ Listed rows pairs → pairs ≤ mostVertices * mostVertices
   pub indices : Below b (o .indices)
 
@@ -111,7 +113,7 @@ module _ (b : ℕ) (wide : mostVertices ≤ b) (first second : List Float) (epsi
       along-below i 0 (m - 0) (omega (arith, h)) (omega (arith, hm)) (pairsFrom (λ i. 0) (λ i. m) (suc i) 0 k)
       (pairs-below m hm (suc i) k (omega (arith, h)))
 
--- ---- what a listing tells
+-- ---- what a listing answers
 never : {n k m : ℕ} → Refused n ≡ Listed k m → ⊥
 never e = let z : _≡_ {A = ℕ} 0 1 = cc in omega (arith, z)
 
@@ -156,4 +158,4 @@ mutual-numbers first firstClosed second secondClosed epsilon i₀ p₀ b wide he
     of-checked b (rowsOf f ps) (lookedAt f ps) i₀ p₀ few
     (pairs-below b wide first second epsilon m (omega (arith, m-few, wide)) 0 n (omega (arith, n-few, wide))) held
     (firstFault (mutualChecks first firstClosed second secondClosed epsilon ++ (roomCheck (rowsOf f ps) i₀ p₀ ∷ [])))
-    (mutual-small first firstClosed second secondClosed epsilon (rowsOf f ps) i₀ p₀)
+    (mutual-small (rowsOf f ps) i₀ p₀ first firstClosed second secondClosed epsilon)
