@@ -102,15 +102,15 @@ row-in-slice r rows old w =
     let rest = numbersOfRows indicesOf (w .after) ++ drop (length numbers) old in
     let count = ap length (w .is) ∙ length-append (w .before) (r ∷ w .after) in
     let long : length front ≡ k * indicesARow = flat-length indicesOf indicesARow (λ r. refl) (w .before) in
-    let shown : overwrite old numbers ≡ front ++ indicesOf r ++ rest =
+    let shown : overwrite old numbers ≡ front ++ r .i ∷ r .j ∷ r .class ∷ rest =
     ap (λ (l : List ℕ). l ++ drop (length numbers) old)
     (ap (numbersOfRows indicesOf) (w .is) ∙ flat-append indicesOf (w .before) (r ∷ w .after))
     ∙ append-assoc front (numbersOfRows indicesOf (r ∷ w .after)) (drop (length numbers) old) in
-    let whole = ap length shown ∙ length-append front (indicesOf r ++ rest) in
-    let at : (n : ℕ) → getD (overwrite old numbers) (k * indicesARow + n) 0 ≡ getD (indicesOf r ++ rest) n 0 =
+    let whole = ap length shown ∙ length-append front (r .i ∷ r .j ∷ r .class ∷ rest) in
+    let at : (n : ℕ) → getD (overwrite old numbers) (k * indicesARow + n) 0 ≡ getD (r .i ∷ r .j ∷ r .class ∷ rest) n 0 =
     λ n. ap (λ (l : List ℕ). getD l (k * indicesARow + n) 0) shown
-    ∙ ap (λ (m : ℕ). getD (front ++ indicesOf r ++ rest) (m + n) 0) (sym long)
-    ∙ getD-append-add front (indicesOf r ++ rest) n 0 in (
+    ∙ ap (λ (m : ℕ). getD (front ++ r .i ∷ r .j ∷ r .class ∷ rest) (m + n) 0) (sym long)
+    ∙ getD-append-add front (r .i ∷ r .j ∷ r .class ∷ rest) n 0 in (
       omega (arith, count),
       record {
         inside = omega (arith, whole, long);
