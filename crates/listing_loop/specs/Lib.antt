@@ -1,3 +1,4 @@
--- The loop of every listing, and laws on it. No answer's definition names anything here, so a reader need not believe it.
+-- The loop of every listing, and laws on it and on pages. No answer's definition names anything here, so a reader need not
+-- believe it.
 pub mod Workings
 pub mod Laws

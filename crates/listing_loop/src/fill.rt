@@ -1,13 +1,13 @@
-// The loop of every listing: it makes rows from a given pair on, as many as fit.
+// The loop of every listing: it makes rows from a given pair on, as many as fit, and passes no more pairs than its budget.
 ghost use mathlib.Core.Path.{_≡_};
 ghost use mathlib.Core.Bool.{true};
 ghost use Prim.Native.Nat.{_≤_, _<_, _-_, _*_};
 ghost use lib.ListN.{length};
 ghost use Rattle.listing_pairs.specs.Row as row_of;
+ghost use Rattle.listing_pairs.specs.Page;
 ghost use Rattle.listing_pairs.specs.Look;
 ghost use Rattle.listing_pairs.specs.Workings.Job as job_of;
 ghost use Rattle.listing_pairs.specs.Workings.Keeping;
-ghost use Rattle.listing_loop.specs.Workings.Pages;
 ghost use Rattle.listing_loop.specs.Workings.Filling as filling;
 use fast_pair::kept::kept_of;
 use listing_pairs::look;
@@ -17,50 +17,73 @@ use listing_pairs::row;
 use listing_pairs::rows;
 use paths::segments;
 
-// How far the loop came: the rows in all, the pairs it looked at, and the pair at which it stopped (that pair's row had no room),
-// or that it reached the end.
+// A part of a listing: the pair (i, j) from which on it goes, the rows that stand before it, how many rows there is room for in
+// all, and how many pairs it may pass. It writes its rows if `write`, else it only counts them.
+pub struct Part {
+    pub i: usize,
+    pub j: usize,
+    pub rows: usize,
+    pub room: usize,
+    pub budget: usize,
+    pub write: bool,
+}
+
+// How far the loop came: the rows in all, the pairs that it passed, how many of these it looked at, and the pair before which it
+// stopped, or that it reached the end.
 pub struct Filling {
     pub rows: usize,
-    pub pairs: usize,
+    pub passed: usize,
+    pub looked: usize,
     pub i: usize,
     pub j: usize,
     pub ended: bool,
 }
 
-// Walks the pairs from (start_i, start_j) on. It stops at the end, or before a pair whose row has no room because there are
-// `room` rows already. `at` rows stand before it starts. It writes rows if `write`, else it only counts them. `kept` is kept of
-// the second path's segments.
+// Where the indices from j on end: at `to`, or after as many as the budget allows.
+fn end_within(j: usize, to: usize, budget: usize) -> usize
+    ensures { λ r. ⌜ r ≡ filling.endWithin j to budget ⌝ }
+{
+    if j < to {
+        if budget < to - j {
+            return j + budget;
+        }
+    }
+    to
+}
+
+// Walks the pairs of a part. It stops at the end, when the budget is spent, or before a pair whose row has no room. `kept` is kept
+// of the second path's segments that it can reach.
 pub fn fill(
     first: &[f64],
     second: &[f64],
     kept: &[f64],
     job: Job,
-    start_i: usize,
-    start_j: usize,
-    write: bool,
-    at: usize,
-    room: usize,
+    part: Part,
     indices: &mut [u64],
     points: &mut [f64],
 ) -> Filling
-    requires { ⌜ Keeping.Ready (now first) (now second) (now kept) job ⌝ }
-    requires { ⌜ «start_i» ≤ job .n ⌝ }
-    requires { ⌜ at ≤ room ⌝ }
-    requires { ⌜ (room * row_of.indicesARow ≤ length (now indices)) × (room * row_of.pointsARow ≤ length (now points)) ⌝ }
+    requires { ⌜ Keeping.Ready (now first) (now second) (now kept) job (part .i) (part .j) (part .budget) ⌝ }
+    requires { ⌜ part .i ≤ job .n ⌝ }
+    requires { ⌜ part .rows ≤ part .room ⌝ }
+    requires { ⌜
+        (part .room * row_of.indicesARow ≤ length (now indices)) × (part .room * row_of.pointsARow ≤ length (now points)) ⌝ }
     ensures { λ r. ⌜
-        filling.Filled job write at
-        (Pages.page (Look.look (now (first .entry)) (now (second .entry)) (job .epsilon)) (job_of.left job «start_i» «start_j»)
-        (room - at))
+        filling.Filled job part
+        (Page.page (Look.look (now (first .entry)) (now (second .entry)) (job .epsilon)) (job_of.left job (part .i) (part .j))
+        (part .room - part .rows) (part .budget))
         r (now (indices .entry)) (now (indices .exit)) (now (points .entry)) (now (points .exit)) ⌝ }
 {
-    let mut i = start_i;
-    let mut j = start_j;
-    let mut rows = at;
-    let mut pairs = 0;
+    let mut i = part.i;
+    let mut j = part.j;
+    let mut rows = part.rows;
+    let mut budget = part.budget;
+    let mut looked = 0;
     while i < job.n {
         let v = segments::segment_from(first, i);
         let v_kept = kept_of(v.v1, v.v2, job.epsilon);
-        let end = order::to(job, i);
+        let to = order::to(job, i);
+        let start = j;
+        let end = end_within(start, to, budget);
         while j < end {
             let seen = look::look(v, v_kept, second, kept, job, i, j);
             match seen {
@@ -68,32 +91,45 @@ pub fn fill(
                     j += 1;
                 }
                 row::Look::Nothing => {
-                    pairs += 1;
+                    looked += 1;
                     j += 1;
                 }
                 row::Look::Made(r) => {
-                    if rows >= room {
+                    if rows >= part.room {
                         return Filling {
                             rows: rows,
-                            pairs: pairs,
+                            passed: part.budget - (budget - (j - start)),
+                            looked: looked,
                             i: i,
                             j: j,
                             ended: false,
                         };
                     }
-                    rows::put_row(write, indices, points, rows, r);
+                    rows::put_row(part.write, indices, points, rows, r);
                     rows += 1;
-                    pairs += 1;
+                    looked += 1;
                     j += 1;
                 }
             }
+        }
+        budget -= j - start;
+        if j < to {
+            return Filling {
+                rows: rows,
+                passed: part.budget - budget,
+                looked: looked,
+                i: i,
+                j: j,
+                ended: false,
+            };
         }
         i += 1;
         j = order::from(job, i);
     }
     Filling {
         rows: rows,
-        pairs: pairs,
+        passed: part.budget - budget,
+        looked: looked,
         i: i,
         j: j,
         ended: true,

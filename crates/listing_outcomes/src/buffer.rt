@@ -4,6 +4,7 @@ ghost use Rattle.listing_pairs.specs.Look;
 ghost use Rattle.listing_pairs.specs.Workings.Job as job_of;
 ghost use Rattle.listing_pairs.specs.Workings.Keeping;
 ghost use Rattle.listing_pairs.specs.Workings.Ready;
+ghost use Rattle.paths.specs.Path;
 ghost use Rattle.listing_outcomes.specs.Outcome;
 ghost use Rattle.listing_outcomes.specs.Workings.Outcome as outcome_of;
 ghost use Prim.Native.Nat.{_≤_, _<_, _*_, min};
@@ -11,6 +12,8 @@ ghost use lib.ListN.{length};
 ghost use mathlib.Core.Path.{_≡_};
 use super::answer::ListingAnswer;
 use checks::refusal;
+use listing_loop::fill::Filling;
+use listing_loop::fill::Part;
 use listing_loop::fill::fill;
 use listing_pairs::keeping;
 use listing_pairs::order;
@@ -32,64 +35,63 @@ fn lesser(x: usize, y: usize) -> usize
     y
 }
 
-// The listing of a job whose first ROWS rows are held back, up to the pair (i, j), which makes one more. It walks the remaining
-// pairs twice: count, then write if all rows fit.
+// As many pairs as there can be: each segment of one path with each of the other.
+fn every_pair(job: Job) -> usize
+    requires { ⌜ (job .n ≤ Path.mostVertices) × (job .m ≤ Path.mostVertices) ⌝ }
+    ensures { λ r. ⌜ r ≡ job .n * job .m ⌝ }
+{
+    job.n * job.m
+}
+
+// The listing of a job whose first ROWS rows are held back, up to the pair at which `held` stopped, which makes one more. It walks
+// the remaining pairs twice: count, then write if all rows fit.
 fn list_behind(
     first: &[f64],
     second: &[f64],
     kept: &[f64],
     job: Job,
-    i: usize,
-    j: usize,
-    pairs: usize,
+    held: Filling,
     held_indices: &[u64],
     held_points: &[f64],
     room: usize,
     indices: &mut [u64],
     points: &mut [f64],
 ) -> ListingAnswer
-    requires { ⌜ Keeping.Ready (now first) (now second) (now kept) job ⌝ }
+    requires { ⌜ Keeping.AllReady (now first) (now second) (now kept) job ⌝ }
     requires { ⌜ room ≡ Outcome.room (now indices) (now points) ⌝ }
     requires { ⌜ outcome_of.heldRows ≤ room ⌝ }
     requires { ⌜
-        outcome_of.Held (Look.look (now first) (now second) (job .epsilon)) job outcome_of.heldRows i j pairs
+        outcome_of.Held (Look.look (now first) (now second) (job .epsilon)) job outcome_of.heldRows held
         (now «held_indices») (now «held_points») ⌝ }
     ensures { λ r. ⌜
         Outcome.Leaves (outcome_of.listed (Look.look (now (first .entry)) (now (second .entry)) (job .epsilon)) (job_of.every job)
         (now (indices .entry)) (now (points .entry)))
         r (now (indices .exit)) (now (points .exit)) ⌝ }
 {
-    let counted = fill(
-        first,
-        second,
-        kept,
-        job,
-        i,
-        j,
-        false,
-        ROWS,
-        room,
-        indices,
-        points,
-    );
+    let budget = every_pair(job);
+    let count = Part {
+        i: held.i,
+        j: held.j,
+        rows: ROWS,
+        room: room,
+        budget: budget,
+        write: false,
+    };
+    let counted = fill(first, second, kept, job, count, indices, points);
     if counted.ended {
         rows::copy_rows(held_indices, held_points, ROWS, indices, points);
-        let more = fill(
-            first,
-            second,
-            kept,
-            job,
-            i,
-            j,
-            true,
-            ROWS,
-            room,
-            indices,
-            points,
-        );
+        let behind = Part {
+            i: held.i,
+            j: held.j,
+            rows: ROWS,
+            room: room,
+            budget: budget,
+            write: true,
+        };
+        let more = fill(first, second, kept, job, behind, indices, points);
         return ListingAnswer::Listed {
             rows: more.rows,
-            pairs: pairs + more.pairs,
+            pairs: held.looked + more.looked,
         };
     }
     ListingAnswer::Refused(refusal::ROWS)
@@ -105,7 +107,7 @@ fn list_held_back(
     indices: &mut [u64],
     points: &mut [f64],
 ) -> ListingAnswer
-    requires { ⌜ Keeping.Ready (now first) (now second) (now kept) job ⌝ }
+    requires { ⌜ Keeping.AllReady (now first) (now second) (now kept) job ⌝ }
     requires { ⌜ room ≡ Outcome.room (now indices) (now points) ⌝ }
     ensures { λ r. ⌜
         Outcome.Leaves (outcome_of.listed (Look.look (now (first .entry)) (now (second .entry)) (job .epsilon)) (job_of.every job)
@@ -116,16 +118,21 @@ fn list_held_back(
     let mut held_points = [0.0f64; ROWS * row::POINTS];
     let start = order::from(job, 0);
     let most = lesser(room, ROWS);
+    let budget = every_pair(job);
+    let front = Part {
+        i: 0,
+        j: start,
+        rows: 0,
+        room: most,
+        budget: budget,
+        write: true,
+    };
     let held = fill(
         first,
         second,
         kept,
         job,
-        0,
-        start,
-        true,
-        0,
-        most,
+        front,
         &mut held_indices,
         &mut held_points,
     );
@@ -133,7 +140,7 @@ fn list_held_back(
         rows::copy_rows(&held_indices, &held_points, held.rows, indices, points);
         return ListingAnswer::Listed {
             rows: held.rows,
-            pairs: held.pairs,
+            pairs: held.looked,
         };
     }
     if room <= ROWS {
@@ -144,9 +151,7 @@ fn list_held_back(
         second,
         kept,
         job,
-        held.i,
-        held.j,
-        held.pairs,
+        held,
         &held_indices,
         &held_points,
         room,
@@ -164,32 +169,29 @@ fn list_kept(
     indices: &mut [u64],
     points: &mut [f64],
 ) -> ListingAnswer
-    requires { ⌜ Keeping.Ready (now first) (now second) (now kept) job ⌝ }
+    requires { ⌜ Keeping.AllReady (now first) (now second) (now kept) job ⌝ }
     ensures { λ r. ⌜
         Outcome.Leaves (outcome_of.listed (Look.look (now (first .entry)) (now (second .entry)) (job .epsilon)) (job_of.every job)
         (now (indices .entry)) (now (points .entry)))
         r (now (indices .exit)) (now (points .exit)) ⌝ }
 {
     let room = lesser(indices.len() / row::INDICES, points.len() / row::POINTS);
+    let budget = every_pair(job);
     // there is room for a row of every pair
-    if job.n * job.m <= room {
+    if budget <= room {
         let start = order::from(job, 0);
-        let all = fill(
-            first,
-            second,
-            kept,
-            job,
-            0,
-            start,
-            true,
-            0,
-            room,
-            indices,
-            points,
-        );
+        let whole = Part {
+            i: 0,
+            j: start,
+            rows: 0,
+            room: room,
+            budget: budget,
+            write: true,
+        };
+        let all = fill(first, second, kept, job, whole, indices, points);
         return ListingAnswer::Listed {
             rows: all.rows,
-            pairs: all.pairs,
+            pairs: all.looked,
         };
     }
     list_held_back(first, second, kept, job, room, indices, points)

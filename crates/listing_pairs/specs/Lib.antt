@@ -3,6 +3,7 @@
 pub mod Row
 pub mod Order
 pub mod Rows
+pub mod Page
 pub mod Look
 pub mod Workings
 pub mod Laws

@@ -1,26 +1,31 @@
 -- The state of the loop that fills rows, at the pair (i, j), and its steps. The proof of `fill` uses them, place by place.
-use mathlib.Core.Path.{_≡_, refl, _∙_}
+use mathlib.Core.Path.{_≡_, refl, sym, ap, _∙_}
 use mathlib.Core.Bool.{Bool, true, false, cond, _&&_}
 use mathlib.Core.List.{List, [], _∷_}
-use Prim.Native.Nat.{ℕ, _+_, _-_, _*_, _≤_, _<_}
+use Prim.Native.Nat.{ℕ, suc, _+_, _-_, _*_, _≤_, _<_}
 use native.Mathlib.Nat.{mul-le-mul}
 use native.Mathlib.Omega.{arith}
 use lib.Dec.{eqb}
 use lib.Ieee.{Float}
-use lib.ListN.{length}
+use lib.ListN.{length, take}
 use lib.Seq.{length-sets}
 use Rattle.paths.specs.Path.{mostVertices}
 use Rattle.listing_pairs.specs.declared.row.Row.{Row}
 use Rattle.listing_pairs.specs.declared.row.Look.{Look}
 use Rattle.listing_pairs.specs.declared.row.Look.the-variants.{Passed, Nothing, Made}
 use Rattle.listing_pairs.specs.declared.order.Job.{Job}
+use Rattle.listing_pairs.specs.Order.{Pair}
+use Rattle.listing_pairs.specs.Page.{Page, page}
+use Rattle.listing_pairs.specs.Look.{look}
 use Rattle.listing_pairs.specs.Row.{indicesARow, pointsARow, indicesOf, pointsOf, numbersOfRows}
 use Rattle.listing_pairs.specs.Workings.Job as job_of
-use Rattle.listing_pairs.specs.Laws.Order.{few-pairs}
-use Rattle.listing_pairs.specs.Workings.Stored.{kept, putIndices, putPoints}
-use Rattle.listing_loop.specs.Workings.Pages.{Page, page, joins, few-looked}
+use Rattle.listing_pairs.specs.Workings.Keeping.{KeptOf, KeptFor}
+use Rattle.listing_pairs.specs.Laws.Order.{few-pairs, left-pair, left-next}
+use Rattle.listing_pairs.specs.Workings.Stored.{written, putIndices, putPoints}
+use Rattle.listing_loop.specs.declared.fill.Part.{Part}
+use Rattle.listing_loop.specs.Laws.Pages.{joins, few-looked}
 use Rattle.listing_loop.specs.Workings.Filling as filling
-use Rattle.listing_loop.specs.Workings.Filling.{Left, Filled}
+use Rattle.listing_loop.specs.Workings.Filling.{Left, Stops}
 
 -- ---- at most as many pairs as each segment of one path with each of another
 abbrev pub mostPairs : ℕ
@@ -41,83 +46,142 @@ few-left job i j =
     let same : job .m ≤ job .m = omega arith in
     omega (arith, some, mul-le-mul fewer same)
 
-pub few-on-page : (look : ℕ → ℕ → Look) (job : Job) (i j room : ℕ) → job .n ≤ mostVertices → job .m ≤ mostVertices
-    → page look (job_of.left job i j) room .looked ≤ mostPairs
-few-on-page look job i j room n m =
+pub few-on-page : (look : ℕ → ℕ → Look) (job : Job) (i j room budget : ℕ) → job .n ≤ mostVertices → job .m ≤ mostVertices
+    → page look (job_of.left job i j) room budget .looked ≤ mostPairs
+few-on-page look job i j room budget n m =
     let ps = job_of.left job i j in
-    omega (arith, joins look ps room .looked, few-looked look ps, few-left job i j, mul-le-mul n m)
+    omega (arith, joins look ps room budget .looked, few-looked look ps, few-left job i j, mul-le-mul n m)
 
--- all pairs that a call walks, from (startI, startJ) on
-abbrev whole : (ℕ → ℕ → Look) → Job → ℕ → ℕ → ℕ → ℕ → Page
-whole look job at room startI startJ = page look (job_of.left job startI startJ) (room - at)
+-- the page of all pairs that a call can walk
+abbrev whole : (ℕ → ℕ → Look) → Job → Part → Page
+whole look job part = page look (job_of.left job (part .i) (part .j)) (part .room - part .rows) (part .budget)
 
--- At the pair (i, j), with `rows` rows in all, `pairs` pairs looked at, and the slices as they are now; when the call began they
--- were i₀ and p₀.
-pub record State (look : ℕ → ℕ → Look) (job : Job) (write : Bool) (at room startI startJ : ℕ) (i₀ : List ℕ) (p₀ : List Float)
-    (i j rows pairs : ℕ) (l : List ℕ) (p : List Float) : Type 0 where
+-- At the pair (i, j), with `rows` rows in all, a budget that is left, `looked` pairs looked at, and the slices as they are now; when
+-- the call began they were i₀ and p₀.
+pub record State (first second kept : List Float) (job : Job) (part : Part) (i₀ : List ℕ) (p₀ : List Float)
+    (i j rows budget looked : ℕ) (l : List ℕ) (p : List Float) : Type 0 where
   pub left :
-      Left write at (whole look job at room startI startJ) (page look (job_of.left job i j) (room - rows)) rows pairs i₀ l p₀ p
-  pub fits : rows ≤ room
+      Left part (whole (look first second (job .epsilon)) job part)
+      (page (look first second (job .epsilon)) (job_of.left job i j) (part .room - rows) budget)
+      rows (part .budget - budget) looked i₀ l p₀ p
+  pub keeps : KeptFor second kept (job .epsilon) (take budget (job_of.left job i j))
+  pub allowed : budget ≤ part .budget
+  pub fits : rows ≤ part .room
   pub within : i ≤ job .n
   pub indices : length l ≡ length i₀
   pub points : length p ≡ length p₀
 
-pub starts : (look : ℕ → ℕ → Look) (job : Job) (write : Bool) (at room startI startJ : ℕ) (i₀ : List ℕ) (p₀ : List Float)
-    → at ≤ room → startI ≤ job .n → State look job write at room startI startJ i₀ p₀ startI startJ at 0 i₀ p₀
-starts look job write at room startI startJ i₀ p₀ h w =
+pub starts : (first second kept : List Float) (job : Job) (part : Part) (i₀ : List ℕ) (p₀ : List Float)
+    → KeptFor second kept (job .epsilon) (take (part .budget) (job_of.left job (part .i) (part .j)))
+    → part .rows ≤ part .room → part .i ≤ job .n
+    → State first second kept job part i₀ p₀ (part .i) (part .j) (part .rows) (part .budget) 0 i₀ p₀
+starts first second kept job part i₀ p₀ k h w =
+    let none : part .budget - part .budget ≡ 0 = omega arith in
     record {
-      left = filling.left-start write at (whole look job at room startI startJ) i₀ p₀;
+      left = rw none (filling.left-start part (whole (look first second (job .epsilon)) job part) i₀ p₀);
+      keeps = k;
+      allowed = omega arith;
       fits = h;
       within = w;
       indices = refl;
       points = refl;
     }
 
-module _ {look : ℕ → ℕ → Look} {job : Job} {write : Bool} {at room startI startJ : ℕ} {i₀ : List ℕ} {p₀ : List Float}
-    {i j rows pairs : ℕ} {l : List ℕ} {p : List Float}
-    (s : State look job write at room startI startJ i₀ p₀ i j rows pairs l p) where
-  pub few : job .n ≤ mostVertices → job .m ≤ mostVertices → pairs ≤ mostPairs
-  few n m = omega (arith, s .left .looked, few-on-page look job startI startJ (room - at) n m)
+module _ {first second kept : List Float} {job : Job} {part : Part} {i₀ : List ℕ} {p₀ : List Float}
+    {i j rows budget looked : ℕ} {l : List ℕ} {p : List Float}
+    (s : State first second kept job part i₀ p₀ i j rows budget looked l p) where
+  abbrev f : ℕ → ℕ → Look
+  f = look first second (job .epsilon)
 
-  pub ends : job .n ≤ i
-      → Filled job write at (whole look job at room startI startJ)
-      (record { rows = rows; pairs = pairs; i = i; j = j; ended = true }) i₀ l p₀ p
-  ends beyond = filling.ends look job room write at _ i₀ p₀ i j rows pairs l p (s .left) beyond (s .within)
+  abbrev all : Page
+  all = whole f job part
 
-  -- to another pair, with the same rows
-  on : {i′ j′ pairs′ : ℕ}
-      → Left write at (whole look job at room startI startJ) (page look (job_of.left job i′ j′) (room - rows))
-      rows pairs′ i₀ l p₀ p
-      → i′ ≤ job .n → State look job write at room startI startJ i₀ p₀ i′ j′ rows pairs′ l p
-  on left within = record { left = left; fits = s .fits; within = within; indices = s .indices; points = s .points }
+  pub few : job .n ≤ mostVertices → job .m ≤ mostVertices → looked ≤ mostPairs
+  few n m =
+      omega (arith, s .left .views, few-on-page f job (part .i) (part .j) (part .room - part .rows) (part .budget) n m)
+
+  pub ends : job .n ≤ i → Stops f job part all i₀ p₀ i j true rows (part .budget - budget) looked l p
+  ends beyond = filling.ends f job part all i₀ p₀ i j rows budget _ looked l p (s .left) beyond (s .within)
 
   module _ (inside : i < job .n) where
     pub next-i : job_of.to job i ≤ j
-        → State look job write at room startI startJ i₀ p₀ (i + 1) (job_of.from job (i + 1)) rows pairs l p
+        → State first second kept job part i₀ p₀ (i + 1) (job_of.from job (i + 1)) rows budget looked l p
     next-i beyond =
-        on (filling.next-i look job room write at _ i₀ p₀ i j rows pairs l p inside (s .left) beyond) (omega (arith, inside))
+        let e = left-next (job_of.from job) (job_of.to job) (job .n) i j inside beyond in
+        record {
+          left = filling.next-i f job part all i₀ p₀ i j rows budget _ looked l p inside (s .left) beyond;
+          keeps = rw e at (s .keeps);
+          allowed = s .allowed;
+          fits = s .fits;
+          within = omega (arith, inside);
+          indices = s .indices;
+          points = s .points;
+        }
 
     module _ (below : j < job_of.to job i) where
-      pub passes : look i j ≡ Passed → State look job write at room startI startJ i₀ p₀ i (j + 1) rows pairs l p
-      passes e = on (filling.passes look job room write at _ i₀ p₀ i j rows pairs l p inside (s .left) below e) (s .within)
+      pub spent : budget ≡ 0 → Stops f job part all i₀ p₀ i j false rows (part .budget - budget) looked l p
+      spent none = filling.spent f job part all i₀ p₀ i j rows budget _ looked l p inside below (s .left) none
 
-      pub looks : look i j ≡ Nothing → State look job write at room startI startJ i₀ p₀ i (j + 1) rows (pairs + 1) l p
-      looks e = on (filling.looks look job room write at _ i₀ p₀ i j rows pairs l p inside (s .left) below e) (s .within)
+      -- a pair that the budget allows
+      module _ (less : ℕ) (one : budget ≡ suc less) where
+        pairs : take budget (job_of.left job i j) ≡ record { i = i; j = j } ∷ take less (job_of.left job i (j + 1))
+        pairs =
+            ap (λ (b : ℕ). take b (job_of.left job i j)) one
+            ∙ ap (take (suc less)) (left-pair (job_of.from job) (job_of.to job) (job .n) i j inside below)
 
-      module _ (r : Row) (e : look i j ≡ Made r) where
-        pub makes : rows < room
-            → State look job write at room startI startJ i₀ p₀
-            i (j + 1) (rows + 1) (pairs + 1) (putIndices write l rows r) (putPoints write p rows r)
-        makes fits =
+        both : KeptFor second kept (job .epsilon) (record { i = i; j = j } ∷ take less (job_of.left job i (j + 1)))
+        both = rw pairs at (s .keeps)
+
+        pub kept-here : KeptOf second kept (job .epsilon) j
+        unfolding KeptFor
+        kept-here = both .0
+
+        keeps-more : KeptFor second kept (job .epsilon) (take less (job_of.left job i (j + 1)))
+        unfolding KeptFor
+        keeps-more = both .1
+
+        -- to the next pair, with the same rows
+        on : {looked′ : ℕ}
+            → Left part all (page f (job_of.left job i (j + 1)) (part .room - rows) less)
+            rows (part .budget - budget + 1) looked′ i₀ l p₀ p
+            → State first second kept job part i₀ p₀ i (j + 1) rows less looked′ l p
+        on {looked′} h =
+            let more : part .budget - budget + 1 ≡ part .budget - less = omega (arith, one, s .allowed) in
             record {
-              left = filling.makes look job room write at _ i₀ p₀ i j rows pairs l p inside (s .left) below r e fits;
-              fits = omega (arith, fits);
+              left = rw more at h;
+              keeps = keeps-more;
+              allowed = omega (arith, one, s .allowed);
+              fits = s .fits;
               within = s .within;
-              indices = length-sets l (rows * indicesARow) (numbersOfRows indicesOf (kept write (r ∷ []))) ∙ s .indices;
-              points = length-sets p (rows * pointsARow) (numbersOfRows pointsOf (kept write (r ∷ []))) ∙ s .points;
+              indices = s .indices;
+              points = s .points;
             }
 
-        pub stops : room ≤ rows
-            → Filled job write at (whole look job at room startI startJ)
-            (record { rows = rows; pairs = pairs; i = i; j = j; ended = false }) i₀ l p₀ p
-        stops full = filling.stops look job room write at _ i₀ p₀ i j rows pairs l p inside (s .left) below r e full
+        pub passes : f i j ≡ Passed → State first second kept job part i₀ p₀ i (j + 1) rows less looked l p
+        passes e = on (filling.passes f job part all i₀ p₀ i j rows budget _ looked l p inside below less one (s .left) e)
+
+        pub looks : f i j ≡ Nothing → State first second kept job part i₀ p₀ i (j + 1) rows less (looked + 1) l p
+        looks e = on (filling.looks f job part all i₀ p₀ i j rows budget _ looked l p inside below less one (s .left) e)
+
+        module _ (r : Row) (e : f i j ≡ Made r) where
+          pub makes : rows < part .room
+              → State first second kept job part i₀ p₀ i (j + 1) (rows + 1) less (looked + 1)
+              (putIndices (part .write) l rows r) (putPoints (part .write) p rows r)
+          makes fits =
+              let more : part .budget - budget + 1 ≡ part .budget - less = omega (arith, one, s .allowed) in
+              record {
+                left =
+                    rw more at
+                    (filling.makes f job part all i₀ p₀ i j rows budget _ looked l p inside below less one (s .left) r e fits);
+                keeps = keeps-more;
+                allowed = omega (arith, one, s .allowed);
+                fits = omega (arith, fits);
+                within = s .within;
+                indices =
+                    length-sets l (rows * indicesARow) (numbersOfRows indicesOf (written (part .write) (r ∷ []))) ∙ s .indices;
+                points = length-sets p (rows * pointsARow) (numbersOfRows pointsOf (written (part .write) (r ∷ []))) ∙ s .points;
+              }
+
+          pub stops : part .room ≤ rows → Stops f job part all i₀ p₀ i j false rows (part .budget - budget) looked l p
+          stops full =
+              filling.stops f job part all i₀ p₀ i j rows budget _ looked l p inside below less one (s .left) r e full

@@ -20,10 +20,10 @@ use Rattle.listing_pairs.specs.Order.{Pair, pairsFrom}
 use Rattle.listing_pairs.specs.Rows.{rowsOf, lookedAt}
 use Rattle.listing_pairs.specs.Workings.Job as job_of
 use Rattle.listing_pairs.specs.Laws.Stores.{flat-append, flat-length}
+use Rattle.listing_pairs.specs.Page.{Page, page}
+use Rattle.listing_loop.specs.declared.fill.Part.{Part}
 use Rattle.listing_loop.specs.declared.fill.Filling.{Filling}
-use Rattle.listing_loop.specs.Workings.Pages.{
-  Page,
-  page,
+use Rattle.listing_loop.specs.Laws.Pages.{
   empty,
   Joins,
   joins,
@@ -74,7 +74,7 @@ module _ (look : ℕ → ℕ → Look) (ps : List Pair) (i₀ : List ℕ) (p₀ 
   fit-points n h = omega (arith, h)
 
   -- ---- no pair remains after a page with room for k rows
-  module _ {k : ℕ} {q : Page} (j : Joins look ps k q) (within : k ≤ room i₀ p₀) (ended : empty (q .rest) ≡ true) where
+  module _ {k budget : ℕ} {q : Page} (j : Joins look ps k budget q) (within : k ≤ room i₀ p₀) (ended : empty (q .rest) ≡ true) where
     all : q .rows ≡ rows
     all = whole-rows look j ended
 
@@ -129,35 +129,57 @@ module _ (look : ℕ → ℕ → Look) (job : Job) where
       ap (λ (j : ℕ). pairsFrom (job_of.from job) (job_of.to job) 0 j (job .n - 0)) e
       ∙ ap (pairsFrom (job_of.from job) (job_of.to job) 0 (job_of.from job 0)) (sub-zero (job .n))
 
-  pub filled-first : (start k : ℕ) (r : Filling) (i₀ i : List ℕ) (p₀ p : List Float) → start ≡ job_of.from job 0
-      → Filled job true 0 (page look (job_of.left job 0 start) (k - 0)) r i₀ i p₀ p
-      → Filled job true 0 (page look (job_of.every job) k) r i₀ i p₀ p
-  filled-first start k r i₀ i p₀ p e f = rw (from-first start e, sub-zero k) at f
+  -- a budget for every pair
+  abbrev pub budget : ℕ
+  budget = job .n * job .m
 
-  pub few-on-every : (k : ℕ) → job .n ≤ mostVertices → job .m ≤ mostVertices → page look (job_of.every job) k .looked ≤ mostPairs
+  enough : length (job_of.every job) ≤ budget
+  enough = let start = job_of.from job 0 in omega (arith, ap length (from-first start refl), few-left job 0 start)
+
+  -- a part that starts at the first pair
+  abbrev pub front : ℕ → ℕ → ℕ → Part
+  front start k b = record { i = 0; j = start; rows = 0; room = k; budget = b; write = true }
+
+  pub filled-first : (start k b : ℕ) (r : Filling) (i₀ i : List ℕ) (p₀ p : List Float) → start ≡ job_of.from job 0 → b ≡ budget
+      → Filled job (front start k b) (page look (job_of.left job 0 start) (k - 0) b) r i₀ i p₀ p
+      → Filled job (front start k budget) (page look (job_of.every job) k budget) r i₀ i p₀ p
+  filled-first start k b r i₀ i p₀ p e same f = rw (same, sub-zero k, from-first start e) at f
+
+  pub few-on-every : (k : ℕ) → job .n ≤ mostVertices → job .m ≤ mostVertices
+      → page look (job_of.every job) k budget .looked ≤ mostPairs
   few-on-every k n m =
       let start = job_of.from job 0 in
       omega (
         arith,
-        ap (λ (ps : List Pair). page look ps k .looked) (from-first start refl),
-        few-on-page look job 0 start k n m,
+        ap (λ (ps : List Pair). page look ps k budget .looked) (from-first start refl),
+        few-on-page look job 0 start k budget n m,
       )
 
-  -- if there is room for a row of every pair
-  pub no-more : (k : ℕ) → job .n * job .m ≤ k → empty (page look (job_of.every job) k .rest) ≡ true
-  no-more k h =
-      let ps = job_of.every job in
-      let few = few-left job 0 (job_of.from job 0) in
-      all-fit look ps k (omega (arith, few-rows look ps, ap length (from-first (job_of.from job 0) refl), few, h))
+  -- the page of all pairs, with room for k rows
+  pub joins-every : (k : ℕ) → Joins look (job_of.every job) k budget (page look (job_of.every job) k budget)
+  joins-every k = joins look (job_of.every job) k budget
 
--- ---- k rows are held back, as many as the buffer has room for, and pairs remain from (i, j) on
-pub record Held (look : ℕ → ℕ → Look) (job : Job) (k i j m : ℕ) (a : List ℕ) (b : List Float) : Type 0 where
-  pub within : i ≤ job .n
-  pub rest : page look (job_of.every job) k .rest ≡ job_of.left job i j
-  pub more : empty (page look (job_of.every job) k .rest) ≡ false
-  pub pairs : m ≡ page look (job_of.every job) k .looked
-  pub indices : a ≡ numbersOfRows indicesOf (page look (job_of.every job) k .rows)
-  pub points : b ≡ numbersOfRows pointsOf (page look (job_of.every job) k .rows)
+  pub full-every : (k : ℕ) → empty (page look (job_of.every job) k budget .rest) ≡ false
+      → length (page look (job_of.every job) k budget .rows) ≡ k
+  full-every k e = joins-every k .full enough e .0
+
+  pub too-many-every : (k : ℕ) → empty (page look (job_of.every job) k budget .rest) ≡ false
+      → k < length (rowsOf look (job_of.every job))
+  too-many-every k e = too-many look (joins-every k) enough e
+
+  -- if there is room for a row of every pair
+  pub no-more : (k : ℕ) → budget ≤ k → empty (page look (job_of.every job) k budget .rest) ≡ true
+  no-more k h =
+      let ps = job_of.every job in all-fit look ps k budget enough (omega (arith, few-rows look ps, enough, h))
+
+-- ---- k rows are held back, as many as the buffer has room for, and pairs remain from where the loop stopped
+pub record Held (look : ℕ → ℕ → Look) (job : Job) (k : ℕ) (r : Filling) (a : List ℕ) (b : List Float) : Type 0 where
+  pub within : r .i ≤ job .n
+  pub rest : page look (job_of.every job) k (job .n * job .m) .rest ≡ job_of.left job (r .i) (r .j)
+  pub more : empty (page look (job_of.every job) k (job .n * job .m) .rest) ≡ false
+  pub looked : r .looked ≡ page look (job_of.every job) k (job .n * job .m) .looked
+  pub indices : a ≡ numbersOfRows indicesOf (page look (job_of.every job) k (job .n * job .m) .rows)
+  pub points : b ≡ numbersOfRows pointsOf (page look (job_of.every job) k (job .n * job .m) .rows)
 
 -- the numbers of k rows, stored with exactly enough room for them
 just-all : {A : Type 0} (numbers : Row → List A) (width : ℕ) → ((r : Row) → length (numbers r) ≡ width)
@@ -168,100 +190,106 @@ just-all numbers width each rows old k n l =
     sets-over old (numbersOfRows numbers rows) (omega (arith, long, l)) ∙ over-all old (numbersOfRows numbers rows) (l ∙ sym long)
 
 -- a page that fills slices with exactly its room, after which pairs remain
-pub hold : (look : ℕ → ℕ → Look) (job : Job) (k m : ℕ) (r : Filling) (a₀ a : List ℕ) (b₀ b : List Float) → m ≡ k
-    → Filled job true 0 (page look (job_of.every job) m) r a₀ a b₀ b → r .ended ≡ false
+pub hold : (look : ℕ → ℕ → Look) (job : Job) (start k m : ℕ) (r : Filling) (a₀ a : List ℕ) (b₀ b : List Float) → m ≡ k
+    → Filled job (front look job start m (job .n * job .m)) (page look (job_of.every job) m (job .n * job .m)) r a₀ a b₀ b → r .ended ≡ false
     → length a₀ ≡ k * indicesARow → length b₀ ≡ k * pointsARow
-    → Held look job k (r .i) (r .j) (r .pairs) a b
-hold look job k m r a₀ a b₀ b same g e x y =
+    → Held look job k r a b
+hold look job start k m r a₀ a b₀ b same g e x y =
     let f = rw same at g in
-    let q = page look (job_of.every job) k in
+    let q = page look (job_of.every job) k (job .n * job .m) in
     let more = sym (f .ended) ∙ e in
-    let n = joins look (job_of.every job) k .full more .0 in
+    let n = full-every look job k more in
     record {
       within = f .within;
       rest = f .rest;
       more = more;
-      pairs = f .pairs;
+      looked = f .looked;
       indices = f .indices ∙ just-all indicesOf indicesARow (λ r. refl) (q .rows) a₀ k n x;
       points = f .points ∙ just-all pointsOf pointsARow (λ r. refl) (q .rows) b₀ k n y;
     }
 
-module _ {look : ℕ → ℕ → Look} {job : Job} {k i j m : ℕ} {a : List ℕ} {b : List Float} (held : Held look job k i j m a b) where
+module _ {look : ℕ → ℕ → Look} {job : Job} {k : ℕ} {r : Filling} {a : List ℕ} {b : List Float} (held : Held look job k r a b) where
   abbrev ps : List Pair
   ps = job_of.every job
 
-  abbrev front : Page
-  front = page look ps k
+  abbrev most : ℕ
+  most = job .n * job .m
 
-  first-rows : rowsOf look ps ≡ front .rows ++ rowsOf look (job_of.left job i j)
+  abbrev before : Page
+  before = page look ps k most
+
+  abbrev after : List Pair
+  after = job_of.left job (r .i) (r .j)
+
+  first-rows : rowsOf look ps ≡ before .rows ++ rowsOf look after
   first-rows =
-      sym (joins look ps k .rows) ∙ ap (λ (l : List Pair). front .rows ++ rowsOf look l) (held .rest)
+      sym (joins-every look job k .rows) ∙ ap (λ (l : List Pair). before .rows ++ rowsOf look l) (held .rest)
 
-  count-front : length (front .rows) ≡ k
-  count-front = joins look ps k .full (held .more) .0
+  count-front : length (before .rows) ≡ k
+  count-front = full-every look job k (held .more)
 
   pub held-indices : length a ≡ k * indicesARow
   held-indices =
-      ap length (held .indices) ∙ flat-length indicesOf indicesARow (λ r. refl) (front .rows)
+      ap length (held .indices) ∙ flat-length indicesOf indicesARow (λ r. refl) (before .rows)
       ∙ ap (λ (n : ℕ). n * indicesARow) count-front
 
   pub held-points : length b ≡ k * pointsARow
   held-points =
-      ap length (held .points) ∙ flat-length pointsOf pointsARow (λ r. refl) (front .rows)
+      ap length (held .points) ∙ flat-length pointsOf pointsARow (λ r. refl) (before .rows)
       ∙ ap (λ (n : ℕ). n * pointsARow) count-front
 
   module _ (i₀ : List ℕ) (p₀ : List Float) (fits : k ≤ room i₀ p₀) where
     -- the page after it
     abbrev pub behind : Page
-    behind = page look (job_of.left job i j) (room i₀ p₀ - k)
+    behind = page look after (room i₀ p₀ - k) most
 
     -- pairs remain after that page too
     pub behind-refused : empty (behind .rest) ≡ false → (x : List ℕ) (y : List Float) → x ≡ i₀ → y ≡ p₀
         → Leaves (listed look ps i₀ p₀) (Refused 8) x y
     behind-refused e =
-        let n = too-many look (joins look (job_of.left job i j) (room i₀ p₀ - k)) e in
-        let l = length-append (front .rows) (rowsOf look (job_of.left job i j)) in
+        let n = too-many look (joins look after (room i₀ p₀ - k) most) (few-left job (r .i) (r .j)) e in
+        let l = length-append (before .rows) (rowsOf look after) in
         is-refused look ps i₀ p₀ (omega (arith, n, l, ap length first-rows, count-front, fits))
 
     module _ (ended : empty (behind .rest) ≡ true) where
-      both : rowsOf look ps ≡ front .rows ++ behind .rows
+      both : rowsOf look ps ≡ before .rows ++ behind .rows
       both =
-          let j = joins look (job_of.left job i j) (room i₀ p₀ - k) in
-          first-rows ∙ ap (λ (rs : List Row). front .rows ++ rs) (sym (whole-rows look j ended))
+          let j = joins look after (room i₀ p₀ - k) most in
+          first-rows ∙ ap (λ (rs : List Row). before .rows ++ rs) (sym (whole-rows look j ended))
 
-      looked : lookedAt look ps ≡ m + behind .looked
+      looked : lookedAt look ps ≡ r .looked + behind .looked
       looked =
-          let j = joins look (job_of.left job i j) (room i₀ p₀ - k) in
-          omega (arith, joins look ps k .looked, ap (lookedAt look) (held .rest), whole-looked look j ended, held .pairs)
+          let j = joins look after (room i₀ p₀ - k) most in
+          omega (arith, joins-every look job k .looked, ap (lookedAt look) (held .rest), whole-looked look j ended, held .looked)
 
       count-both : length (rowsOf look ps) ≡ k + length (behind .rows)
-      count-both = omega (arith, ap length both, length-append (front .rows) (behind .rows), count-front)
+      count-both = omega (arith, ap length both, length-append (before .rows) (behind .rows), count-front)
 
       few-behind : k + length (behind .rows) ≤ room i₀ p₀
-      few-behind = omega (arith, joins look (job_of.left job i j) (room i₀ p₀ - k) .few, fits)
+      few-behind = omega (arith, joins look after (room i₀ p₀ - k) most .few, fits)
 
       -- one kind of numbers, copied and then stored behind
       stored-both : {A : Type 0} (numbers : Row → List A) (width : ℕ) → ((r : Row) → length (numbers r) ≡ width)
-          → (old held : List A) → held ≡ numbersOfRows numbers (front .rows) → room i₀ p₀ * width ≤ length old
+          → (old held : List A) → held ≡ numbersOfRows numbers (before .rows) → room i₀ p₀ * width ≤ length old
           → sets (paste old 0 held (k * width)) (k * width) (numbersOfRows numbers (behind .rows))
           ≡ overwrite old (numbersOfRows numbers (rowsOf look ps))
       stored-both {A} numbers width each old held is long =
-          let front-long = flat-length numbers width each (front .rows) in
+          let front-long = flat-length numbers width each (before .rows) in
           let behind-long = flat-length numbers width each (behind .rows) in
-          let k-long : k * width ≡ length (numbersOfRows numbers (front .rows)) =
+          let k-long : k * width ≡ length (numbersOfRows numbers (before .rows)) =
           ap (λ (n : ℕ). n * width) (sym count-front) ∙ sym front-long in
           let in-all : (k + length (behind .rows)) * width ≤ room i₀ p₀ * width = mul-le-mul few-behind (le-refl width) in
           let end : k * width + length (numbersOfRows numbers (behind .rows)) ≤ length old =
           omega (arith, behind-long, add-mul k (length (behind .rows)) width, in-all, long) in
           ap (λ (l : List A). sets (paste old 0 l (k * width)) (k * width) (numbersOfRows numbers (behind .rows))) is
           ∙ ap (λ (l : List A). sets l (k * width) (numbersOfRows numbers (behind .rows)))
-          (paste-all old (numbersOfRows numbers (front .rows)) (k * width) k-long)
-          ∙ sets-beyond old (numbersOfRows numbers (front .rows)) (numbersOfRows numbers (behind .rows))
+          (paste-all old (numbersOfRows numbers (before .rows)) (k * width) k-long)
+          ∙ sets-beyond old (numbersOfRows numbers (before .rows)) (numbersOfRows numbers (behind .rows))
           (k * width) (sym k-long) end
-          ∙ ap (overwrite old) (sym (flat-append numbers (front .rows) (behind .rows)) ∙ ap (numbersOfRows numbers) (sym both))
+          ∙ ap (overwrite old) (sym (flat-append numbers (before .rows) (behind .rows)) ∙ ap (numbersOfRows numbers) (sym both))
 
       -- u and v: the slices after the held-back rows are copied to their fronts
-      pub behind-listed : (n l : ℕ) (u x : List ℕ) (v y : List Float) → n ≡ k + length (behind .rows) → l ≡ m + behind .looked
+      pub behind-listed : (n l : ℕ) (u x : List ℕ) (v y : List Float) → n ≡ k + length (behind .rows) → l ≡ r .looked + behind .looked
           → u ≡ paste i₀ 0 a (k * indicesARow) → v ≡ paste p₀ 0 b (k * pointsARow)
           → x ≡ sets u (k * indicesARow) (numbersOfRows indicesOf (behind .rows))
           → y ≡ sets v (k * pointsARow) (numbersOfRows pointsOf (behind .rows))

@@ -14,13 +14,13 @@ use Rattle.listing_pairs.specs.Row.{indicesARow, pointsARow, indicesOf, 
 use Rattle.listing_pairs.specs.Laws.Stores.{sets-append, three-set, four-set}
 
 -- the rows that are written: all of them, or none if rows are only counted
-abbrev pub kept : Bool → List Row → List Row
-kept true rows = rows
-kept false rows = []
+abbrev pub written : Bool → List Row → List Row
+written true rows = rows
+written false rows = []
 
 -- the list after the numbers of rows are stored from row k on; one kind of numbers, `width` of them for each row
 abbrev pub stored : {A : Type 0} → (Row → List A) → ℕ → Bool → List A → ℕ → List Row → List A
-stored numbers width write l k rows = sets l (k * width) (numbersOfRows numbers (kept write rows))
+stored numbers width write l k rows = sets l (k * width) (numbersOfRows numbers (written write rows))
 
 module _ {A : Type 0} (numbers : Row → List A) (width : ℕ) where
   pub stored-none : (write : Bool) (l : List A) (k : ℕ) → l ≡ stored numbers width write l k []

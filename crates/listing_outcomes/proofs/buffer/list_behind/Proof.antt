@@ -9,6 +9,7 @@ use lib.ListN.{length}
 use lib.Seq.{paste}
 use Rattle.listing_pairs.specs.Row.{indicesARow, pointsARow}
 use Rattle.listing_pairs.specs.Look.{look}
+use Rattle.listing_pairs.specs.Workings.Keeping.{all-ready}
 use Rattle.listing_loop.specs.Laws.Loop.{few-on-page}
 use Rattle.listing_outcomes.specs.Workings.Outcome.{
   heldRows,
@@ -21,17 +22,20 @@ use Rattle.listing_outcomes.specs.Workings.Outcome.{
 use Rattle.listing_outcomes.proofs.buffer.list_behind.Statement.{statement}
 use Rattle.listing_outcomes.proofs.buffer.list_behind.Tie as tie
 
+abbrev budget : tie.After-fill → tie.After-every-pair
+budget c = c .before .before .before
+
 abbrev start : tie.After-fill → tie.Start
-start c = c .before .before .before .before .before .before .before .before .before .before
+start c = budget c .before .before .before .before .before .before .before .before
 
 abbrev counted : tie.After-copy-rows → tie.After-fill
 counted c = c .before .before .before .before .before .before .before .before
 
 -- counting writes nothing
-same-indices : (c : tie.After-fill) → c .fill .last .1 .1 .1 .1 .1 .1 .1 .1 .1 .0 ≡ now (start c .args .indices)
+same-indices : (c : tie.After-fill) → c .fill .last .1 .1 .1 .1 .1 .0 ≡ now (start c .args .indices)
 same-indices c = c .fill .ensures .indices
 
-same-points : (c : tie.After-fill) → c .fill .last .1 .1 .1 .1 .1 .1 .1 .1 .1 .1 .0 ≡ now (start c .args .points)
+same-points : (c : tie.After-fill) → c .fill .last .1 .1 .1 .1 .1 .1 .0 ≡ now (start c .args .points)
 same-points c = c .fill .ensures .points
 
 -- the rows that were held back are copied
@@ -49,10 +53,14 @@ copied-points c =
     c .copy-rows .ensures .1
     ∙ ap (λ l. paste l 0 (now (start (counted c) .args .held-points)) (heldRows * pointsARow)) (same-points (counted c))
 
+every-pair-requires : tie.Need-every-pair-requires
+every-pair-requires c κs =
+    let ready = c .before .before .before .before .before .before .before .pre .0 .pairs in (ready .few, ready .few-second)
+
 fill-requires : tie.Need-fill-requires
 fill-requires c κs =
-    let h = c .before .before .before .before .before .before .before .before .before .pre in
-    (h .0, (h .1 .1 .1 .within, (h .1 .1 .0, (omega (arith, h .1 .0), omega (arith, h .1 .0)))))
+    let h = c .before .before .before .before .before .before .before .before .before .before .pre in
+    (all-ready (h .0) _ _ _, (h .1 .1 .1 .within, (h .1 .1 .0, (omega (arith, h .1 .0), omega (arith, h .1 .0)))))
 
 copy-rows-requires : tie.Need-copy-rows-requires
 copy-rows-requires c κs =
@@ -67,41 +75,52 @@ fill-requires-2 c κs =
     let k = c .before .before .before .before .before .before in
     let h = start (counted k) .pre in
     let on-indices = ap length (copied-indices k) in
-    let on-points = ap length (copied-points k) in
-    (h .0, (h .1 .1 .1 .within, (h .1 .1 .0, (omega (arith, h .1 .0, on-indices), omega (arith, h .1 .0, on-points)))))
+    let on-points = ap length (copied-points k) in (
+      all-ready (h .0) _ _ _,
+      (h .1 .1 .1 .within, (h .1 .1 .0, (omega (arith, h .1 .0, on-indices), omega (arith, h .1 .0, on-points)))),
+    )
 
-add-t29 : tie.Need-add-t29
-add-t29 c =
-    let k = c .before .before .before .before .before in
-    let s = start (counted (k .before .before .before .before .before .before .before)) in
+abbrev written : tie.After-struct-known2 → tie.After-fill2
+written c = c .before .before .before .before .before .before
+
+abbrev copied : tie.After-fill2 → tie.After-copy-rows
+copied c = c .before .before .before .before .before .before .before
+
+add-t30 : tie.Need-add-t30
+add-t30 c =
+    let g = written c in
+    let f = counted (copied g) in
+    let s = start f in
     let a = s .args in
     let F = look (now (a .first)) (now (a .second)) (a .job .epsilon) in
     let ready = s .pre .0 .pairs in
     let held = s .pre .1 .1 .1 in
     let few = few-on-every F (a .job) heldRows (ready .few) (ready .few-second) in
-    let more = few-on-page F (a .job) (a .i) (a .j) (a .room - heldRows) (ready .few) (ready .few-second) in
-    omega (arith, held .pairs, few, k .fill2 .ensures .pairs, more)
+    let more = few-on-page F (a .job) (a .held .i) (a .held .j) (a .room - heldRows) (budget f .every-pair .result)
+    (ready .few) (ready .few-second) in
+    omega (arith, held .looked, few, g .fill2 .ensures .looked, more)
 
 returns : tie.Need-returns
 returns c =
-    let g = c .before .before .before .before .before in
-    let k = g .before .before .before .before .before .before .before in
+    let g = written c in
+    let k = copied g in
     let t = k .before .before .before in
     let f = t .before .before .before .before .before in
     let a = start f .args in
     let h = start f .pre .1 in
-    let ended = rw (h .0) at (f .fill .ensures .ended) in
-    let done = rw (h .0) at (g .fill2 .ensures) in
+    let ended = rw (h .0, budget f .every-pair .ensures) at (f .fill .ensures .ended) in
+    let done = rw (h .0, budget f .every-pair .ensures) at (g .fill2 .ensures) in
     behind-listed (h .1 .1) (now (a .indices)) (now (a .points)) (omega (arith, h .0, h .1 .0)) (sym ended ∙ t .if1 .taken)
     _ _ _ _ _ _
-    (done .rows) (ap (λ (n : ℕ). a .pairs + n) (done .pairs)) (copied-indices k) (copied-points k) (done .indices) (done .points)
+    (done .rows) (ap (λ (n : ℕ). a .held .looked + n) (done .looked)) (copied-indices k) (copied-points k)
+    (done .indices) (done .points)
 
 returns-2 : tie.Need-returns-2
 returns-2 c =
     let f = c .before .before .before .before .before in
     let a = start f .args in
     let h = start f .pre .1 in
-    let ended = rw (h .0) at (f .fill .ensures .ended) in
+    let ended = rw (h .0, budget f .every-pair .ensures) at (f .fill .ensures .ended) in
     behind-refused (h .1 .1) (now (a .indices)) (now (a .points)) (omega (arith, h .0, h .1 .0)) (sym ended ∙ c .if1 .left)
     _ _ (same-indices f) (same-points f)
 
@@ -109,5 +128,5 @@ pub list-behind-spec : {M : Type 1} → statement M
 list-behind-spec =
     tie.close
     (tie.spec
-    fill-requires copy-rows-requires fill-requires-2 add-t29 (λ c. search needs) (λ c. search needs) returns
+    every-pair-requires fill-requires copy-rows-requires fill-requires-2 add-t30 (λ c. search needs) (λ c. search needs) returns
     (λ c. search needs) (λ c. search needs) returns-2)
