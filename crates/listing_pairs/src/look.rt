@@ -23,7 +23,7 @@ pub fn look(
     j: usize,
 ) -> row::Look
     requires { ⌜ Ready.SegmentReady v (now second) job ⌝ }
-    requires { ⌜ Keeping.Keeps (now second) (now kept) job ⌝ }
+    requires { ⌜ Keeping.KeptOf (now second) (now kept) (job .epsilon) j ⌝ }
     requires { ⌜ «v_kept» ≡ Keeping.ofSegment v (job .epsilon) ⌝ }
     requires { ⌜ j < job .m ⌝ }
     ensures { λ r. ⌜ r ≡ Ready.lookOn v (now (second .entry)) (job .epsilon) i j ⌝ }

@@ -1,19 +1,21 @@
 -- What is kept of the second path's segments: three numbers of each in a list, stored one segment after the other, and read back.
 use mathlib.Core.Path.{_≡_, refl, sym, ap, _∙_}
-use mathlib.Core.List.{List}
+use mathlib.Core.List.{List, [], _∷_}
 use mathlib.Core.Logic.{_⊎_, inl, inr}
 use Prim.Native.Nat.{ℕ, zero, suc, _+_, _*_, _≤_, _<_}
 use native.Mathlib.Nat.{eq-or-lt-of-le}
 use native.Mathlib.Numerals.{add-one}
 use native.Mathlib.Omega.{arith}
 use lib.Ieee.{Float, nan}
-use lib.ListN.{length, length-set, getD, set}
+use lib.ListN.{length, length-set, getD, set, take}
 use lib.Seq.{getD-set-same, getD-set-other}
 use Rattle.fast_pair.specs.declared.kept.Kept.{Kept}
 use Rattle.fast_pair.specs.Workings.Kept.{keptOf}
 use Rattle.paths.specs.declared.path.Segment.{Segment}
 use Rattle.paths.specs.Segments.{segmentFrom}
 use Rattle.listing_pairs.specs.declared.order.Job.{Job}
+use Rattle.listing_pairs.specs.Order.{Pair}
+use Rattle.listing_pairs.specs.Workings.Job as job_of
 use Rattle.listing_pairs.specs.Workings.Ready as paths
 
 abbrev pub ofSegment : Segment → Float → Kept
@@ -148,21 +150,23 @@ keep-more path l now j epsilon s k e f g =
     ∙ ap (λ (n : ℕ). keep path n epsilon l) (sym (add-one j))
 
 -- ---- what a listing's loop needs: checked paths, and what is kept of the second
-pub record Keeps (second kept : List Float) (job : Job) : Type 0 where
-  pub room : job .m * numbersKept ≤ length kept
-  pub at : (j : ℕ) → j < job .m → keptAt kept j ≡ ofSegment (segmentFrom second j) (job .epsilon)
+-- what is kept of segment j stands in its place
+pub record KeptOf (second kept : List Float) (epsilon : Float) (j : ℕ) : Type 0 where
+  pub room : (j + 1) * numbersKept ≤ length kept
+  pub is : keptAt kept j ≡ ofSegment (segmentFrom second j) epsilon
 
-pub record Ready (first second kept : List Float) (job : Job) : Type 0 where
+-- so for the second segment of each of these pairs
+unfoldable pub KeptFor : List Float → List Float → Float → List Pair → Type 0
+KeptFor second kept epsilon [] = ⊤
+KeptFor second kept epsilon (p ∷ ps) = KeptOf second kept epsilon (p .j) × KeptFor second kept epsilon ps
+
+-- the first `budget` pairs from (i, j) on can be looked at
+pub record Ready (first second kept : List Float) (job : Job) (i j budget : ℕ) : Type 0 where
   pub pairs : paths.Ready first second job
-  pub keeps : Keeps second kept job
+  pub keeps : KeptFor second kept (job .epsilon) (take budget (job_of.left job i j))
 
-pub kept-ready : (first second l kept : List Float) (job : Job) → paths.Ready first second job → job .m * numbersKept ≤ length l
-    → kept ≡ keep second (job .m) (job .epsilon) l → Ready first second kept job
-kept-ready first second l kept job ready room e =
-    record {
-      pairs = ready;
-      keeps = record {
-        room = omega (arith, room, ap length e, keep-length second (job .m) (job .epsilon) l);
-        at = λ j b. ap (λ (k : List Float). keptAt k j) e ∙ keep-at second (job .m) (job .epsilon) l room j b;
-      };
-    }
+kept-for : (second kept : List Float) (epsilon : Float) (ps : List Pair) → ((p : Pair) → KeptOf second kept epsilon (p .j))
+    → KeptFor second kept epsilon ps
+unfolding KeptFor
+kept-for second kept epsilon [] each = tt
+kept-for second kept epsilon (p ∷ ps) each = (each p, kept-for second kept epsilon ps each)

@@ -11,7 +11,7 @@ use Rattle.listing_pairs.proofs.look.look.Tie as tie
 kept-at-requires : tie.Need-kept-at-requires
 kept-at-requires c κs =
     let s = c .before .before .before in
-    omega (arith, s .pre .1 .0 .room, s .pre .1 .1 .1)
+    omega (arith, s .pre .1 .0 .room)
 
 pline-seg-kept-requires : tie.Need-pline-seg-kept-requires
 pline-seg-kept-requires c κs =
@@ -21,7 +21,7 @@ pline-seg-kept-requires c κs =
       rw (g .segment-from .ensures) (h .0 .fine (s .args .j) (h .1 .1 .1)),
       (
         h .1 .1 .0,
-        c .kept-at .ensures ∙ h .1 .0 .at (s .args .j) (h .1 .1 .1)
+        c .kept-at .ensures ∙ h .1 .0 .is
             ∙ ap (λ (u : Segment). ofSegment u (s .args .job .epsilon)) (sym (g .segment-from .ensures)),
       ),
     )
