@@ -9,6 +9,10 @@ use native.Mathlib.Omega.{arith}
 use lib.ListN.{length, length-append}
 use Rattle.listing_pairs.specs.Order.{Pair, along, pairsFrom}
 
+pub along-length : (i j k : ℕ) → length (along i j k) ≡ k
+along-length i j zero = refl
+along-length i j (suc k) = ap suc (along-length i (suc j) k)
+
 module _ (from to : ℕ → ℕ) (n : ℕ) where
   -- from the pair (i, j) on
   abbrev pub leftFrom : ℕ → ℕ → List Pair
@@ -36,10 +40,6 @@ module _ (from to : ℕ → ℕ) (n : ℕ) where
       left-row i j h ∙ ap (λ (k : ℕ). along i j k ++ rest) e ∙ ap (λ (k : ℕ). leftFrom k (from k)) (sym (add-one i))
 
   -- ---- at most n * m, if no index goes beyond m
-  along-length : (i j k : ℕ) → length (along i j k) ≡ k
-  along-length i j zero = refl
-  along-length i j (suc k) = ap suc (along-length i (suc j) k)
-
   pub few-pairs : (m : ℕ) → ((i : ℕ) → to i ≤ m) → (i j k : ℕ) → length (pairsFrom from to i j k) ≤ k * m
   few-pairs m below i j zero = omega arith
   few-pairs m below i j (suc k) =

@@ -157,7 +157,7 @@ pub record KeptOf (second kept : List Float) (epsilon : Float) (j : ℕ) : Type 
 
 -- so for the second segment of each of these pairs
 unfoldable pub KeptFor : List Float → List Float → Float → List Pair → Type 0
-KeptFor second kept epsilon [] = ⊤
+KeptFor second kept epsilon [] = Unit {0}
 KeptFor second kept epsilon (p ∷ ps) = KeptOf second kept epsilon (p .j) × KeptFor second kept epsilon ps
 
 -- the first `budget` pairs from (i, j) on can be looked at
