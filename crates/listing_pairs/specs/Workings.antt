@@ -4,4 +4,5 @@ pub mod Job
 pub mod Position
 pub mod Ready
 pub mod Keeping
+pub mod Reached
 pub mod Stored
