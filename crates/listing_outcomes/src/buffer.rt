@@ -213,6 +213,6 @@ pub fn list(
 {
     // for each segment that a path may have: 96 KiB
     let mut kept = [0.0f64; path::VERTICES * keeping::NUMBERS];
-    keeping::keep(second, job.m, job.epsilon, &mut kept);
+    keeping::keep(second, 0, job.m, job.epsilon, &mut kept);
     list_kept(first, second, &kept, job, indices, points)
 }

@@ -12,14 +12,14 @@ use paths::segments;
 // how many numbers are kept of a segment
 pub const NUMBERS: usize = 3;
 
-// Stores what is kept of the path's first m segments.
-pub fn keep(path: &[f64], m: usize, epsilon: f64, kept: &mut [f64])
-    requires { ⌜ m ≤ Path.vertexCount (now path) ⌝ }
-    requires { ⌜ (m ≤ Path.mostVertices) × (m * Keeping.numbersKept ≤ length (now kept)) ⌝ }
-    ensures { λ _. ⌜ now (kept .exit) ≡ Keeping.keep (now (path .entry)) m epsilon (now (kept .entry)) ⌝ }
+// Stores what is kept of the path's segments from `from` up to, but not including, `to`.
+pub fn keep(path: &[f64], from: usize, to: usize, epsilon: f64, kept: &mut [f64])
+    requires { ⌜ to ≤ Path.vertexCount (now path) ⌝ }
+    requires { ⌜ (to ≤ Path.mostVertices) × (to * Keeping.numbersKept ≤ length (now kept)) ⌝ }
+    ensures { λ _. ⌜ now (kept .exit) ≡ Keeping.keep (now (path .entry)) from to epsilon (now (kept .entry)) ⌝ }
 {
-    let mut j = 0;
-    while j < m {
+    let mut j = from;
+    while j < to {
         let s = segments::segment_from(path, j);
         let k = kept_of(s.v1, s.v2, epsilon);
         let at = j * NUMBERS;

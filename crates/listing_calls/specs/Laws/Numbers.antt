@@ -29,7 +29,7 @@ use Rattle.listing_pairs.specs.Order.{Pair, along, pairsFrom, mutualPairs}
 use Rattle.listing_pairs.specs.Rows.{onto, rowsOf, lookedAt}
 use Rattle.listing_pairs.specs.Look.{look}
 use Rattle.listing_pairs.specs.Laws.Order.{few-pairs}
-use Rattle.listing_loop.specs.Workings.Pages.{few-looked}
+use Rattle.listing_loop.specs.Laws.Pages.{few-looked}
 use Rattle.listing_outcomes.specs.declared.answer.ListingAnswer.the-variants.{Refused, Listed}
 use Rattle.listing_outcomes.specs.Outcome.{Outcome, roomCheck, outcomeOf, outcome}
 use Rattle.listing_calls.specs.Listing.{mutualChecks, mutualListing}

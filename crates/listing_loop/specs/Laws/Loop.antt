@@ -1,11 +1,10 @@
 -- The state of the loop that fills rows, at the pair (i, j), and its steps. The proof of `fill` uses them, place by place.
 use mathlib.Core.Path.{_≡_, refl, sym, ap, _∙_}
-use mathlib.Core.Bool.{Bool, true, false, cond, _&&_}
+use mathlib.Core.Bool.{false, true}
 use mathlib.Core.List.{List, [], _∷_}
 use Prim.Native.Nat.{ℕ, suc, _+_, _-_, _*_, _≤_, _<_}
 use native.Mathlib.Nat.{mul-le-mul}
 use native.Mathlib.Omega.{arith}
-use lib.Dec.{eqb}
 use lib.Ieee.{Float}
 use lib.ListN.{length, take}
 use lib.Seq.{length-sets}
@@ -31,17 +30,9 @@ use Rattle.listing_loop.specs.Workings.Filling.{Left, Stops}
 abbrev pub mostPairs : ℕ
 mostPairs = mostVertices * mostVertices
 
-pub to-within : (job : Job) (i : ℕ) → job_of.to job i ≤ job .m
-unfolding job_of.to
-to-within job i = go (job .own && job .closed && eqb i 0) (job .m)
-  where
-    go : (b : Bool) (m : ℕ) → cond b (m - 1) m ≤ m
-    go true m = omega arith
-    go false m = omega arith
-
 pub few-left : (job : Job) (i j : ℕ) → length (job_of.left job i j) ≤ job .n * job .m
 few-left job i j =
-    let some = few-pairs (job_of.from job) (job_of.to job) (job .n) (job .m) (to-within job) i j (job .n - i) in
+    let some = few-pairs (job_of.from job) (job_of.to job) (job .n) (job .m) (job_of.to-within job) i j (job .n - i) in
     let fewer : job .n - i ≤ job .n = omega arith in
     let same : job .m ≤ job .m = omega arith in
     omega (arith, some, mul-le-mul fewer same)

@@ -1,7 +1,7 @@
 -- The outcome of a listing of checked paths, from pages: all rows on one page; rows held back and then copied; rows held back,
 -- the rest counted and then filled in behind them; and too many rows.
 use mathlib.Core.Path.{_≡_, refl, sym, ap, _∙_}
-use mathlib.Core.Bool.{true, false}
+use mathlib.Core.Bool.{Bool, true, false}
 use mathlib.Core.List.{List, _++_}
 use Prim.Native.Nat.{ℕ, _+_, _-_, _*_, _≤_, _<_}
 use native.Mathlib.Nat.{mul-le-mul, le-refl, add-mul, sub-zero}
@@ -242,6 +242,15 @@ module _ {look : ℕ → ℕ → Look} {job : Job} {k : ℕ} {r : Filling} {a : 
     -- the page after it
     abbrev pub behind : Page
     behind = page look after (room i₀ p₀ - k) most
+
+    -- a part that fills it
+    abbrev pub next : ℕ → ℕ → Bool → Part
+    next m b write = record { i = r .i; j = r .j; rows = k; room = m; budget = b; write = write }
+
+    pub filled-behind : (m b : ℕ) (write : Bool) (x : Filling) (u₀ u : List ℕ) (v₀ v : List Float) → m ≡ room i₀ p₀ → b ≡ most
+        → Filled job (next m b write) (page look after (m - k) b) x u₀ u v₀ v
+        → Filled job (next (room i₀ p₀) most write) behind x u₀ u v₀ v
+    filled-behind m b write x u₀ u v₀ v e f h = rw (e, f) at h
 
     -- pairs remain after that page too
     pub behind-refused : empty (behind .rest) ≡ false → (x : List ℕ) (y : List Float) → x ≡ i₀ → y ≡ p₀

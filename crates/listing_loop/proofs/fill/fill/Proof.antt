@@ -11,7 +11,7 @@ use Rattle.listing_pairs.specs.Look.{look}
 use Rattle.listing_pairs.specs.Workings.Job as job_of
 use Rattle.listing_pairs.specs.Workings.Ready.{at-segment, look-on}
 use Rattle.listing_loop.specs.Workings.Filling.{EndsWithin, so-ends}
-use Rattle.listing_loop.specs.Laws.Loop.{mostPairs, State, to-within, starts, few, ends, next-i, spent, kept-here, passes}
+use Rattle.listing_loop.specs.Laws.Loop.{mostPairs, State, starts, few, ends, next-i, spent, kept-here, passes}
 use Rattle.listing_loop.specs.Laws.Loop.{looks, makes, stops}
 use Rattle.listing_loop.proofs.fill.fill.Statement.{statement}
 use Rattle.listing_loop.proofs.fill.fill.Tie as tie
@@ -117,7 +117,7 @@ look-requires c κs =
     let p = c .before in
     let s = start (outer p) in
     let h = s .pre .0 in
-    let within : p .loop2 .j < s .args .job .m = omega (arith, below c, to-within (s .args .job) (outer p .loop .i)) in (
+    let within : p .loop2 .j < s .args .job .m = omega (arith, below c, job_of.to-within (s .args .job) (outer p .loop .i)) in (
       at-segment _ _ _ _ _ (h .pairs) (inside p) (p .before .before .before .before .segment-from .ensures),
       (kept-here (inner p) (inside p) (below c) (less c) (allowed c), (p .before .before .before .kept-of .ensures, within)),
     )

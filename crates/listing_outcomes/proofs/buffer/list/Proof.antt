@@ -6,7 +6,8 @@ use native.Mathlib.Omega.{arith}
 use lib.Ieee.{Float, binary64, ofBits}
 use lib.ListN.{length, replicate, length-replicate}
 use Rattle.paths.specs.Path.{mostVertices}
-use Rattle.listing_pairs.specs.Workings.Keeping.{numbersKept, kept-ready}
+use Rattle.listing_pairs.specs.Workings.Keeping.{numbersKept}
+use Rattle.listing_pairs.specs.Workings.Reached.{kept-ready}
 use borrow.Author.Needs.{needs}
 use Rattle.listing_outcomes.proofs.buffer.list.Statement.{statement}
 use Rattle.listing_outcomes.proofs.buffer.list.Tie as tie

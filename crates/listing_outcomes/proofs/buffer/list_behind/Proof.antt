@@ -1,7 +1,7 @@
 -- `listing_outcomes::buffer::list_behind` meets its contract: counting leaves the slices as they were; where the rest ends on its
 -- page, the rows that were held back and those of that page are all rows.
 use mathlib.Core.Path.{_≡_, sym, ap, _∙_}
-use Prim.Native.Nat.{ℕ, _+_, _*_, _-_}
+use Prim.Native.Nat.{ℕ, _+_, _*_, _-_, _≤_}
 use native.Mathlib.Omega.{arith}
 use borrow.Author.Needs.{needs}
 use denote.Ref.{now}
@@ -9,13 +9,15 @@ use lib.ListN.{length}
 use lib.Seq.{paste}
 use Rattle.listing_pairs.specs.Row.{indicesARow, pointsARow}
 use Rattle.listing_pairs.specs.Look.{look}
-use Rattle.listing_pairs.specs.Workings.Keeping.{all-ready}
+use Rattle.listing_pairs.specs.Workings.Reached.{all-ready}
 use Rattle.listing_loop.specs.Laws.Loop.{few-on-page}
+use Rattle.listing_outcomes.specs.Outcome.{room}
 use Rattle.listing_outcomes.specs.Workings.Outcome.{
   heldRows,
   few-on-every,
   held-indices,
   held-points,
+  filled-behind,
   behind-listed,
   behind-refused,
 }
@@ -108,9 +110,14 @@ returns c =
     let f = t .before .before .before .before .before in
     let a = start f .args in
     let h = start f .pre .1 in
-    let ended = rw (h .0, budget f .every-pair .ensures) at (f .fill .ensures .ended) in
-    let done = rw (h .0, budget f .every-pair .ensures) at (g .fill2 .ensures) in
-    behind-listed (h .1 .1) (now (a .indices)) (now (a .points)) (omega (arith, h .0, h .1 .0)) (sym ended ∙ t .if1 .taken)
+    let fit : heldRows ≤ room (now (a .indices)) (now (a .points)) = omega (arith, h .0, h .1 .0) in
+    let is = budget f .every-pair in
+    let counts = filled-behind (h .1 .1) (now (a .indices)) (now (a .points)) fit _ _ _ _ _ _ _ _ (h .0) (is .ensures)
+    (f .fill .ensures) in
+    let done = filled-behind (h .1 .1) (now (a .indices)) (now (a .points)) fit _ _ _ _ _ _ _ _ (h .0) (is .ensures)
+    (g .fill2 .ensures) in
+    behind-listed (h .1 .1) (now (a .indices)) (now (a .points)) (omega (arith, h .0, h .1 .0))
+    (sym (counts .ended) ∙ t .if1 .taken)
     _ _ _ _ _ _
     (done .rows) (ap (λ (n : ℕ). a .held .looked + n) (done .looked)) (copied-indices k) (copied-points k)
     (done .indices) (done .points)
@@ -120,9 +127,10 @@ returns-2 c =
     let f = c .before .before .before .before .before in
     let a = start f .args in
     let h = start f .pre .1 in
-    let ended = rw (h .0, budget f .every-pair .ensures) at (f .fill .ensures .ended) in
-    behind-refused (h .1 .1) (now (a .indices)) (now (a .points)) (omega (arith, h .0, h .1 .0)) (sym ended ∙ c .if1 .left)
-    _ _ (same-indices f) (same-points f)
+    let counts = filled-behind (h .1 .1) (now (a .indices)) (now (a .points)) (omega (arith, h .0, h .1 .0)) _ _ _ _ _ _ _ _
+    (h .0) (budget f .every-pair .ensures) (f .fill .ensures) in
+    behind-refused (h .1 .1) (now (a .indices)) (now (a .points)) (omega (arith, h .0, h .1 .0))
+    (sym (counts .ended) ∙ c .if1 .left) _ _ (same-indices f) (same-points f)
 
 pub list-behind-spec : {M : Type 1} → statement M
 list-behind-spec =

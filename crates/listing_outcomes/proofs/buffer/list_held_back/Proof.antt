@@ -15,7 +15,7 @@ use Rattle.listing_pairs.specs.Order.{Pair}
 use Rattle.listing_pairs.specs.Row.{indicesARow, pointsARow, indicesOf, pointsOf, numbersOfRows}
 use Rattle.listing_pairs.specs.Look.{look}
 use Rattle.listing_pairs.specs.Workings.Job as job_of
-use Rattle.listing_pairs.specs.Workings.Keeping.{all-ready}
+use Rattle.listing_pairs.specs.Workings.Reached.{all-ready}
 use Rattle.listing_pairs.specs.Page.{Page, page}
 use Rattle.listing_loop.specs.Workings.Filling.{Filled}
 use Rattle.listing_outcomes.specs.Workings.Outcome.{

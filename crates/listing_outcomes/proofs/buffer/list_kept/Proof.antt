@@ -5,7 +5,7 @@ use borrow.Author.Needs.{needs}
 use denote.Ref.{now}
 use Rattle.listing_pairs.specs.Look.{look}
 use Rattle.listing_pairs.specs.Workings.Job as job_of
-use Rattle.listing_pairs.specs.Workings.Keeping.{all-ready}
+use Rattle.listing_pairs.specs.Workings.Reached.{all-ready}
 use Rattle.listing_outcomes.specs.Workings.Outcome.{filled-first, joins-every, no-more, on-one-page}
 use Rattle.listing_outcomes.proofs.buffer.list_kept.Statement.{statement}
 use Rattle.listing_outcomes.proofs.buffer.list_kept.Tie as tie
