@@ -13,7 +13,7 @@ use Rattle.checks.specs.declared.fault.Checked.the-variants.{Fine, Bad}
 use Rattle.checks.specs.Laws.RefusalNumbers.{Small}
 use Rattle.listing_pairs.specs.declared.row.Row.{Row}
 use Rattle.listing_outcomes.specs.declared.answer.ListingAnswer.{ListingAnswer}
-use Rattle.listing_outcomes.specs.Outcome.{Outcome, Leaves, outcomeOf, outcome}
+use Rattle.listing_outcomes.specs.Outcome.{Outcome, Leaves, listedOf, outcome}
 use Rattle.listing_calls.specs.Listing.{mutualListing, selfListing}
 use Rattle.listing_calls.specs.Laws.RefusalNumbers as laws
 use Rattle.capi.specs.Handed.{noRoomCode}
@@ -21,7 +21,7 @@ use Rattle.capi.specs.HandedListing.{HandedListing, countPlaces, code, c
 
 -- ---- an outcome's code
 of-checked : (c : Checked) (rows : List Row) (looked : ℕ) (i : List ℕ) (p : List Float) → Small c
-    → code (outcomeOf c rows looked i p .answer) < noRoomCode
+    → code (listedOf c rows looked i p .answer) < noRoomCode
 of-checked Fine rows looked i p small = omega arith
 of-checked (Bad fault) rows looked i p small = omega (arith, small .below)
 
@@ -37,11 +37,11 @@ unfolding selfListing outcome
 self-small path closed eps i p = of-checked _ _ _ i p (laws.self-small _ i p path closed eps)
 
 -- ---- the two ends
-module _ (o : Outcome) (a : ListingAnswer) (i : List ℕ) (p : List Float) where
+module _ (o : Outcome ListingAnswer) (a : ListingAnswer) (i : List ℕ) (p : List Float) where
   pub small : Leaves o a i p → code (o .answer) < noRoomCode → code a < noRoomCode
   small leaves h = rw (leaves .answer) h
 
-module _ (o : Outcome) (c₀ i₀ : List ℕ) (p₀ : List Float) where
+module _ (o : Outcome ListingAnswer) (c₀ i₀ : List ℕ) (p₀ : List Float) where
   pub no-room : length c₀ < countPlaces → HandedListing o noRoomCode c₀ c₀ i₀ i₀ p₀ p₀
   no-room h =
       let e = lt-ltb (length c₀) countPlaces h in record { code-is = simp e; counts = simp e; indices = simp e; points = simp e }

@@ -31,7 +31,7 @@ abbrev pub counted : ListingAnswer → List ℕ → List ℕ
 counted (Refused n) old = old
 counted (Listed rows pairs) old = sets old 0 (rows ∷ pairs ∷ [])
 
-pub record HandedListing (o : Outcome) (returned : ℕ) (c₀ c i₀ i : List ℕ) (p₀ p : List Float) : Type 0 where
+pub record HandedListing (o : Outcome ListingAnswer) (returned : ℕ) (c₀ c i₀ i : List ℕ) (p₀ p : List Float) : Type 0 where
   pub code-is : returned ≡ cond (short c₀) noRoomCode (code (o .answer))
   pub counts : c ≡ cond (short c₀) c₀ (counted (o .answer) c₀)
   pub indices : i ≡ cond (short c₀) i₀ (o .indices)

@@ -17,6 +17,8 @@ use Rattle.checks.specs.declared.fault.Item.the-variants.{
   Chord,
   Length,
   Rows,
+  Position,
+  Budget,
 }
 use Rattle.checks.specs.declared.fault.Checked.{Checked}
 use Rattle.checks.specs.declared.fault.Checked.the-variants.{Fine, Bad}
@@ -33,6 +35,8 @@ item CenterY = 6
 item Chord = 7
 item Length = 8
 item Rows = 9
+item Position = 10
+item Budget = 11
 
 abbrev pub faultNumbers : Checked → List ℕ
 faultNumbers Fine = 0 ∷ []
@@ -50,7 +54,9 @@ item-back n =
     (cond (eqb n 6) CenterY
     (cond (eqb n 7) Chord
     (cond (eqb n 8) Length
-    Rows))))))))
+    (cond (eqb n 9) Rows
+    (cond (eqb n 10) Position
+    Budget))))))))))
 
 item-same : (i : Item) → item-back (item i) ≡ i
 unfolding item-back
@@ -64,6 +70,8 @@ item-same CenterY = refl
 item-same Chord = refl
 item-same Length = refl
 item-same Rows = refl
+item-same Position = refl
+item-same Budget = refl
 
 back : List ℕ → Checked
 back [] = Fine

@@ -1,4 +1,5 @@
--- The scope's numbers of the refusals that the checks of numbers, of a path's length and of a listing's rows can give.
+-- The scope's numbers of the refusals that the checks of numbers, of a path's length, of a listing's rows, and of a page's
+-- position and budget can give.
 use Prim.Native.Nat.{ℕ}
 
 -- a coordinate, bulge or radius is NaN or infinite
@@ -29,13 +30,21 @@ pathLength = 6
 abbrev pub vertices : ℕ
 vertices = 7
 
--- a listing has more rows than there is room for
+-- a listing has more rows than there is room for, or a page has room for none
 abbrev pub rows : ℕ
 rows = 8
 
 -- a circle's radius is out of its range, or a coordinate of its centre is too large
 abbrev pub circle : ℕ
 circle = 9
+
+-- a page's position is beyond the end
+abbrev pub position : ℕ
+position = 13
+
+-- a page's budget is 0
+abbrev pub budget : ℕ
+budget = 14
 
 -- every refusal's number is below this, so that a code in C can be this plus the number
 abbrev pub numbersBelow : ℕ

@@ -2,7 +2,8 @@
 ghost use mathlib.Core.Path.{_≡_};
 ghost use Rattle.checks.specs.Fault as fault;
 
-// Which of the owner's numbers. `Length` is how many numbers a path has, `Rows` how many rows a listing has.
+// Which of the owner's numbers. `Length` is how many numbers a path has, `Rows` how many rows a listing has or has room for;
+// `Position` and `Budget` are a page's.
 pub enum Item {
     Epsilon,
     X,
@@ -14,6 +15,8 @@ pub enum Item {
     Chord,
     Length,
     Rows,
+    Position,
+    Budget,
 }
 
 // Where a number stands in a call.

@@ -1,4 +1,5 @@
-// The scope's numbers of the refusals that the checks of numbers, of a path's length and of a listing's rows can give.
+// The scope's numbers of the refusals that the checks of numbers, of a path's length, of a listing's rows, and of a page's
+// position and budget can give.
 // specs/Refusal.antt has the same numbers.
 
 // a coordinate, bulge or radius is NaN or infinite
@@ -22,11 +23,17 @@ pub const PATH_LENGTH: u64 = 6;
 // a path has too many vertices
 pub const VERTICES: u64 = 7;
 
-// a listing has more rows than there is room for
+// a listing has more rows than there is room for, or a page has room for none
 pub const ROWS: u64 = 8;
 
 // a circle's radius is out of its range, or a coordinate of its centre is too large
 pub const CIRCLE: u64 = 9;
+
+// a page's position is beyond the end
+pub const POSITION: u64 = 13;
+
+// a page's budget is 0
+pub const BUDGET: u64 = 14;
 
 // every refusal's number is below this, so that a code in C can be this plus the number
 pub const NUMBERS_BELOW: u64 = 256;

@@ -34,7 +34,7 @@ noIndices = replicate (mostRows * indicesARow) 0
 abbrev pub noPoints : List Float
 noPoints = replicate (mostRows * pointsARow) (ofBits binary64 0)
 
-unfoldable pub listing : List Float → List Float → Outcome
+unfoldable pub listing : List Float → List Float → Outcome ListingAnswer
 listing first second = mutualListing first false second false epsilon noIndices noPoints
 
 -- the lines of an answer

@@ -21,7 +21,7 @@ use Rattle.listing_pairs.specs.Order.{mutualPairs}
 use Rattle.listing_pairs.specs.Rows.{rowsOf, lookedAt}
 use Rattle.listing_pairs.specs.Look.{look}
 use Rattle.listing_outcomes.specs.declared.answer.ListingAnswer.the-variants.{Refused, Listed}
-use Rattle.listing_outcomes.specs.Outcome.{overwrite, outcomeOf, outcome}
+use Rattle.listing_outcomes.specs.Outcome.{overwrite, listedOf, outcome}
 use Rattle.listing_calls.specs.Listing.{mutualChecks, mutualListing}
 use Rattle.listing_calls.specs.Refusals.{all}
 use Rattle.listing_calls.specs.HasRow.{HasRow}
@@ -50,8 +50,8 @@ makes first second epsilon i j h =
 
 -- the rows that were listed are all rows
 listed-is : (c : Checked) (rows : List Row) (looked n m : ℕ) (old : List ℕ) (points : List Float)
-    → outcomeOf c rows looked old points .answer ≡ Listed n m
-    → (n ≡ length rows) × (outcomeOf c rows looked old points .indices ≡ overwrite old (numbersOfRows indicesOf rows))
+    → listedOf c rows looked old points .answer ≡ Listed n m
+    → (n ≡ length rows) × (listedOf c rows looked old points .indices ≡ overwrite old (numbersOfRows indicesOf rows))
 listed-is Fine rows looked n m old points e = (cc, refl)
 listed-is (Bad fault) rows looked n m old points e = absurd (never e)
 

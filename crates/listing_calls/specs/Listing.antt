@@ -11,6 +11,7 @@ use Rattle.paths.specs.Segments.{segmentCount}
 use Rattle.paths.specs.Check.{pathChecks}
 use Rattle.listing_pairs.specs.Order.{mutualPairs, selfPairs}
 use Rattle.listing_pairs.specs.Look.{look}
+use Rattle.listing_outcomes.specs.declared.answer.ListingAnswer.{ListingAnswer}
 use Rattle.listing_outcomes.specs.Outcome.{Outcome, outcome}
 
 -- ---- two paths
@@ -26,7 +27,7 @@ unfoldable pub checkMutual : List Float → Bool → List Float → Bool → Flo
 checkMutual first firstClosed second secondClosed epsilon =
     firstFault (mutualChecks first firstClosed second secondClosed epsilon)
 
-unfoldable pub mutualListing : List Float → Bool → List Float → Bool → Float → List ℕ → List Float → Outcome
+unfoldable pub mutualListing : List Float → Bool → List Float → Bool → Float → List ℕ → List Float → Outcome ListingAnswer
 mutualListing first firstClosed second secondClosed epsilon indices points =
     outcome (mutualChecks first firstClosed second secondClosed epsilon)
     (look first second epsilon)
@@ -41,6 +42,6 @@ selfChecks path closed epsilon =
 unfoldable pub checkSelf : List Float → Bool → Float → Checked
 checkSelf path closed epsilon = firstFault (selfChecks path closed epsilon)
 
-unfoldable pub selfListing : List Float → Bool → Float → List ℕ → List Float → Outcome
+unfoldable pub selfListing : List Float → Bool → Float → List ℕ → List Float → Outcome ListingAnswer
 selfListing path closed epsilon indices points =
     outcome (selfChecks path closed epsilon) (look path path epsilon) (selfPairs (segmentCount path closed) closed) indices points

@@ -25,7 +25,7 @@ use Rattle.listing_pairs.specs.Rows.{rowsOf, lookedAt}
 use Rattle.listing_pairs.specs.Look.{look}
 use Rattle.listing_outcomes.specs.declared.answer.ListingAnswer.{ListingAnswer}
 use Rattle.listing_outcomes.specs.declared.answer.ListingAnswer.the-variants.{Refused, Listed}
-use Rattle.listing_outcomes.specs.Outcome.{Outcome, room, roomCheck, outcomeOf, outcome}
+use Rattle.listing_outcomes.specs.Outcome.{Outcome, room, roomCheck, listedOf, outcome}
 use Rattle.listing_calls.specs.Listing.{mutualChecks, mutualListing, selfChecks, selfListing}
 
 is-bad : Checked → Bool
@@ -54,7 +54,7 @@ abbrev pub counted : Counts → ListingAnswer
 counted c = Listed (c .rows) (c .pairs)
 
 -- what a refusal leaves
-pub record Untouched (o : Outcome) (indices : List ℕ) (points : List Float) : Type 0 where
+pub record Untouched (o : Outcome ListingAnswer) (indices : List ℕ) (points : List Float) : Type 0 where
   pub as-found : (n : ℕ) → o .answer ≡ Refused n → (o .indices ≡ indices) × (o .points ≡ points)
 
 distinct : Distinct Refused counted
@@ -68,7 +68,7 @@ module _ (checks : List Checked) (f : ℕ → ℕ → Look) (ps : List Pair) (in
   abbrev pub counts : Counts
   counts = record { rows = length (rowsOf f ps); pairs = lookedAt f ps }
 
-  same : (c : Checked) → answered Refused counted c counts ≡ outcomeOf c (rowsOf f ps) (lookedAt f ps) indices points .answer
+  same : (c : Checked) → answered Refused counted c counts ≡ listedOf c (rowsOf f ps) (lookedAt f ps) indices points .answer
   same Fine = refl
   same (Bad fault) = refl
 
@@ -76,7 +76,7 @@ module _ (checks : List Checked) (f : ℕ → ℕ → Look) (ps : List Pair) (in
   unfolding outcome
   outcome-when = rw (← same (firstFault all)) (exactly-when Refused counted distinct all counts)
 
-  left-alone : (c : Checked) → Untouched (outcomeOf c (rowsOf f ps) (lookedAt f ps) indices points) indices points
+  left-alone : (c : Checked) → Untouched (listedOf c (rowsOf f ps) (lookedAt f ps) indices points) indices points
   left-alone Fine = record { as-found = λ n e. absurd (distinct .kinds n counts (sym e)) }
   left-alone (Bad fault) = record { as-found = λ n e. (refl, refl) }
 

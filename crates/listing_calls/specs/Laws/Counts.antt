@@ -25,12 +25,13 @@ use Rattle.listing_pairs.specs.Order.{Pair, mutualPairs}
 use Rattle.listing_pairs.specs.Rows.{rowsOf, lookedAt}
 use Rattle.listing_pairs.specs.Look.{look}
 use Rattle.listing_pairs.specs.Laws.Stores.{flat-length}
+use Rattle.listing_outcomes.specs.declared.answer.ListingAnswer.{ListingAnswer}
 use Rattle.listing_outcomes.specs.declared.answer.ListingAnswer.the-variants.{Refused, Listed}
-use Rattle.listing_outcomes.specs.Outcome.{Outcome, overwrite, room, roomCheck, outcomeOf, outcome}
+use Rattle.listing_outcomes.specs.Outcome.{Outcome, overwrite, room, roomCheck, listedOf, outcome}
 use Rattle.listing_calls.specs.Listing.{mutualChecks, mutualListing}
 
 -- at most `most` rows, in slices as long as these
-pub record Fits (o : Outcome) (most : ℕ) (i₀ : List ℕ) (p₀ : List Float) : Type 0 where
+pub record Fits (o : Outcome ListingAnswer) (most : ℕ) (i₀ : List ℕ) (p₀ : List Float) : Type 0 where
   pub few : (rows pairs : ℕ) → o .answer ≡ Listed rows pairs → rows ≤ most
   pub indices : length (o .indices) ≡ length i₀
   pub points : length (o .points) ≡ length p₀
@@ -55,7 +56,7 @@ over-long old values h =
     omega (arith, length-append values (drop (length values) old), length-drop (length values) old, h)
 
 module _ (rows : List Row) (looked : ℕ) (i₀ : List ℕ) (p₀ : List Float) where
-  of-checked : (c : Checked) → (c ≡ Fine → roomCheck rows i₀ p₀ ≡ Fine) → Fits (outcomeOf c rows looked i₀ p₀) (room i₀ p₀) i₀ p₀
+  of-checked : (c : Checked) → (c ≡ Fine → roomCheck rows i₀ p₀ ≡ Fine) → Fits (listedOf c rows looked i₀ p₀) (room i₀ p₀) i₀ p₀
   of-checked (Bad fault) h = record { few = λ n m e. absurd (never e); indices = refl; points = refl }
   of-checked Fine h =
       let fits = within rows i₀ p₀ (h refl) in

@@ -27,7 +27,7 @@ use Rattle.listing_pairs.specs.Laws.Sequence.{mutual-every, self-every}
 use Rattle.listing_pairs.specs.Workings.Ready.{Ready, paths-ready}
 use Rattle.listing_outcomes.specs.declared.answer.ListingAnswer.{ListingAnswer}
 use Rattle.listing_outcomes.specs.declared.answer.ListingAnswer.the-variants.{Refused}
-use Rattle.listing_outcomes.specs.Outcome.{Leaves, roomCheck, outcomeOf, outcome}
+use Rattle.listing_outcomes.specs.Outcome.{Leaves, roomCheck, listedOf, outcome}
 use Rattle.listing_outcomes.specs.Workings.Outcome.{listed}
 use Rattle.listing_calls.specs.Listing.{mutualChecks, checkMutual, mutualListing, selfChecks, checkSelf, selfListing}
 
@@ -42,7 +42,7 @@ module _ (checks : List Checked) (f : ℕ → ℕ → Look) (ps : List Pair) (i�
   unfolding outcome
   outcome-fine e =
       let c = roomCheck (rowsOf f ps) i₀ p₀ in
-      ap (λ (t : Checked). outcomeOf t (rowsOf f ps) (lookedAt f ps) i₀ p₀)
+      ap (λ (t : Checked). listedOf t (rowsOf f ps) (lookedAt f ps) i₀ p₀)
       (found ∙ ap (λ (t : Checked). later t c) e ∙ fine-left c)
 
   outcome-bad : (x : Fault) → firstFault checks ≡ Bad x → Leaves (outcome checks f ps i₀ p₀) (Refused (x .number)) i₀ p₀

@@ -30,8 +30,9 @@ use Rattle.listing_pairs.specs.Rows.{onto, rowsOf, lookedAt}
 use Rattle.listing_pairs.specs.Look.{look}
 use Rattle.listing_pairs.specs.Laws.Order.{few-pairs}
 use Rattle.listing_loop.specs.Laws.Pages.{few-looked}
+use Rattle.listing_outcomes.specs.declared.answer.ListingAnswer.{ListingAnswer}
 use Rattle.listing_outcomes.specs.declared.answer.ListingAnswer.the-variants.{Refused, Listed}
-use Rattle.listing_outcomes.specs.Outcome.{Outcome, roomCheck, outcomeOf, outcome}
+use Rattle.listing_outcomes.specs.Outcome.{Outcome, roomCheck, listedOf, outcome}
 use Rattle.listing_calls.specs.Listing.{mutualChecks, mutualListing}
 use Rattle.listing_calls.specs.Laws.RefusalNumbers.{mutual-small}
 
@@ -40,7 +41,7 @@ abbrev pub Below : ℕ → List ℕ → Type 0
 Below b l = (k : ℕ) → getD l k 0 < b
 
 -- what a listing answers, with b for the numbers in its slice of indices
-pub record Numbers (b : ℕ) (o : Outcome) : Type 0 where
+pub record Numbers (b : ℕ) (o : Outcome ListingAnswer) : Type 0 where
   pub refusal : (n : ℕ) → o .answer ≡ Refused n → n < numbersBelow
   pub pairs : (rows pairs : ℕ) → o .answer ≡ Listed rows pairs → pairs ≤ mostVertices * mostVertices
   pub indices : Below b (o .indices)
@@ -125,7 +126,7 @@ same-pairs e = cc
 
 module _ (b : ℕ) (rows : List Row) (looked : ℕ) (i₀ : List ℕ) (p₀ : List Float) (few : looked ≤ mostVertices * mostVertices)
     (written : Below b (numbersOfRows indicesOf rows)) (held : Below b i₀) where
-  of-checked : (c : Checked) → Small c → Numbers b (outcomeOf c rows looked i₀ p₀)
+  of-checked : (c : Checked) → Small c → Numbers b (listedOf c rows looked i₀ p₀)
   of-checked (Bad fault) small =
       record {
         refusal = λ n e. omega (arith, small .below, same-number e);

@@ -35,8 +35,9 @@ use Rattle.listing_loop.specs.Laws.Pages.{
 }
 use Rattle.listing_loop.specs.Workings.Filling.{Filled}
 use Rattle.listing_loop.specs.Laws.Loop.{mostPairs, few-left, few-on-page}
+use Rattle.listing_outcomes.specs.declared.answer.ListingAnswer.{ListingAnswer}
 use Rattle.listing_outcomes.specs.declared.answer.ListingAnswer.the-variants.{Refused, Listed}
-use Rattle.listing_outcomes.specs.Outcome.{Outcome, Leaves, overwrite, room, roomCheck, outcomeOf}
+use Rattle.listing_outcomes.specs.Outcome.{Outcome, Leaves, overwrite, room, roomCheck, listedOf}
 use Rattle.listing_outcomes.specs.Laws.Overwrite.{sets-over, paste-over, paste-all, over-all, sets-beyond}
 
 -- how many rows are held back while it is not known that all fit
@@ -44,10 +45,10 @@ abbrev pub heldRows : ℕ
 heldRows = 2048
 
 -- a listing of checked paths
-abbrev pub listed : (ℕ → ℕ → Look) → List Pair → List ℕ → List Float → Outcome
+abbrev pub listed : (ℕ → ℕ → Look) → List Pair → List ℕ → List Float → Outcome ListingAnswer
 listed look ps indices points =
     let rows = rowsOf look ps in
-    outcomeOf (roomCheck rows indices points) rows (lookedAt look ps) indices points
+    listedOf (roomCheck rows indices points) rows (lookedAt look ps) indices points
 
 module _ (look : ℕ → ℕ → Look) (ps : List Pair) (i₀ : List ℕ) (p₀ : List Float) where
   abbrev rows : List Row
