@@ -1,4 +1,4 @@
--- Every row of the table holds: one claim, computed by the definitions that the calls are proved to equal.
+-- Every entry of the table holds: one claim, computed by the definitions that the calls are proved to equal.
 use mathlib.Core.Path.{_≡_, refl}
 use mathlib.Core.List.{List, [], _∷_}
 use lib.Count.{trailingZeros}
@@ -50,13 +50,13 @@ use Rattle.crossing.specs.LineLineIntersect as lines
 use Rattle.crossing.specs.LineCircleIntersect as lineCircle
 use Rattle.crossing.specs.CircleCircleIntersect as circles
 use Rattle.crossing.specs.PlineSegIntersect as pairs
-use Rattle.examples.specs.ExampleTable.{Row, table}
+use Rattle.examples.specs.ExampleTable.{Entry, table}
 
-abbrev found : List Row → List AnswerNumbers
+abbrev found : List Entry → List AnswerNumbers
 found [] = []
 found (r ∷ rs) = r .found ∷ found rs
 
-abbrev due : List Row → List AnswerNumbers
+abbrev due : List Entry → List AnswerNumbers
 due [] = []
 due (r ∷ rs) = r .due ∷ due rs
 

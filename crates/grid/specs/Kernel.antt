@@ -1,4 +1,4 @@
--- The line kernel's answer on grid segments keeps the promise: for lines that cross by the meeting point (Crossed), for parallel
+-- The line kernel's answer on grid segments meets the promise: for lines that cross by the meeting point (Crossed), for parallel
 -- ones by what they share (Level). v is the way from v1 to v2, u that from u1 to u2 and w that from u1 to v1; F, G and H are
 -- their numbers.
 use mathlib.Core.Path.{_≡_, sym, ap, subst}
@@ -23,16 +23,16 @@ use Rattle.grid.specs.Plane.Sides.{way, across, first, second, parallel-
 use Rattle.grid.specs.Plane.Cross.{base, steps-v, steps-u, meeting, meeting-v, meeting-u}
 use Rattle.grid.specs.Plane.Spots.{Same, flip}
 use Rattle.grid.specs.Plane.Points.{Collinear, swapped, flipped}
-use Rattle.grid.specs.Plane.Keeps.{
+use Rattle.grid.specs.Plane.Suffices.{
   slanted-none,
   slanted-one,
-  Told,
-  ToldIf,
-  told-swapped,
-  told-flipped,
-  parallel-kept,
-  apart-told,
-  both-told,
+  Matched,
+  MatchedIf,
+  matched-swapped,
+  matched-flipped,
+  parallel-promised,
+  apart-matched,
+  both-matched,
 }
 use Rattle.grid.specs.Floats.Small.{Vec, vec-sub, perp}
 use Rattle.grid.specs.Floats.Zero.{Eps}
@@ -47,7 +47,7 @@ use Rattle.grid.specs.Floats.Ways as kernel
 use Rattle.grid.specs.Floats.Ways.{point-or-not}
 use Rattle.grid.specs.Joined.{At, way-at, cross-at, zero-at, size-gap, place-at, point-at}
 use Rattle.grid.specs.Crossed.{square-long, reach, coordinate, inside}
-use Rattle.grid.specs.Level.{at-told, along-told}
+use Rattle.grid.specs.Level.{at-matched, along-matched}
 
 module _ (e : Float) (num den : ℕ) (h : Eps e num den)
     (v1 v2 u1 u2 : Vector2) (A1 : Vec 20 v1) (A2 : Vec 20 v2) (B1 : Vec 20 u1) (B2 : Vec 20 u2)
@@ -145,8 +145,8 @@ module _ (e : Float) (num den : ℕ) (h : Eps e num den)
     unfolding R1 R2
     says = crossing-says e num den h v u w F G H apart
 
-    pub crossed-kept : Promised p1 p2 q1 q2 num den (lineLineOf (crossing v u w (vector2.perpDot v u) e) v1 v2 u1 u2)
-    crossed-kept = go (crossing v u w (vector2.perpDot v u) e) (says .answer) (says .inside)
+    pub crossed-promised : Promised p1 p2 q1 q2 num den (lineLineOf (crossing v u w (vector2.perpDot v u) e) v1 v2 u1 u2)
+    crossed-promised = go (crossing v u w (vector2.perpDot v u) e) (says .answer) (says .inside)
       where
         not-both : (r : LineLineIntr) → r ≡ FalseIntersect t1 t2 → r ≡ TrueIntersect t1 t2 → ⊥
         not-both r x y = let z : _≡_ {A = ℕ} 0 1 = cc in omega arith
@@ -196,34 +196,34 @@ module _ (e : Float) (num den : ℕ) (h : Eps e num den)
   turned-over (x, y) = (sym x, sym y)
 
   -- neither is a point: from x, or from y with the axes exchanged
-  segments-told : Collinear p1 p2 q1 q2 → ¬ Same p1 p2
+  segments-matched : Collinear p1 p2 q1 q2 → ¬ Same p1 p2
       → Spanned answer (H .x .p) (H .x .n) (vec-sub v2 u1 A2 B1 .x .p) (vec-sub v2 u1 A2 B1 .x .n) (G .x .p) (G .x .n)
       ⊎ Spanned answer (H .y .p) (H .y .n) (vec-sub v2 u1 A2 B1 .y .p) (vec-sub v2 u1 A2 B1 .y .n) (G .y .p) (G .y .n)
-      → Told p1 p2 q1 q2 said
-  segments-told c long (inl s) =
-      along-told v1 v2 u1 u2 answer p1 p2 q1 q2 c long _ _ _ _ _ _ (u-at .at-x) (w-at .at-x) (w2-at .at-x) s
-  segments-told c long (inr s) =
-      told-flipped p1 p2 q1 q2 said
-      (along-told v1 v2 u1 u2 answer (flip p1) (flip p2) (flip q1) (flip q2) (flipped p1 p2 q1 q2 c) (λ h. long (h .1, h .0))
+      → Matched p1 p2 q1 q2 said
+  segments-matched c long (inl s) =
+      along-matched v1 v2 u1 u2 answer p1 p2 q1 q2 c long _ _ _ _ _ _ (u-at .at-x) (w-at .at-x) (w2-at .at-x) s
+  segments-matched c long (inr s) =
+      matched-flipped p1 p2 q1 q2 said
+      (along-matched v1 v2 u1 u2 answer (flip p1) (flip p2) (flip q1) (flip q2) (flipped p1 p2 q1 q2 c) (λ h. long (h .1, h .0))
       _ _ _ _ _ _ (u-at .at-y) (w-at .at-y) (w2-at .at-y) s)
 
   par : Level → Parallel p1 p2 q1 q2
   par flat = across-parallel p1 p2 q1 q2 (level-is .1 flat)
 
   -- all five ways
-  level-told : Level → Told p1 p2 q1 q2 said
-  level-told flat = ways (ℕ-discrete (perp v w F H .p) (perp v w F H .n)) (ℕ-discrete (perp u w G H .p) (perp u w G H .n))
+  level-matched : Level → Matched p1 p2 q1 q2 said
+  level-matched flat = ways (ℕ-discrete (perp v w F H .p) (perp v w F H .n)) (ℕ-discrete (perp u w G H .p) (perp u w G H .n))
     where
       no-line : (OnV → ⊥) ⊎ (OnU → ⊥) → ¬ Collinear p1 p2 q1 q2
       no-line (inl n) c = n (on-v-is .0 (c .from-v))
       no-line (inr n) c = n (on-u-is .0 (c .from-u))
 
-      aside : (OnV → ⊥) ⊎ (OnU → ⊥) → Told p1 p2 q1 q2 said
+      aside : (OnV → ⊥) ⊎ (OnU → ⊥) → Matched p1 p2 q1 q2 said
       aside n =
-          apart-told p1 p2 q1 q2 said (par flat) (no-line n)
+          apart-matched p1 p2 q1 q2 said (par flat) (no-line n)
           (ap (λ (z : LineLineIntr). lineLineOf z v1 v2 u1 u2) (kernel.beside e num den h v1 v2 u1 u2 A1 A2 B1 B2 n))
 
-      on-line : OnV → OnU → IsZero v F ⊎ (IsZero v F → ⊥) → IsZero u G ⊎ (IsZero u G → ⊥) → Told p1 p2 q1 q2 said
+      on-line : OnV → OnU → IsZero v F ⊎ (IsZero v F → ⊥) → IsZero u G ⊎ (IsZero u G → ⊥) → Matched p1 p2 q1 q2 said
       on-line x y i j =
           go (record { parallel = level-is .1 flat; from-u = on-u-is .1 y; from-v = on-v-is .1 x }) i j
         where
@@ -237,30 +237,30 @@ module _ (e : Float) (num den : ℕ) (h : Eps e num den)
           same-w = point-at u1 v1 B1 A1 q1 p1 b1 a1
 
           both : ((answer ≡ TrueIntersect f0 f0) × IsZero w H) ⊎ ((answer ≡ NoIntersect) × (IsZero w H → ⊥))
-              → ToldIf (Same p1 q1) said
+              → MatchedIf (Same p1 q1) said
           both (inl (k, z)) =
               inr (pointFromParametric v1 v2 f0, ap (λ (z : LineLineIntr). lineLineOf z v1 v2 u1 u2) k, turned-over (same-w .0 z))
           both (inr (k, z)) =
               inl (ap (λ (z : LineLineIntr). lineLineOf z v1 v2 u1 u2) k, λ o. z (same-w .1 (turned-over o)))
 
-          go : Collinear p1 p2 q1 q2 → IsZero v F ⊎ (IsZero v F → ⊥) → IsZero u G ⊎ (IsZero u G → ⊥) → Told p1 p2 q1 q2 said
+          go : Collinear p1 p2 q1 q2 → IsZero v F ⊎ (IsZero v F → ⊥) → IsZero u G ⊎ (IsZero u G → ⊥) → Matched p1 p2 q1 q2 said
           go c (inl i) (inl j) =
-              both-told p1 p2 q1 q2 said (same-v .0 i) (same-u .0 j)
+              both-matched p1 p2 q1 q2 said (same-v .0 i) (same-u .0 j)
               (both (kernel.points e num den h v1 v2 u1 u2 A1 A2 B1 B2 x y i j))
           go c (inl i) (inr j) =
-              at-told v1 v2 u1 u2 answer f0 (parametricFromPoint u1 u2 v1 e) e u1 u2 v1 B1 B2 A1 p1 p2 q1 q2 u-at w-at
+              at-matched v1 v2 u1 u2 answer f0 (parametricFromPoint u1 u2 v1 e) e u1 u2 v1 B1 B2 A1 p1 p2 q1 q2 u-at w-at
               (same-v .0 i) (c .from-u) (kernel.first-point e num den h v1 v2 u1 u2 A1 A2 B1 B2 x y i j)
           go c (inr i) (inl j) =
-              told-swapped p1 p2 q1 q2 said
-              (at-told v1 v2 u1 u2 answer (parametricFromPoint v1 v2 u1 e) f0 e v1 v2 u1 A1 A2 B1 q1 q2 p1 p2 v-at back-at
+              matched-swapped p1 p2 q1 q2 said
+              (at-matched v1 v2 u1 u2 answer (parametricFromPoint v1 v2 u1 e) f0 e v1 v2 u1 A1 A2 B1 q1 q2 p1 p2 v-at back-at
               (same-u .0 j) (swapped p1 p2 q1 q2 c .from-u) (kernel.second-point e num den h v1 v2 u1 u2 A1 A2 B1 B2 x y i j))
           go c (inr i) (inr j) =
-              segments-told c (λ o. i (same-v .1 o)) (kernel.segments e num den h v1 v2 u1 u2 A1 A2 B1 B2 x y i j)
+              segments-matched c (λ o. i (same-v .1 o)) (kernel.segments e num den h v1 v2 u1 u2 A1 A2 B1 B2 x y i j)
 
-      ways : Dec OnV → Dec OnU → Told p1 p2 q1 q2 said
+      ways : Dec OnV → Dec OnU → Matched p1 p2 q1 q2 said
       ways (no n) d = aside (inl n)
       ways (yes x) (no n) = aside (inr n)
       ways (yes x) (yes y) = on-line x y (point-or-not v F) (point-or-not u G)
 
-  pub level-kept : Level → Promised p1 p2 q1 q2 num den said
-  level-kept flat = parallel-kept p1 p2 q1 q2 num den said (par flat) (level-told flat)
+  pub level-promised : Level → Promised p1 p2 q1 q2 num den said
+  level-promised flat = parallel-promised p1 p2 q1 q2 num den said (par flat) (level-matched flat)

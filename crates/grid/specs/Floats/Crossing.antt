@@ -77,7 +77,7 @@ module _ (e : Float) (num den : ℕ) (h : Eps e num den) (v u w : Vector2) (A : 
       (first .P) (first .N) base (second .P) (second .N) base t1 t2
   unfolding crossing
   crossing-says = record {
-    answer = told (onSegment t1 v e) (onSegment t2 u e)
+    answer = by-tests (onSegment t1 v e) (onSegment t2 u e)
         (within-says e num den h v (square v A) long-v t1 (first .P) (first .N) base (first .place))
         (within-says e num den h u (square u B) long-u t2 (second .P) (second .N) base (second .place));
     inside = λ x y. sure (onSegment t1 v e) (onSegment t2 u e)
@@ -85,15 +85,15 @@ module _ (e : Float) (num den : ℕ) (h : Eps e num den) (v u w : Vector2) (A : 
         (within-yes e num den h u (square u B) long-u t2 (second .P) (second .N) base (second .place) (y .0) (y .1));
   }
     where
-      told : (a b : Bool) → (a ≡ true → Reaches (square v A) num den (first .P) (first .N) base)
+      by-tests : (a b : Bool) → (a ≡ true → Reaches (square v A) num den (first .P) (first .N) base)
           → (b ≡ true → Reaches (square u B) num den (second .P) (second .N) base)
           → ((cond (not a || not b) (FalseIntersect t1 t2) (TrueIntersect t1 t2) ≡ TrueIntersect t1 t2)
           × Reaches (square v A) num den (first .P) (first .N) base
           × Reaches (square u B) num den (second .P) (second .N) base)
           ⊎ (cond (not a || not b) (FalseIntersect t1 t2) (TrueIntersect t1 t2) ≡ FalseIntersect t1 t2)
-      told true true x y = inl (refl, x refl, y refl)
-      told true false x y = inr refl
-      told false b x y = inr refl
+      by-tests true true x y = inl (refl, x refl, y refl)
+      by-tests true false x y = inr refl
+      by-tests false b x y = inr refl
 
       sure : (a b : Bool) → a ≡ true → b ≡ true
           → cond (not a || not b) (FalseIntersect t1 t2) (TrueIntersect t1 t2) ≡ TrueIntersect t1 t2
