@@ -75,7 +75,7 @@ fn two_points(
     let point1 = Vector2::new(x0 + line.b * mult, y0 - line.a * mult);
     let point2 = Vector2::new(x0 - line.b * mult, y0 + line.a * mult);
     // The positions of the two points decide whether they count as one. The line's distance from the centre would not do: on a
-    // large circle it would join points that lie much farther apart than epsilon.
+    // large circle it would join points whose distance is much above epsilon.
     if point1.fuzzy_eq_eps(point2, eps) {
         let t = parametric_from_point(p0, p1, Vector2::new(x0, y0), eps);
         return LineCircleIntr::TangentIntersect { t0: t };

@@ -114,15 +114,15 @@ module _ (e : Float) (num den : ℕ) (h : Eps e num den)
   abbrev t2 : Float
   t2 = vector2.perpDot v w ⊘ vector2.perpDot v u
 
-  module _ (apart : Level → ⊥) where
+  module _ (not-level : Level → ⊥) where
     slant : ¬ Parallel p1 p2 q1 q2
-    slant par = apart (level-is .0 (parallel-across p1 p2 q1 q2 par))
+    slant par = not-level (level-is .0 (parallel-across p1 p2 q1 q2 par))
 
     R1 : Ratio 44 t1 (perp u w G H .p) (perp u w G H .n) (perp v u F G .p) (perp v u F G .n)
-    R1 = crossed.first e num den h v u w F G H apart
+    R1 = crossed.first e num den h v u w F G H not-level
 
     R2 : Ratio 44 t2 (perp v w F H .p) (perp v w F H .n) (perp v u F G .p) (perp v u F G .n)
-    R2 = crossed.second e num den h v u w F G H apart
+    R2 = crossed.second e num den h v u w F G H not-level
 
     abbrev D : ℕ
     D = gap (perp v u F G .p) (perp v u F G .n)
@@ -143,7 +143,7 @@ module _ (e : Float) (num den : ℕ) (h : Eps e num den)
     says : Crossed (crossing v u w (vector2.perpDot v u) e) (square v F) (square u G) num den
         (R1 .P) (R1 .N) D (R2 .P) (R2 .N) D t1 t2
     unfolding R1 R2
-    says = crossing-says e num den h v u w F G H apart
+    says = crossing-says e num den h v u w F G H not-level
 
     pub crossed-promised : Promised p1 p2 q1 q2 num den (lineLineOf (crossing v u w (vector2.perpDot v u) e) v1 v2 u1 u2)
     crossed-promised = go (crossing v u w (vector2.perpDot v u) e) (says .answer) (says .inside)
@@ -164,7 +164,7 @@ module _ (e : Float) (num den : ℕ) (h : Eps e num den)
             (inside (steps-v p1 p2 q1 q2) (base p1 p2 q1 q2) (R1 .P) (R1 .N) D base-is place-v a)
             (inside (steps-u p1 p2 q1 q2) (base p1 p2 q1 q2) (R2 .P) (R2 .N) D base-is place-u b))))
         go r (inl (x, r1, r2)) y =
-            let near = point e num den h v1 v2 A1 A2 (crossed.long-v e num den h v u w F G H apart .some)
+            let near = point e num den h v1 v2 A1 A2 (crossed.long-v e num den h v u w F G H not-level .some)
             t1 (R1 .P) (R1 .N) D (R1 .place) r1 in
             subst (λ (z : LineLineIntr). Promised p1 p2 q1 q2 num den (lineLineOf z v1 v2 u1 u2)) (sym x)
             (slanted-one p1 p2 q1 q2 slant num den (pointFromParametric v1 v2 t1)

@@ -21,7 +21,7 @@ use Rattle.grid.specs.Plane.Cross.{Between}
 use Rattle.grid.specs.Plane.Points.{Collinear, cross-flipped}
 use Rattle.grid.specs.Plane.Spots.{Same, flip}
 use Rattle.grid.specs.Plane.Spans.{Meet, MeetMore}
-use Rattle.grid.specs.Plane.Overlap.{apart-on-axis}
+use Rattle.grid.specs.Plane.Overlap.{same-on-axis}
 use Rattle.grid.specs.Plane.Parts.{between-parts, least, most, above-zero, below-size}
 use Rattle.grid.specs.Plane.Suffices.{
   Matched,
@@ -209,4 +209,4 @@ along-matched v1 v2 u1 u2 r p1 p2 q1 q2 c long xp xn zp zn dp dn e f g s =
     (place-at d x dp dn xp xn (i .P) (i .N) e f (i .place .some) (i .turned))
     (place-at d z dp dn zp zn (j .P) (j .N) e g (j .place .some) (j .turned))
     (k .Pl) (k .Nl) (k .Ph) (k .Nh) (k .rises) (k .which) v1 v2 u1 u2 r
-    (λ h. long (apart-on-axis p1 p2 q1 q2 (c .parallel) slant (turned-same d (p1 .x) (p2 .x) (q1 .x) h))) (s .answer)))
+    (λ h. long (same-on-axis p1 p2 q1 q2 (c .parallel) slant (turned-same d (p1 .x) (p2 .x) (q1 .x) h))) (s .answer)))

@@ -1,4 +1,4 @@
--- A function of a view that asks the path's function of the same kind: it takes the view apart, calls the other one on the slice,
+-- A function of a view that asks the path's function of the same kind: it reads the view, calls the other one on the slice,
 -- the flag and whatever further parameters it has itself, and hands the answer on. One law for all of these, over the further
 -- parameters, the result's type and what the two answer. What the view owns is what its slice and its flag own, so what the
 -- function is passed gives what the callee asks; the callee's exit is the function's. Each function still needs the walk of its

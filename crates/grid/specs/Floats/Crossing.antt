@@ -50,7 +50,7 @@ pub record Crossed (r : LineLineIntr) (s1 s2 num den : ℕ) (P1 N1 D1 P2 N2 D2 :
   pub inside : Inside P1 N1 D1 → Inside P2 N2 D2 → r ≡ TrueIntersect t1 t2
 
 module _ (e : Float) (num den : ℕ) (h : Eps e num den) (v u w : Vector2) (A : Vec 21 v) (B : Vec 21 u) (C : Vec 21 w)
-    (apart : perp v u A B .p ≡ perp v u A B .n → ⊥) where
+    (not-level : perp v u A B .p ≡ perp v u A B .n → ⊥) where
   abbrev t1 : Float
   t1 = vector2.perpDot u w ⊘ vector2.perpDot v u
 
@@ -58,20 +58,20 @@ module _ (e : Float) (num den : ℕ) (h : Eps e num den) (v u w : Vector2) (A : 
   t2 = vector2.perpDot v w ⊘ vector2.perpDot v u
 
   pub first : Ratio 44 t1 (perp u w B C .p) (perp u w B C .n) (perp v u A B .p) (perp v u A B .n)
-  first = ratio 44 (vector2.perpDot u w) (vector2.perpDot v u) (perp u w B C) (perp v u A B) apart
+  first = ratio 44 (vector2.perpDot u w) (vector2.perpDot v u) (perp u w B C) (perp v u A B) not-level
 
   pub second : Ratio 44 t2 (perp v w A C .p) (perp v w A C .n) (perp v u A B .p) (perp v u A B .n)
-  second = ratio 44 (vector2.perpDot v w) (vector2.perpDot v u) (perp v w A C) (perp v u A B) apart
+  second = ratio 44 (vector2.perpDot v w) (vector2.perpDot v u) (perp v w A C) (perp v u A B) not-level
 
   -- the size of the perp dot, the divisor of both parameters
   abbrev pub base : ℕ
   base = gap (perp v u A B .p) (perp v u A B .n)
 
   pub long-v : Long v (square v A)
-  long-v = long v A (no-point v u A B apart)
+  long-v = long v A (no-point v u A B not-level)
 
   long-u : Long u (square u B)
-  long-u = long u B (no-point u v B A (λ e. apart (turned-perp v u A B e)))
+  long-u = long u B (no-point u v B A (λ e. not-level (turned-perp v u A B e)))
 
   pub crossing-says : Crossed (crossing v u w (vector2.perpDot v u) e) (square v A) (square u B) num den
       (first .P) (first .N) base (second .P) (second .N) base t1 t2

@@ -173,5 +173,5 @@ module _ (v1 v2 u1 u2 : Spot) (slant : ¬ Parallel v1 v2 u1 u2) where
       (crossing-is Q k .1))
 
   pub share-once : ¬ ShareMore v1 v2 u1 u2
-  share-once (P, Q, apart, (p, p'), (q, q')) =
-      crossing-once P Q (on-line P v1 v2 p, on-line P u1 u2 p') (on-line Q v1 v2 q, on-line Q u1 u2 q') apart
+  share-once (P, Q, differ, (p, p'), (q, q')) =
+      crossing-once P Q (on-line P v1 v2 p, on-line P u1 u2 p') (on-line Q v1 v2 q, on-line Q u1 u2 q') differ

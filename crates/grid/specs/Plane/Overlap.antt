@@ -64,11 +64,11 @@ shared-meet v1 v2 u1 u2 (P, (p, q)) =
 
 pub shared-more-meet : (v1 v2 u1 u2 : Spot) → 0 < size u1 u2 → ShareMore v1 v2 u1 u2
     → MeetMore (mark u1 u2 v1) (mark u1 u2 v2) (size u1 u2)
-shared-more-meet v1 v2 u1 u2 K (P, Q, apart, (p, p'), (q, q')) = (
+shared-more-meet v1 v2 u1 u2 K (P, Q, differ, (p, p'), (q, q')) = (
   either (lt-or-le a (pos k)) (lt-or-le b (pos k))
-      (λ l m. spot-once P Q u2 (past-end u1 u2 P a b k at-P K l m) (past-end u1 u2 Q a b k at-Q K l m) apart),
+      (λ l m. spot-once P Q u2 (past-end u1 u2 P a b k at-P K l m) (past-end u1 u2 Q a b k at-Q K l m) differ),
   either (lt-or-le (pos 0) a) (lt-or-le (pos 0) b)
-      (λ l m. spot-once P Q u1 (before-start u1 u2 P a b k at-P K l m) (before-start u1 u2 Q a b k at-Q K l m) apart),
+      (λ l m. spot-once P Q u1 (before-start u1 u2 P a b k at-P K l m) (before-start u1 u2 Q a b k at-Q K l m) differ),
 )
   where
     a : ℤ
@@ -279,9 +279,9 @@ module _ (v1 v2 u1 u2 : Spot) (c : Collinear v1 v2 u1 u2) (slant : (u2 .x -ℤ u
           (subst (λ (z : ℤ). mark u1 u2 (lower .0) <ℤ z) (sym (mark-end u1 u2)) (lower .3))
 
 -- v has length, so its ends differ on u's axis
-pub apart-on-axis : (v1 v2 u1 u2 : Spot) → across v1 v2 u1 u2 ≡ pos 0 → ((u2 .x -ℤ u1 .x) ≡ pos 0 → ⊥) → v1 .x ≡ v2 .x
+pub same-on-axis : (v1 v2 u1 u2 : Spot) → across v1 v2 u1 u2 ≡ pos 0 → ((u2 .x -ℤ u1 .x) ≡ pos 0 → ⊥) → v1 .x ≡ v2 .x
     → Same v1 v2
-apart-on-axis v1 v2 u1 u2 flat slant e =
+same-on-axis v1 v2 u1 u2 flat slant e =
     let none : (v1 .y -ℤ v2 .y) *ℤ (u2 .x -ℤ u1 .x) ≡ pos 0 *ℤ (u2 .x -ℤ u1 .x)
     = combine2 (corners v1 v2 u1 u2 []) (leg end-v start-v .y ⊠ leg start-u end-u .x) (num 0 ⊠ leg start-u end-u .x)
     (num 1) (wedge (leg start-v end-v) (leg start-u end-u)) (num 0) (leg start-u end-u .y) (start-v .x) (end-v .x) flat e tt in
@@ -312,7 +312,7 @@ meet-shared-more v1 v2 u1 u2 c slant long (lo, hi) =
     k = pos (size u1 u2)
 
     same : a ≡ b → ⊥
-    same e = long (apart-on-axis v1 v2 u1 u2 (c .parallel) slant (turned-same (u2 .x -ℤ u1 .x) (v1 .x) (v2 .x) (u1 .x) e))
+    same e = long (same-on-axis v1 v2 u1 u2 (c .parallel) slant (turned-same (u2 .x -ℤ u1 .x) (v1 .x) (v2 .x) (u1 .x) e))
 
     go : (a <ℤ b) ⊎ (b ≤ℤ a) → (a <ℤ k) ⊎ (b <ℤ k) → (pos 0 <ℤ a) ⊎ (pos 0 <ℤ b) → ShareMore v1 v2 u1 u2
     go (inl l) m n = ordered v1 v2 u1 u2 c slant l (least-below a b k l m) (most-above a b (pos 0) l n)

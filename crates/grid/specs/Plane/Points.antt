@@ -75,7 +75,7 @@ module _ (v1 v2 u1 u2 : Spot) (still : Same v1 v2) where
   )
 
   pub point-once : ¬ ShareMore v1 v2 u1 u2
-  point-once (P, Q, apart, (p, p'), (q, q')) = spot-once P Q v1 (only-spot P v1 v2 still p) (only-spot Q v1 v2 still q) apart
+  point-once (P, Q, differ, (p, p'), (q, q')) = spot-once P Q v1 (only-spot P v1 v2 still p) (only-spot Q v1 v2 still q) differ
 
 -- ---- neither has length: one and the same grid point
 pub both-points : (v1 v2 u1 u2 : Spot) → Same v1 v2 → Same u1 u2 → Share v1 v2 u1 u2 ↔ Same v1 u1
