@@ -133,7 +133,7 @@ fn corner(rng: &mut Rng, epsilon: f64) -> Option<(Piece, Piece)> {
     ))
 }
 
-/// Two that run in parallel, less than a few epsilons apart or through one another.
+/// Two that run in parallel, at a distance of less than a few epsilons or through one another.
 fn near_tangent(rng: &mut Rng, epsilon: f64) -> Option<(Piece, Piece)> {
     let line = rng.one_in(4);
     let (r1, r2) = (radius(rng, 0.5), radius(rng, 0.5));
