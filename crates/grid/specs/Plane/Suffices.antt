@@ -96,7 +96,8 @@ matched-of r some more (inr (inr (p, q, e, m))) = inr (inr (p, q, e, more .1 m))
 pub matched-swapped : (v1 v2 u1 u2 : Spot) (r : PlineSegIntr) → Matched u1 u2 v1 v2 r → Matched v1 v2 u1 u2 r
 matched-swapped v1 v2 u1 u2 r = matched-of r (share-swapped v1 v2 u1 u2) (share-more-swapped v1 v2 u1 u2)
 
-pub matched-flipped : (v1 v2 u1 u2 : Spot) (r : PlineSegIntr) → Matched (flip v1) (flip v2) (flip u1) (flip u2) r → Matched v1 v2 u1 u2 r
+pub matched-flipped : (v1 v2 u1 u2 : Spot) (r : PlineSegIntr) → Matched (flip v1) (flip v2) (flip u1) (flip u2) r
+    → Matched v1 v2 u1 u2 r
 matched-flipped v1 v2 u1 u2 r = matched-of r (share-flipped v1 v2 u1 u2) (share-more-flipped v1 v2 u1 u2)
 
 share-of-more : (v1 v2 u1 u2 : Spot) → ShareMore v1 v2 u1 u2 → Share v1 v2 u1 u2
@@ -141,7 +142,8 @@ apart-matched v1 v2 u1 u2 r par n e = inl (e, λ s. n (share-collinear v1 v2 u1 
 abbrev pub MatchedBySpans : ℤ → ℤ → ℕ → PlineSegIntr → Type 0
 MatchedBySpans a b k r = Matches (Meet a b k) (MeetMore a b k) r
 
-pub spans-matched : (v1 v2 u1 u2 : Spot) (r : PlineSegIntr) → Collinear v1 v2 u1 u2 → ¬ Same v1 v2 → ((u2 .x -ℤ u1 .x) ≡ pos 0 → ⊥)
+pub spans-matched : (v1 v2 u1 u2 : Spot) (r : PlineSegIntr) → Collinear v1 v2 u1 u2 → ¬ Same v1 v2
+    → ((u2 .x -ℤ u1 .x) ≡ pos 0 → ⊥)
     → MatchedBySpans (mark u1 u2 v1) (mark u1 u2 v2) (size u1 u2) r
     → Matched v1 v2 u1 u2 r
 spans-matched v1 v2 u1 u2 r c long slant = matched-of r (overlap v1 v2 u1 u2 c slant) (overlap-more v1 v2 u1 u2 c slant long)
@@ -154,7 +156,8 @@ matched-if : {A B C : Type 0} (r : PlineSegIntr) → A ↔ C → ¬ B → Matche
 matched-if r some once (inl (e, n)) = inl (e, λ s. n (some .0 s))
 matched-if r some once (inr (p, e, h)) = inr (inl (p, e, some .1 h, once))
 
-pub both-matched : (v1 v2 u1 u2 : Spot) (r : PlineSegIntr) → Same v1 v2 → Same u1 u2 → MatchedIf (Same v1 u1) r → Matched v1 v2 u1 u2 r
+pub both-matched : (v1 v2 u1 u2 : Spot) (r : PlineSegIntr) → Same v1 v2 → Same u1 u2 → MatchedIf (Same v1 u1) r
+    → Matched v1 v2 u1 u2 r
 both-matched v1 v2 u1 u2 r sv su = matched-if r (both-points v1 v2 u1 u2 sv su) (point-once v1 v2 u1 u2 sv)
 
 -- the first, from its place along x
@@ -162,4 +165,5 @@ pub point-matched : (v1 v2 u1 u2 : Spot) (r : PlineSegIntr) → Same v1 v2 → (
     → cross (way u1 u2) (way u1 v1) ≡ pos 0
     → MatchedIf (Between (mark u1 u2 v1) (size u1 u2)) r
     → Matched v1 v2 u1 u2 r
-point-matched v1 v2 u1 u2 r still slant line = matched-if r (point-share v1 v2 u1 u2 still slant line) (point-once v1 v2 u1 u2 still)
+point-matched v1 v2 u1 u2 r still slant line =
+    matched-if r (point-share v1 v2 u1 u2 still slant line) (point-once v1 v2 u1 u2 still)

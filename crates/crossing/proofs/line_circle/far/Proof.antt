@@ -29,7 +29,8 @@ returns c h =
     let g = p4 .before .good in
     far-line _ _ _ _ _ _ (passes _ (g .0 .1)) (passes _ (g .1 .0 .1)) (passes _ (g .1 .1 .0 .1)) (passes _ (g .1 .1 .1 .0 .1))
     (p4 .abs .ensures)
-    (tests-hold _ _ _ _ _ _ _ _ _ (p3 .moderate .ensures) (p2 .moderate2 .ensures) (p1 .moderate3 .ensures) (c .moderate4 .ensures) h)
+    (tests-hold _ _ _ _ _ _ _ _ _ (p3 .moderate .ensures) (p2 .moderate2 .ensures) (p1 .moderate3 .ensures)
+    (c .moderate4 .ensures) h)
 
 pub far-spec : {M : Type 1} → statement M
 far-spec =
