@@ -1,4 +1,4 @@
-// The writer: an answer as lines of text. specs/Lines.antt has the text, and specs/Written.antt what the writer promises.
+// The writer: an answer as text lines. specs/Lines.antt has the text, and specs/Written.antt what the writer promises.
 ghost use Rattle.answer_lines.specs.Written.{RefusalLine, AnswerLines};
 use put::put_byte;
 use put::put_whole;

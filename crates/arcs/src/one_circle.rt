@@ -57,7 +57,7 @@ fn overlap_by_direction(
     }
 }
 
-// Two arcs of one circle whose ends don't touch: what they share depends on which ends lie in the other's sweep.
+// Two arcs of one circle whose ends don't touch: how they meet depends on which ends lie in the other's sweep.
 fn shared_sweep(
     v1: Vector2,
     v2: Vector2,
@@ -90,7 +90,7 @@ fn shared_sweep(
     PlineSegIntr::NoIntersect
 }
 
-// Two arcs of one circle. If ends touch, by their distance, these are the answer; else it is what the arcs share. The sweeps use
+// Two arcs of one circle. If ends touch, by their distance, these are the answer; else the sweeps decide. These use
 // 1e-8 of the radius as their epsilon, whatever epsilon is given.
 fn arcs_of_one_circle(
     v1: Vector2,

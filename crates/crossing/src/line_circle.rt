@@ -39,8 +39,8 @@ fn point_circle(
 
 // The line through two points, whose coordinates are relative to the circle's centre; dx and dy lead from the first to the
 // second. As in the Rust, the line counts as vertical if dx is near zero by the default epsilon, not by the given one. This test
-// only keeps the slope's divisor from being too small; the given epsilon would turn slanted lines upright and lose digits. A
-// vertical line stands at the mean of the two x. No case of the answer is chosen here.
+// only sees to it that the slope's divisor is not too small; the given epsilon would turn slanted lines upright and lose digits.
+// A vertical line stands at the mean of the two x. No case of the answer is chosen here.
 fn line_through(dx: f64, dy: f64, p0_shifted: Vector2, p1_shifted: Vector2) -> Line
     ensures { λ r. ⌜ r ≡ LineCircle.lineThrough dx dy «p0_shifted» «p1_shifted» ⌝ }
 {

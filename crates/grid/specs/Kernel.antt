@@ -1,4 +1,4 @@
--- The line kernel's answer on grid segments meets the promise: for lines that cross by the meeting point (Crossed), for parallel
+-- The line kernel's answer on grid segments is as promised: for lines that cross by the meeting point (Crossed), for parallel
 -- ones by what they share (Level). v is the way from v1 to v2, u that from u1 to u2 and w that from u1 to v1; F, G and H are
 -- their numbers.
 use mathlib.Core.Path.{_≡_, sym, ap, subst}

@@ -1,4 +1,4 @@
--- A vertex's line, number by number, and one turn of a loop over vertices: the line at hand, then the lines that are left.
+-- A vertex's text line, number by number, and one turn of a loop over vertices: the text line at hand, then those left.
 use Prim.Native.Nat.{ℕ, suc, _+_, _-_, _≤_, _<_}
 use mathlib.Core.Path.{_≡_, refl, sym, ap, _∙_}
 use mathlib.Core.Bool.{Bool}

@@ -1,5 +1,5 @@
--- Whether a line's answers are what the definitions of `crossing` say for its operands: the number that a C call returns (256
--- plus its number for a refusal), and the four values of an answer.
+-- Whether a text line's answers are what the definitions of `crossing` say for its operands: the number that a C call returns
+-- (256 plus its number for a refusal), and the four values of an answer.
 use Prim.Native.Nat.{ℕ, _+_, _/_, _%_}
 use mathlib.Core.Bool.{Bool, cond, _&&_}
 use mathlib.Core.List.{List}

@@ -1,4 +1,4 @@
--- The rounded root in whole numbers. Let q be the whole part of the root of n, with one digit more than the format keeps. Then
+-- The rounded root in whole numbers. Let q be the whole part of the root of n, with one digit more than the format has. Then
 -- the root of n * 4 ^ g rounds to (q + 1) / 2 * 2 ^ g. The caller excludes a tie: q odd and exact. The argument: the whole part Q
 -- of the root of n * 4 ^ g lies from q * 2 ^ g up to (q + 1) * 2 ^ g. So twice Q plus its sticky bit has the same leading digits
 -- as q, and it lies on the same side of the halfway point, which the last digit of q decides.

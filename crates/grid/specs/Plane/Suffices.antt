@@ -1,4 +1,4 @@
--- What must be shown of an answer so that it meets the promise: for lines that cross, by the meeting point; for parallel ones, by
+-- What must be shown of an answer so that it is as promised: for lines that cross, by the meeting point; for parallel ones, by
 -- what they share. The rest of the proof is about the floats from which the answer was computed.
 use mathlib.Core.Path.{_≡_, refl, subst}
 use mathlib.Core.Logic.{_⊎_, inl, inr, _↔_}
