@@ -1,4 +1,4 @@
--- The line kernel's answer on grid segments is as promised: for lines that cross by the meeting point (Crossed), for parallel
+-- The line kernel's answer on grid segments is as promised: for lines that cross by the crossing point (Crossed), for parallel
 -- ones by what they share (Level). v is the way from v1 to v2, u that from u1 to u2 and w that from u1 to v1; F, G and H are
 -- their numbers.
 use mathlib.Core.Path.{_≡_, sym, ap, subst}
@@ -20,7 +20,7 @@ use Rattle.crossing.specs.declared.line_line_intr.LineLineIntr.the-variants.{Tr
 use Rattle.grid.specs.Promise.{Spot, Parallel, Promised}
 use Rattle.grid.specs.Plane.Whole.{diff}
 use Rattle.grid.specs.Plane.Sides.{way, across, first, second, parallel-across, across-parallel}
-use Rattle.grid.specs.Plane.Cross.{base, steps-v, steps-u, meeting, meeting-v, meeting-u}
+use Rattle.grid.specs.Plane.Cross.{base, steps-v, steps-u, crossing-point, crossing-point-v, crossing-point-u}
 use Rattle.grid.specs.Plane.Spots.{Same, flip}
 use Rattle.grid.specs.Plane.Points.{Collinear, swapped, flipped}
 use Rattle.grid.specs.Plane.Suffices.{
@@ -168,10 +168,10 @@ module _ (e : Float) (num den : ℕ) (h : Eps e num den)
             t1 (R1 .P) (R1 .N) D (R1 .place) r1 in
             subst (λ (z : LineLineIntr). Promised p1 p2 q1 q2 num den (lineLineOf z v1 v2 u1 u2)) (sym x)
             (slanted-one p1 p2 q1 q2 slant num den (pointFromParametric v1 v2 t1)
-            (reach (meeting p1 p2 q1 q2 slant) p1 p2 (steps-v p1 p2 q1 q2) (square v F) (R1 .P) (R1 .N) D num den
-            (meeting-v p1 p2 q1 q2 slant) place-v base-is (square-long v F p1 p2 v-at) r1)
-            (reach (meeting p1 p2 q1 q2 slant) q1 q2 (steps-u p1 p2 q1 q2) (square u G) (R2 .P) (R2 .N) D num den
-            (meeting-u p1 p2 q1 q2 slant) place-u base-is (square-long u G q1 q2 u-at) r2)
+            (reach (crossing-point p1 p2 q1 q2 slant) p1 p2 (steps-v p1 p2 q1 q2) (square v F) (R1 .P) (R1 .N) D num den
+            (crossing-point-v p1 p2 q1 q2 slant) place-v base-is (square-long v F p1 p2 v-at) r1)
+            (reach (crossing-point p1 p2 q1 q2 slant) q1 q2 (steps-u p1 p2 q1 q2) (square u G) (R2 .P) (R2 .N) D num den
+            (crossing-point-u p1 p2 q1 q2 slant) place-u base-is (square-long u G q1 q2 u-at) r2)
             (coordinate (pointFromParametric v1 v2 t1 .x) (p1 .x) (p2 .x -ℤ p1 .x) (steps-v p1 p2 q1 q2) (base p1 p2 q1 q2)
             (A1 .x .p) (A1 .x .n) (F .x .p) (F .x .n) (R1 .P) (R1 .N) D (a1 .at-x) (v-at .at-x) place-v base-is
             (near .0))

@@ -20,7 +20,7 @@ use Rattle.grid.specs.Plane.Sides.{way, cross}
 use Rattle.grid.specs.Plane.Cross.{Between}
 use Rattle.grid.specs.Plane.Points.{Collinear, cross-flipped}
 use Rattle.grid.specs.Plane.Spots.{Same, flip}
-use Rattle.grid.specs.Plane.Spans.{Meet, MeetMore}
+use Rattle.grid.specs.Plane.Spans.{SpansShare, SpansShareMore}
 use Rattle.grid.specs.Plane.Overlap.{same-on-axis}
 use Rattle.grid.specs.Plane.Parts.{between-parts, least, most, above-zero, below-size}
 use Rattle.grid.specs.Plane.Suffices.{
@@ -110,10 +110,10 @@ module _ (a b : ℤ) (P0 N0 P1 N1 D : ℕ) (e : a ≡ diff P0 N0) (f : b ≡ dif
         go (inl (i, j, k, l)) = inr (rw (← k, ← l) h)
         go (inr (i, j, k, l)) = inl (rw (← k, ← l) h)
 
-    meet-of : Pl ≤ Nl + D → Nh ≤ Ph → Meet a b D
-    meet-of l k = (lows .1 (lower-of (λ (P N : ℕ). P ≤ N + D) l), highs .1 (upper-of (λ (P N : ℕ). N ≤ P) k))
+    share-of : Pl ≤ Nl + D → Nh ≤ Ph → SpansShare a b D
+    share-of l k = (lows .1 (lower-of (λ (P N : ℕ). P ≤ N + D) l), highs .1 (upper-of (λ (P N : ℕ). N ≤ P) k))
 
-    more-of : Pl < Nl + D → Nh < Ph → MeetMore a b D
+    more-of : Pl < Nl + D → Nh < Ph → SpansShareMore a b D
     more-of l k = (more-lows .1 (lower-of (λ (P N : ℕ). P < N + D) l), more-highs .1 (upper-of (λ (P N : ℕ). N < P) k))
 
     differ : (a ≡ b → ⊥) → Pl + Nh ≡ Ph + Nl → ⊥
@@ -124,18 +124,18 @@ module _ (a b : ℤ) (P0 N0 P1 N1 D : ℕ) (e : a ≡ diff P0 N0) (f : b ≡ dif
         → MatchedBySpans a b D (lineLineOf r v1 v2 u1 u2)
     spans-answer v1 v2 u1 u2 r n (inl c) = inl (ap (λ (z : LineLineIntr). lineLineOf z v1 v2 u1 u2) (c .is), none (c .why))
       where
-        none : (Nl + D < Pl) ⊎ (Ph < Nh) → ¬ Meet a b D
+        none : (Nl + D < Pl) ⊎ (Ph < Nh) → ¬ SpansShare a b D
         none (inl k) (l, m) = let x = low-is (lows .0 l) in omega arith
         none (inr k) (l, m) = let x = high-is (highs .0 m) in omega arith
     spans-answer v1 v2 u1 u2 r n (inr (inl c)) =
         inr (inl (
           pointFromParametric v1 v2 (c .t1),
           ap (λ (z : LineLineIntr). lineLineOf z v1 v2 u1 u2) (c .is),
-          meet-of (c .lower) (c .upper),
+          share-of (c .lower) (c .upper),
           one (c .why),
         ))
       where
-        one : (Pl ≡ Nl + D) ⊎ ((Ph ≡ Nh) ⊎ (Pl + Nh ≡ Ph + Nl)) → ¬ MeetMore a b D
+        one : (Pl ≡ Nl + D) ⊎ ((Ph ≡ Nh) ⊎ (Pl + Nh ≡ Ph + Nl)) → ¬ SpansShareMore a b D
         one (inl k) (l, m) = let x = more-low-is (more-lows .0 l) in omega arith
         one (inr (inl k)) (l, m) = let x = more-high-is (more-highs .0 m) in omega arith
         one (inr (inr k)) (l, m) = differ n k

@@ -1,4 +1,4 @@
--- What must be shown of an answer so that it is as promised: for lines that cross, by the meeting point; for parallel ones, by
+-- What must be shown of an answer so that it is as promised: for lines that cross, by the crossing point; for parallel ones, by
 -- what they share. The rest of the proof is about the floats from which the answer was computed.
 use mathlib.Core.Path.{_≡_, refl, subst}
 use mathlib.Core.Logic.{_⊎_, inl, inr, _↔_}
@@ -14,15 +14,15 @@ use Rattle.grid.specs.Plane.Cross.{
   base,
   steps-v,
   steps-u,
-  meeting,
-  meeting-crosses,
+  crossing-point,
+  crossing-point-crosses,
   shared-between,
   share-once,
 }
 use Rattle.grid.specs.Plane.Sides.{way, cross}
 use Rattle.grid.specs.Plane.Points.{Collinear, share-collinear, both-points, point-share, point-once}
 use Rattle.grid.specs.Plane.Spots.{Same, flip, share-swapped, share-more-swapped, share-flipped, share-more-flipped}
-use Rattle.grid.specs.Plane.Spans.{Meet, MeetMore, size, mark}
+use Rattle.grid.specs.Plane.Spans.{SpansShare, SpansShareMore, size, mark}
 use Rattle.grid.specs.Plane.Overlap.{overlap, overlap-more}
 
 -- ---- different answers are not equal
@@ -36,7 +36,7 @@ not-one r p e f = let z : _≡_ {A = ℕ} 0 1 = cc in omega arith
 same-one : (o p : Vector2) → OneIntersect o ≡ OneIntersect p → o ≡ p
 same-one o p e = cc
 
--- ---- lines that cross: none if a place is not from 0 to 1; or one point near the meeting point, which is near both segments
+-- ---- lines that cross: none if a place is not from 0 to 1; or one point near the crossing point, which is near both segments
 module _ (v1 v2 u1 u2 : Spot) (slant : ¬ Parallel v1 v2 u1 u2) (num den : ℕ) where
   pub slanted-none : (Between (steps-v v1 v2 u1 u2) (base v1 v2 u1 u2) → Between (steps-u v1 v2 u1 u2) (base v1 v2 u1 u2) → ⊥)
       → Promised v1 v2 u1 u2 num den NoIntersect
@@ -53,13 +53,13 @@ module _ (v1 v2 u1 u2 : Spot) (slant : ¬ Parallel v1 v2 u1 u2) (num den : ℕ) 
       }
 
   pub slanted-one : (o : Vector2)
-      → Reached (meeting v1 v2 u1 u2 slant) v1 v2 num den
-      → Reached (meeting v1 v2 u1 u2 slant) u1 u2 num den
-      → NearExact (o .x) (meeting v1 v2 u1 u2 slant .x) (base v1 v2 u1 u2)
-      → NearExact (o .y) (meeting v1 v2 u1 u2 slant .y) (base v1 v2 u1 u2)
+      → Reached (crossing-point v1 v2 u1 u2 slant) v1 v2 num den
+      → Reached (crossing-point v1 v2 u1 u2 slant) u1 u2 num den
+      → NearExact (o .x) (crossing-point v1 v2 u1 u2 slant .x) (base v1 v2 u1 u2)
+      → NearExact (o .y) (crossing-point v1 v2 u1 u2 slant .y) (base v1 v2 u1 u2)
       → Promised v1 v2 u1 u2 num den (OneIntersect o)
   slanted-one o near-v near-u near-x near-y =
-      let P = meeting v1 v2 u1 u2 slant in
+      let P = crossing-point v1 v2 u1 u2 slant in
       record {
         classes = inr (inl (o, refl));
         none-missed = λ e s. not-one (OneIntersect o) o e refl;
@@ -67,10 +67,10 @@ module _ (v1 v2 u1 u2 : Spot) (slant : ¬ Parallel v1 v2 u1 u2) (num den : ℕ) 
           λ p. absurd (none-or-one (OneIntersect o) (p .0) (p .1) o (inr refl) (p .2)),
           λ s. absurd (share-once v1 v2 u1 u2 slant s),
         );
-        beyond = λ p e s. (slant, P, meeting-crosses v1 v2 u1 u2 slant, near-v, near-u);
+        beyond = λ p e s. (slant, P, crossing-point-crosses v1 v2 u1 u2 slant, near-v, near-u);
         exact = λ p e s. (
           P,
-          meeting-crosses v1 v2 u1 u2 slant,
+          crossing-point-crosses v1 v2 u1 u2 slant,
           subst (λ (z : Vector2). NearExact (z .x) (P .x) (P .over)) (same-one o p e) near-x,
           subst (λ (z : Vector2). NearExact (z .y) (P .y) (P .over)) (same-one o p e) near-y,
         );
@@ -140,7 +140,7 @@ apart-matched v1 v2 u1 u2 r par n e = inl (e, λ s. n (share-collinear v1 v2 u1 
 
 -- ---- on one line, both with length: by the spans along x
 abbrev pub MatchedBySpans : ℤ → ℤ → ℕ → PlineSegIntr → Type 0
-MatchedBySpans a b k r = Matches (Meet a b k) (MeetMore a b k) r
+MatchedBySpans a b k r = Matches (SpansShare a b k) (SpansShareMore a b k) r
 
 pub spans-matched : (v1 v2 u1 u2 : Spot) (r : PlineSegIntr) → Collinear v1 v2 u1 u2 → ¬ Same v1 v2
     → ((u2 .x -ℤ u1 .x) ≡ pos 0 → ⊥)
