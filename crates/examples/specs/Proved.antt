@@ -75,7 +75,7 @@ unfolding
     TwoArcs.bothSweep TwoArcs.tangentArcArc TwoArcs.tryAddEndPointIntr TwoArcs.addIfOnArc TwoArcs.collectEndPoints
     TwoArcs.endForNearer TwoArcs.endsForBoth TwoArcs.twoArcArc TwoArcs.crossingArcs OneCircle.sameArc OneCircle.arc2Ends
     OneCircle.overlapByDirection
-    OneCircle.sharedSweep OneCircle.arcsOfOneCircle OneCircle.overlappingArcArc ArcArc.arcArc
+    OneCircle.bySweeps OneCircle.arcsOfOneCircle OneCircle.overlappingArcArc ArcArc.arcArc
     PlineSeg.processLineLineIntr PlineSeg.plineSeg
     vector2.new vector2.add vector2.sub vector2.scale vector2.perp vector2.length vector2.fuzzyEqEps
     vertex.new vertex.pos
