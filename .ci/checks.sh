@@ -55,7 +55,7 @@ prove_changed() {
     local start=$SECONDS changed trials=
     quick=yes
     command -v rt > /dev/null || fail "the Rattle kit's rt is not on the PATH"
-    changed=$(.ci/trials changed) || fail "what has changed could not be told: $changed"
+    changed=$(.ci/trials changed) || fail "what has changed could not be found out: $changed"
     if [ -n "$changed" ]; then
         # shellcheck disable=SC2086
         quietly rt check $changed || fail "what has changed is not proved: $changed"
@@ -161,7 +161,7 @@ check_layouts() {
 
 # Where a program cannot read or write it says so, and a signal takes nothing from its answer.
 check_streams() {
-    .ci/streams "$@" || fail "$1 does not tell what it cannot read or write, as above"
+    .ci/streams "$@" || fail "$1 does not say what it cannot read or write, as above"
     say "ran $1 without an input, without room for its output, and broken off by signals"
 }
 
@@ -209,7 +209,7 @@ find_rust_text() {
     fi
 }
 
-# Makes one library after the other, since rt keeps notes in target/. A library that was made from what is proved now is not made
+# Makes one library after the other, since rt has notes in target/. A library that was made from what is proved now is not made
 # again.
 make_libraries() {
     local library

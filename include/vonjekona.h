@@ -2,7 +2,7 @@
  * Vonjekona: the calls of the static library, for C and C++.
  *
  * Every call answers for every argument: it always returns, it reads and writes
- * no memory of the caller except what is lent to it, and it keeps no state
+ * no memory of the caller except what is lent to it, and it has no state
  * between calls. What this file says of each answer is proved of the source from
  * which the library is compiled.
  *
@@ -101,8 +101,8 @@ uint64_t vj_sqrt_bits(uint64_t b);
  * (to - from) of its line. Checks v1, v2, u1, u2, each x before y. Cases:
  *
  *   0  parallel and apart, on one line or not; a point counts as parallel;
- *   1  one shared point: its parameters on v and on u;
- *   2  a shared stretch: its start and its end, two parameters on u;
+ *   1  they meet in one point: its parameters on v and on u;
+ *   2  they overlap: the start and the end of that, two parameters on u;
  *   3  the lines cross beyond an end: the parameters on v and on u.
  */
 uint64_t vj_line_line_intr(double v1x, double v1y, double v2x, double v2y,
@@ -115,7 +115,7 @@ uint64_t vj_line_line_intr(double v1x, double v1y, double v2x, double v2y,
  * centre, each x before y. Cases:
  *
  *   0  apart;
- *   1  they touch: one parameter;
+ *   1  they meet in one point: one parameter;
  *   2  two points: two parameters, the smaller one first if both are numbers.
  */
 uint64_t vj_line_circle_intr(double p0x, double p0y, double p1x, double p1y,
@@ -127,7 +127,7 @@ uint64_t vj_line_circle_intr(double p0x, double p0y, double p1x, double p1y,
  * Cases:
  *
  *   0  apart, or one inside the other;
- *   1  they touch: a point, x before y;
+ *   1  they meet in one point, x before y;
  *   2  two points, each x before y;
  *   3  they are the same circle.
  */
@@ -144,11 +144,11 @@ uint64_t vj_circle_circle_intr(double radius1, double c1x, double c1y,
  * with their points, x before y:
  *
  *   0  apart;
- *   1  they touch at one point;
- *   2  one shared point;
- *   3  two shared points;
- *   4  two lines with a shared stretch, from the first point to the second;
- *   5  two arcs with a shared stretch, from the first point to the second.
+ *   1  they meet in one point and do not cross there;
+ *   2  they meet in one point;
+ *   3  they meet in two points;
+ *   4  two lines that overlap, from the first point to the second;
+ *   5  two arcs that overlap, from the first point to the second.
  *
  * The answer is the Rust's. Some pairs with an arc that share a point get 0:
  * docs/LIMITS.md says which, and what to do about it.

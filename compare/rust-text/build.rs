@@ -17,8 +17,8 @@ const FILES: [&str; 6] = [
 fn main() {
     println!("cargo:rerun-if-env-changed=CAVALIER_SRC");
     let here = PathBuf::from(env::var_os("CARGO_MANIFEST_DIR").expect("cargo sets it"));
-    let told = env::var_os("CAVALIER_SRC").unwrap_or_else(|| "../shared/docs/src".into());
-    let text = here.join("../..").join(told);
+    let named = env::var_os("CAVALIER_SRC").unwrap_or_else(|| "../shared/docs/src".into());
+    let text = here.join("../..").join(named);
     for file in FILES {
         let path = text.join(file);
         println!("cargo:rerun-if-changed={}", path.display());

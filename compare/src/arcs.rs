@@ -1,11 +1,12 @@
-//! Searches how often touching segments with arcs are missed, and how far apart reported ones are. An exact judge in whole
-//! numbers judges the proved library and, where it is compiled in, the Rust text. Whether the two answer the same is counted too.
+//! Searches how often touching segments with arcs are missed, and how far from each other reported ones are. An exact judge in
+//! whole numbers judges the proved library and, where it is compiled in, the Rust text. Whether the two answer the same is
+//! counted too.
 
 mod aim;
-mod apart;
 mod climb;
 mod cures;
 mod depth;
+mod distance;
 mod draw;
 mod judge;
 mod piece;
@@ -24,7 +25,7 @@ use report::Report;
 type Caller = (&'static str, fn(&Pair) -> u64);
 
 /// Judges the answers to `count` pairs, as many of each kind. Answers how many broke the rules of the search: a miss that may not
-/// be, a report too far apart, a refusal, or two different answers.
+/// be, a report at too large a distance, a refusal, or two different answers.
 pub fn run(count: u64, seed: u64) -> u64 {
     judge_all(&callers(), count, seed)
 }
@@ -34,8 +35,8 @@ pub fn climb(turns: u64, seed: u64) {
     climb::climb(ours, turns, seed);
 }
 
-/// Asks again, in other ways, about the missed ones of `count` pairs; and measures how far apart short parallel lines are
-/// reported.
+/// Asks again, in other ways, about the missed ones of `count` pairs; and measures up to which distance short parallel lines
+/// are reported.
 pub fn cures(count: u64, seed: u64) {
     cures::run(count, seed);
     cures::short_lines();
@@ -87,7 +88,7 @@ fn numbers(pair: &Pair) -> [f64; 13] {
 }
 
 /// What our library answers to two segments in floats; `before` says that the first comes first.
-fn told(one: Floats, other: Floats, before: bool, epsilon: f64) -> u64 {
+fn answered(one: Floats, other: Floats, before: bool, epsilon: f64) -> u64 {
     let (v, u) = if before { (one, other) } else { (other, one) };
     capi::vj_pair(segments(v, u, epsilon), &mut [0.0; 4])
 }
@@ -102,20 +103,20 @@ fn segments(v: Floats, u: Floats, epsilon: f64) -> [f64; 13] {
 mod tests {
     use super::*;
 
-    fn told(call: fn(&Pair) -> u64) -> u64 {
+    fn broken(call: fn(&Pair) -> u64) -> u64 {
         judge_all(&[("a library", call)], 22_000, 3)
     }
 
     #[test]
     fn the_library_is_allowed() {
-        assert_eq!(told(ours), 0);
+        assert_eq!(broken(ours), 0);
     }
 
     #[test]
     fn a_fixed_answer_is_found_out() {
-        assert!(told(|_| 0) > 1000);
-        assert!(told(|_| 2) > 1000);
-        assert_eq!(told(|_| 261), 22_000);
+        assert!(broken(|_| 0) > 1000);
+        assert!(broken(|_| 2) > 1000);
+        assert_eq!(broken(|_| 261), 22_000);
     }
 
     /// Each way of missing: all of one kind of pair, and a smaller epsilon, at which more is missed.
@@ -124,21 +125,21 @@ mod tests {
         fn arcs(pair: &Pair) -> u64 {
             u64::from(!pair.v.is_line()) + u64::from(!pair.u.is_line())
         }
-        assert!(told(|pair| if arcs(pair) == 2 { 0 } else { ours(pair) }) > 1000);
-        assert!(told(|pair| if arcs(pair) == 1 { 0 } else { ours(pair) }) > 1000);
+        assert!(broken(|pair| if arcs(pair) == 2 { 0 } else { ours(pair) }) > 1000);
+        assert!(broken(|pair| if arcs(pair) == 1 { 0 } else { ours(pair) }) > 1000);
         let finer = |pair: &Pair| {
             ours(&Pair {
                 epsilon: 1e-9,
                 ..*pair
             })
         };
-        assert!(told(finer) > 100);
+        assert!(broken(finer) > 100);
     }
 
     #[test]
     fn a_larger_epsilon_is_found_out() {
         assert!(
-            told(|pair| ours(&Pair {
+            broken(|pair| ours(&Pair {
                 epsilon: 0.5,
                 ..*pair
             })) > 100

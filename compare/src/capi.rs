@@ -14,7 +14,7 @@ unsafe extern "C" {
     pub safe fn vj_sqrt_bits(b: u64) -> u64;
 }
 
-// A lent slice goes in as its start and its length. The call writes nothing beyond these and keeps nothing.
+// A lent slice goes in as its start and its length. The call writes nothing beyond these and holds on to nothing.
 #[cfg_attr(not(feature = "rust-text"), allow(dead_code))]
 mod raw {
     unsafe extern "C" {

@@ -20,8 +20,8 @@ pub fn now() -> Duration {
         seconds: 0,
         nanoseconds: 0,
     };
-    // SAFETY: the call writes to `time` and keeps nothing
-    let told = unsafe { clock_gettime(THREAD, &mut time) };
-    assert_eq!(told, 0, "this machine has no clock for a thread");
+    // SAFETY: the call writes to `time` only
+    let status = unsafe { clock_gettime(THREAD, &mut time) };
+    assert_eq!(status, 0, "this machine has no clock for a thread");
     Duration::new(time.seconds as u64, time.nanoseconds as u32)
 }

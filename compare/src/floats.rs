@@ -118,7 +118,7 @@ fn same_number(a: u64, b: u64) -> bool {
 #[derive(Clone, Copy)]
 pub enum PairKind {
     /// Each of its own class, independently.
-    Apart(Class, Class),
+    Separate(Class, Class),
     Same(Class),
     /// The same magnitude, with opposite signs.
     Opposite(Class),
@@ -130,7 +130,7 @@ impl PairKind {
     pub fn all() -> Vec<PairKind> {
         let mut kinds = Vec::new();
         for a in CLASSES {
-            kinds.extend(CLASSES.map(|b| PairKind::Apart(a, b)));
+            kinds.extend(CLASSES.map(|b| PairKind::Separate(a, b)));
             kinds.extend([
                 PairKind::Same(a),
                 PairKind::Opposite(a),
@@ -142,7 +142,7 @@ impl PairKind {
 
     pub fn draw(self, rng: &mut Rng) -> (u64, u64) {
         match self {
-            PairKind::Apart(a, b) => (either_sign(a, rng), either_sign(b, rng)),
+            PairKind::Separate(a, b) => (either_sign(a, rng), either_sign(b, rng)),
             PairKind::Same(class) => {
                 let a = either_sign(class, rng);
                 (a, a)

@@ -52,13 +52,13 @@ usage: compare check [COUNT [SEED]]  compare each float function on COUNT random
                                      are all but equal
        compare search [COUNT [SEED]] try to break what is promised of lines on the grid, on COUNT pairs (default 25165824,
                                      seed 1)
-       compare arcs [COUNT [SEED]]   count how often touching segments with arcs are missed, and how far apart reported ones
-                                     are, on COUNT pairs (default 11534336, seed 1)
+       compare arcs [COUNT [SEED]]   count how often touching segments with arcs are missed, and how far from each other
+                                     reported ones are, on COUNT pairs (default 11534336, seed 1)
        compare arcs climb [TURNS [SEED]]
                                      climb down to the least radii that are missed, by TURNS draws for each (default 1048576)
        compare arcs cures [COUNT [SEED]]
-                                     ask again about the missed ones of COUNT pairs, in other ways; and how far apart short
-                                     parallel lines are reported
+                                     ask again about the missed ones of COUNT pairs, in other ways; and up to which distance
+                                     short parallel lines are reported
        compare texts PROGRAM [COUNT [SEED]]
                                      hold the text program to a model on COUNT texts (default 3072, seed 1), of the right
                                      form and damaged, and on small ones with every damage of a byte

@@ -33,7 +33,7 @@ unsafe extern "C" {
     ) -> f64;
 }
 
-// A lent slice goes in as its start and its length. The call writes nothing beyond these and keeps nothing.
+// A lent slice goes in as its start and its length. The call writes nothing beyond these and holds on to nothing.
 mod raw {
     unsafe extern "C" {
         pub fn vjp_add(x1: f64, y1: f64, x2: f64, y2: f64, out: *mut f64, room: usize) -> usize;

@@ -110,11 +110,11 @@ fn crossing(lines: &mut Vec<String>) {
     const NAMES: [&str; 4] = ["lnln", "lncr", "crcr", "pair"];
     for (call, name) in CALLS.iter().zip(NAMES) {
         for operands in sample(call, SEED) {
-            let (told, values) = call.expected(&operands);
+            let (number, values) = call.expected(&operands);
             let mut four = [0.0; 4];
             four[..values.len()].copy_from_slice(&values);
             lines.push(format!(
-                "{name} {} {told:016x} {}\n",
+                "{name} {} {number:016x} {}\n",
                 hex(&operands),
                 hex(&four)
             ));

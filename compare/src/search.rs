@@ -11,7 +11,7 @@ mod wide;
 use crate::capi;
 use crate::rng::Rng;
 use draw::{Pair, KINDS};
-use judge::Told;
+use judge::Answer;
 use report::Report;
 
 /// Judges the answers to `count` pairs, as many of each kind. Answers how many broke a sentence of the promise.
@@ -33,7 +33,7 @@ fn judge_all(callers: &[Caller], count: u64, seed: u64) -> u64 {
     reports.iter().map(Report::print).sum()
 }
 
-type Caller = (&'static str, fn([f64; 13]) -> Told);
+type Caller = (&'static str, fn([f64; 13]) -> Answer);
 
 fn callers() -> Vec<Caller> {
     vec![
@@ -43,18 +43,18 @@ fn callers() -> Vec<Caller> {
     ]
 }
 
-fn ours(numbers: [f64; 13]) -> Told {
+fn ours(numbers: [f64; 13]) -> Answer {
     let mut values = [0.0; 4];
     let class = capi::vj_pair(numbers, &mut values);
-    Told { class, values }
+    Answer { class, values }
 }
 
 #[cfg(feature = "rust-text")]
-fn text(numbers: [f64; 13]) -> Told {
+fn text(numbers: [f64; 13]) -> Answer {
     let (class, found) = (crate::crossing::CALLS[3].text)(&numbers);
     let mut values = [0.0; 4];
     values[..found.len()].copy_from_slice(&found);
-    Told { class, values }
+    Answer { class, values }
 }
 
 /// The numbers of a call: a zero has either sign, and each bulge is a line's; the bulges of the second ends have no effect.
@@ -80,14 +80,14 @@ mod tests {
     use super::judge::{LINES, NONE, ONE};
     use super::*;
 
-    fn broken(call: fn([f64; 13]) -> Told) -> u64 {
+    fn broken(call: fn([f64; 13]) -> Answer) -> u64 {
         judge_all(&[("a wrong library", call)], 9000, 3)
     }
 
-    fn changed(numbers: [f64; 13], change: impl Fn(&mut Told)) -> Told {
-        let mut told = ours(numbers);
-        change(&mut told);
-        told
+    fn changed(numbers: [f64; 13], change: impl Fn(&mut Answer)) -> Answer {
+        let mut answer = ours(numbers);
+        change(&mut answer);
+        answer
     }
 
     #[test]
@@ -98,11 +98,11 @@ mod tests {
     #[test]
     fn a_fixed_answer_is_found_out() {
         for class in [NONE, ONE, LINES, 258] {
-            let answer: fn([f64; 13]) -> Told = match class {
-                NONE => |n| changed(n, |told| told.class = NONE),
-                ONE => |n| changed(n, |told| told.class = ONE),
-                LINES => |n| changed(n, |told| told.class = LINES),
-                _ => |n| changed(n, |told| told.class = 258),
+            let answer: fn([f64; 13]) -> Answer = match class {
+                NONE => |n| changed(n, |answer| answer.class = NONE),
+                ONE => |n| changed(n, |answer| answer.class = ONE),
+                LINES => |n| changed(n, |answer| answer.class = LINES),
+                _ => |n| changed(n, |answer| answer.class = 258),
             };
             assert!(broken(answer) > 1000, "{class}");
         }
@@ -110,8 +110,8 @@ mod tests {
 
     #[test]
     fn a_moved_point_is_found_out() {
-        assert!(broken(|n| changed(n, |told| told.values[0] += 1e-8)) > 1000);
-        assert!(broken(|n| changed(n, |told| told.values.swap(0, 1))) > 1000);
+        assert!(broken(|n| changed(n, |answer| answer.values[0] += 1e-8)) > 1000);
+        assert!(broken(|n| changed(n, |answer| answer.values.swap(0, 1))) > 1000);
     }
 
     #[test]

@@ -133,11 +133,11 @@ impl Run {
                 segments.compare(&lent, closed, i, &expected, &mut self.rng);
             }
         }
-        let told = (self.count)(lent.slice(), closed);
-        let (right, length) = (told == expected.len(), path.len());
-        self.counts.add(right && lent.is_kept(), || {
+        let answer = (self.count)(lent.slice(), closed);
+        let (right, length) = (answer == expected.len(), path.len());
+        self.counts.add(right && lent.is_unchanged(), || {
             format!(
-                "{length} numbers, closed {closed}: {told}, expected {}",
+                "{length} numbers, closed {closed}: {answer}, expected {}",
                 expected.len()
             )
         });

@@ -1,6 +1,6 @@
 //! Places one segment beside another: a given point of it at a given distance, and its direction at a given angle.
 
-use super::apart::{size, Shape};
+use super::distance::{size, Shape};
 use super::draw::parts::{bent, signed, spread};
 use super::draw::FAR;
 use super::piece::{Piece, ONE};

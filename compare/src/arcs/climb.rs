@@ -57,7 +57,7 @@ fn power(e: i32) -> f64 {
 }
 
 fn print(what: f64, epsilon: f64, found: Option<Pair>) {
-    let told = match found {
+    let shown = match found {
         None => "none missed".to_string(),
         Some(pair) => {
             format!(
@@ -68,7 +68,7 @@ fn print(what: f64, epsilon: f64, found: Option<Pair>) {
             )
         }
     };
-    println!("| {what} | 1/{} | {told} |", 1.0 / epsilon);
+    println!("| {what} | 1/{} | {shown} |", 1.0 / epsilon);
 }
 
 /// The missed pair with the least radius. Each draw is below the least so far, and either segment comes first.

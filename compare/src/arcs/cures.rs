@@ -5,7 +5,7 @@ use super::draw::{self, Pair, GRID_EPSILON, KINDS};
 use super::judge::share;
 use super::piece::{Piece, ONE};
 use super::rules::largest;
-use super::{ours, told};
+use super::{answered, ours};
 use crate::rng::Rng;
 use crate::search::plane::Spot;
 
@@ -145,7 +145,7 @@ fn ask(pair: &Pair, way: usize) -> (bool, bool) {
             true,
             cut(large)
                 .iter()
-                .any(|&large| told(large, floats(other), first, epsilon) != 0),
+                .any(|&large| answered(large, floats(other), first, epsilon) != 0),
         ),
     }
 }
@@ -203,9 +203,9 @@ pub fn short_lines() {
     println!("two parallel lines of one length, side by side: length | epsilon | reported up to a distance of");
     for epsilon in [1.0 / 1024.0, 1.0 / 64.0, 0.5] {
         for length in [epsilon, 4.0 * epsilon, 0.25, 1.0, 16.0] {
-            let reported = |apart: f64| {
-                let beside = [0.0, apart, length, apart, 0.0];
-                told([0.0, 0.0, length, 0.0, 0.0], beside, true, epsilon) != 0
+            let reported = |distance: f64| {
+                let beside = [0.0, distance, length, distance, 0.0];
+                answered([0.0, 0.0, length, 0.0, 0.0], beside, true, epsilon) != 0
             };
             let (mut low, mut high) = (0.0, 1024.0);
             for _ in 0..60 {

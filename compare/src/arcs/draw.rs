@@ -43,7 +43,7 @@ pub const KINDS: [(&str, Draw); 11] = [
     ("a common end", corner),
     ("a smooth joint", joints::draw),
     ("at a whole point", touches::draw),
-    ("near tangent", near_tangent),
+    ("nearly tangent", nearly_tangent),
     ("an end near the other", end_near),
     ("small against large", small_and_large),
     ("flat", flat),
@@ -133,8 +133,8 @@ fn corner(rng: &mut Rng, epsilon: f64) -> Option<(Piece, Piece)> {
     ))
 }
 
-/// Two that run in parallel, less than a few epsilons apart or through one another.
-fn near_tangent(rng: &mut Rng, epsilon: f64) -> Option<(Piece, Piece)> {
+/// Two that run in parallel, at a distance of less than a few epsilons or through one another.
+fn nearly_tangent(rng: &mut Rng, epsilon: f64) -> Option<(Piece, Piece)> {
     let line = rng.one_in(4);
     let (r1, r2) = (radius(rng, 0.5), radius(rng, 0.5));
     let (chord, n) = any_shape(rng, r2, false);

@@ -3,8 +3,8 @@
 
 mod print;
 
-use super::apart::apart;
 use super::depth::depth;
+use super::distance::distance;
 use super::draw::{Pair, GRID_EPSILON, KINDS};
 use super::judge::{Way, WAYS};
 use super::rules::{largest, may_miss, may_report, roundings};
@@ -44,7 +44,7 @@ struct Cell {
     /// The deepest of the missed that cross inside both.
     deepest: f64,
     /// Reported without a shared point, and the greatest distance, as it is and in epsilons.
-    apart: u64,
+    unshared: u64,
     farthest: f64,
     epsilons: f64,
 }
@@ -56,7 +56,7 @@ struct Drawn {
     pairs: u64,
     shared: u64,
     missed: u64,
-    apart: u64,
+    unshared: u64,
 }
 
 const PAIRS: [&str; 3] = ["two lines", "a line and an arc", "two arcs"];
@@ -71,7 +71,7 @@ pub struct Report {
     free: [u64; PAIRS.len()],
     /// By kind of pair and way, the missed pair of the least radius at the program's epsilon.
     least: [[Option<Pair>; WAYS.len()]; PAIRS.len()],
-    /// By kind of pair, the farthest apart that is reported at the program's epsilon, and how far.
+    /// By kind of pair, the pair reported at the greatest distance at the program's epsilon, and that distance.
     farthest: [Option<(Pair, f64)>; PAIRS.len()],
     /// By kind of pair and epsilon, the most roundings that a miss needed.
     most: [[f64; CLASSES.len()]; PAIRS.len()],
@@ -137,9 +137,9 @@ impl Report {
             }
             (None, NONE) => (),
             (None, _) => {
-                drawn.apart += 1;
-                cell.apart += 1;
-                let far = apart(pair.v, pair.u);
+                drawn.unshared += 1;
+                cell.unshared += 1;
+                let far = distance(pair.v, pair.u);
                 cell.farthest = cell.farthest.max(far);
                 cell.epsilons = cell.epsilons.max(far / pair.epsilon);
                 let farthest = &mut self.farthest[arcs];

@@ -1,5 +1,5 @@
-//! What the search allows: which touching pairs may be missed, and how far apart reported ones may be. Except for two lines, this
-//! was found, not proved.
+//! What the search allows: which touching pairs may be missed, and how far from each other reported ones may be. Except for two
+//! lines, this was found, not proved.
 
 use super::draw::{Pair, GRID_EPSILON};
 use super::judge::common_ends;
@@ -12,8 +12,8 @@ pub const LINE_ROUNDINGS: f64 = 16.0;
 /// The divisor of a rounding: 2^53.
 pub const ROUNDED: f64 = (1u64 << 53) as f64;
 
-/// Up to this radius a reported pair is never farther apart than this many epsilons, as far as the search has shown. An end may
-/// lie sqrt(2) epsilons from the found point: a quarter turn of a circle whose radius is epsilon.
+/// Up to this radius the distance of a reported pair is never above this many epsilons, as far as the search has shown. An end
+/// may lie sqrt(2) epsilons from the found point: a quarter turn of a circle whose radius is epsilon.
 pub const NEAR_RADIUS: f64 = 1_048_576.0;
 pub const NEAR: f64 = 2.0 * std::f64::consts::SQRT_2;
 
@@ -68,9 +68,9 @@ fn angle(pair: &Pair) -> f64 {
         .fold(0.0, f64::max)
 }
 
-/// Whether what is reported may be that far apart.
-pub fn may_report(pair: &Pair, apart: f64) -> bool {
-    pair.epsilon < GRID_EPSILON || largest(pair) > NEAR_RADIUS || apart <= NEAR * pair.epsilon
+/// Whether a pair at this distance may be reported.
+pub fn may_report(pair: &Pair, distance: f64) -> bool {
+    pair.epsilon < GRID_EPSILON || largest(pair) > NEAR_RADIUS || distance <= NEAR * pair.epsilon
 }
 
 #[cfg(test)]

@@ -10,7 +10,7 @@ use cavalier_contours::polyline::{
     pline_seg_intr, seg_arc_radius_and_center, PlineSegIntr, PlineVertex,
 };
 
-use super::faults::{chord, first, two_to, Look, Order};
+use super::faults::{chord, first, two_to, Check, Order};
 use crate::capi;
 use crate::inputs::values::power;
 use crate::inputs::{Pair, Segment, Vertex};
@@ -47,51 +47,51 @@ impl Call {
 }
 
 const LINES: Order = &[
-    (8, Look::Epsilon),
-    (0, Look::Coordinate),
-    (1, Look::Coordinate),
-    (2, Look::Coordinate),
-    (3, Look::Coordinate),
-    (4, Look::Coordinate),
-    (5, Look::Coordinate),
-    (6, Look::Coordinate),
-    (7, Look::Coordinate),
+    (8, Check::Epsilon),
+    (0, Check::Coordinate),
+    (1, Check::Coordinate),
+    (2, Check::Coordinate),
+    (3, Check::Coordinate),
+    (4, Check::Coordinate),
+    (5, Check::Coordinate),
+    (6, Check::Coordinate),
+    (7, Check::Coordinate),
 ];
 
 const LINE_AND_CIRCLE: Order = &[
-    (7, Look::Epsilon),
-    (0, Look::Coordinate),
-    (1, Look::Coordinate),
-    (2, Look::Coordinate),
-    (3, Look::Coordinate),
-    (4, Look::Radius),
-    (5, Look::Center),
-    (6, Look::Center),
+    (7, Check::Epsilon),
+    (0, Check::Coordinate),
+    (1, Check::Coordinate),
+    (2, Check::Coordinate),
+    (3, Check::Coordinate),
+    (4, Check::Radius),
+    (5, Check::Center),
+    (6, Check::Center),
 ];
 
 const CIRCLES: Order = &[
-    (6, Look::Epsilon),
-    (0, Look::Radius),
-    (1, Look::Center),
-    (2, Look::Center),
-    (3, Look::Radius),
-    (4, Look::Center),
-    (5, Look::Center),
+    (6, Check::Epsilon),
+    (0, Check::Radius),
+    (1, Check::Center),
+    (2, Check::Center),
+    (3, Check::Radius),
+    (4, Check::Center),
+    (5, Check::Center),
 ];
 
 /// Without the bulges of v2 and u2.
 const SEGMENTS: Order = &[
-    (12, Look::Epsilon),
-    (0, Look::Coordinate),
-    (1, Look::Coordinate),
-    (2, Look::Bulge),
-    (3, Look::Coordinate),
-    (4, Look::Coordinate),
-    (6, Look::Coordinate),
-    (7, Look::Coordinate),
-    (8, Look::Bulge),
-    (9, Look::Coordinate),
-    (10, Look::Coordinate),
+    (12, Check::Epsilon),
+    (0, Check::Coordinate),
+    (1, Check::Coordinate),
+    (2, Check::Bulge),
+    (3, Check::Coordinate),
+    (4, Check::Coordinate),
+    (6, Check::Coordinate),
+    (7, Check::Coordinate),
+    (8, Check::Bulge),
+    (9, Check::Coordinate),
+    (10, Check::Coordinate),
 ];
 
 pub static CALLS: [Call; 4] = [

@@ -2,7 +2,7 @@
 
 /// The check of a number.
 #[derive(Clone, Copy)]
-pub enum Look {
+pub enum Check {
     Epsilon,
     /// Of a point or a vertex.
     Coordinate,
@@ -13,22 +13,22 @@ pub enum Look {
 }
 
 /// A call's numbers by their indices, in the order of their checks.
-pub type Order = &'static [(usize, Look)];
+pub type Order = &'static [(usize, Check)];
 
 pub fn two_to(power: i32) -> f64 {
     f64::from_bits(((1023 + power) as u64) << 52)
 }
 
-pub fn fault(look: Look, x: f64) -> Option<u64> {
-    let (refusal, within) = match look {
-        Look::Epsilon => (4, x >= two_to(-40) && x <= 0.5),
-        Look::Coordinate => (2, x.abs() <= 1_048_576.0),
-        Look::Bulge => (3, x.abs() <= 1.0),
-        Look::Radius => (9, x >= two_to(-42) && x <= two_to(47)),
-        Look::Center => (9, x.abs() <= two_to(48)),
+pub fn fault(check: Check, x: f64) -> Option<u64> {
+    let (refusal, within) = match check {
+        Check::Epsilon => (4, x >= two_to(-40) && x <= 0.5),
+        Check::Coordinate => (2, x.abs() <= 1_048_576.0),
+        Check::Bulge => (3, x.abs() <= 1.0),
+        Check::Radius => (9, x >= two_to(-42) && x <= two_to(47)),
+        Check::Center => (9, x.abs() <= two_to(48)),
     };
-    match look {
-        Look::Epsilon if !x.is_finite() => Some(4),
+    match check {
+        Check::Epsilon if !x.is_finite() => Some(4),
         _ if !x.is_finite() => Some(1),
         _ => (!within).then_some(refusal),
     }
@@ -37,7 +37,7 @@ pub fn fault(look: Look, x: f64) -> Option<u64> {
 pub fn first(order: Order, numbers: &[f64]) -> Option<u64> {
     order
         .iter()
-        .find_map(|(at, look)| fault(*look, numbers[*at]))
+        .find_map(|(at, check)| fault(*check, numbers[*at]))
 }
 
 /// The chord of a segment, its two vertices one after the other: an arc's must not be shorter than 2^-40.

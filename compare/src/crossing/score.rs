@@ -51,18 +51,18 @@ impl Score {
 
     fn compare_in(&mut self, room: usize, numbers: &Numbers) {
         let mut lent = Lent::new(room);
-        let told = (self.call.ours)(numbers, lent.slice());
+        let given = (self.call.ours)(numbers, lent.slice());
         let right = if room < PLACES {
             self.no_room += 1;
-            told == NO_ROOM && lent.written(0).is_some()
+            given == NO_ROOM && lent.written(0).is_some()
         } else {
             let (expected, values) = self.call.expected(numbers);
             let answers = self.count(expected);
             let written = lent.written(if answers { PLACES } else { 0 });
-            told == expected && written.is_some_and(|ours| !answers || filled(ours, &values))
+            given == expected && written.is_some_and(|ours| !answers || filled(ours, &values))
         };
         if !right {
-            self.differ(numbers, told, lent.slice());
+            self.differ(numbers, given, lent.slice());
         }
     }
 
@@ -87,7 +87,7 @@ impl Score {
         }
     }
 
-    fn differ(&mut self, numbers: &Numbers, told: u64, slice: &[f64]) {
+    fn differ(&mut self, numbers: &Numbers, given: u64, slice: &[f64]) {
         self.differences += 1;
         if self.differences > SHOWN {
             return;
@@ -95,7 +95,7 @@ impl Score {
         let (expected, values) = self.call.expected(numbers);
         let (on, ours, values, room) = (hex(numbers), hex(slice), hex(&values), slice.len());
         println!(
-            "{} of {on}: {told}, {ours} in a room of {room}, expected {expected}, {values}",
+            "{} of {on}: {given}, {ours} in a room of {room}, expected {expected}, {values}",
             self.name
         );
     }

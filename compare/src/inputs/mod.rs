@@ -219,13 +219,16 @@ mod tests {
 
     /// Numbers beside a limit are on both sides of it.
     #[test]
-    fn limits_are_passed_and_kept() {
+    fn limits_are_met_and_passed() {
         let mut rng = Rng::new(2);
         let drawn = || Pair::draw(Kind::Beside, &mut rng).is_accepted();
-        let kept = std::iter::repeat_with(drawn)
+        let accepted = std::iter::repeat_with(drawn)
             .take(DRAWN)
-            .filter(|kept| *kept)
+            .filter(|accepted| *accepted)
             .count();
-        assert!(kept > DRAWN / 8 && kept < DRAWN * 7 / 8, "{kept}");
+        assert!(
+            accepted > DRAWN / 8 && accepted < DRAWN * 7 / 8,
+            "{accepted}"
+        );
     }
 }

@@ -168,7 +168,7 @@ fn timed(name: &str, layout: &Layout, epsilon: f64, call: Call) {
     let rows = listed.rows(epsilon);
     let (pairs, rows) = (rows.pairs, rows.rows.len());
     let (mut lent, mut lent_too) = (Lent::new(rows), Lent::new(rows));
-    let accepted = |told: u64| assert_eq!(black_box(told), 0, "{name}: refused");
+    let accepted = |answer: u64| assert_eq!(black_box(answer), 0, "{name}: refused");
     let row = bench::Row::new(name).epsilon(epsilon).of(pairs);
     row.meeting(rows).timed(
         A_ROUND,

@@ -41,7 +41,7 @@ fn own(drawn: &Drawn, room: usize) -> Result<Rows, Fault> {
 }
 
 /// Indices, class and points of each row.
-fn told(rows: &Rows) -> Vec<([u64; 2], u64, Vec<f64>)> {
+fn plain(rows: &Rows) -> Vec<([u64; 2], u64, Vec<f64>)> {
     let row = rows.rows.iter();
     row.map(|row| (row.indices, row.class, row.points[..row.given].to_vec()))
         .collect()
@@ -55,7 +55,7 @@ fn refusal(result: Result<Rows, Fault>) -> u64 {
 fn pair(v: &Drawn, u: &Drawn, epsilon: f64) -> Option<(u64, Vec<f64>)> {
     let rows = mutual(v, u, epsilon, 1).expect("accepted");
     assert_eq!(rows.pairs, 1);
-    let mut rows = told(&rows);
+    let mut rows = plain(&rows);
     assert!(rows.iter().all(|(indices, ..)| *indices == [0, 0]));
     rows.pop().map(|(_, class, points)| (class, points))
 }
@@ -95,7 +95,7 @@ fn one_pair_one_row() {
     let second = line([2.0, -2.0], [2.0, 2.0]);
     let rows = mutual(&first, &second, 1.0 / 1024.0, 1).expect("accepted");
     assert_eq!(rows.pairs, 1);
-    assert_eq!(told(&rows), [([0, 0], 2, vec![2.0, 0.0])]);
+    assert_eq!(plain(&rows), [([0, 0], 2, vec![2.0, 0.0])]);
 }
 
 /// A square and a bar across it: rows are ordered by the first path's index, then by the second's.
@@ -123,7 +123,7 @@ fn order_of_rows() {
         ([3, 0], 2, vec![0.0, 1.0]),
         ([3, 2], 2, vec![0.0, 3.0]),
     ];
-    assert_eq!(told(&rows), expected);
+    assert_eq!(plain(&rows), expected);
     let rows = mutual(&bar, &square, EPSILON, 4).expect("accepted");
     let indices: Vec<[u64; 2]> = rows.rows.iter().map(|row| row.indices).collect();
     assert_eq!(indices, [[0, 1], [0, 3], [2, 1], [2, 3]]);
@@ -135,10 +135,10 @@ fn closing_segment() {
     let ends = [[1.0, 0.0, 0.0], [-1.0, 0.0, 1.0]];
     let upright = line([0.0, -2.0], [0.0, 2.0]);
     let open = mutual(&path(&ends, false), &upright, EPSILON, 2).expect("accepted");
-    assert_eq!(told(&open), [([0, 0], 2, vec![0.0, 0.0])]);
+    assert_eq!(plain(&open), [([0, 0], 2, vec![0.0, 0.0])]);
     let closed = mutual(&path(&ends, true), &upright, EPSILON, 2).expect("accepted");
     let expected = [([0, 0], 2, vec![0.0, 0.0]), ([1, 0], 2, vec![0.0, -1.0])];
-    assert_eq!((closed.pairs, told(&closed)), (2, expected.to_vec()));
+    assert_eq!((closed.pairs, plain(&closed)), (2, expected.to_vec()));
 }
 
 /// n segments have n (n - 1) / 2 pairs, less the n - 1 pairs of neighbours, and less one more if closed.
@@ -184,7 +184,7 @@ fn own_crossing() {
     );
     let rows = own(&path, 1).expect("accepted");
     assert_eq!(rows.pairs, 3);
-    assert_eq!(told(&rows), [([0, 3], 2, vec![1.0, 0.0])]);
+    assert_eq!(plain(&rows), [([0, 3], 2, vec![1.0, 0.0])]);
     assert_eq!(refusal(own(&path, 0)), 8);
 }
 

@@ -107,14 +107,14 @@ impl Lent {
     }
 
     /// What is not as expected, if anything: the returned number, or a place of a slice, or a place beside it.
-    pub fn wrong(&self, told: u64, expected: &Expected) -> Option<String> {
+    pub fn wrong(&self, answer: u64, expected: &Expected) -> Option<String> {
         let (returned, rows) = match expected {
             Expected::NoRoom => (NO_ROOM, None),
             Expected::Refused(number) => (REFUSED + number, None),
             Expected::Answered(rows) => (0, Some(*rows)),
         };
-        if told != returned {
-            return Some(format!("returned {told}, expected {returned}"));
+        if answer != returned {
+            return Some(format!("returned {answer}, expected {returned}"));
         }
         let written = rows.map_or(0, |rows| rows.rows.len());
         let counted = if rows.is_some() { 2 } else { 0 };
@@ -159,8 +159,8 @@ impl Lent {
         written: usize,
         bits: impl Fn(&T) -> u64,
     ) -> Option<String> {
-        let kept = |place: usize| place < GUARD || place >= GUARD + written;
-        let differs = |(place, x): (usize, &T)| kept(place) && bits(x) != self.old.at(place);
+        let untouched = |place: usize| place < GUARD || place >= GUARD + written;
+        let differs = |(place, x): (usize, &T)| untouched(place) && bits(x) != self.old.at(place);
         let place = memory.iter().enumerate().position(differs)? as isize - GUARD as isize;
         Some(format!("{name}[{place}] was touched, {written} to write"))
     }

@@ -3,7 +3,7 @@
 
 use cavalier_contours::polyline::{pline_seg_intr, PlineSegIntr, PlineVertex};
 
-use crate::crossing::faults::{chord, fault, Look};
+use crate::crossing::faults::{chord, fault, Check};
 use crate::crossing::of_segments;
 
 /// A path as it is lent: x, y and bulge of one vertex after the other.
@@ -196,7 +196,7 @@ pub fn row_room(indices: usize, points: usize) -> usize {
 }
 
 fn epsilon_fault(epsilon: f64) -> Option<Fault> {
-    let number = fault(Look::Epsilon, epsilon)?;
+    let number = fault(Check::Epsilon, epsilon)?;
     let place = Place::Epsilon;
     Some(Fault { number, place })
 }
@@ -216,10 +216,10 @@ fn shape(path: Path, at: usize) -> Option<Fault> {
 
 /// Every vertex in order, each x, y, bulge: also the last bulge of an open path, though it belongs to no segment.
 fn numbers(path: Path<'_>, at: usize) -> impl Iterator<Item = Fault> + '_ {
-    const LOOKS: [Look; 3] = [Look::Coordinate, Look::Coordinate, Look::Bulge];
+    const CHECKS: [Check; 3] = [Check::Coordinate, Check::Coordinate, Check::Bulge];
     path.numbers.iter().enumerate().filter_map(move |(i, x)| {
         let (vertex, which) = (i / 3, i % 3);
-        let number = fault(LOOKS[which], *x)?;
+        let number = fault(CHECKS[which], *x)?;
         let place = Place::Number {
             path: at,
             vertex,

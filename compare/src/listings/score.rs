@@ -65,10 +65,10 @@ impl<'a> Known<'a> {
         let (first, second) = (LentPath::new(&layout.first), LentPath::new(&layout.second));
         let listed = self.call.of(first.path(), second.path());
         let mut lent = Lent::new(room, old);
-        let told = ours(listed, layout.epsilon, lent.slices());
-        lent.wrong(told, &self.expected(room).1).or_else(|| {
-            let kept = first.is(&layout.first) && second.is(&layout.second);
-            (!kept).then(|| "a path was written to".to_string())
+        let answer = ours(listed, layout.epsilon, lent.slices());
+        lent.wrong(answer, &self.expected(room).1).or_else(|| {
+            let unchanged = first.is(&layout.first) && second.is(&layout.second);
+            (!unchanged).then(|| "a path was written to".to_string())
         })
     }
 }

@@ -22,7 +22,7 @@ type Draw = fn(&mut Rng, Epsilon) -> (Segment, Segment);
 pub const KINDS: [(&str, Draw); 9] = [
     ("random", random),
     ("small grid", small),
-    ("near parallel", near_parallel),
+    ("nearly parallel", nearly_parallel),
     ("parallel", parallel),
     ("collinear", collinear),
     ("touching ends", touching),
@@ -126,7 +126,7 @@ fn small(rng: &mut Rng, _: Epsilon) -> (Segment, Segment) {
 }
 
 /// Each end of u is a few steps beside an end of v, or beside a point of v's line.
-fn near_parallel(rng: &mut Rng, _: Epsilon) -> (Segment, Segment) {
+fn nearly_parallel(rng: &mut Rng, _: Epsilon) -> (Segment, Segment) {
     let v = segment(rng, FAR);
     let [a, b] = v;
     let (p, q) = if rng.one_in(2) {
@@ -364,7 +364,7 @@ mod tests {
                 && !share(p.v, p.u))
                 > 400
         );
-        assert!(often("near parallel", |p| crossing(p.v, p.u).is_some()) > 900);
+        assert!(often("nearly parallel", |p| crossing(p.v, p.u).is_some()) > 900);
         let misses =
             |p: &Pair| crossing(p.v, p.u).is_some_and(|c| reaches(p.v, c) != reaches(p.u, c));
         assert!(often("beyond an end", misses) > 300);

@@ -19,7 +19,7 @@ pub struct Epsilon {
 
 /// What the pair call answered: its class and its values, or a refusal's number, which is beyond every class.
 #[derive(Clone, Copy, Debug, PartialEq)]
-pub struct Told {
+pub struct Answer {
     pub class: u64,
     pub values: [f64; 4],
 }
@@ -35,18 +35,18 @@ pub enum Broken {
     Inexact,
 }
 
-/// What an answer that keeps the promise shows: how far its point lies from the crossing, if the lines have one, and whether
+/// What an answer that is as promised shows: how far its point lies from the crossing, if the lines have one, and whether
 /// there is no shared point.
 #[derive(Clone, Copy, Debug, Default)]
-pub struct Kept {
+pub struct Shown {
     pub off: Option<[Off; 2]>,
     pub beyond: bool,
 }
 
-/// The distance of a coordinate: `apart / whole`.
+/// The distance of a coordinate: `gap / whole`.
 #[derive(Clone, Copy, Debug)]
 pub struct Off {
-    pub apart: Wide,
+    pub gap: Wide,
     pub whole: Wide,
 }
 
@@ -54,37 +54,37 @@ impl Off {
     /// The multiple of 2^-30, in millionths, rounded down.
     pub fn millionths(self) -> u64 {
         let parts = Wide::from(1_000_000 << 30);
-        self.apart.times(parts).over(self.whole)
+        self.gap.times(parts).over(self.whole)
     }
 
     /// Whether it is more than this many millionths of 2^-30.
     pub fn more_than(self, millionths: u64) -> bool {
         let least = self.whole.times(Wide::from(u128::from(millionths) + 1));
-        self.apart.times(Wide::from(1_000_000 << 30)) >= least
+        self.gap.times(Wide::from(1_000_000 << 30)) >= least
     }
 
     fn fine(self) -> bool {
-        self.apart.raised(30) <= self.whole
+        self.gap.raised(30) <= self.whole
     }
 }
 
-pub fn judge(v: Segment, u: Segment, epsilon: Epsilon, told: Told) -> Result<Kept, Broken> {
-    if ![NONE, ONE, LINES].contains(&told.class) {
+pub fn judge(v: Segment, u: Segment, epsilon: Epsilon, answer: Answer) -> Result<Shown, Broken> {
+    if ![NONE, ONE, LINES].contains(&answer.class) {
         return Err(Broken::Class);
     }
     let shared = share(v, u);
-    if told.class == NONE && shared {
+    if answer.class == NONE && shared {
         return Err(Broken::Missed);
     }
-    if (told.class == LINES) != share_more(v, u) {
+    if (answer.class == LINES) != share_more(v, u) {
         return Err(Broken::Overlap);
     }
-    if told.class != ONE {
-        return Ok(Kept::default());
+    if answer.class != ONE {
+        return Ok(Shown::default());
     }
     let Some(point) = crossing(v, u) else {
         return if shared {
-            Ok(Kept::default())
+            Ok(Shown::default())
         } else {
             Err(Broken::Beyond)
         };
@@ -92,10 +92,10 @@ pub fn judge(v: Segment, u: Segment, epsilon: Epsilon, told: Told) -> Result<Kep
     if !shared && ![v, u].iter().all(|&s| reached(s, point, epsilon)) {
         return Err(Broken::Beyond);
     }
-    let [x, y, ..] = told.values;
+    let [x, y, ..] = answer.values;
     let off = off(x, point.x, point.over).zip(off(y, point.y, point.over));
     match off {
-        Some((x, y)) if x.fine() && y.fine() => Ok(Kept {
+        Some((x, y)) if x.fine() && y.fine() => Ok(Shown {
             off: Some([x, y]),
             beyond: !shared,
         }),
@@ -122,7 +122,7 @@ fn off(given: f64, top: i128, bottom: u128) -> Option<Off> {
     let given = Number::of(given)?;
     let whole = Wide::from(bottom).raised(given.down);
     Some(Off {
-        apart: given.off(top, bottom),
+        gap: given.off(top, bottom),
         whole,
     })
 }
@@ -138,30 +138,30 @@ mod tests {
         [Spot { x: ax, y: ay }, Spot { x: bx, y: by }]
     }
 
-    fn told(class: u64, x: f64, y: f64) -> Told {
-        Told {
+    fn answer(class: u64, x: f64, y: f64) -> Answer {
+        Answer {
             class,
             values: [x, y, 0.0, 0.0],
         }
     }
 
-    fn broken(v: Segment, u: Segment, epsilon: Epsilon, told: Told) -> Option<Broken> {
-        judge(v, u, epsilon, told).err()
+    fn broken(v: Segment, u: Segment, epsilon: Epsilon, answer: Answer) -> Option<Broken> {
+        judge(v, u, epsilon, answer).err()
     }
 
     const STEP: f64 = 1.0 / (1u64 << 30) as f64;
 
     #[test]
-    fn a_right_answer_keeps_it() {
+    fn a_right_answer_breaks_nothing() {
         let (v, u) = (segment(0, 0, 4, 0), segment(2, -2, 2, 2));
-        assert_eq!(broken(v, u, HALF, told(ONE, 2.0, 0.0)), None);
-        assert_eq!(broken(v, u, HALF, told(ONE, 2.0 + STEP, -STEP)), None);
+        assert_eq!(broken(v, u, HALF, answer(ONE, 2.0, 0.0)), None);
+        assert_eq!(broken(v, u, HALF, answer(ONE, 2.0 + STEP, -STEP)), None);
         assert_eq!(
-            broken(v, segment(1, 0, 5, 0), HALF, told(LINES, 1.0, 0.0)),
+            broken(v, segment(1, 0, 5, 0), HALF, answer(LINES, 1.0, 0.0)),
             None
         );
         assert_eq!(
-            broken(v, segment(0, 9, 4, 9), HALF, told(NONE, 0.0, 0.0)),
+            broken(v, segment(0, 9, 4, 9), HALF, answer(NONE, 0.0, 0.0)),
             None
         );
     }
@@ -170,19 +170,31 @@ mod tests {
     fn a_changed_class_breaks_it() {
         let v = segment(0, 0, 4, 0);
         let cases = [
-            (segment(2, -2, 2, 2), told(NONE, 0.0, 0.0), Broken::Missed),
-            (segment(2, -2, 2, 2), told(LINES, 2.0, 0.0), Broken::Overlap),
-            (segment(2, -2, 2, 2), told(3, 2.0, 0.0), Broken::Class),
-            (segment(2, -2, 2, 2), told(258, 0.0, 0.0), Broken::Class),
-            (segment(1, 0, 5, 0), told(NONE, 0.0, 0.0), Broken::Missed),
-            (segment(1, 0, 5, 0), told(ONE, 1.0, 0.0), Broken::Overlap),
-            (segment(4, 0, 5, 0), told(LINES, 4.0, 0.0), Broken::Overlap),
-            (segment(5, 0, 6, 0), told(ONE, 4.0, 0.0), Broken::Beyond),
-            (segment(0, 1, 4, 1), told(ONE, 0.0, 0.0), Broken::Beyond),
-            (segment(5, 5, 5, 5), told(ONE, 5.0, 5.0), Broken::Beyond),
+            (segment(2, -2, 2, 2), answer(NONE, 0.0, 0.0), Broken::Missed),
+            (
+                segment(2, -2, 2, 2),
+                answer(LINES, 2.0, 0.0),
+                Broken::Overlap,
+            ),
+            (segment(2, -2, 2, 2), answer(3, 2.0, 0.0), Broken::Class),
+            (segment(2, -2, 2, 2), answer(258, 0.0, 0.0), Broken::Class),
+            (segment(1, 0, 5, 0), answer(NONE, 0.0, 0.0), Broken::Missed),
+            (segment(1, 0, 5, 0), answer(ONE, 1.0, 0.0), Broken::Overlap),
+            (
+                segment(4, 0, 5, 0),
+                answer(LINES, 4.0, 0.0),
+                Broken::Overlap,
+            ),
+            (segment(5, 0, 6, 0), answer(ONE, 4.0, 0.0), Broken::Beyond),
+            (segment(0, 1, 4, 1), answer(ONE, 0.0, 0.0), Broken::Beyond),
+            (segment(5, 5, 5, 5), answer(ONE, 5.0, 5.0), Broken::Beyond),
         ];
-        for (u, told, expected) in cases {
-            assert_eq!(broken(v, u, HALF, told), Some(expected), "{u:?} {told:?}");
+        for (u, answer, expected) in cases {
+            assert_eq!(
+                broken(v, u, HALF, answer),
+                Some(expected),
+                "{u:?} {answer:?}"
+            );
         }
     }
 
@@ -197,7 +209,7 @@ mod tests {
             (2.0, f64::INFINITY),
         ] {
             assert_eq!(
-                broken(v, u, HALF, told(ONE, x, y)),
+                broken(v, u, HALF, answer(ONE, x, y)),
                 Some(Broken::Inexact),
                 "{x} {y}"
             );
@@ -210,9 +222,9 @@ mod tests {
         let (v, u) = (segment(0, 1, 2, 1), segment(3, 0, 2, 5));
         let p = crossing(v, u).unwrap();
         assert_eq!((p.x * 5, p.y), (14 * p.over as i128, p.over as i128));
-        assert_eq!(broken(v, u, HALF, told(ONE, 2.8, 1.0)), None);
+        assert_eq!(broken(v, u, HALF, answer(ONE, 2.8, 1.0)), None);
         assert_eq!(
-            broken(v, u, EIGHTH, told(ONE, 2.8, 1.0)),
+            broken(v, u, EIGHTH, answer(ONE, 2.8, 1.0)),
             Some(Broken::Beyond)
         );
         // exactly twice epsilon is too far
@@ -222,7 +234,7 @@ mod tests {
                 segment(0, 1, 2, 1),
                 segment(3, 0, 3, 5),
                 limit,
-                told(ONE, 3.0, 1.0)
+                answer(ONE, 3.0, 1.0)
             ),
             Some(Broken::Beyond)
         );

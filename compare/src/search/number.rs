@@ -46,7 +46,7 @@ impl Number {
         let ours = Wide::from(self.size).times(Wide::from(bottom));
         let theirs = Wide::from(top.unsigned_abs()).raised(self.down);
         if self.negative == (top < 0) {
-            ours.apart(theirs)
+            ours.gap(theirs)
         } else {
             ours.plus(theirs)
         }

@@ -1,7 +1,7 @@
 //! Counts what a search met, and shows the first answers that break the promise.
 
 use super::draw::{Pair, KINDS};
-use super::judge::{judge, Told, LINES, NONE, ONE};
+use super::judge::{judge, Answer, LINES, NONE, ONE};
 
 const SHOWN: u64 = 5;
 
@@ -31,18 +31,18 @@ impl Report {
         }
     }
 
-    pub fn judge(&mut self, kind: usize, pair: &Pair, told: Told) {
+    pub fn judge(&mut self, kind: usize, pair: &Pair, answer: Answer) {
         let counts = &mut self.kinds[kind];
-        match told.class {
+        match answer.class {
             NONE => counts.none += 1,
             ONE => counts.one += 1,
             LINES => counts.lines += 1,
             _ => (),
         }
-        match judge(pair.v, pair.u, pair.exact, told) {
-            Ok(kept) => {
-                counts.beyond += u64::from(kept.beyond);
-                for off in kept.off.into_iter().flatten() {
+        match judge(pair.v, pair.u, pair.exact, answer) {
+            Ok(shown) => {
+                counts.beyond += u64::from(shown.beyond);
+                for off in shown.off.into_iter().flatten() {
                     if off.more_than(self.worst) {
                         self.worst = off.millionths();
                     }
@@ -51,7 +51,7 @@ impl Report {
             Err(broken) => {
                 counts.broken += 1;
                 if self.broken() <= SHOWN {
-                    println!("{} breaks {broken:?}: {pair:?} {told:?}", self.name);
+                    println!("{} breaks {broken:?}: {pair:?} {answer:?}", self.name);
                 }
             }
         }

@@ -48,8 +48,8 @@ impl Wide {
         Wide(sum)
     }
 
-    /// How far the two lie apart.
-    pub fn apart(self, other: Wide) -> Wide {
+    /// The distance of the two.
+    pub fn gap(self, other: Wide) -> Wide {
         let (more, less) = if self < other {
             (other, self)
         } else {
@@ -117,7 +117,7 @@ mod tests {
     fn products_and_shifts_agree() {
         let a = wide(u128::MAX);
         assert_eq!(a.times(wide(1 << 100)), a.raised(100));
-        assert_eq!(a.times(a), a.raised(128).apart(a));
+        assert_eq!(a.times(a), a.raised(128).gap(a));
         assert_eq!(a.plus(a), a.raised(1));
     }
 

@@ -14,9 +14,9 @@ pub fn write(folder: &Path) -> Result<usize, String> {
     let mut classes = BTreeSet::new();
     let mut refusals = BTreeSet::new();
     for path in &texts {
-        let told = |why| format!("{}: {why}", path.display());
-        let answer = answer(&fs::read(path).map_err(told)?);
-        fs::write(path.with_extension("out"), answer.printed()).map_err(told)?;
+        let named = |why| format!("{}: {why}", path.display());
+        let answer = answer(&fs::read(path).map_err(named)?);
+        fs::write(path.with_extension("out"), answer.printed()).map_err(named)?;
         match answer.refused() {
             Some(number) => {
                 refusals.insert(number);

@@ -49,7 +49,7 @@ impl Lent {
             .then_some(written)
     }
 
-    pub fn is_kept(&self) -> bool {
+    pub fn is_unchanged(&self) -> bool {
         self.written(0).is_some()
     }
 }
@@ -63,9 +63,9 @@ mod tests {
         const ROOM: usize = 7;
         for place in 0..GUARD + ROOM + GUARD {
             let mut lent = Lent::room(ROOM);
-            assert!(lent.is_kept() && lent.written(ROOM + 1).is_none());
+            assert!(lent.is_unchanged() && lent.written(ROOM + 1).is_none());
             lent.memory[place] = -0.0;
-            assert!(!lent.is_kept());
+            assert!(!lent.is_unchanged());
             let inside = (GUARD..GUARD + ROOM).contains(&place);
             assert_eq!(lent.written(ROOM).is_some(), inside);
             assert_eq!(lent.written(1).is_some(), place == GUARD);

@@ -52,12 +52,14 @@ impl Segments {
         let expected = all.get(i).map_or(&[][..], |segment| segment);
         let mut out = Lent::room(room(SEGMENT, rng));
         let short = out.slice().len() < expected.len();
-        let told = (self.ask)(path.slice(), closed, i, out.slice_mut());
-        let right = is_given(&out, told, expected) && path.is_kept();
+        let answer = (self.ask)(path.slice(), closed, i, out.slice_mut());
+        let right = is_given(&out, answer, expected) && path.is_unchanged();
         self.tally.add(right, || {
             let (length, written) = (path.slice().len(), hex(out.slice()));
             let expected = hex(expected);
-            format!("{length} numbers, closed {closed}, {i}: {told} {written}, expected {expected}")
+            format!(
+                "{length} numbers, closed {closed}, {i}: {answer} {written}, expected {expected}"
+            )
         });
         let kind = kind_of(path.slice(), closed, i, all.len());
         self.kinds.count(if short { "without room" } else { kind });
@@ -105,11 +107,11 @@ impl Filled {
         let expected = filled(rows.slice(), count);
         let mut out = Lent::room(room(rows.slice().len(), rng));
         let short = out.slice().len() < expected.len();
-        let told = (self.ask)(rows.slice(), count, out.slice_mut());
-        let right = is_given(&out, told, &expected) && rows.is_kept();
+        let answer = (self.ask)(rows.slice(), count, out.slice_mut());
+        let right = is_given(&out, answer, &expected) && rows.is_unchanged();
         self.tally.add(right, || {
             let (length, part) = (rows.slice().len(), expected.len());
-            format!("{length} numbers, {count} rows: {told} numbers or others, expected {part}")
+            format!("{length} numbers, {count} rows: {answer} numbers or others, expected {part}")
         });
         let whole = rows.slice().len() / ROW;
         let kind = match count {
@@ -128,18 +130,18 @@ impl Filled {
     }
 }
 
-/// Whether the numbers were written if they fit, and nothing else was. Numbers are passed on unchanged: a zero keeps its sign.
+/// Whether the numbers were written if they fit, and nothing else was. Numbers are passed on unchanged: a zero's sign too.
 /// The bits of a NaN are not promised.
-fn is_given(out: &Lent, told: usize, numbers: &[f64]) -> bool {
+fn is_given(out: &Lent, answer: usize, numbers: &[f64]) -> bool {
     let numbers = if out.slice().len() < numbers.len() {
         &[]
     } else {
         numbers
     };
     let same = |(a, b): (&f64, &f64)| a.to_bits() == b.to_bits() || a.is_nan() && b.is_nan();
-    told == numbers.len()
+    answer == numbers.len()
         && out
-            .written(told)
+            .written(answer)
             .is_some_and(|ours| ours.iter().zip(numbers).all(same))
 }
 

@@ -38,7 +38,7 @@ fn files(folder: &Path) -> std::io::Result<Vec<PathBuf>> {
     Ok(files)
 }
 
-/// The two paths, if the text is two counts and as many whole numbers as they say. Other faults of the text do not matter here.
+/// The two paths, if the text is two counts and as many whole numbers as they say. Nothing else of the text matters here.
 fn paths(text: &str) -> Option<[Vec<f64>; 2]> {
     let words = text.split_whitespace();
     let numbers: Option<Vec<i32>> = words.map(|word| word.parse().ok()).collect();

@@ -71,21 +71,21 @@ fn wrong_segments_are_told() {
             segment(path, closed, i.wrapping_add(1), out)
         }),
         ("ends swapped", |path, closed, i, out| {
-            let told = segment(path, closed, i, out);
-            if told > 0 {
-                out[..told].rotate_left(3);
+            let answer = segment(path, closed, i, out);
+            if answer > 0 {
+                out[..answer].rotate_left(3);
             }
-            told
+            answer
         }),
         (
             "back to the last one's neighbour",
             |path, closed, i, out| {
                 let last = closed && path.len() >= 6 && i + 1 == path.len() / 3;
-                let told = segment(path, closed, i, out);
-                if last && told > 0 {
+                let answer = segment(path, closed, i, out);
+                if last && answer > 0 {
                     out[3..6].copy_from_slice(&path[3..6]);
                 }
-                told
+                answer
             },
         ),
         ("a part of a vertex passed over", |path, closed, i, out| {
@@ -114,16 +114,16 @@ fn wrong_segments_are_told() {
             segment(path, closed, i.wrapping_mul(3) / 3, out)
         }),
         ("written where there is no room", |path, closed, i, out| {
-            let told = segment(path, closed, i, out);
-            if told == 0 && !out.is_empty() && i < count(path, closed) {
+            let answer = segment(path, closed, i, out);
+            if answer == 0 && !out.is_empty() && i < count(path, closed) {
                 out[0] = path[3 * i];
             }
-            told
+            answer
         }),
         ("a zero's sign lost", |path, closed, i, out| {
-            let told = segment(path, closed, i, out);
-            out[..told].iter_mut().for_each(|x| *x += 0.0);
-            told
+            let answer = segment(path, closed, i, out);
+            out[..answer].iter_mut().for_each(|x| *x += 0.0);
+            answer
         }),
     ];
     for (name, ask) in wrong {
@@ -175,11 +175,11 @@ fn wrong_parts_are_told() {
             )
         },
         |points, rows, out| {
-            let told = filled(points, rows, out);
-            if told < out.len() {
-                out[told] = 0.0;
+            let answer = filled(points, rows, out);
+            if answer < out.len() {
+                out[answer] = 0.0;
             }
-            told
+            answer
         },
     ];
     for (at, filled) in wrong.into_iter().enumerate() {

@@ -1,4 +1,4 @@
--- The text of an answer: the line of a refusal; or a line with the counts, then a line for each row. A row's line has the indices
+-- The text of an answer, by text lines: one for a refusal; or one with the counts, then one for each row. A row's has the indices
 -- of the two segments, the name of the class, and the points of the class, each number as the sixteen hex digits of its bits.
 use Prim.Native.Nat.{ℕ, zero, suc, _+_, _*_, _/_, _%_}
 use mathlib.Core.Bool.{cond}

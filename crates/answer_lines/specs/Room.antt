@@ -1,6 +1,6 @@
--- The text of an answer fits into its room, 128 bytes for each line. So nothing of it is cut off at the end of the lent slice, or
--- of a program's buffer that has that room. The whole numbers of an answer are below 2^64, as in a slice of u64; its floats may
--- be any.
+-- The text of an answer fits into its room, 128 bytes for each text line. So nothing of it is cut off at the end of the lent
+-- slice, or of a program's buffer that has that room. The whole numbers of an answer are below 2^64, as in a slice of u64; its
+-- floats may be any.
 use Prim.Native.Nat.{ℕ, _+_, _*_, _/_, _^_, _≤_, _<_}
 use mathlib.Core.Path.{_≡_, refl, _∙_}
 use mathlib.Core.Bool.{false}
@@ -18,7 +18,7 @@ use Rattle.answer_lines.specs.declared.Written.{Written}
 use Rattle.answer_lines.specs.declared.Written.the-variants as Written·
 use Rattle.answer_lines.specs.Laws.Sizes.{refusal-short, counts-short, row-short, answer-short}
 
--- ---- lines, with their newlines: a refusal has at most 29 bytes, the counts at most 53, a row at most 118
+-- ---- text lines, with their newlines: a refusal has at most 29 bytes, the counts at most 53, a row at most 118
 pub refusal-line : (n : ℕ) → n < 2 ^ 64 → length (refusedText n) ≤ sizes.refusal
 refusal-line = refusal-short
 
@@ -29,7 +29,7 @@ pub row-line : (i j class : ℕ) (x1 y1 x2 y2 : Float) → i < 2 ^ 64 → j < 2 
     → length (rowText i j class x1 y1 x2 y2) ≤ sizes.row
 row-line = row-short
 
--- ---- answers: at most 128 bytes for each line
+-- ---- answers: at most 128 bytes for each text line
 pub refusal-fits : (n : ℕ) → n < 2 ^ 64 → length (refusedText n) ≤ line
 refusal-fits n h = omega (arith, refusal-line n h)
 

@@ -1,13 +1,13 @@
--- How much room a line needs, and how many bytes its parts have at most. The contracts of src/ use these sizes; LINE of
+-- How much room a text line needs, and how many bytes its parts have at most. The contracts of src/ use these sizes; LINE of
 -- src/lib.rt is `line`. Room.antt proves them for the text of every answer.
 use Prim.Native.Nat.{ℕ, _+_, _*_}
 use Rattle.answer_lines.specs.Lines.{pointsARow}
 
--- how many bytes of room a line needs
+-- how many bytes of room a text line needs
 abbrev pub line : ℕ
 line = 128
 
--- the room for the line with the counts and this many rows
+-- the room for the text line with the counts and this many rows
 abbrev pub roomFor : ℕ → ℕ
 roomFor rows = (rows + 1) * line
 
@@ -27,7 +27,7 @@ name = 7
 abbrev pub points : ℕ
 points = pointsARow * float
 
--- ---- lines, each with its newline
+-- ---- text lines, each with its newline
 
 -- "refused " and a number
 abbrev pub refusal : ℕ

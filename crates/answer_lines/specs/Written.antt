@@ -1,6 +1,6 @@
--- What the writer of the scope's lines promises: its answer, and what the slice holds afterwards. It needs room for 128 bytes a
--- line, which is more than any line has (Room.antt). If there is less room, or the rows' slices hold fewer rows than the given
--- count, nothing is written.
+-- What the writer of the scope's text lines promises: its answer, and what the slice holds afterwards. It needs room for 128
+-- bytes a text line, which is more than any has (Room.antt). If there is less room, or the rows' slices hold fewer rows than the
+-- given count, nothing is written.
 use Prim.Native.Nat.{ℕ, _/_}
 use mathlib.Core.Path.{_≡_}
 use mathlib.Core.Bool.{Bool, false, _||_, cond}
@@ -19,7 +19,7 @@ pub record Lines (rowless roomless : Bool) (bytes : List ℕ) (r : Written) (old
   pub answer-is : r ≡ cond rowless Written·.NoRows (cond roomless Written·.NoRoom (Written·.Length (length bytes)))
   pub holds : now ≡ cond rowless old (cond roomless old (sets old 0 bytes))
 
--- a refusal's line
+-- a refusal's text line
 abbrev pub RefusalLine : ℕ → Written → List ℕ → List ℕ → Type 0
 RefusalLine number r old now = Lines false (ltb (length old) line) (refusedText number) r old now
 

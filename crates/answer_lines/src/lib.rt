@@ -1,4 +1,4 @@
-// The writer: an answer as lines of text. specs/Lines.antt has the text, and specs/Written.antt what the writer promises.
+// The writer: an answer as text lines. specs/Lines.antt has the text, and specs/Written.antt what the writer promises.
 ghost use Rattle.answer_lines.specs.Written.{RefusalLine, AnswerLines};
 use put::put_byte;
 use put::put_whole;
@@ -9,7 +9,7 @@ use rows::put_rows;
 mod put;
 mod rows;
 
-// how many bytes of room a line needs: `line` of specs/Sizes.antt
+// how many bytes of room a text line needs: `line` of specs/Sizes.antt
 pub const LINE: usize = 128;
 
 // how many whole numbers and how many floats a row has in the two slices that rows are read from
@@ -24,7 +24,7 @@ pub enum Written {
     NoRoom,
 }
 
-// Writes the line of a refusal.
+// Writes the text line of a refusal.
 pub fn write_refusal(number: u64, out: &mut [u8]) -> Written
     ensures { λ r. ⌜ RefusalLine number r (now (out .entry)) (now (out .exit)) ⌝ }
 {
@@ -37,7 +37,7 @@ pub fn write_refusal(number: u64, out: &mut [u8]) -> Written
     Written::Length(c)
 }
 
-// Writes the line with the counts and a line for each row.
+// Writes the text line with the counts and one for each row.
 pub fn write_answer(
     pairs: usize,
     rows: usize,

@@ -1,4 +1,4 @@
-// Puts the lines of an answer, one after the other.
+// Puts the text lines of an answer, one after the other.
 ghost use Prim.Native.Nat.{_+_, _*_, _≤_};
 ghost use lib.ListN.{length};
 ghost use Rattle.answer_lines.specs.Lines as lines;
@@ -55,7 +55,7 @@ fn put_points(out: &mut [u8], at: usize, class: u64, x1: f64, y1: f64, x2: f64, 
     at
 }
 
-// A row's line, which has at most LINE bytes.
+// A row's text line, which has at most LINE bytes.
 fn put_row(
     out: &mut [u8],
     at: usize,
@@ -79,7 +79,7 @@ fn put_row(
     put_byte(out, f, b'\n')
 }
 
-// The line with the counts, which has at most LINE bytes.
+// The text line with the counts, which has at most LINE bytes.
 pub fn put_counts(out: &mut [u8], pairs: u64, rows: u64) -> usize
     requires { ⌜ sizes.line ≤ length (now out) ⌝ }
     ensures { λ r. ⌜ PutIn sizes.line (lines.countText pairs rows) (now (out .entry)) 0 (now (out .exit)) r ⌝ }
@@ -91,7 +91,7 @@ pub fn put_counts(out: &mut [u8], pairs: u64, rows: u64) -> usize
     put_byte(out, d, b'\n')
 }
 
-// The lines of the rows.
+// The text lines of the rows.
 pub fn put_rows(out: &mut [u8], start: usize, rows: usize, index: &[u64], points: &[f64]) -> usize
     requires { ⌜ rows * lines.indicesARow ≤ length (now index) ⌝ }
     requires { ⌜ rows * lines.pointsARow ≤ length (now points) ⌝ }

@@ -26,23 +26,23 @@ case n a b c d = record { refused = false; number = n; a = a; b = b; c = c; d = 
 
 -- ---- the numbers of an answer, filled up with +0 to four values
 
-abbrev pub head : List Float → Float
-head [] = f0
-head (x ∷ xs) = x
+abbrev pub firstValue : List Float → Float
+firstValue [] = f0
+firstValue (x ∷ xs) = x
 
-abbrev pub rest : List Float → List Float
-rest [] = []
-rest (x ∷ xs) = xs
+abbrev pub laterValues : List Float → List Float
+laterValues [] = []
+laterValues (x ∷ xs) = xs
 
 abbrev pub padded : AnswerNumbers → PaddedAnswer
 padded t =
     record {
       refused = t .refused;
       number = t .number;
-      a = head (t .values);
-      b = head (rest (t .values));
-      c = head (rest (rest (t .values)));
-      d = head (rest (rest (rest (t .values))));
+      a = firstValue (t .values);
+      b = firstValue (laterValues (t .values));
+      c = firstValue (laterValues (laterValues (t .values)));
+      d = firstValue (laterValues (laterValues (laterValues (t .values))));
     }
 
 unfoldable pub ofLineLine : LineLineAnswer → PaddedAnswer

@@ -1,4 +1,4 @@
--- The sweep of an arc, which points lie on it, and what it shares with a line or with another arc. A reader need not believe
+-- The sweep of an arc, which points lie on it, and how it meets a line or another arc. A reader need not believe
 -- Workings and Laws.
 pub mod ArcSweep
 pub mod ArcGeometry

@@ -36,9 +36,9 @@ overlapByDirection sameDirectionArcs point1 point2 other1 other2 =
     cond sameDirectionArcs (OverlappingArcs point1 point2) (OverlappingArcs other1 other2)
 
 -- lines 581-638
-unfoldable pub sharedSweep :
+unfoldable pub bySweeps :
     Vector2 → Vector2 → Vector2 → Vector2 → Bool → ArcSweep → ArcSweep → ArcEnds → PlineSegIntr
-sharedSweep v1 v2 u1 u2 sameDirectionArcs arc1Sweep arc2Sweep arc2 =
+bySweeps v1 v2 u1 u2 sameDirectionArcs arc1Sweep arc2Sweep arc2 =
     let arc2StartsInArc1 = sweep.contains arc1Sweep (arc2 .start) in
     let arc2EndsInArc1 = sweep.contains arc1Sweep (arc2 .end) in
     cond (arc2StartsInArc1 && arc2EndsInArc1)
@@ -68,7 +68,7 @@ arcsOfOneCircle v1 v2 u1 u2 vIsNeg uIsNeg circle1 circle2 posEqualEps =
     (OneIntersect v1))
     (cond (distSquared (arc2 .start) v2 ≺ positionEpsilonSquared)
     (OneIntersect (cond sameDirectionArcs u1 u2))
-    (sharedSweep v1 v2 u1 u2 sameDirectionArcs arc1Sweep arc2Sweep arc2))
+    (bySweeps v1 v2 u1 u2 sameDirectionArcs arc1Sweep arc2Sweep arc2))
 
 -- lines 513-641
 unfoldable pub overlappingArcArc :

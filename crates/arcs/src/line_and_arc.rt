@@ -139,7 +139,7 @@ fn in_order(points: TwoPoints, arc_start: Vector2, u_is_line: bool) -> PlineSegI
     }
 }
 
-// What the arc shares with a line that crosses its circle twice: it depends on which of the two points are in the sweep.
+// How the arc meets a line that crosses its circle twice: it depends on which of the two points are in the sweep.
 pub fn crossings_line_arc(
     t0_point: PointInSweep,
     t1_point: PointInSweep,

@@ -57,8 +57,8 @@ fn overlap_by_direction(
     }
 }
 
-// Two arcs of one circle whose ends don't touch: what they share depends on which ends lie in the other's sweep.
-fn shared_sweep(
+// Two arcs of one circle whose ends don't touch: how they meet depends on which ends lie in the other's sweep.
+fn by_sweeps(
     v1: Vector2,
     v2: Vector2,
     u1: Vector2,
@@ -68,7 +68,7 @@ fn shared_sweep(
     arc2_sweep: ArcSweep,
     arc2: ArcEnds,
 ) -> PlineSegIntr
-    ensures { λ r. ⌜ r ≡ OneCircle.sharedSweep v1 v2 u1 u2 «same_direction_arcs» «arc1_sweep» «arc2_sweep» arc2 ⌝ }
+    ensures { λ r. ⌜ r ≡ OneCircle.bySweeps v1 v2 u1 u2 «same_direction_arcs» «arc1_sweep» «arc2_sweep» arc2 ⌝ }
 {
     let arc2_starts_in_arc1 = arc1_sweep.contains(arc2.start);
     let arc2_ends_in_arc1 = arc1_sweep.contains(arc2.end);
@@ -90,7 +90,7 @@ fn shared_sweep(
     PlineSegIntr::NoIntersect
 }
 
-// Two arcs of one circle. If ends touch, by their distance, these are the answer; else it is what the arcs share. The sweeps use
+// Two arcs of one circle. If ends touch, by their distance, these are the answer; else the sweeps decide. These use
 // 1e-8 of the radius as their epsilon, whatever epsilon is given.
 fn arcs_of_one_circle(
     v1: Vector2,
@@ -135,7 +135,7 @@ fn arcs_of_one_circle(
         v_is_neg,
         sweep_epsilon,
     );
-    shared_sweep(
+    by_sweeps(
         v1,
         v2,
         u1,

@@ -5,14 +5,14 @@ use plane::vector2::Vector2;
 pub enum PlineSegIntr {
     // Apart.
     NoIntersect,
-    // They touch at one point and don't cross there.
+    // They meet in one point and don't cross there.
     TangentIntersect { point: Vector2 },
-    // They share one point.
+    // They meet in one point.
     OneIntersect { point: Vector2 },
-    // They share two points.
+    // They meet in two points.
     TwoIntersects { point1: Vector2, point2: Vector2 },
-    // Both are lines, and they share the stretch from the first point to the second.
+    // Both are lines, and they overlap from the first point to the second.
     OverlappingLines { point1: Vector2, point2: Vector2 },
-    // Both are arcs, and they share the stretch from the first point to the second.
+    // Both are arcs, and they overlap from the first point to the second.
     OverlappingArcs { point1: Vector2, point2: Vector2 },
 }

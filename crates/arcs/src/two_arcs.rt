@@ -8,7 +8,7 @@ use super::pline_seg_intr::PlineSegIntr;
 use plane::base_math::dist_squared;
 use plane::vector2::Vector2;
 
-// A place for an end point: empty, or taken by a point.
+// Room for one end point: empty, or taken by a point.
 pub enum Slot {
     Empty,
     Taken(Vector2),
@@ -55,8 +55,8 @@ pub fn tangent_arc_arc(
     PlineSegIntr::NoIntersect
 }
 
-// Puts the end point into the first empty slot. It is left out if the first slot holds a point near it (the same place, met from
-// the other arc), and if no slot is empty.
+// Puts the end point into the first empty slot. It is left out if the first slot holds a point near it (the same end, found
+// from the other arc), and if no slot is empty.
 fn try_add_end_point_intr(
     end_point_intrs: [Slot; 2],
     intr: Vector2,

@@ -1,5 +1,5 @@
 -- The limits as powers of two, and the checks at each limit: the limit passes, the next float beyond it is refused, and so are a
--- NaN and both infinities. The definitions of Each.antt compute every row.
+-- NaN and both infinities. The definitions of Each.antt compute every entry.
 use mathlib.Core.Path.{_≡_, refl}
 use mathlib.Core.Bool.{false}
 use mathlib.Core.List.{List, [], _∷_, _++_}
@@ -41,74 +41,74 @@ powers =
       center = refl;
     }
 
--- a row: a check, the bits of the checked number, and the refusal, or 0 for none
-pub data Row : Type 0 where
-  row : (Float → Place → Checked) → ℕ → ℕ → Row
+-- an entry: a check, the bits of the checked number, and the refusal, or 0 for none
+pub data Entry : Type 0 where
+  entry : (Float → Place → Checked) → ℕ → ℕ → Entry
 
 abbrev pub answer : ℕ → Place → Checked
 answer zero p = Fine
 answer (suc n) p = bad (suc n) p
 
--- what the checks of the rows answer at the place p, and what they should answer
-abbrev pub found : Place → List Row → List Checked
+-- what the checks of the entries answer at the place p, and what they should answer
+abbrev pub found : Place → List Entry → List Checked
 found p [] = []
-found p (row check bits n ∷ rows) = check (ofBits binary64 bits) p ∷ found p rows
+found p (entry check bits n ∷ entries) = check (ofBits binary64 bits) p ∷ found p entries
 
-abbrev pub due : Place → List Row → List Checked
+abbrev pub due : Place → List Entry → List Checked
 due p [] = []
-due p (row check bits n ∷ rows) = answer n p ∷ due p rows
+due p (entry check bits n ∷ entries) = answer n p ∷ due p entries
 
 -- a NaN, +infinity and -infinity are refused with number n
-abbrev pub notNumbers : (Float → Place → Checked) → ℕ → List Row
+abbrev pub notNumbers : (Float → Place → Checked) → ℕ → List Entry
 notNumbers check n =
-    row check 0x7ff8_0000_0000_0000 n ∷
-    row check 0x7ff0_0000_0000_0000 n ∷
-    row check 0xfff0_0000_0000_0000 n ∷ []
+    entry check 0x7ff8_0000_0000_0000 n ∷
+    entry check 0x7ff0_0000_0000_0000 n ∷
+    entry check 0xfff0_0000_0000_0000 n ∷ []
 
 -- an upper limit in magnitude: the limit and the next float beyond it, whose pattern is one more, with either sign
-abbrev pub upTo : (Float → Place → Checked) → ℕ → ℕ → List Row
+abbrev pub upTo : (Float → Place → Checked) → ℕ → ℕ → List Entry
 upTo check limit n =
-    row check limit 0 ∷
-    row check (limit + 1) n ∷
-    row check (limit + 0x8000_0000_0000_0000) 0 ∷
-    row check (limit + 0x8000_0000_0000_0001) n ∷ []
+    entry check limit 0 ∷
+    entry check (limit + 1) n ∷
+    entry check (limit + 0x8000_0000_0000_0000) 0 ∷
+    entry check (limit + 0x8000_0000_0000_0001) n ∷ []
 
 -- a lower limit: the limit, the float before it, +0 and -1
-abbrev pub from : (Float → Place → Checked) → ℕ → ℕ → List Row
+abbrev pub from : (Float → Place → Checked) → ℕ → ℕ → List Entry
 from check limit n =
-    row check limit 0 ∷
-    row check (limit - 1) n ∷
-    row check 0 n ∷
-    row check 0xbff0_0000_0000_0000 n ∷ []
+    entry check limit 0 ∷
+    entry check (limit - 1) n ∷
+    entry check 0 n ∷
+    entry check 0xbff0_0000_0000_0000 n ∷ []
 
 -- epsilon, which has a place of its own
-abbrev pub epsilonRows : List Row
-epsilonRows =
+abbrev pub epsilonEntries : List Entry
+epsilonEntries =
     let check : Float → Place → Checked = λ x p. Each.epsilon x in
     from check 0x3d70_0000_0000_0000 4
-    ++ (row check 0x3fe0_0000_0000_0000 0 ∷ row check 0x3fe0_0000_0000_0001 4 ∷ [])
+    ++ (entry check 0x3fe0_0000_0000_0000 0 ∷ entry check 0x3fe0_0000_0000_0001 4 ∷ [])
     ++ notNumbers check 4
 
 -- the numbers that can stand at any place
-abbrev pub rows : List Row
-rows =
+abbrev pub entries : List Entry
+entries =
     upTo Each.coordinate 0x4130_0000_0000_0000 2
     ++ notNumbers Each.coordinate 1
     ++ upTo Each.bulge 0x3ff0_0000_0000_0000 3
     ++ notNumbers Each.bulge 1
     ++ from Each.radius 0x3d50_0000_0000_0000 9
-    ++ (row Each.radius 0x42e0_0000_0000_0000 0 ∷ row Each.radius 0x42e0_0000_0000_0001 9 ∷ [])
+    ++ (entry Each.radius 0x42e0_0000_0000_0000 0 ∷ entry Each.radius 0x42e0_0000_0000_0001 9 ∷ [])
     ++ notNumbers Each.radius 1
     ++ upTo Each.center 0x42f0_0000_0000_0000 9
     ++ notNumbers Each.center 1
     ++ from Each.chord 0x3d70_0000_0000_0000 5
-    ++ (row Each.chord 0x7ff8_0000_0000_0000 0 ∷ [])
+    ++ (entry Each.chord 0x7ff8_0000_0000_0000 0 ∷ [])
 
-pub epsilon-edges : found (at 0 0 Epsilon) epsilonRows ≡ due (at 0 0 Epsilon) epsilonRows
+pub epsilon-edges : found (at 0 0 Epsilon) epsilonEntries ≡ due (at 0 0 Epsilon) epsilonEntries
 unfolding Each.epsilon refuse notFinite isNan isInfinite lt ofBits
 epsilon-edges = refl
 
-pub edges : (p : Place) → found p rows ≡ due p rows
+pub edges : (p : Place) → found p entries ≡ due p entries
 unfolding Each.finite Each.finiteThen Each.coordinate Each.bulge Each.radius Each.center Each.chord
     refuse later notFinite isNan isInfinite beyond F64.abs lt ofBits
 edges p = refl

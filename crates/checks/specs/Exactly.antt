@@ -31,21 +31,21 @@ gives false n p = record { refused = (λ e. cc, λ e. cc); fine = (λ e. refl, �
 pub gives-then : (first second : Bool) (n m : ℕ) (p : Place) → (n ≡ m → ⊥)
     → GivesThen (later (refuse first n p) (refuse second m p)) p n first m second
 unfolding refuse later
-gives-then true second n m p apart =
+gives-then true second n m p differ =
     record {
       refused = (λ e. refl, λ e. refl);
-      then-refused = (λ e. absurd (apart (ap refusal e)), λ e. cc);
+      then-refused = (λ e. absurd (differ (ap refusal e)), λ e. cc);
       fine = (λ e. (cc, cc), λ e. cc);
       no-other = λ f e. inl refl;
     }
-gives-then false true n m p apart =
+gives-then false true n m p differ =
     record {
-      refused = (λ e. absurd (apart (sym (ap refusal e))), λ e. cc);
+      refused = (λ e. absurd (differ (sym (ap refusal e))), λ e. cc);
       then-refused = (λ e. (refl, refl), λ e. refl);
       fine = (λ e. (refl, cc), λ e. cc);
       no-other = λ f e. inr refl;
     }
-gives-then false false n m p apart =
+gives-then false false n m p differ =
     record {
       refused = (λ e. cc, λ e. cc);
       then-refused = (λ e. (refl, cc), λ e. cc);

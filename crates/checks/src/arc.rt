@@ -1,4 +1,4 @@
-// The check of an arc's chord, shared by the segments of a path and of a pair.
+// The check of an arc's chord, for the segments of a path and of a pair.
 ghost use mathlib.Core.Path.{_≡_};
 ghost use Rattle.checks.specs.Arc;
 use super::each;

@@ -37,7 +37,7 @@ fn two_sides(midpoint: Vector2, cv: Vector2, h_over_d: f64, eps: f64) -> CircleC
     }
 }
 
-// Two circles that can meet, by their radii. Their centres are d apart, and cv leads from the first to the second.
+// Two circles that can meet, by their radii. The distance of their centres is d, and cv leads from the first to the second.
 fn meeting(
     radius1: f64,
     center1: Vector2,
@@ -85,7 +85,7 @@ fn by_distance(
     meeting(radius1, center1, radius2, cv, d2, d, epsilon)
 }
 
-// How two circles meet, for any numbers. It takes no root if they are far apart, or if one is well inside the other.
+// How two circles meet, for any numbers. It takes no root if they are clearly apart, or if one is well inside the other.
 pub fn circle_circle(
     radius1: f64,
     center1: Vector2,

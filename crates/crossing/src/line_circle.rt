@@ -39,8 +39,8 @@ fn point_circle(
 
 // The line through two points, whose coordinates are relative to the circle's centre; dx and dy lead from the first to the
 // second. As in the Rust, the line counts as vertical if dx is near zero by the default epsilon, not by the given one. This test
-// only keeps the slope's divisor from being too small; the given epsilon would turn slanted lines upright and lose digits. A
-// vertical line stands at the mean of the two x. No case of the answer is chosen here.
+// only sees to it that the slope's divisor is not too small; the given epsilon would turn slanted lines upright and lose digits.
+// A vertical line stands at the mean of the two x. No case of the answer is chosen here.
 fn line_through(dx: f64, dy: f64, p0_shifted: Vector2, p1_shifted: Vector2) -> Line
     ensures { λ r. ⌜ r ≡ LineCircle.lineThrough dx dy «p0_shifted» «p1_shifted» ⌝ }
 {
@@ -75,7 +75,7 @@ fn two_points(
     let point1 = Vector2::new(x0 + line.b * mult, y0 - line.a * mult);
     let point2 = Vector2::new(x0 - line.b * mult, y0 + line.a * mult);
     // The positions of the two points decide whether they count as one. The line's distance from the centre would not do: on a
-    // large circle it would join points that lie much farther apart than epsilon.
+    // large circle it would join points whose distance is much above epsilon.
     if point1.fuzzy_eq_eps(point2, eps) {
         let t = parametric_from_point(p0, p1, Vector2::new(x0, y0), eps);
         return LineCircleIntr::TangentIntersect { t0: t };

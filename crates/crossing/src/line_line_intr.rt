@@ -2,9 +2,9 @@
 pub enum LineLineIntr {
     // Parallel and apart, on one line or not. A segment that is a point counts as parallel.
     NoIntersect,
-    // The two share one point.
+    // The two meet in one point.
     TrueIntersect { seg1_t: f64, seg2_t: f64 },
-    // The two share a stretch of one line; both parameters are the second segment's.
+    // The two overlap; both parameters are the second segment's.
     Overlapping { seg2_t0: f64, seg2_t1: f64 },
     // The lines cross, but beyond an end of a segment.
     FalseIntersect { seg1_t: f64, seg2_t: f64 },

@@ -1,5 +1,5 @@
--- The scope's worked examples in one table: each row is a call and its answer in numbers. Proved.antt proves all of them by one
--- claim. Epsilon is 1e-5 unless a row says otherwise. Floats are written by their bits.
+-- The scope's worked examples in one table: each entry is a call and its answer in numbers. Proved.antt proves all of them by one
+-- claim. Epsilon is 1e-5 unless an entry says otherwise. Floats are written by their bits.
 use Prim.Native.Nat.{ℕ}
 use mathlib.Core.Bool.{true, false}
 use mathlib.Core.List.{List, [], _∷_}
@@ -71,9 +71,9 @@ at x y = record { x = x; y = y; bulge = n0 }
 abbrev arcAt : Float → Float → Float → PlineVertex
 arcAt x y bulge = record { x = x; y = y; bulge = bulge }
 
--- ---- rows
+-- ---- entries
 -- what the call answers, and what it should answer
-pub record Row : Type 0 where
+pub record Entry : Type 0 where
   pub found : AnswerNumbers
   pub due : AnswerNumbers
 
@@ -84,7 +84,7 @@ abbrev refused : ℕ → AnswerNumbers
 refused n = record { refused = true; number = n; values = [] }
 
 -- a pair: v1, v2, u1, u2, epsilon, and the answer that it should give
-abbrev pair : PlineVertex → PlineVertex → PlineVertex → PlineVertex → Float → AnswerNumbers → Row
+abbrev pair : PlineVertex → PlineVertex → PlineVertex → PlineVertex → Float → AnswerNumbers → Entry
 pair v1 v2 u1 u2 e numbers = record { found = pairs.numbersOf (pairs.plineSegIntr v1 v2 u1 u2 e); due = numbers }
 
 -- the points of a pair's answer: a point that the class lacks is +0, +0
@@ -97,7 +97,7 @@ one class x y = met class (x ∷ y ∷ n0 ∷ n0 ∷ [])
 abbrev two : ℕ → Float → Float → Float → Float → AnswerNumbers
 two class x1 y1 x2 y2 = met class (x1 ∷ y1 ∷ x2 ∷ y2 ∷ [])
 
-abbrev pub table : List Row
+abbrev pub table : List Entry
 table =
     -- A: (0,0)-(1,0) with (0.5,-1)-(0.5,1): both t 0.5
     record {

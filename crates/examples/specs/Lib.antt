@@ -1,3 +1,3 @@
--- The worked examples: the table, and the proof of all its rows.
+-- The worked examples: the table, and the proof of all its entries.
 pub mod ExampleTable
 pub mod Proved

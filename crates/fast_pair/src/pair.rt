@@ -106,7 +106,7 @@ fn pline_seg_once(
 }
 
 // The pair call number by number, for numbers that the quick test leaves open. It has no quick test of the segments, so that the
-// usual way stands in one place.
+// usual way stands once.
 fn pline_seg_by_numbers(
     v1: PlineVertex,
     v2: PlineVertex,

@@ -1,6 +1,6 @@
 -- `round` gives the nearest value of its format: no other value of the format is nearer to the fraction. Everything is counted in
 -- units of the format's smallest value and multiplied out, so it is about whole numbers only. The argument: the rounded number is
--- the closest multiple of the last kept place (Half.antt). Another value of the format either is a multiple of that place too, or
+-- the closest multiple of the last place (Half.antt). Another value of the format either is a multiple of that place too, or
 -- it lies below the power of two at which the place begins, which is a multiple of the place.
 use mathlib.Core.Path.{_≡_, sym, ap, _∙_, subst}
 use mathlib.Core.Logic.{_⊎_, inl, inr}
@@ -96,7 +96,7 @@ module _ (p n den : ℕ) (P : 2 ≤ p) (D : 0 < den) where
   half : Half n (den * 2 ^ place) rounded
   half = closest-half n (den * 2 ^ place) unit-pos
 
-  -- the kept number is at least every t such that t places do not exceed the fraction
+  -- the rounded number is at least every t such that t places do not exceed the fraction
   reach : (t : ℕ) → t * 2 ^ place * den ≤ n → t ≤ rounded
   reach t a = go (2 ^ place) unit-pos half a
     where

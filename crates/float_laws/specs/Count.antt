@@ -84,7 +84,7 @@ count-unique f x y s A p q h k =
     ∙ ap (ofBits f) (toBits-count f x s A h ∙ sym (toBits-count f y s A k))
     ∙ ofBits-toBits f y q
 
--- w * 2 ^ g, if w has as many digits as the format keeps: the exponent's field is g plus one, and a carry into the next power of
+-- w * 2 ^ g, if w has as many digits as the format has: the exponent's field is g plus one, and a carry into the next power of
 -- two is a carry into the field
 pub bits-at : (f : Format) (w g : ℕ) → hid f ≤ w → w ≤ 2 * hid f → bitsOf f false (w * 2 ^ g) ≡ g * hid f + w
 bits-at f w g lo hi = go (prec f - 1) (pred (prec f) (two f)) lo (eq-or-lt-of-le hi)

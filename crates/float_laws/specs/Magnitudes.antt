@@ -1,5 +1,5 @@
 -- Magnitudes that survive rounding: if |x| ≤ 2 ^ i and |y| ≤ 2 ^ j units, then the rounded x * y, x + y, x - y and x / y are
--- finite and keep the bound of the exact result, since rounding does not cross a power of two. Within f K x counts in units of
+-- finite and within the bound of the exact result, since rounding does not cross a power of two. Within f K x counts in units of
 -- the format's smallest value: a bound of 2 ^ a itself is Within f (a + low f).
 use mathlib.Core.Path.{_≡_, sym, ap, _∙_}
 use Prim.Native.Nat.{ℕ, suc, _+_, _*_, _^_, _≤_, _<_}

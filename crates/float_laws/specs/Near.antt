@@ -1,5 +1,5 @@
 -- The error of `round`. Counted in units of the format's smallest value, the fraction is n / den and the rounded number G. The
--- error is at most half of the last kept place; so at most one part in 2 ^ prec of the fraction, or half a unit if no digit was
+-- error is at most half of the last place; so at most one part in 2 ^ prec of the fraction, or half a unit if no digit was
 -- dropped; and at most half the last place of any power of two that the fraction does not exceed.
 use mathlib.Core.Path.{_≡_, refl, sym, ap}
 use mathlib.Core.Logic.{_⊎_, inl, inr}
@@ -31,7 +31,7 @@ pub record Off (n den G e : ℕ) : Type 0 where
   pub above : 2 * n ≤ 2 * (G * den) + e * den
   pub below : 2 * (G * den) ≤ 2 * n + e * den
 
--- ---- half of the last place kept
+-- ---- half of the last place
 half-place : (p n den : ℕ) → 0 < den → Off n den (kept p n den * 2 ^ drop p n den) (2 ^ drop p n den)
 half-place p n den D =
     go (kept p n den) (2 ^ drop p n den) (closest-half n (den * 2 ^ drop p n den) (mul-pos D (pow-pos (drop p n den))))
@@ -44,7 +44,7 @@ pub round-half : (f : Format) (num den : ℕ) → 0 < den
 round-half f num den D = half-place (prec f) (num * 2 ^ low f) den D
 
 -- ---- a part of the fraction
--- if digits are dropped, the fraction is at least 2 ^ (p - 1) times the last kept place
+-- if digits are dropped, the fraction is at least 2 ^ (p - 1) times the last place
 reached : (p n den k : ℕ) → 2 ≤ p → 0 < den → drop p n den ≡ suc k → 2 ^ (p - 1) * 2 ^ suc k * den ≤ n
 reached p n den k two-up D e =
     let wide : p - 1 + suc k < size (n / den) = all (size (n / den)) e in
@@ -67,7 +67,7 @@ round-relative f num den D =
     P : ℕ
     P = 2 ^ prec f
 
-    -- the last kept place is one unit, or at most one part in 2 ^ (p - 1) of the fraction
+    -- the last place is one unit, or at most one part in 2 ^ (p - 1) of the fraction
     place : (k : ℕ) → drop (prec f) (num * 2 ^ low f) den ≡ k → P * (2 ^ k * den) ≤ 2 * (num * 2 ^ low f) + P * den
     place zero e = omega arith
     place (suc k) e =

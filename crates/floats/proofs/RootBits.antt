@@ -37,7 +37,7 @@ use Rattle.floats.specs.Laws.RootAt.{rootAt-val}
 use Rattle.floats.specs.Laws.Root.{rootOf-count}
 use Rattle.floats.proofs.Raise.{double, scaled}
 
--- ---- a number taken apart: X smallest values are m * 2 ^ (e - 1024), and m has 53 digits
+-- ---- the parts of a number: X smallest values are m * 2 ^ (e - 1024), and m has 53 digits
 pub record Parts (X : ℕ) (p : Scaled) : Type 0 where
   pub digits-low : 2 ^ 52 ≤ p .m
   pub digits-high : p .m < 2 ^ 53

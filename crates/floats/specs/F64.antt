@@ -59,7 +59,7 @@ unfoldable pub rootAt : Format → ℕ → Float
 unfolding isqrt round
 rootAt f n = let q = isqrt n in round f false (2 * q + sticky n q) (2 ^ (low f + 2))
 
--- A zero keeps its sign; a number below zero has no root. m * 2 ^ e is counted in units so small that n is a whole number.
+-- A zero is its own root; a number below zero has no root. m * 2 ^ e is counted in units so small that n is a whole number.
 unfoldable pub rootOf : Format → Float → Float
 unfolding rootAt
 rootOf f nan = nan

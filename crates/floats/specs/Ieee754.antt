@@ -42,7 +42,7 @@ pub record Num (less : Float → Float → Bool) (a b r : ℕ) : Type 0 where
   pub second : less (ofBits binary64 b) (ofBits binary64 a) ≡ true → r ≡ b
   pub either : nanBits binary64 a ≡ false → nanBits binary64 b ≡ false → (r ≡ a) ⊎ (r ≡ b)
   -- a number and a quiet NaN give the number, and two quiet NaNs give a quiet NaN; its digits are left open here, but the
-  -- standard keeps those of one of the two
+  -- standard takes those of one of the two
   pub number-first : nanBits binary64 a ≡ false → quiet b ≡ true → r ≡ a
   pub number-second : quiet a ≡ true → nanBits binary64 b ≡ false → r ≡ b
   pub nans : quiet a ≡ true → quiet b ≡ true → quiet r ≡ true
@@ -167,7 +167,7 @@ never-both less a b r h d n =
     let q = n .signalled (or-either (signalling a) (signalling b) _ _ h) in
     true≢false (sym (and-left _ _ q) ∙ d .number)
 
--- every NaN that they answer is 7FF8000000000000; for two NaNs the standard keeps the digits of one, and only these digits are
+-- every NaN that they answer is 7FF8000000000000; for two NaNs the standard takes the digits of one, and only these digits are
 -- lost
 pub min-nan : (a b : ℕ) → nanBits binary64 (Bits.min a b) ≡ true → Bits.min a b ≡ Bits.quietNan
 unfolding Bits.min

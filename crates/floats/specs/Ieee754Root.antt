@@ -49,7 +49,7 @@ pub record SquareRoot (b r : ℕ) : Type 0 where
   -- a number below zero, and -infinity: a quiet NaN
   pub below : (X : ℕ) → 0 < X → HasValue (ofBits binary64 b) true X (2 ^ low binary64) → quiet r ≡ true
   pub minus-infinity : b ≡ 0xfff0_0000_0000_0000 → quiet r ≡ true
-  -- a NaN of either kind: a quiet NaN; its digits are left open here, but the standard keeps those of b
+  -- a NaN of either kind: a quiet NaN; its digits are left open here, but the standard takes those of b
   pub quieted : quiet b ≡ true → quiet r ≡ true
   pub signalled : signalling b ≡ true → quiet r ≡ true
 
@@ -100,7 +100,7 @@ squareRoot-one-result b r q h s t = go (kind b h)
     go (above-zero X P v) = inl (one X (s .above X P v) (t .above X P v))
     go (below-zero X P v) = inr (s .below X P v, t .below X P v)
 
--- every NaN that it answers is 7FF8000000000000; the standard keeps the digits of the given NaN, and only these digits are lost
+-- every NaN that it answers is 7FF8000000000000; the standard takes the digits of the given NaN, and only these digits are lost
 pub sqrt-nan : (b : ℕ) → nanBits binary64 (Bits.sqrt b) ≡ true → Bits.sqrt b ≡ Bits.quietNan
 sqrt-nan b h =
     let n = ap isNan (sym (sqrt-agrees b)) ∙ sym (nanBits-is binary64 (Bits.sqrt b)) ∙ h in

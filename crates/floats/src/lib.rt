@@ -38,7 +38,7 @@ pub fn max(x: f64, y: f64) -> f64
     if y < x { x } else { y }
 }
 
-// The square root, rounded to the nearest f64. A zero keeps its sign; a number below zero has no root and gives a NaN.
+// The square root, rounded to the nearest f64. A zero is its own root; a number below zero has no root and gives a NaN.
 pub fn sqrt(x: f64) -> f64
     ensures { λ r. ⌜ r ≡ F64.sqrt x ⌝ }
 {

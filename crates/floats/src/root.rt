@@ -140,7 +140,7 @@ fn parts(b: u64) -> Scaled
 
 // The pattern of the root of a pattern above zero and below infinity.
 //
-// The root of m * 2 ^ (e - 2098) is computed with one digit more than an f64 keeps, and that digit rounds it: a tie cannot
+// The root of m * 2 ^ (e - 2098) is computed with one digit more than an f64 has, and that digit rounds it: a tie cannot
 // happen. An odd e gives one place to the digits. The rounded digits are added to the exponent's field, so that they carry into
 // it.
 pub fn sqrt(b: u64) -> u64

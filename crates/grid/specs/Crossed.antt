@@ -1,4 +1,4 @@
--- Grid segments that are not parallel: what the kernel's floats say in naturals (Floats/Crossing), stated for the meeting point
+-- Grid segments that are not parallel: what the kernel's floats say in naturals (Floats/Crossing), stated for the crossing point
 -- (Plane/Cross).
 use mathlib.Core.Path.{_≡_, sym, ap, _∙_, subst}
 use Prim.Native.Nat.{ℕ, _+_, _*_, _^_, _≤_, _<_}

@@ -1,4 +1,4 @@
--- The line kernel's answer on grid segments keeps the promise: for lines that cross by the meeting point (Crossed), for parallel
+-- The line kernel's answer on grid segments is as promised: for lines that cross by the crossing point (Crossed), for parallel
 -- ones by what they share (Level). v is the way from v1 to v2, u that from u1 to u2 and w that from u1 to v1; F, G and H are
 -- their numbers.
 use mathlib.Core.Path.{_≡_, sym, ap, subst}
@@ -20,19 +20,19 @@ use Rattle.crossing.specs.declared.line_line_intr.LineLineIntr.the-variants.{Tr
 use Rattle.grid.specs.Promise.{Spot, Parallel, Promised}
 use Rattle.grid.specs.Plane.Whole.{diff}
 use Rattle.grid.specs.Plane.Sides.{way, across, first, second, parallel-across, across-parallel}
-use Rattle.grid.specs.Plane.Cross.{base, steps-v, steps-u, meeting, meeting-v, meeting-u}
+use Rattle.grid.specs.Plane.Cross.{base, steps-v, steps-u, crossing-point, crossing-point-v, crossing-point-u}
 use Rattle.grid.specs.Plane.Spots.{Same, flip}
 use Rattle.grid.specs.Plane.Points.{Collinear, swapped, flipped}
-use Rattle.grid.specs.Plane.Keeps.{
+use Rattle.grid.specs.Plane.Suffices.{
   slanted-none,
   slanted-one,
-  Told,
-  ToldIf,
-  told-swapped,
-  told-flipped,
-  parallel-kept,
-  apart-told,
-  both-told,
+  Matched,
+  MatchedIf,
+  matched-swapped,
+  matched-flipped,
+  parallel-promised,
+  apart-matched,
+  both-matched,
 }
 use Rattle.grid.specs.Floats.Small.{Vec, vec-sub, perp}
 use Rattle.grid.specs.Floats.Zero.{Eps}
@@ -47,7 +47,7 @@ use Rattle.grid.specs.Floats.Ways as kernel
 use Rattle.grid.specs.Floats.Ways.{point-or-not}
 use Rattle.grid.specs.Joined.{At, way-at, cross-at, zero-at, size-gap, place-at, point-at}
 use Rattle.grid.specs.Crossed.{square-long, reach, coordinate, inside}
-use Rattle.grid.specs.Level.{at-told, along-told}
+use Rattle.grid.specs.Level.{at-matched, along-matched}
 
 module _ (e : Float) (num den : ℕ) (h : Eps e num den)
     (v1 v2 u1 u2 : Vector2) (A1 : Vec 20 v1) (A2 : Vec 20 v2) (B1 : Vec 20 u1) (B2 : Vec 20 u2)
@@ -114,15 +114,15 @@ module _ (e : Float) (num den : ℕ) (h : Eps e num den)
   abbrev t2 : Float
   t2 = vector2.perpDot v w ⊘ vector2.perpDot v u
 
-  module _ (apart : Level → ⊥) where
+  module _ (not-level : Level → ⊥) where
     slant : ¬ Parallel p1 p2 q1 q2
-    slant par = apart (level-is .0 (parallel-across p1 p2 q1 q2 par))
+    slant par = not-level (level-is .0 (parallel-across p1 p2 q1 q2 par))
 
     R1 : Ratio 44 t1 (perp u w G H .p) (perp u w G H .n) (perp v u F G .p) (perp v u F G .n)
-    R1 = crossed.first e num den h v u w F G H apart
+    R1 = crossed.first e num den h v u w F G H not-level
 
     R2 : Ratio 44 t2 (perp v w F H .p) (perp v w F H .n) (perp v u F G .p) (perp v u F G .n)
-    R2 = crossed.second e num den h v u w F G H apart
+    R2 = crossed.second e num den h v u w F G H not-level
 
     abbrev D : ℕ
     D = gap (perp v u F G .p) (perp v u F G .n)
@@ -143,10 +143,10 @@ module _ (e : Float) (num den : ℕ) (h : Eps e num den)
     says : Crossed (crossing v u w (vector2.perpDot v u) e) (square v F) (square u G) num den
         (R1 .P) (R1 .N) D (R2 .P) (R2 .N) D t1 t2
     unfolding R1 R2
-    says = crossing-says e num den h v u w F G H apart
+    says = crossing-says e num den h v u w F G H not-level
 
-    pub crossed-kept : Promised p1 p2 q1 q2 num den (lineLineOf (crossing v u w (vector2.perpDot v u) e) v1 v2 u1 u2)
-    crossed-kept = go (crossing v u w (vector2.perpDot v u) e) (says .answer) (says .inside)
+    pub crossed-promised : Promised p1 p2 q1 q2 num den (lineLineOf (crossing v u w (vector2.perpDot v u) e) v1 v2 u1 u2)
+    crossed-promised = go (crossing v u w (vector2.perpDot v u) e) (says .answer) (says .inside)
       where
         not-both : (r : LineLineIntr) → r ≡ FalseIntersect t1 t2 → r ≡ TrueIntersect t1 t2 → ⊥
         not-both r x y = let z : _≡_ {A = ℕ} 0 1 = cc in omega arith
@@ -164,14 +164,14 @@ module _ (e : Float) (num den : ℕ) (h : Eps e num den)
             (inside (steps-v p1 p2 q1 q2) (base p1 p2 q1 q2) (R1 .P) (R1 .N) D base-is place-v a)
             (inside (steps-u p1 p2 q1 q2) (base p1 p2 q1 q2) (R2 .P) (R2 .N) D base-is place-u b))))
         go r (inl (x, r1, r2)) y =
-            let near = point e num den h v1 v2 A1 A2 (crossed.long-v e num den h v u w F G H apart .some)
+            let near = point e num den h v1 v2 A1 A2 (crossed.long-v e num den h v u w F G H not-level .some)
             t1 (R1 .P) (R1 .N) D (R1 .place) r1 in
             subst (λ (z : LineLineIntr). Promised p1 p2 q1 q2 num den (lineLineOf z v1 v2 u1 u2)) (sym x)
             (slanted-one p1 p2 q1 q2 slant num den (pointFromParametric v1 v2 t1)
-            (reach (meeting p1 p2 q1 q2 slant) p1 p2 (steps-v p1 p2 q1 q2) (square v F) (R1 .P) (R1 .N) D num den
-            (meeting-v p1 p2 q1 q2 slant) place-v base-is (square-long v F p1 p2 v-at) r1)
-            (reach (meeting p1 p2 q1 q2 slant) q1 q2 (steps-u p1 p2 q1 q2) (square u G) (R2 .P) (R2 .N) D num den
-            (meeting-u p1 p2 q1 q2 slant) place-u base-is (square-long u G q1 q2 u-at) r2)
+            (reach (crossing-point p1 p2 q1 q2 slant) p1 p2 (steps-v p1 p2 q1 q2) (square v F) (R1 .P) (R1 .N) D num den
+            (crossing-point-v p1 p2 q1 q2 slant) place-v base-is (square-long v F p1 p2 v-at) r1)
+            (reach (crossing-point p1 p2 q1 q2 slant) q1 q2 (steps-u p1 p2 q1 q2) (square u G) (R2 .P) (R2 .N) D num den
+            (crossing-point-u p1 p2 q1 q2 slant) place-u base-is (square-long u G q1 q2 u-at) r2)
             (coordinate (pointFromParametric v1 v2 t1 .x) (p1 .x) (p2 .x -ℤ p1 .x) (steps-v p1 p2 q1 q2) (base p1 p2 q1 q2)
             (A1 .x .p) (A1 .x .n) (F .x .p) (F .x .n) (R1 .P) (R1 .N) D (a1 .at-x) (v-at .at-x) place-v base-is
             (near .0))
@@ -196,34 +196,34 @@ module _ (e : Float) (num den : ℕ) (h : Eps e num den)
   turned-over (x, y) = (sym x, sym y)
 
   -- neither is a point: from x, or from y with the axes exchanged
-  segments-told : Collinear p1 p2 q1 q2 → ¬ Same p1 p2
+  segments-matched : Collinear p1 p2 q1 q2 → ¬ Same p1 p2
       → Spanned answer (H .x .p) (H .x .n) (vec-sub v2 u1 A2 B1 .x .p) (vec-sub v2 u1 A2 B1 .x .n) (G .x .p) (G .x .n)
       ⊎ Spanned answer (H .y .p) (H .y .n) (vec-sub v2 u1 A2 B1 .y .p) (vec-sub v2 u1 A2 B1 .y .n) (G .y .p) (G .y .n)
-      → Told p1 p2 q1 q2 said
-  segments-told c long (inl s) =
-      along-told v1 v2 u1 u2 answer p1 p2 q1 q2 c long _ _ _ _ _ _ (u-at .at-x) (w-at .at-x) (w2-at .at-x) s
-  segments-told c long (inr s) =
-      told-flipped p1 p2 q1 q2 said
-      (along-told v1 v2 u1 u2 answer (flip p1) (flip p2) (flip q1) (flip q2) (flipped p1 p2 q1 q2 c) (λ h. long (h .1, h .0))
+      → Matched p1 p2 q1 q2 said
+  segments-matched c long (inl s) =
+      along-matched v1 v2 u1 u2 answer p1 p2 q1 q2 c long _ _ _ _ _ _ (u-at .at-x) (w-at .at-x) (w2-at .at-x) s
+  segments-matched c long (inr s) =
+      matched-flipped p1 p2 q1 q2 said
+      (along-matched v1 v2 u1 u2 answer (flip p1) (flip p2) (flip q1) (flip q2) (flipped p1 p2 q1 q2 c) (λ h. long (h .1, h .0))
       _ _ _ _ _ _ (u-at .at-y) (w-at .at-y) (w2-at .at-y) s)
 
   par : Level → Parallel p1 p2 q1 q2
   par flat = across-parallel p1 p2 q1 q2 (level-is .1 flat)
 
   -- all five ways
-  level-told : Level → Told p1 p2 q1 q2 said
-  level-told flat = ways (ℕ-discrete (perp v w F H .p) (perp v w F H .n)) (ℕ-discrete (perp u w G H .p) (perp u w G H .n))
+  level-matched : Level → Matched p1 p2 q1 q2 said
+  level-matched flat = ways (ℕ-discrete (perp v w F H .p) (perp v w F H .n)) (ℕ-discrete (perp u w G H .p) (perp u w G H .n))
     where
       no-line : (OnV → ⊥) ⊎ (OnU → ⊥) → ¬ Collinear p1 p2 q1 q2
       no-line (inl n) c = n (on-v-is .0 (c .from-v))
       no-line (inr n) c = n (on-u-is .0 (c .from-u))
 
-      aside : (OnV → ⊥) ⊎ (OnU → ⊥) → Told p1 p2 q1 q2 said
+      aside : (OnV → ⊥) ⊎ (OnU → ⊥) → Matched p1 p2 q1 q2 said
       aside n =
-          apart-told p1 p2 q1 q2 said (par flat) (no-line n)
+          apart-matched p1 p2 q1 q2 said (par flat) (no-line n)
           (ap (λ (z : LineLineIntr). lineLineOf z v1 v2 u1 u2) (kernel.beside e num den h v1 v2 u1 u2 A1 A2 B1 B2 n))
 
-      on-line : OnV → OnU → IsZero v F ⊎ (IsZero v F → ⊥) → IsZero u G ⊎ (IsZero u G → ⊥) → Told p1 p2 q1 q2 said
+      on-line : OnV → OnU → IsZero v F ⊎ (IsZero v F → ⊥) → IsZero u G ⊎ (IsZero u G → ⊥) → Matched p1 p2 q1 q2 said
       on-line x y i j =
           go (record { parallel = level-is .1 flat; from-u = on-u-is .1 y; from-v = on-v-is .1 x }) i j
         where
@@ -237,30 +237,30 @@ module _ (e : Float) (num den : ℕ) (h : Eps e num den)
           same-w = point-at u1 v1 B1 A1 q1 p1 b1 a1
 
           both : ((answer ≡ TrueIntersect f0 f0) × IsZero w H) ⊎ ((answer ≡ NoIntersect) × (IsZero w H → ⊥))
-              → ToldIf (Same p1 q1) said
+              → MatchedIf (Same p1 q1) said
           both (inl (k, z)) =
               inr (pointFromParametric v1 v2 f0, ap (λ (z : LineLineIntr). lineLineOf z v1 v2 u1 u2) k, turned-over (same-w .0 z))
           both (inr (k, z)) =
               inl (ap (λ (z : LineLineIntr). lineLineOf z v1 v2 u1 u2) k, λ o. z (same-w .1 (turned-over o)))
 
-          go : Collinear p1 p2 q1 q2 → IsZero v F ⊎ (IsZero v F → ⊥) → IsZero u G ⊎ (IsZero u G → ⊥) → Told p1 p2 q1 q2 said
+          go : Collinear p1 p2 q1 q2 → IsZero v F ⊎ (IsZero v F → ⊥) → IsZero u G ⊎ (IsZero u G → ⊥) → Matched p1 p2 q1 q2 said
           go c (inl i) (inl j) =
-              both-told p1 p2 q1 q2 said (same-v .0 i) (same-u .0 j)
+              both-matched p1 p2 q1 q2 said (same-v .0 i) (same-u .0 j)
               (both (kernel.points e num den h v1 v2 u1 u2 A1 A2 B1 B2 x y i j))
           go c (inl i) (inr j) =
-              at-told v1 v2 u1 u2 answer f0 (parametricFromPoint u1 u2 v1 e) e u1 u2 v1 B1 B2 A1 p1 p2 q1 q2 u-at w-at
+              at-matched v1 v2 u1 u2 answer f0 (parametricFromPoint u1 u2 v1 e) e u1 u2 v1 B1 B2 A1 p1 p2 q1 q2 u-at w-at
               (same-v .0 i) (c .from-u) (kernel.first-point e num den h v1 v2 u1 u2 A1 A2 B1 B2 x y i j)
           go c (inr i) (inl j) =
-              told-swapped p1 p2 q1 q2 said
-              (at-told v1 v2 u1 u2 answer (parametricFromPoint v1 v2 u1 e) f0 e v1 v2 u1 A1 A2 B1 q1 q2 p1 p2 v-at back-at
+              matched-swapped p1 p2 q1 q2 said
+              (at-matched v1 v2 u1 u2 answer (parametricFromPoint v1 v2 u1 e) f0 e v1 v2 u1 A1 A2 B1 q1 q2 p1 p2 v-at back-at
               (same-u .0 j) (swapped p1 p2 q1 q2 c .from-u) (kernel.second-point e num den h v1 v2 u1 u2 A1 A2 B1 B2 x y i j))
           go c (inr i) (inr j) =
-              segments-told c (λ o. i (same-v .1 o)) (kernel.segments e num den h v1 v2 u1 u2 A1 A2 B1 B2 x y i j)
+              segments-matched c (λ o. i (same-v .1 o)) (kernel.segments e num den h v1 v2 u1 u2 A1 A2 B1 B2 x y i j)
 
-      ways : Dec OnV → Dec OnU → Told p1 p2 q1 q2 said
+      ways : Dec OnV → Dec OnU → Matched p1 p2 q1 q2 said
       ways (no n) d = aside (inl n)
       ways (yes x) (no n) = aside (inr n)
       ways (yes x) (yes y) = on-line x y (point-or-not v F) (point-or-not u G)
 
-  pub level-kept : Level → Promised p1 p2 q1 q2 num den said
-  level-kept flat = parallel-kept p1 p2 q1 q2 num den said (par flat) (level-told flat)
+  pub level-promised : Level → Promised p1 p2 q1 q2 num den said
+  level-promised flat = parallel-promised p1 p2 q1 q2 num den said (par flat) (level-matched flat)

@@ -20,16 +20,16 @@ use Rattle.grid.specs.Plane.Sides.{way, cross}
 use Rattle.grid.specs.Plane.Cross.{Between}
 use Rattle.grid.specs.Plane.Points.{Collinear, cross-flipped}
 use Rattle.grid.specs.Plane.Spots.{Same, flip}
-use Rattle.grid.specs.Plane.Spans.{Meet, MeetMore}
-use Rattle.grid.specs.Plane.Overlap.{apart-on-axis}
+use Rattle.grid.specs.Plane.Spans.{SpansShare, SpansShareMore}
+use Rattle.grid.specs.Plane.Overlap.{same-on-axis}
 use Rattle.grid.specs.Plane.Parts.{between-parts, least, most, above-zero, below-size}
-use Rattle.grid.specs.Plane.Keeps.{
-  Told,
-  ToldIf,
-  ToldBySpans,
-  told-flipped,
-  point-told,
-  spans-told,
+use Rattle.grid.specs.Plane.Suffices.{
+  Matched,
+  MatchedIf,
+  MatchedBySpans,
+  matched-flipped,
+  point-matched,
+  spans-matched,
 }
 use Rattle.grid.specs.Floats.Small.{Vec, vec-sub}
 use Rattle.grid.specs.Floats.Length.{gap}
@@ -110,10 +110,10 @@ module _ (a b : ℤ) (P0 N0 P1 N1 D : ℕ) (e : a ≡ diff P0 N0) (f : b ≡ dif
         go (inl (i, j, k, l)) = inr (rw (← k, ← l) h)
         go (inr (i, j, k, l)) = inl (rw (← k, ← l) h)
 
-    meet-of : Pl ≤ Nl + D → Nh ≤ Ph → Meet a b D
-    meet-of l k = (lows .1 (lower-of (λ (P N : ℕ). P ≤ N + D) l), highs .1 (upper-of (λ (P N : ℕ). N ≤ P) k))
+    share-of : Pl ≤ Nl + D → Nh ≤ Ph → SpansShare a b D
+    share-of l k = (lows .1 (lower-of (λ (P N : ℕ). P ≤ N + D) l), highs .1 (upper-of (λ (P N : ℕ). N ≤ P) k))
 
-    more-of : Pl < Nl + D → Nh < Ph → MeetMore a b D
+    more-of : Pl < Nl + D → Nh < Ph → SpansShareMore a b D
     more-of l k = (more-lows .1 (lower-of (λ (P N : ℕ). P < N + D) l), more-highs .1 (upper-of (λ (P N : ℕ). N < P) k))
 
     differ : (a ≡ b → ⊥) → Pl + Nh ≡ Ph + Nl → ⊥
@@ -121,21 +121,21 @@ module _ (a b : ℤ) (P0 N0 P1 N1 D : ℕ) (e : a ≡ diff P0 N0) (f : b ≡ dif
 
     -- what the overlap answers
     spans-answer : (v1 v2 u1 u2 : Vector2) (r : LineLineIntr) → (a ≡ b → ⊥) → Overlapped r Pl Nl Ph Nh D
-        → ToldBySpans a b D (lineLineOf r v1 v2 u1 u2)
+        → MatchedBySpans a b D (lineLineOf r v1 v2 u1 u2)
     spans-answer v1 v2 u1 u2 r n (inl c) = inl (ap (λ (z : LineLineIntr). lineLineOf z v1 v2 u1 u2) (c .is), none (c .why))
       where
-        none : (Nl + D < Pl) ⊎ (Ph < Nh) → ¬ Meet a b D
+        none : (Nl + D < Pl) ⊎ (Ph < Nh) → ¬ SpansShare a b D
         none (inl k) (l, m) = let x = low-is (lows .0 l) in omega arith
         none (inr k) (l, m) = let x = high-is (highs .0 m) in omega arith
     spans-answer v1 v2 u1 u2 r n (inr (inl c)) =
         inr (inl (
           pointFromParametric v1 v2 (c .t1),
           ap (λ (z : LineLineIntr). lineLineOf z v1 v2 u1 u2) (c .is),
-          meet-of (c .lower) (c .upper),
+          share-of (c .lower) (c .upper),
           one (c .why),
         ))
       where
-        one : (Pl ≡ Nl + D) ⊎ ((Ph ≡ Nh) ⊎ (Pl + Nh ≡ Ph + Nl)) → ¬ MeetMore a b D
+        one : (Pl ≡ Nl + D) ⊎ ((Ph ≡ Nh) ⊎ (Pl + Nh ≡ Ph + Nl)) → ¬ SpansShareMore a b D
         one (inl k) (l, m) = let x = more-low-is (more-lows .0 l) in omega arith
         one (inr (inl k)) (l, m) = let x = more-high-is (more-highs .0 m) in omega arith
         one (inr (inr k)) (l, m) = differ n k
@@ -150,7 +150,7 @@ module _ (a b : ℤ) (P0 N0 P1 N1 D : ℕ) (e : a ≡ diff P0 N0) (f : b ≡ dif
 -- ---- a grid point beside a segment: it lies on it exactly if its place is from 0 to 1
 module _ (v1 v2 u1 u2 : Vector2) (r : LineLineIntr) (s t : Float) where
   point-answer : (m : ℤ) (k P N D : ℕ) → m ≡ diff P N → k ≡ D → PointOn r (TrueIntersect s t) P N D
-      → ToldIf (Between m k) (lineLineOf r v1 v2 u1 u2)
+      → MatchedIf (Between m k) (lineLineOf r v1 v2 u1 u2)
   point-answer m k P N D e f h = go (h .answer)
     where
       there : Between m k ↔ ((N ≤ P) × (P ≤ N + D))
@@ -160,42 +160,42 @@ module _ (v1 v2 u1 u2 : Vector2) (r : LineLineIntr) (s t : Float) where
       )
 
       go : ((r ≡ TrueIntersect s t) × ((N ≤ P) × (P ≤ N + D))) ⊎ ((r ≡ NoIntersect) × (((N ≤ P) × (P ≤ N + D)) → ⊥))
-          → ToldIf (Between m k) (lineLineOf r v1 v2 u1 u2)
+          → MatchedIf (Between m k) (lineLineOf r v1 v2 u1 u2)
       go (inl (x, y)) =
           inr (pointFromParametric v1 v2 s, ap (λ (z : LineLineIntr). lineLineOf z v1 v2 u1 u2) x, there .1 y)
       go (inr (x, y)) = inl (ap (λ (z : LineLineIntr). lineLineOf z v1 v2 u1 u2) x, λ z. y (there .0 z))
 
   -- along x: p1 lies at o from the start of a segment of the width d
-  beside-told : (p1 p2 q1 q2 : Spot) → Same p1 p2 → cross (way q1 q2) (way q1 p1) ≡ pos 0
+  beside-matched : (p1 p2 q1 q2 : Spot) → Same p1 p2 → cross (way q1 q2) (way q1 p1) ≡ pos 0
       → (dp dn op on : ℕ) → q2 .x -ℤ q1 .x ≡ diff dp dn → p1 .x -ℤ q1 .x ≡ diff op on
       → (place : Float) (k : Ratio 21 place op on dp dn)
       → PointOn r (TrueIntersect s t) (k .P) (k .N) (gap dp dn)
-      → Told p1 p2 q1 q2 (lineLineOf r v1 v2 u1 u2)
-  beside-told p1 p2 q1 q2 still line dp dn op on e f place k h =
+      → Matched p1 p2 q1 q2 (lineLineOf r v1 v2 u1 u2)
+  beside-matched p1 p2 q1 q2 still line dp dn op on e f place k h =
       let d = q2 .x -ℤ q1 .x in
       let o = p1 .x -ℤ q1 .x in
-      point-told p1 p2 q1 q2 (lineLineOf r v1 v2 u1 u2) still (not-zero d dp dn e (k .place .some)) line
+      point-matched p1 p2 q1 q2 (lineLineOf r v1 v2 u1 u2) still (not-zero d dp dn e (k .place .some)) line
       (point-answer (turned d o) (natAbs d) (k .P) (k .N) (gap dp dn)
       (place-at d o dp dn op on (k .P) (k .N) e f (k .place .some) (k .turned)) (size-gap d dp dn e) h)
 
   -- from x, or from y with the axes exchanged
-  pub at-told : (e : Float) (a b c : Vector2) (A : Vec 20 a) (B : Vec 20 b) (C : Vec 20 c) (p1 p2 q1 q2 : Spot)
+  pub at-matched : (e : Float) (a b c : Vector2) (A : Vec 20 a) (B : Vec 20 b) (C : Vec 20 c) (p1 p2 q1 q2 : Spot)
       → At 21 (vector2.sub b a) (vec-sub b a B A) (way q1 q2) → At 21 (vector2.sub c a) (vec-sub c a C A) (way q1 p1)
       → Same p1 p2 → cross (way q1 q2) (way q1 p1) ≡ pos 0 → PointAt e a b c A B C r (TrueIntersect s t)
-      → Told p1 p2 q1 q2 (lineLineOf r v1 v2 u1 u2)
-  at-told e a b c A B C p1 p2 q1 q2 way-is off-is still line (inl (k, on)) =
-      beside-told p1 p2 q1 q2 still line _ _ _ _ (way-is .at-x) (off-is .at-x) _ k on
-  at-told e a b c A B C p1 p2 q1 q2 way-is off-is still line (inr (k, on)) =
-      told-flipped p1 p2 q1 q2 (lineLineOf r v1 v2 u1 u2)
-      (beside-told (flip p1) (flip p2) (flip q1) (flip q2) (still .1, still .0) (cross-flipped (way q1 q2) (way q1 p1) line)
+      → Matched p1 p2 q1 q2 (lineLineOf r v1 v2 u1 u2)
+  at-matched e a b c A B C p1 p2 q1 q2 way-is off-is still line (inl (k, on)) =
+      beside-matched p1 p2 q1 q2 still line _ _ _ _ (way-is .at-x) (off-is .at-x) _ k on
+  at-matched e a b c A B C p1 p2 q1 q2 way-is off-is still line (inr (k, on)) =
+      matched-flipped p1 p2 q1 q2 (lineLineOf r v1 v2 u1 u2)
+      (beside-matched (flip p1) (flip p2) (flip q1) (flip q2) (still .1, still .0) (cross-flipped (way q1 q2) (way q1 p1) line)
       _ _ _ _ (way-is .at-y) (off-is .at-y) _ k on)
 
 -- along x: a segment from p1 to p2, along one from q1 to q2
-pub along-told : (v1 v2 u1 u2 : Vector2) (r : LineLineIntr) (p1 p2 q1 q2 : Spot) → Collinear p1 p2 q1 q2 → ¬ Same p1 p2
+pub along-matched : (v1 v2 u1 u2 : Vector2) (r : LineLineIntr) (p1 p2 q1 q2 : Spot) → Collinear p1 p2 q1 q2 → ¬ Same p1 p2
     → (xp xn zp zn dp dn : ℕ) → q2 .x -ℤ q1 .x ≡ diff dp dn → p1 .x -ℤ q1 .x ≡ diff xp xn → p2 .x -ℤ q1 .x ≡ diff zp zn
     → Spanned r xp xn zp zn dp dn
-    → Told p1 p2 q1 q2 (lineLineOf r v1 v2 u1 u2)
-along-told v1 v2 u1 u2 r p1 p2 q1 q2 c long xp xn zp zn dp dn e f g s =
+    → Matched p1 p2 q1 q2 (lineLineOf r v1 v2 u1 u2)
+along-matched v1 v2 u1 u2 r p1 p2 q1 q2 c long xp xn zp zn dp dn e f g s =
     let d = q2 .x -ℤ q1 .x in
     let x = p1 .x -ℤ q1 .x in
     let z = p2 .x -ℤ q1 .x in
@@ -203,10 +203,10 @@ along-told v1 v2 u1 u2 r p1 p2 q1 q2 c long xp xn zp zn dp dn e f g s =
     let j = s .stop in
     let k = s .ends in
     let slant = not-zero d dp dn e (i .place .some) in
-    spans-told p1 p2 q1 q2 (lineLineOf r v1 v2 u1 u2) c long slant
-    (subst (λ (k : ℕ). ToldBySpans (turned d x) (turned d z) k (lineLineOf r v1 v2 u1 u2)) (sym (size-gap d dp dn e))
+    spans-matched p1 p2 q1 q2 (lineLineOf r v1 v2 u1 u2) c long slant
+    (subst (λ (k : ℕ). MatchedBySpans (turned d x) (turned d z) k (lineLineOf r v1 v2 u1 u2)) (sym (size-gap d dp dn e))
     (spans-answer (turned d x) (turned d z) (i .P) (i .N) (j .P) (j .N) (gap dp dn)
     (place-at d x dp dn xp xn (i .P) (i .N) e f (i .place .some) (i .turned))
     (place-at d z dp dn zp zn (j .P) (j .N) e g (j .place .some) (j .turned))
     (k .Pl) (k .Nl) (k .Ph) (k .Nh) (k .rises) (k .which) v1 v2 u1 u2 r
-    (λ h. long (apart-on-axis p1 p2 q1 q2 (c .parallel) slant (turned-same d (p1 .x) (p2 .x) (q1 .x) h))) (s .answer)))
+    (λ h. long (same-on-axis p1 p2 q1 q2 (c .parallel) slant (turned-same d (p1 .x) (p2 .x) (q1 .x) h))) (s .answer)))

@@ -10,4 +10,4 @@ pub mod Spans
 pub mod Points
 pub mod Overlap
 pub mod Parts
-pub mod Keeps
+pub mod Suffices

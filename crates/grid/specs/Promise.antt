@@ -105,7 +105,7 @@ module _ (v1 v2 u1 u2 : Spot) where
   abbrev pub Crossing : Point → Type 0
   Crossing P = OnLine P v1 v2 × OnLine P u1 u2
 
-  -- what is promised of an answer r: it is one of three classes, and keeps the four sentences
+  -- what is promised of an answer r: it is one of three classes, and the four sentences hold
   pub record Promised (num den : ℕ) (r : PlineSegIntr) : Type 0 where
     pub classes : (r ≡ NoIntersect) ⊎ ((p : Vector2) × (r ≡ OneIntersect p))
         ⊎ ((p : Vector2) × (q : Vector2) × (r ≡ OverlappingLines p q))
@@ -116,7 +116,7 @@ module _ (v1 v2 u1 u2 : Spot) where
     pub exact : (p : Vector2) → r ≡ OneIntersect p → ¬ Parallel
         → (P : Point) × Crossing P × NearExact (p .x) (P .x) (P .over) × NearExact (p .y) (P .y) (P .over)
 
--- ---- the promise: no pair of grid lines is refused, and the pair call's answer keeps these
+-- ---- the promise: no pair of grid lines is refused, and the pair call's answer is as promised
 abbrev pub Promise : Type 0
 Promise = (v1 v2 u1 u2 : PlineVertex) (p1 p2 q1 q2 : Spot) (e : Float) (num den : ℕ)
     → On v1 p1 → On v2 p2 → On u1 q1 → On u2 q2 → T (bulgeIsZero v1) → T (bulgeIsZero u1) → Epsilon e num den

@@ -28,7 +28,7 @@ use Rattle.listing_calls.specs.Complete.{complete}
 use Rattle.grid.specs.Promise.{Spot, On, Epsilon, Promised, Promise, ListingPromise}
 use Rattle.grid.specs.Accepted.{accepted, two-lines}
 use Rattle.grid.specs.Joined.{At, vec, vec-at, eps}
-use Rattle.grid.specs.Kernel.{crossed-kept, level-kept}
+use Rattle.grid.specs.Kernel.{crossed-promised, level-promised}
 use Rattle.grid.specs.Floats.Small.{Vec, vec-sub, perp}
 use Rattle.grid.specs.Floats.Zero.{Eps}
 use Rattle.grid.specs.Floats.Ways.{goes-crossing, goes-parallel}
@@ -42,9 +42,9 @@ module _ (e : Float) (num den : ℕ) (h : Eps e num den)
       let s = perp (vector2.sub v2 v1) (vector2.sub u2 u1) (vec-sub v2 v1 A2 A1) (vec-sub u2 u1 B2 B1) in
       (s .p, s .n)
 
-  kernel-kept : Promised p1 p2 q1 q2 num den (processLineLineIntr v1 v2 u1 u2 e)
+  kernel-promised : Promised p1 p2 q1 q2 num den (processLineLineIntr v1 v2 u1 u2 e)
   unfolding processLineLineIntr
-  kernel-kept = go (ℕ-discrete (turn .0) (turn .1))
+  kernel-promised = go (ℕ-discrete (turn .0) (turn .1))
     where
       put : (r : LineLineIntr) → lineLine v1 v2 u1 u2 e ≡ r → Promised p1 p2 q1 q2 num den (lineLineOf r v1 v2 u1 u2)
           → Promised p1 p2 q1 q2 num den (lineLineOf (lineLine v1 v2 u1 u2 e) v1 v2 u1 u2)
@@ -53,18 +53,18 @@ module _ (e : Float) (num den : ℕ) (h : Eps e num den)
       go : Dec (turn .0 ≡ turn .1) → Promised p1 p2 q1 q2 num den (lineLineOf (lineLine v1 v2 u1 u2 e) v1 v2 u1 u2)
       go (no n) =
           put _ (goes-crossing e num den h v1 v2 u1 u2 A1 A2 B1 B2 n)
-          (crossed-kept e num den h v1 v2 u1 u2 A1 A2 B1 B2 p1 p2 q1 q2 a1 a2 b1 b2 n)
+          (crossed-promised e num den h v1 v2 u1 u2 A1 A2 B1 B2 p1 p2 q1 q2 a1 a2 b1 b2 n)
       go (yes s) =
           put _ (goes-parallel e num den h v1 v2 u1 u2 A1 A2 B1 B2 s)
-          (level-kept e num den h v1 v2 u1 u2 A1 A2 B1 B2 p1 p2 q1 q2 a1 a2 b1 b2 s)
+          (level-promised e num den h v1 v2 u1 u2 A1 A2 B1 B2 p1 p2 q1 q2 a1 a2 b1 b2 s)
 
 -- the pair's definition
-kept : (v1 v2 u1 u2 : PlineVertex) (p1 p2 q1 q2 : Spot) (e : Float) (num den : ℕ)
+promised : (v1 v2 u1 u2 : PlineVertex) (p1 p2 q1 q2 : Spot) (e : Float) (num den : ℕ)
     → On v1 p1 → On v2 p2 → On u1 q1 → On u2 q2 → T (bulgeIsZero v1) → T (bulgeIsZero u1) → Epsilon e num den
     → Promised p1 p2 q1 q2 num den (plineSeg v1 v2 u1 u2 e)
-kept v1 v2 u1 u2 p1 p2 q1 q2 e num den a b c d line-v line-u small =
+promised v1 v2 u1 u2 p1 p2 q1 q2 e num den a b c d line-v line-u small =
     subst (λ (r : PlineSegIntr). Promised p1 p2 q1 q2 num den r) (sym (two-lines v1 v2 u1 u2 e line-v line-u))
-    (kernel-kept e num den (eps e num den small) (vertex.pos v1) (vertex.pos v2) (vertex.pos u1) (vertex.pos u2)
+    (kernel-promised e num den (eps e num den small) (vertex.pos v1) (vertex.pos v2) (vertex.pos u1) (vertex.pos u2)
     (vec v1 p1 a) (vec v2 p2 b) (vec u1 q1 c) (vec u2 q2 d) p1 p2 q1 q2
     (vec-at v1 p1 a) (vec-at v2 p2 b) (vec-at u1 q1 c) (vec-at u2 q2 d))
 
@@ -72,7 +72,7 @@ pub promise : Promise
 promise v1 v2 u1 u2 p1 p2 q1 q2 e num den a b c d line-v line-u small = (
   plineSeg v1 v2 u1 u2 e,
   accepted v1 v2 u1 u2 p1 p2 q1 q2 e num den a b c d line-v line-u small,
-  kept v1 v2 u1 u2 p1 p2 q1 q2 e num den a b c d line-v line-u small,
+  promised v1 v2 u1 u2 p1 p2 q1 q2 e num den a b c d line-v line-u small,
 )
 
 -- ---- listings: a pair that shares a point is not NoIntersect, so it has a row
@@ -88,6 +88,6 @@ pub listing-promise : ListingPromise
 listing-promise first closed second closed′ e num den indices points rows pairs small is i j hi hj p1 p2 q1 q2 v u share =
     let a = segmentFrom first i in
     let b = segmentFrom second j in
-    let k = kept (a .v1) (a .v2) (b .v1) (b .v2) p1 p2 q1 q2 e num den (v .0) (v .1) (u .0) (u .1) (v .2) (u .2) small in
+    let k = promised (a .v1) (a .v2) (b .v1) (b .v2) p1 p2 q1 q2 e num den (v .0) (v .1) (u .0) (u .1) (v .2) (u .2) small in
     complete first closed second closed′ e indices points rows pairs is i j hi hj
     (class-above (plineSeg (a .v1) (a .v2) (b .v1) (b .v2) e) (λ none. k .none-missed none share))

@@ -37,7 +37,7 @@ noPoints = replicate (mostRows * pointsARow) (ofBits binary64 0)
 unfoldable pub listing : List Float → List Float → Outcome ListingAnswer
 listing first second = mutualListing first false second false epsilon noIndices noPoints
 
--- the lines of an answer
+-- the text lines of an answer
 abbrev pub linesOf : ListingAnswer → List ℕ → List Float → List ℕ
 linesOf (Refused n) indices points = refusedText n
 linesOf (Listed rows pairs) indices points = answerText pairs rows indices points

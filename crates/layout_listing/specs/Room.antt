@@ -1,5 +1,5 @@
 -- Nothing of an answer can be cut: the answer to every text, of any length and form, fits the room that `list_layout` asks for.
--- So a slice of that many bytes gets all of it, and `crossings`, which lends one, never tells that there is no room.
+-- So a slice of that many bytes gets all of it, and `crossings`, which lends one, never says that there is no room.
 use mathlib.Core.Path.{_≡_, refl, sym, ap, _∙_}
 use mathlib.Core.Bool.{false}
 use mathlib.Core.List.{List}
@@ -24,7 +24,7 @@ pub answer-fits : (text : List ℕ) → length (answerTo text) ≤ room
 unfolding answerTo
 answer-fits text = taken-fits (reads text)
 
--- what `list_layout` does with a slice of at least that room: it tells how many bytes the whole answer has, puts them at the
+-- what `list_layout` does with a slice of at least that room: it answers how many bytes the whole answer has, puts them at the
 -- front of the slice, and leaves what stands behind them as it was
 pub answer-whole : (text : List ℕ) (r : Written) (old now : List ℕ) → room ≤ length old → AnswerTo text r old now
     → Whole (answerTo text) r old now
@@ -35,7 +35,7 @@ answer-whole text r old now h a =
 same-length : {n m : ℕ} → Written·.Length n ≡ Written·.Length m → n ≡ m
 same-length e = cc
 
--- so the part of the slice up to the length that was told is the answer: this part is what `crossings` writes
+-- so the part of the slice up to the length that was answered is the answer: this part is what `crossings` writes
 pub written-is-answer : (text : List ℕ) (n : ℕ) (old now : List ℕ) → room ≤ length old → AnswerTo text (Written·.Length n) old now
     → (n ≤ length now) × (take n now ≡ answerTo text)
 written-is-answer text n old now h a =

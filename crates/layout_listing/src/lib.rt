@@ -20,7 +20,7 @@ pub const ROWS: usize = 512;
 // how many bytes of room the answer's text needs: a line for the counts and one for every row
 pub const ROOM: usize = (ROWS + 1) * LINE;
 
-// Writes the lines of the listing of two open paths to the front of `out`, and answers how many bytes they have.
+// Writes the text lines of the listing of two open paths to the front of `out`, and answers how many bytes they have.
 fn list_paths(first: &[f64], second: &[f64], out: &mut [u8]) -> Written
     ensures { λ r. ⌜ LinesFor (now (first .entry)) (now (second .entry)) r (now (out .entry)) (now (out .exit)) ⌝ }
 {

@@ -1,5 +1,5 @@
 pub mod Digits
-pub mod Told
+pub mod CaseSays
 pub mod VertexLines
 pub mod Texts
 pub mod Ends

@@ -1,4 +1,4 @@
--- A vertex's line, number by number, and one turn of a loop over vertices: the line at hand, then the lines that are left.
+-- A vertex's text line, number by number, and one turn of a loop over vertices: the text line at hand, then those left.
 use Prim.Native.Nat.{ℕ, suc, _+_, _-_, _≤_, _<_}
 use mathlib.Core.Path.{_≡_, refl, sym, ap, _∙_}
 use mathlib.Core.Bool.{Bool}
@@ -26,13 +26,13 @@ use Rattle.layout_text.specs.Workings.Reader.{
 }
 use Rattle.layout_text.specs.Workings.Reader.{space, newline, wholeOf}
 use Rattle.layout_text.specs.Workings.Shown.{shownNumber, shownVertex, numbersOf, Filled}
-use Rattle.layout_text.proofs.Told.{no-number, a-number}
+use Rattle.layout_text.proofs.CaseSays.{no-number, a-number}
 use Rattle.layout_text.specs.declared.number.Number.{Number}
 use Rattle.layout_text.specs.declared.number.Number.the-variants as Number·
 use Rattle.layout_text.specs.declared.vertex.Corner.{Corner}
 use Rattle.layout_text.specs.declared.vertex.Corner.the-variants as Corner·
 
--- ---- a line, by what each call told of its number
+-- ---- a vertex's text line, by what each call says of its numbers
 
 module _ (text t : List ℕ) (x : Number) (x-is : shownNumber text x ≡ wholeOf limit.coordinate space t) where
   pub no-x : x ≡ Number·.Broken → nothing ≡ numbersOf (vertexOf t)
@@ -135,11 +135,11 @@ module _ (text : List ℕ) (n i at : ℕ) (all : Passed) (inv : passed (vertices
 -- what stands in a slice once the vertices read are written from k on
 pub data Stored : Type 0 where
   gone : Stored
-  kept : List Float → Stored
+  holds : List Float → Stored
 
 abbrev pub stored : Got (List Vertex) → List Float → ℕ → Stored
 stored nothing old k = gone
-stored (got vs rest) old k = kept (sets old k (pathOf vs))
+stored (got vs rest) old k = holds (sets old k (pathOf vs))
 
 after-stored : (v : Vertex) (g : Got (List Vertex)) (old : List Float) (k : ℕ)
     → stored g (sets old k (pathOf (v ∷ []))) (suc (suc (suc k))) ≡ stored (andThen g (λ vs r. got (v ∷ vs) r)) old k
@@ -156,7 +156,7 @@ three-set old k x y b =
 -- `all` is what stands once all lines are written, and i of n are written to `old`, up to k
 module _ (text : List ℕ) (n i at : ℕ) (all : Stored) (old : List Float) (k : ℕ)
     (inv : stored (verticesOf (n - i) (drop at text)) old k ≡ all) where
-  pub store-end : n ≤ i → kept old ≡ all
+  pub store-end : n ≤ i → holds old ≡ all
   store-end h = rw (lines-end n i _ h) at inv
 
   module _ (inside : i < n) (r : Corner) (is : shownVertex text r ≡ numbersOf (vertexOf (drop at text))) where
@@ -179,7 +179,7 @@ filled-broken h old now s vs rest is =
     let z : _≡_ {A = ℕ} 0 1 = cc in
     absurd (omega arith)
 
-pub filled-end : (h : Got (List Vertex)) (old now : List Float) → kept now ≡ stored h old 0 → Filled h old now
+pub filled-end : (h : Got (List Vertex)) (old now : List Float) → holds now ≡ stored h old 0 → Filled h old now
 filled-end h old now s vs rest is =
     let e = s ∙ ap (λ (g : Got (List Vertex)). stored g old 0) is in
     cc

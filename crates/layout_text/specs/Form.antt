@@ -1,6 +1,6 @@
--- The scope's form of a text: the text of a layout. A line with the two counts, then a line for each vertex of the first path,
--- then of the second. A newline (10) ends every line, one space (32) stands between numbers, and a minus (45) before a negative
--- number.
+-- The scope's form of a text: the text of a layout. A text line with the two counts, then one for each vertex of the first path,
+-- then of the second. A newline (10) ends every text line, one space (32) stands between numbers, and a minus (45) before a
+-- negative number.
 use Prim.Native.Nat.{ℕ, suc}
 use mathlib.Core.List.{List, [], _∷_, _++_}
 use lib.ListN.{length}

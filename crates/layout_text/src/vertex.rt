@@ -1,4 +1,4 @@
-// The lines of a path's vertices.
+// The text lines of a path's vertices.
 ghost use mathlib.Core.Path.{_≡_};
 ghost use Prim.Native.Nat.{_≤_, _*_};
 ghost use lib.ListN.{drop, length};
@@ -23,7 +23,7 @@ pub enum Place {
     At(usize),
 }
 
-// The vertex whose line starts at `start`.
+// The vertex whose text line starts at `start`.
 fn vertex(text: &[u8], start: usize) -> Corner
     ensures { λ r. ⌜ shownVertex (now (text .entry)) r ≡ numbersOf (vertexOf (drop start (now (text .entry)))) ⌝ }
 {

@@ -1,4 +1,4 @@
--- A function of a view that asks the path's function of the same kind: it takes the view apart, calls the other one on the slice,
+-- A function of a view that asks the path's function of the same kind: it reads the view, calls the other one on the slice,
 -- the flag and whatever further parameters it has itself, and hands the answer on. One law for all of these, over the further
 -- parameters, the result's type and what the two answer. What the view owns is what its slice and its flag own, so what the
 -- function is passed gives what the callee asks; the callee's exit is the function's. Each function still needs the walk of its
@@ -85,23 +85,23 @@ module _ {M : Type 1} (𝓤 : URA M) (H : Heap 𝓤) (A : Atoms 𝓤) where
           → ent 𝓤 (onEntry 𝓤 H A S κs qs a (all-vals κs a))
           (run (flat (typesAt (S .params) κs) (all-vals κs a)) (answers .post ((κs, qs, bounds, a, all-vals κs a), tt))))
           → Triple 𝓤 run answers
-      spelled tell k ((κs, qs, bounds, a, vss), g) =
+      spelled spell-is k ((κs, qs, bounds, a, vss), g) =
           via 𝓤 _ (fst∗ 𝓤 _ (emp 𝓤))
-          (said 𝓤 H A S κs qs (spell κs) (tell κs) a
+          (said 𝓤 H A S κs qs (spell κs) (spell-is κs) a
           (λ us. run (flat (typesAt (S .params) κs) us) (answers .post ((κs, qs, bounds, a, us), tt))) vss (k κs qs bounds a))
 
 -- a function of a view and one of a path's slice and flag, with the same further parameters and the same result: what these are,
 -- and what the two answer
 pub record Call : Type 2 where
   pub more : List (Slot 1)
-  pub kept : Kepts more
+  pub lasting : Kepts more
   pub result : Slot 1
   pub path-says : (κs : Lfts 1) → List Float → Bool → Denots (typesAt more κs) → typeAt result κs .Denot
   pub view-says : (κs : Lfts 1) → PathView → Denots (typesAt more κs) → typeAt result κs .Denot
   pub same : (κs : Lfts 1) (d : PathView) (a : Denots (typesAt more κs))
       → path-says κs (now (d .vertices)) (d .closed) a ≡ view-says κs d a
   pub spell : (κs : Lfts 1) → Spells (typesAt more κs)
-  pub tell : (κs : Lfts 1) → Tellss (typesAt more κs) (Ises (typesAt more κs)) (spell κs)
+  pub spell-is : (κs : Lfts 1) → Tellss (typesAt more κs) (Ises (typesAt more κs)) (spell κs)
 
 module _ (F : Call) where
   abbrev viewed : Signature
@@ -128,10 +128,10 @@ module _ (F : Call) where
 
 module _ {M : Type 1} (𝓤 : URA M) (H : Heap 𝓤) (A : Atoms 𝓤) (F : Call) where
   abbrev pub OfPath : Contract 𝓤
-  OfPath = answers 𝓤 H A (lent F) (yes, (yes, F .kept)) (λ κs a. F .path-says κs (now (a .0)) (a .1 .0) (a .1 .1))
+  OfPath = answers 𝓤 H A (lent F) (yes, (yes, F .lasting)) (λ κs a. F .path-says κs (now (a .0)) (a .1 .0) (a .1 .1))
 
   abbrev pub OfView : Contract 𝓤
-  OfView = answers 𝓤 H A (viewed F) (yes, F .kept) (λ κs a. F .view-says κs (a .0) (a .1))
+  OfView = answers 𝓤 H A (viewed F) (yes, F .lasting) (λ κs a. F .view-says κs (a .0) (a .1))
 
   -- the walk that a function owes: a call of the callee, on what the view is made of, is a run of the function on the view, if
   -- after the call the value returned is one of the result's type
@@ -163,27 +163,27 @@ module _ {M : Type 1} (𝓤 : URA M) (H : Heap 𝓤) (A : Atoms 𝓤) (F : Call)
         move ! (0 ∷ 3 ∷ []) $ fjoin ! $ move ! (2 ∷ 0 ∷ []) $ fjoin ! $ move ! (2 ∷ 0 ∷ []) $ join ! $ done !)
 
     -- what the two say of a result. Of last values, both say what is said of the further parameters'
-    abbrev path-lasts : Fins κs (lent F .params) (yes, (yes, F .kept)) (d .vertices, (d .closed, a)) → Fml
-    path-lasts = lastsOf κs (lent F .params) (yes, (yes, F .kept)) (d .vertices, (d .closed, a))
+    abbrev path-lasts : Fins κs (lent F .params) (yes, (yes, F .lasting)) (d .vertices, (d .closed, a)) → Fml
+    path-lasts = lastsOf κs (lent F .params) (yes, (yes, F .lasting)) (d .vertices, (d .closed, a))
 
-    abbrev view-lasts : Fins κs (viewed F .params) (yes, F .kept) (d, a) → Fml
-    view-lasts = lastsOf κs (viewed F .params) (yes, F .kept) (d, a)
+    abbrev view-lasts : Fins κs (viewed F .params) (yes, F .lasting) (d, a) → Fml
+    view-lasts = lastsOf κs (viewed F .params) (yes, F .lasting) (d, a)
 
     module _ (r : Result F κs .Denot) where
-      abbrev told : Type 0
-      told = r ≡ F .path-says κs (now (d .vertices)) (d .closed) a
+      abbrev path-agrees : Type 0
+      path-agrees = r ≡ F .path-says κs (now (d .vertices)) (d .closed) a
 
-      abbrev tells : Fins κs (viewed F .params) (yes, F .kept) (d, a) → SProp 𝓤
-      tells ws = sep 𝓤 (sem 𝓤 H A (view-lasts ws)) (fact 𝓤 (r ≡ F .view-says κs d a))
+      abbrev view-exit : Fins κs (viewed F .params) (yes, F .lasting) (d, a) → SProp 𝓤
+      view-exit ws = sep 𝓤 (sem 𝓤 H A (view-lasts ws)) (fact 𝓤 (r ≡ F .view-says κs d a))
 
       abbrev PathSays : SProp 𝓤
-      PathSays = ex 𝓤 (λ ws. sep 𝓤 (sem 𝓤 H A (path-lasts ws)) (fact 𝓤 told))
+      PathSays = ex 𝓤 (λ ws. sep 𝓤 (sem 𝓤 H A (path-lasts ws)) (fact 𝓤 path-agrees))
 
-      handed : ent 𝓤 PathSays (ex 𝓤 tells)
+      handed : ent 𝓤 PathSays (ex 𝓤 view-exit)
       handed =
-          qed W (some (λ ws. ‵ (path-lasts ws) ⊛ raw (fact 𝓤 told)) ∷ []) ∵
-          pick ! (λ ws. split ! $ move ! (1 ∷ []) $ heard ! told (λ e. fsplit ! $ drop ! $ fsplit ! $ drop ! $
-          show ! tells (tt, ws .1 .1) $ says ! (e ∙ F .same κs d a) $ nothing ! $ fjoin ! $ done !))
+          qed W (some (λ ws. ‵ (path-lasts ws) ⊛ raw (fact 𝓤 path-agrees)) ∷ []) ∵
+          pick ! (λ ws. split ! $ move ! (1 ∷ []) $ heard ! path-agrees (λ e. fsplit ! $ drop ! $ fsplit ! $ drop ! $
+          show ! view-exit (tt, ws .1 .1) $ says ! (e ∙ F .same κs d a) $ nothing ! $ fjoin ! $ done !))
 
     -- the token and the result, which the callee gives at its return, are what the function gives
     abbrev token : SProp 𝓤
@@ -195,8 +195,8 @@ module _ {M : Type 1} (𝓤 : URA M) (H : Heap 𝓤) (A : Atoms 𝓤) (F : Call)
     returned : (u : Val) → ent 𝓤 (OfPath .post there u) (OfView .post here u)
     returned u =
         W .laws .⇛-mono _ _ (exE 𝓤 _ (λ r.
-        via 𝓤 (sep 𝓤 (Back u r) (ex 𝓤 (tells r))) (monoR 𝓤 (Back u r) (handed r))
-        (exI 𝓤 (λ r. sep 𝓤 (Back u r) (ex 𝓤 (tells r))) r)))
+        via 𝓤 (sep 𝓤 (Back u r) (ex 𝓤 (view-exit r))) (monoR 𝓤 (Back u r) (handed r))
+        (exI 𝓤 (λ r. sep 𝓤 (Back u r) (ex 𝓤 (view-exit r))) r)))
 
     typed : Lawful 𝓤 H A (Result F κs) → (u : Val)
         → ent 𝓤 (OfPath .post there u) (H .⇛ (guard 𝓤 (Typed (Result F κs .mir) (u ∷ [])) (OfPath .post there u)))
@@ -210,8 +210,8 @@ module _ {M : Type 1} (𝓤 : URA M) (H : Heap 𝓤) (A : Atoms 𝓤) (F : Call)
   forwarded : (W : Given 𝓤 H A) (𝓣 : Tables 𝓤 H) (f : Name) (e : Fn) → ((κs : Lfts 1) → Lawful 𝓤 H A (Result F κs))
       → Walk 𝓣 f e → Triple 𝓤 (𝓣 .C f) OfPath → Triple 𝓤 (WpFn 𝓤 H (𝓣 .C) (𝓣 .Λ) e) OfView
   forwarded W 𝓣 f e lawful walk known =
-      spelled 𝓤 H A (viewed F) (yes, F .kept) (λ κs a. F .view-says κs (a .0) (a .1)) (WpFn 𝓤 H (𝓣 .C) (𝓣 .Λ) e)
-      (λ κs. (LL.vals (D κs) (L κs), F .spell κs)) (λ κs. (LL.tells (D κs) (L κs), F .tell κs)) (λ κs qs bounds (d, a) are.
+      spelled 𝓤 H A (viewed F) (yes, F .lasting) (λ κs a. F .view-says κs (a .0) (a .1)) (WpFn 𝓤 H (𝓣 .C) (𝓣 .Λ) e)
+      (λ κs. (LL.vals (D κs) (L κs), F .spell κs)) (λ κs. (LL.tells (D κs) (L κs), F .spell-is κs)) (λ κs qs bounds (d, a) are.
       let wt = LL.lawful (D κs) (L κs) 𝓤 H A W .typed d _ (are .0) .0 in
       via 𝓤 _ (asked W κs qs d a)
       (via 𝓤 _ (known (there W κs qs d a))

@@ -12,7 +12,7 @@ use checks::fault::later;
 
 // A quick test whether the numbers of every vertex are inside their limits. A no promises nothing.
 fn vertices_inside(path: &[f64]) -> bool
-    ensures { λ r. ⌜ Inside.Tells (now (path .entry)) r ⌝ }
+    ensures { λ r. ⌜ Inside.IfYes (now (path .entry)) r ⌝ }
 {
     let count = path::vertex_count(path);
     let mut i = 0;

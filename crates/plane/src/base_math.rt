@@ -27,7 +27,7 @@ pub fn dist_squared(p0: Vector2, p1: Vector2) -> f64
     d.dot(d)
 }
 
-// The point at t along the segment from p0 to p1: p0 at t = 0; p1, apart from rounding, at t = 1.
+// The point at t along the segment from p0 to p1: p0 at t = 0; p1, but for rounding, at t = 1.
 pub fn point_from_parametric(p0: Vector2, p1: Vector2, t: f64) -> Vector2
     ensures { λ r. ⌜ r ≡ BaseMath.pointFromParametric p0 p1 t ⌝ }
 {

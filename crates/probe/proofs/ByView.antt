@@ -76,11 +76,11 @@ answers 𝓤 H A S ks answer =
 -- and what the view answers
 pub record Call : Type 2 where
   pub more : List (Slot 1)
-  pub kept : Kepts more
+  pub lasting : Kepts more
   pub result : Slot 1
   pub view-says : (κs : Lfts 1) → PathView → Denots (typesAt more κs) → typeAt result κs .Denot
   pub spell : (κs : Lfts 1) → Spells (typesAt more κs)
-  pub tell : (κs : Lfts 1) → Tellss (typesAt more κs) (Ises (typesAt more κs)) (spell κs)
+  pub spell-is : (κs : Lfts 1) → Tellss (typesAt more κs) (Ises (typesAt more κs)) (spell κs)
 
 module _ (F : Call) where
   abbrev viewed : Signature
@@ -111,10 +111,10 @@ module _ {M : Type 1} (𝓤 : URA M) (H : Heap 𝓤) (A : Atoms 𝓤) where
 
   module _ (F : Call) where
     abbrev pub OfView : Contract 𝓤
-    OfView = answers 𝓤 H A (viewed F) (yes, F .kept) (λ κs a. F .view-says κs (a .0) (a .1))
+    OfView = answers 𝓤 H A (viewed F) (yes, F .lasting) (λ κs a. F .view-says κs (a .0) (a .1))
 
     abbrev pub OfPath : Contract 𝓤
-    OfPath = answers 𝓤 H A (lent F) (yes, (yes, F .kept)) (λ κs a. F .view-says κs (viewOf (a .0) (a .1 .0)) (a .1 .1))
+    OfPath = answers 𝓤 H A (lent F) (yes, (yes, F .lasting)) (λ κs a. F .view-says κs (viewOf (a .0) (a .1 .0)) (a .1 .1))
 
     -- the walk that a function owes: a call of `view_of` on the slice and the flag is a run of the function, if the value
     -- returned is a view's and the function of the view can then be called on it, and if what that returns is of the result's
@@ -185,27 +185,27 @@ module _ {M : Type 1} (𝓤 : URA M) (H : Heap 𝓤) (A : Atoms 𝓤) where
           use2 W (raw (OfView .pre (to-view u))) (qed W (raw token ∷ ‵ all ∷ []) ∵ join ! $ frame ! $ done !) $ by ! can)))
 
       -- what the function of the view gives at its return is what the function gives
-      abbrev view-lasts : Fins κs (viewed F .params) (yes, F .kept) (d, a) → Fml
-      view-lasts = lastsOf κs (viewed F .params) (yes, F .kept) (d, a)
+      abbrev view-lasts : Fins κs (viewed F .params) (yes, F .lasting) (d, a) → Fml
+      view-lasts = lastsOf κs (viewed F .params) (yes, F .lasting) (d, a)
 
-      abbrev path-lasts : Fins κs (lent F .params) (yes, (yes, F .kept)) (s, (closed, a)) → Fml
-      path-lasts = lastsOf κs (lent F .params) (yes, (yes, F .kept)) (s, (closed, a))
+      abbrev path-lasts : Fins κs (lent F .params) (yes, (yes, F .lasting)) (s, (closed, a)) → Fml
+      path-lasts = lastsOf κs (lent F .params) (yes, (yes, F .lasting)) (s, (closed, a))
 
       module _ (r : Result F κs .Denot) where
-        abbrev told : SProp 𝓤
-        told = fact 𝓤 (r ≡ F .view-says κs d a)
+        abbrev view-agrees : SProp 𝓤
+        view-agrees = fact 𝓤 (r ≡ F .view-says κs d a)
 
-        abbrev tells : Fins κs (lent F .params) (yes, (yes, F .kept)) (s, (closed, a)) → SProp 𝓤
-        tells ws = sep 𝓤 (sem 𝓤 H A (path-lasts ws)) told
+        abbrev path-exit : Fins κs (lent F .params) (yes, (yes, F .lasting)) (s, (closed, a)) → SProp 𝓤
+        path-exit ws = sep 𝓤 (sem 𝓤 H A (path-lasts ws)) view-agrees
 
         abbrev ViewSays : SProp 𝓤
-        ViewSays = ex 𝓤 (λ ws. sep 𝓤 (sem 𝓤 H A (view-lasts ws)) told)
+        ViewSays = ex 𝓤 (λ ws. sep 𝓤 (sem 𝓤 H A (view-lasts ws)) view-agrees)
 
-        handed : ent 𝓤 ViewSays (ex 𝓤 tells)
+        handed : ent 𝓤 ViewSays (ex 𝓤 path-exit)
         handed =
-            qed W (some (λ ws. ‵ (view-lasts ws) ⊛ raw told) ∷ []) ∵
+            qed W (some (λ ws. ‵ (view-lasts ws) ⊛ raw view-agrees) ∷ []) ∵
             pick ! (λ ws. split ! $ move ! (1 ∷ []) $ heard ! (r ≡ F .view-says κs d a) (λ e. fsplit ! $ drop ! $
-            show ! tells (tt, (tt, ws .1)) $ says ! e $ nothing ! $ fjoin ! $ nothing ! $ fjoin ! $ done !))
+            show ! path-exit (tt, (tt, ws .1)) $ says ! e $ nothing ! $ fjoin ! $ nothing ! $ fjoin ! $ done !))
 
       abbrev Back : Val → Result F κs .Denot → SProp 𝓤
       Back u r = sep 𝓤 token (sem 𝓤 H A (Result F κs .own r (u ∷ [])))
@@ -214,8 +214,8 @@ module _ {M : Type 1} (𝓤 : URA M) (H : Heap 𝓤) (A : Atoms 𝓤) where
         returned : ent 𝓤 (OfView .post (to-view view) u) (OfPath .post here u)
         returned =
             W .laws .⇛-mono _ _ (exE 𝓤 _ (λ r.
-            via 𝓤 (sep 𝓤 (Back u r) (ex 𝓤 (tells r))) (monoR 𝓤 (Back u r) (handed r))
-            (exI 𝓤 (λ r. sep 𝓤 (Back u r) (ex 𝓤 (tells r))) r)))
+            via 𝓤 (sep 𝓤 (Back u r) (ex 𝓤 (path-exit r))) (monoR 𝓤 (Back u r) (handed r))
+            (exI 𝓤 (λ r. sep 𝓤 (Back u r) (ex 𝓤 (path-exit r))) r)))
 
         typed : Lawful 𝓤 H A (Result F κs)
             → ent 𝓤 (OfView .post (to-view view) u)
@@ -238,7 +238,7 @@ module _ {M : Type 1} (𝓤 : URA M) (H : Heap 𝓤) (A : Atoms 𝓤) where
         let last : Val → SProp 𝓤 = OfView .post (view (slice s)) in
         via 𝓤 _ (fst∗ 𝓤 _ (emp 𝓤))
         (said 𝓤 H A (lent F) κs qs (slice-vals, (bool-vals, F .spell κs))
-        (shr-slice-tells (named 0) (κs .0) f64, (bool-tells, F .tell κs)) (s, (closed, a))
+        (shr-slice-tells (named 0) (κs .0) f64, (bool-tells, F .spell-is κs)) (s, (closed, a))
         (λ us. WpFn 𝓤 H (𝓣 .C) (𝓣 .Λ) e (flat (typesAt (lent F .params) κs) us)
         (OfPath .post ((κs, qs, bounds, (s, (closed, a)), us), tt))) vss (λ are.
         via 𝓤 _ (starts W κs qs s closed a)

@@ -1,2 +1,2 @@
-// Whether a parameter lies on a segment: the range test that the kernel of two lines shares with a line and an arc.
+// Whether a parameter lies on a segment: the range test of two lines, and of a line and an arc.
 pub mod range;

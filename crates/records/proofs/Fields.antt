@@ -1,4 +1,4 @@
--- One turn of the loop that looks through a line's fields.
+-- One turn of the loop over the fields of a text line.
 use Prim.Native.Nat.{ℕ, suc, _+_, _*_, _-_, _≤_, _<_}
 use mathlib.Core.Path.{_≡_}
 use mathlib.Core.Bool.{Bool, true, false}

@@ -1,4 +1,4 @@
--- The records of each call: how many numbers a line has, and when its answers are ours.
+-- The records of each call: how many numbers a text line has, and when its answers are ours.
 use Prim.Native.Nat.{ℕ}
 use mathlib.Core.Bool.{Bool, false, cond}
 use mathlib.Core.List.{List}
@@ -42,6 +42,6 @@ isOurs call body =
     (cond (eqb call PLINE-SEG) (OnCrossing.plineSeg body)
     (agreesOf call (valueAt body 0) (valueAt body 1) (valueAt body 2))))))))))
 
--- a line: the five bytes of its name, and what follows them
+-- a text line: the five bytes of its name, and what follows them
 unfoldable pub isRight : List ℕ → List ℕ → Bool
 isRight head body = cond (isLine (numbersOf (nameOf head)) body) (isOurs (nameOf head) body) false

@@ -1,4 +1,4 @@
--- Whether a line's answers are what the definitions of `crossing` say for its operands: the number that a C call returns
+-- Whether a text line's answers are what the definitions of `crossing` say for its operands: the number that a C call returns
 -- (`numbersBelow` plus its number for a refusal), and the four values of an answer.
 use Prim.Native.Nat.{ℕ, _+_, _/_, _%_}
 use mathlib.Core.Bool.{Bool, cond, _&&_}

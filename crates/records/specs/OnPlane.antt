@@ -1,4 +1,4 @@
--- Whether a line's answers are what the definitions of `plane` say for its operands.
+-- Whether a text line's answers are what the definitions of `plane` say for its operands.
 use Prim.Native.Nat.{ℕ, _+_}
 use mathlib.Core.Bool.{Bool, _&&_, _||_}
 use mathlib.Core.List.{List}

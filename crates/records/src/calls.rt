@@ -9,7 +9,7 @@ use super::on_floats;
 use super::on_plane;
 use super::text;
 
-// How many numbers a line of this call has, operands and answers; 0 if there is no such call.
+// How many numbers a text line of this call has, operands and answers; 0 if there is no such call.
 pub fn numbers(call: u64) -> usize
     ensures { λ r. ⌜ r ≡ numbersOf call ⌝ }
     ensures { λ r. ⌜ r ≤ mostNumbers ⌝ }
@@ -56,7 +56,7 @@ pub fn numbers(call: u64) -> usize
     0
 }
 
-// Whether the call gives the line's answers for the line's operands. No if there is no such call.
+// Whether the call gives a text line's answers for its operands. No if there is no such call.
 pub fn is_ours(call: u64, body: &[u8]) -> bool
     ensures { λ r. ⌜ r ≡ isOurs call (now (body .entry)) ⌝ }
 {

@@ -1,4 +1,4 @@
-// Whether the crossing calls give the answers of a line. A line has the operands, in the order of the C call's parameters, then
+// Whether the crossing calls give the answers of a text line. It has the operands, in the order of the C call's parameters, then
 // the number that the call returns, then the four values of the answer.
 ghost use mathlib.Core.Path.{_≡_};
 ghost use Prim.Native.Nat.{_<_, _+_};
@@ -17,7 +17,7 @@ use crossing::line_circle_intersect;
 use crossing::line_line_intersect;
 use fast_pair::pair;
 
-// Whether the line's two lines meet as it says.
+// Whether the two lines of a text line meet as it says.
 pub fn line_line(body: &[u8]) -> bool
     ensures { λ r. ⌜ r ≡ OnCrossing.lineLine (now (body .entry)) ⌝ }
 {
@@ -31,7 +31,7 @@ pub fn line_line(body: &[u8]) -> bool
     is_answer(padded::of_line_line(met), body, 9)
 }
 
-// Whether the line's line and circle meet as it says.
+// Whether the line and the circle of a text line meet as it says.
 pub fn line_circle(body: &[u8]) -> bool
     ensures { λ r. ⌜ r ≡ OnCrossing.lineCircle (now (body .entry)) ⌝ }
 {
@@ -45,7 +45,7 @@ pub fn line_circle(body: &[u8]) -> bool
     is_answer(padded::of_line_circle(met), body, 8)
 }
 
-// Whether the line's circles meet as it says.
+// Whether the circles of a text line meet as it says.
 pub fn circle_circle(body: &[u8]) -> bool
     ensures { λ r. ⌜ r ≡ OnCrossing.circleCircle (now (body .entry)) ⌝ }
 {
@@ -59,7 +59,7 @@ pub fn circle_circle(body: &[u8]) -> bool
     is_answer(padded::of_circle_circle(met), body, 7)
 }
 
-// Whether the line's segments meet as it says.
+// Whether the segments of a text line meet as it says.
 pub fn pline_seg(body: &[u8]) -> bool
     ensures { λ r. ⌜ r ≡ OnCrossing.plineSeg (now (body .entry)) ⌝ }
 {
@@ -73,7 +73,7 @@ pub fn pline_seg(body: &[u8]) -> bool
     is_answer(padded::of_pline_seg(met), body, 13)
 }
 
-// Whether the answer is the one that the line has from number i on. A refusal is `NUMBERS_BELOW` plus its number.
+// Whether the answer is the one that the text line has from number i on. A refusal is `NUMBERS_BELOW` plus its number.
 fn is_answer(numbers: PaddedAnswer, body: &[u8], i: usize) -> bool
     requires { ⌜ i + 4 < mostNumbers ⌝ }
     ensures { λ r. ⌜ r ≡ OnCrossing.isAnswer numbers (now (body .entry)) i ⌝ }

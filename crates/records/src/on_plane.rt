@@ -1,5 +1,5 @@
-// Whether `plane` gives the answers of a line. The operands come first, then the answers, in the order of the Rust's parameters
-// and results. Zeros of either sign are equal, and so are any two NaNs.
+// Whether `plane` gives the answers of a text line. The operands come first, then the answers, in the order of the Rust's
+// parameters and results. Zeros of either sign are equal, and so are any two NaNs.
 ghost use mathlib.Core.Path.{_≡_};
 ghost use Prim.Native.Nat.{_<_, _+_};
 ghost use Rattle.records.specs.Text.{mostNumbers};
@@ -62,7 +62,7 @@ pub fn same(x: f64, y: f64) -> bool
     (x == y) | ((x != x) & (y != y))
 }
 
-// The point whose coordinates are numbers i and i + 1 of a line.
+// The point whose coordinates are numbers i and i + 1 of a text line.
 pub fn point(body: &[u8], i: usize) -> Vector2
     requires { ⌜ i + 2 < mostNumbers ⌝ }
     ensures { λ r. ⌜ r ≡ OnPlane.pointAt (now (body .entry)) i ⌝ }
@@ -70,7 +70,7 @@ pub fn point(body: &[u8], i: usize) -> Vector2
     Vector2::new(number(body, i), number(body, i + 1))
 }
 
-// The vertex whose three numbers start at number i of a line.
+// The vertex whose three numbers start at number i of a text line.
 pub fn vertex(body: &[u8], i: usize) -> PlineVertex
     requires { ⌜ i + 2 < mostNumbers ⌝ }
     ensures { λ r. ⌜ r ≡ OnPlane.vertexAt (now (body .entry)) i ⌝ }

@@ -32,7 +32,7 @@ fn kinds_do_what_they_say() {
     assert!(often("a smooth joint", |p| share(p.v, p.u) == Some(Way::Joint)) > 300);
     assert!(often("at a whole point", |p| share(p.v, p.u) == Some(Way::Touch)) > 100);
     assert!(often("at a whole point", |p| share(p.v, p.u) == Some(Way::End)) > 100);
-    assert!(often("near tangent", |p| share(p.v, p.u).is_some()) > 300);
+    assert!(often("nearly tangent", |p| share(p.v, p.u).is_some()) > 300);
     assert!(often("an end near the other", |p| share(p.v, p.u).is_some()) > 300);
     assert!(
         often("small against large", |p| share(p.v, p.u)
@@ -43,7 +43,7 @@ fn kinds_do_what_they_say() {
     assert!(often("one circle", |p| share(p.v, p.u).is_some()) > 200);
     assert!(often("at the limit", |p| share(p.v, p.u).is_some()) > 100);
     let largest = |p: &Pair| p.v.radius().max(p.u.radius()) > 1e10;
-    for kind in ["near tangent", "small against large", "flat"] {
+    for kind in ["nearly tangent", "small against large", "flat"] {
         assert!(often(kind, largest) > 10, "{kind}");
     }
 }

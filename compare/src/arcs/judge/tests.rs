@@ -6,15 +6,15 @@ use crate::rng::Rng;
 
 /// Each pair in both orders, and each segment from either end.
 fn shared(v: Piece, u: Piece) -> Option<Way> {
-    let told = share(v, u);
+    let way = share(v, u);
     for (a, b) in [(v, u), (u, v)] {
         for a in [a, a.reversed()] {
             for b in [b, b.reversed()] {
-                assert_eq!(share(a, b), told, "{a:?} {b:?}");
+                assert_eq!(share(a, b), way, "{a:?} {b:?}");
             }
         }
     }
-    told
+    way
 }
 
 /// The half circle about 0 of radius 5, below the x axis.
@@ -147,9 +147,9 @@ fn chains_of_lines_agree() {
         }
         let mut bulge = || rng.below(2 * ONE as u64 + 1) as i64 - ONE;
         let (v, u) = (Piece { n: bulge(), ..v }, Piece { n: bulge(), ..u });
-        let told = shared(v, u).is_some();
-        counts[usize::from(told)] += 1;
-        differ += u32::from(told != chains_cross(&points(v), &points(u)));
+        let touch = shared(v, u).is_some();
+        counts[usize::from(touch)] += 1;
+        differ += u32::from(touch != chains_cross(&points(v), &points(u)));
     }
     assert!(counts.iter().all(|&n| n > 200), "{counts:?}");
     assert!(differ <= 2, "{differ}");

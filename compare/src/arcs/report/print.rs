@@ -1,4 +1,4 @@
-//! The tables of a search, as rows of a document.
+//! The tables of a search, as lines of a document.
 
 use super::super::draw::KINDS;
 use super::super::judge::WAYS;
@@ -10,13 +10,13 @@ impl Report {
     /// Prints the tables.
     pub fn print_tables(&self) {
         println!(
-            "{}: how they were drawn | pairs | share a point | missed | reported apart",
+            "{}: how they were drawn | pairs | share a point | missed | reported without a shared point",
             self.name
         );
         for ((kind, _), d) in KINDS.iter().zip(&self.drawn) {
             println!(
                 "| {kind} | {} | {} | {} | {} |",
-                d.pairs, d.shared, d.missed, d.apart
+                d.pairs, d.shared, d.missed, d.unshared
             );
         }
         let classes =
@@ -41,15 +41,15 @@ impl Report {
         }
         println!("the least radius that was missed at epsilon 1/1024");
         self.each(|arcs, at| self.print_least(arcs, at));
-        println!("the farthest apart that was reported at epsilon 1/1024");
+        println!("the greatest distance that was reported at epsilon 1/1024");
         for (pairs, farthest) in PAIRS.iter().zip(&self.farthest) {
             if let Some((pair, far)) = farthest {
                 println!("| {pairs} | {far:.6} | {} |", pair.written());
             }
         }
-        println!("reported without a shared point, and the farthest apart | epsilon {grid}");
+        println!("reported without a shared point, and the greatest distance | epsilon {grid}");
         for arcs in 0..PAIRS.len() {
-            self.print_apart(arcs);
+            self.print_unshared(arcs);
         }
     }
 
@@ -61,19 +61,19 @@ impl Report {
         }
     }
 
-    /// Prints the sums, and answers how many answers were a refusal, a miss that may not be, or too far apart.
+    /// Prints the sums, and answers how many answers were a refusal, a miss that may not be, or at too large a distance.
     pub fn print(&self) -> u64 {
         let sum = |f: fn(&Drawn) -> u64| self.drawn.iter().map(f).sum::<u64>();
         println!(
             "{}: {} pairs with arcs judged, {} share a point, {} missed by up to {:.2} and {:.2} roundings, \
-             {} reported apart; {} beyond what the search allows",
+             {} reported without a shared point; {} beyond what the search allows",
             self.name,
             sum(|d| d.pairs),
             sum(|d| d.shared),
             sum(|d| d.missed),
             self.most[1][FINE..].iter().fold(0.0, |a: f64, &b| a.max(b)),
             self.most[2][FINE..].iter().fold(0.0, |a: f64, &b| a.max(b)),
-            sum(|d| d.apart),
+            sum(|d| d.unshared),
             self.broken
         );
         self.broken
@@ -107,10 +107,10 @@ impl Report {
             .map(|class| &class[low..high])
             .collect();
         let sum = |of: &[Cell], f: fn(&Cell) -> u64| of.iter().map(f).sum::<u64>();
-        let told = cells
+        let shown = cells
             .iter()
             .map(|of| format!("{} of {}", sum(of, |c| c.missed), sum(of, |c| c.shared)));
-        let told = told.collect::<Vec<_>>().join(" | ");
+        let shown = shown.collect::<Vec<_>>().join(" | ");
         let deepest = cells
             .iter()
             .flat_map(|of| of.iter())
@@ -118,7 +118,7 @@ impl Report {
             .fold(0.0, f64::max);
         if cells.iter().any(|of| sum(of, |c| c.shared) > 0) {
             println!(
-                "| {}, {}, {name} | {told} | {deepest:.1} |",
+                "| {}, {}, {name} | {shown} | {deepest:.1} |",
                 PAIRS[arcs], WAYS[at].1
             );
         }
@@ -136,20 +136,23 @@ impl Report {
         }
     }
 
-    fn print_apart(&self, arcs: usize) {
+    fn print_unshared(&self, arcs: usize) {
         for band in 0..BANDS {
             let cells: Vec<Cell> = self.cells[arcs][0][FINE..]
                 .iter()
                 .map(|class| class[band])
                 .collect();
-            if cells.iter().any(|c| c.apart > 0) {
-                let told = cells
-                    .iter()
-                    .map(|c| format!("{}: {:.4}, {:.3} epsilons", c.apart, c.farthest, c.epsilons));
+            if cells.iter().any(|c| c.unshared > 0) {
+                let shown = cells.iter().map(|c| {
+                    format!(
+                        "{}: {:.4}, {:.3} epsilons",
+                        c.unshared, c.farthest, c.epsilons
+                    )
+                });
                 println!(
                     "| {}, 2^{band} | {} |",
                     PAIRS[arcs],
-                    told.collect::<Vec<_>>().join(" | ")
+                    shown.collect::<Vec<_>>().join(" | ")
                 );
             }
         }

@@ -1,7 +1,7 @@
 //! Two circles, given as circles or as those of arcs: they just touch from outside or inside, or their centres just count as one.
 //!
 //! A quick test needs the radii plus epsilon to be at least epsilon. This always holds for accepted circles: the least radius is
-//! not lost in a sum with the largest epsilon. The smallest circles, an epsilon apart, come nearest to that limit.
+//! not lost in a sum with the largest epsilon. The smallest circles, at the distance of an epsilon, come nearest to that limit.
 
 use super::{operands, some_epsilon, Beside, Edge, Way};
 use crate::crossing::calls::{at, CALLS};
@@ -16,7 +16,7 @@ use crate::rng::Rng;
 #[derive(Clone, Copy)]
 struct Stand {
     radii: [f64; 2],
-    apart: f64,
+    distance: f64,
     epsilon: f64,
     step: f64,
 }
@@ -142,7 +142,8 @@ pub fn edges() -> Vec<Edge> {
         ),
     ];
     let all = ENTRIES.iter().map(edge);
-    all.chain(by_quick_test.map(Edge::by_what_is_kept)).collect()
+    all.chain(by_quick_test.map(Edge::by_what_is_kept))
+        .collect()
 }
 
 /// As two arcs, or as circles by themselves.
@@ -162,7 +163,7 @@ fn radius(rng: &mut Rng) -> f64 {
     }
 }
 
-/// The circles touch from outside, or are an epsilon farther apart.
+/// The circles touch from outside, or are an epsilon farther from each other.
 fn outside(by_epsilon: bool, rng: &mut Rng) -> Stand {
     let first = radius(rng);
     let any = rng.between(0.01, 1.0);
@@ -171,7 +172,7 @@ fn outside(by_epsilon: bool, rng: &mut Rng) -> Stand {
     let far = if by_epsilon { epsilon } else { 0.0 };
     Stand {
         radii,
-        apart: radii[0] + radii[1] + far,
+        distance: radii[0] + radii[1] + far,
         epsilon,
         step: radii[0].min(radii[1]) / 8.0,
     }
@@ -182,7 +183,7 @@ fn smallest(rng: &mut Rng) -> Stand {
     let epsilon = some_epsilon(rng);
     Stand {
         radii,
-        apart: radii[0] + radii[1] + epsilon,
+        distance: radii[0] + radii[1] + epsilon,
         epsilon,
         step: radii[0].min(radii[1]) / 8.0,
     }
@@ -198,17 +199,17 @@ fn nested(outwards: f64, rng: &mut Rng) -> Stand {
     let epsilon = some_epsilon(rng).min(difference / 4.0);
     Stand {
         radii: [first, second],
-        apart: difference + outwards * epsilon,
+        distance: difference + outwards * epsilon,
         epsilon,
         step: difference / 8.0,
     }
 }
 
-/// Centres an epsilon apart; or nearer, with radii that differ by an epsilon.
+/// Centres at the distance of an epsilon; or nearer, with radii that differ by an epsilon.
 fn about_one_centre(centres: bool, rng: &mut Rng) -> Stand {
     let epsilon = some_epsilon(rng);
     let first = radius(rng).max(3.0 * epsilon);
-    let [second, apart] = if centres {
+    let [second, distance] = if centres {
         let second = match rng.below(4) {
             0 => first * 0.5,
             1 => first + rng.sign() * epsilon * rng.between(0.0, 2.0),
@@ -217,12 +218,12 @@ fn about_one_centre(centres: bool, rng: &mut Rng) -> Stand {
         [second, epsilon]
     } else {
         let any = rng.unit();
-        let apart = rng.pick(&[0.0, 0.5, any]) * epsilon;
-        [first + rng.sign() * epsilon, apart]
+        let distance = rng.pick(&[0.0, 0.5, any]) * epsilon;
+        [first + rng.sign() * epsilon, distance]
     };
     Stand {
         radii: [first, second],
-        apart,
+        distance,
         epsilon,
         step: epsilon / 2.0,
     }
@@ -237,12 +238,12 @@ fn centre(size: f64, rng: &mut Rng) -> Point {
 fn circles(stand: Stand, rng: &mut Rng) -> Way {
     let Stand {
         radii,
-        apart,
+        distance,
         epsilon,
         step,
     } = stand;
     let first = centre(radii[0], rng);
-    let second = first.along(unit(rng), apart);
+    let second = first.along(unit(rng), distance);
     // as large or small as circles may be
     let size = if rng.one_in(4) && radii[0].min(radii[1]) > 1e-3 && radii[0].max(radii[1]) < 1e5 {
         power(rng, -25, 25)
@@ -259,7 +260,7 @@ fn circles(stand: Stand, rng: &mut Rng) -> Way {
 fn arcs(stand: Stand, rng: &mut Rng) -> Way {
     let Stand {
         radii,
-        apart,
+        distance,
         epsilon,
         step,
     } = stand;
@@ -270,12 +271,12 @@ fn arcs(stand: Stand, rng: &mut Rng) -> Way {
         radius: radii[0],
     };
     let second = Circle {
-        center: center.along(way, apart),
+        center: center.along(way, distance),
         radius: radii[1],
     };
     // where they touch, seen from each centre
     let back = Point::default().along(way, -1.0);
-    let touching = if apart > radii[0].max(radii[1]) {
+    let touching = if distance > radii[0].max(radii[1]) {
         [way, back]
     } else if radii[0] > radii[1] {
         [way, way]

@@ -132,13 +132,13 @@ fn near_zero() -> impl Iterator<Item = Edge> {
         edge.of_pairs_only()
     });
     let sides = [(0, "v"), (1, "u")];
-    let apart = sides.map(|(which, name)| {
+    let distances = sides.map(|(which, name)| {
         Edge::new(
             format!("|{name} perp w| at eps, v perp u below it"),
             move |rng| parallel(which, rng),
             move |n| {
                 let lines = Lines::of(n);
-                Beside::new(lines.apart(which).abs(), lines.epsilon)
+                Beside::new(lines.distance_by_length(which).abs(), lines.epsilon)
             },
         )
     });
@@ -152,7 +152,7 @@ fn near_zero() -> impl Iterator<Item = Edge> {
             },
         )
     });
-    product.into_iter().chain(apart).chain(point)
+    product.into_iter().chain(distances).chain(point)
 }
 
 /// A segment that is a point, and the other one.
@@ -247,7 +247,7 @@ impl Lines {
     }
 
     /// The distance of parallel lines times a segment's length. For lines that are not parallel it is beside no edge.
-    fn apart(&self, which: usize) -> f64 {
+    fn distance_by_length(&self, which: usize) -> f64 {
         if self.perp().abs() < self.epsilon {
             self.with_w(which)
         } else {

@@ -82,9 +82,9 @@ put-hex-more k n h {old} {mid} {at} {to} p g e =
 
 -- ---- the place of the last digit lies in the slice
 
-pub last-inside : {bytes old now : List ℕ} {at next : ℕ} (whole : ℕ) → Put bytes old at now next → length bytes + 1 ≡ whole
-    → at + whole ≤ length old → length now ≡ length old → next < length now
-last-inside whole p e h same = omega (arith, p .after)
+pub last-inside : {bytes old now : List ℕ} {at next : ℕ} (most : ℕ) → Put bytes old at now next → length bytes + 1 ≡ most
+    → at + most ≤ length old → length now ≡ length old → next < length now
+last-inside most p e h same = omega (arith, p .after)
 
 -- ---- a word, byte by byte
 

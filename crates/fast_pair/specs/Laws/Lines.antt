@@ -210,15 +210,15 @@ not-zero (fin t m e) eps s Y E v w h far =
         (own-diff eps false E unit w) .1
         (omega arith)
 
-pub outside-told : (n d eps : Float) (E : ℕ) → T (fits binary64 n) → T (fits binary64 d) → HasValue eps false E unit → 0 < E
+pub outside-known : (n d eps : Float) (E : ℕ) → T (fits binary64 n) → T (fits binary64 d) → HasValue eps false E unit → 0 < E
     → (F64.abs d ≺ eps) ≡ false → T (quotientOutside n d) → T (outside (n ⊘ d))
-outside-told nan d eps E n-fits d-fits e-value some far h = absurd (of-nan d h)
-outside-told (inf s) nan eps E n-fits d-fits e-value some far h = absurd (by-nan (inf s) h)
-outside-told (fin s m e) nan eps E n-fits d-fits e-value some far h = absurd (by-nan (fin s m e) h)
-outside-told (inf s) (inf t) eps E n-fits d-fits e-value some far h = absurd (by-infinity (inf s) t h)
-outside-told (fin s m e) (inf t) eps E n-fits d-fits e-value some far h = absurd (by-infinity (fin s m e) t h)
-outside-told (inf s) (fin t k f) eps E n-fits d-fits e-value some far h = infinite s t k f
-outside-told (fin s m e) (fin t k f) eps E n-fits d-fits e-value some far h =
+outside-known nan d eps E n-fits d-fits e-value some far h = absurd (of-nan d h)
+outside-known (inf s) nan eps E n-fits d-fits e-value some far h = absurd (by-nan (inf s) h)
+outside-known (fin s m e) nan eps E n-fits d-fits e-value some far h = absurd (by-nan (fin s m e) h)
+outside-known (inf s) (inf t) eps E n-fits d-fits e-value some far h = absurd (by-infinity (inf s) t h)
+outside-known (fin s m e) (inf t) eps E n-fits d-fits e-value some far h = absurd (by-infinity (fin s m e) t h)
+outside-known (inf s) (fin t k f) eps E n-fits d-fits e-value some far h = infinite s t k f
+outside-known (fin s m e) (fin t k f) eps E n-fits d-fits e-value some far h =
     let n = fin s m e in
     let d = fin t k f in
     let a = units64 n tt n-fits in
@@ -237,7 +237,7 @@ not-within n d v eps n-fits d-fits e-fits far h =
     let sizes = and-l (usual square eps) (quotientOutside n d) h in
     let e = eps-between square eps e-fits sizes in
     within-outside (n ⊘ d) v eps (div-fits binary64 n d) e-fits sizes
-    (outside-told n d eps (e .X) n-fits d-fits (e .value) (e .some) far (and-r (usual square eps) (quotientOutside n d) h))
+    (outside-known n d eps (e .X) n-fits d-fits (e .value) (e .some) far (and-r (usual square eps) (quotientOutside n d) h))
 
 first-off : (a b : Bool) (x y : LineLineIntr) → a ≡ false → cond (not a || not b) x y ≡ x
 first-off a b x y e = rw e

@@ -1,4 +1,4 @@
--- The rounded root in whole numbers. Let q be the whole part of the root of n, with one digit more than the format keeps. Then
+-- The rounded root in whole numbers. Let q be the whole part of the root of n, with one digit more than the format has. Then
 -- the root of n * 4 ^ g rounds to (q + 1) / 2 * 2 ^ g. The caller excludes a tie: q odd and exact. The argument: the whole part Q
 -- of the root of n * 4 ^ g lies from q * 2 ^ g up to (q + 1) * 2 ^ g. So twice Q plus its sticky bit has the same leading digits
 -- as q, and it lies on the same side of the halfway point, which the last digit of q decides.
@@ -58,8 +58,8 @@ module _ (n q G Q : ℕ) (r : IsRoot n q) (R : IsRoot (n * (G * G)) Q) where
       sq-lt Q ((q + 1) * G) (omega (arith, R .low))
 
   -- if n is no square, the sticky bit shows it
-  apart : 0 < G → (q * q ≡ n → ⊥) → 2 * (q * G) < 2 * Q + sticky (n * (G * G)) Q
-  apart p no-square = go (eqb (Q * Q) (n * (G * G))) (eqb→eq (Q * Q) (n * (G * G))) (eq-or-lt-of-le lower)
+  sticky-shows : 0 < G → (q * q ≡ n → ⊥) → 2 * (q * G) < 2 * Q + sticky (n * (G * G)) Q
+  sticky-shows p no-square = go (eqb (Q * Q) (n * (G * G))) (eqb→eq (Q * Q) (n * (G * G))) (eq-or-lt-of-le lower)
     where
       same : Q * Q ≡ n * (G * G) → q * G ≡ Q → q * q * (G * G) ≡ n * (G * G)
       same x y = omega (arith, ap (λ (z : ℕ). z * z) y)
@@ -137,7 +137,7 @@ module _ (f : Format) (n q g : ℕ) (r : IsRoot n q) (lo : 2 ^ prec f ≤ q) (hi
       let digits : size (a * l / d) ≡ prec f + g =
       size-root (prec f) g q Q s l d (two f) (pow-pos (low f)) e lo hi S least most in
       let place : drop (prec f) (a * l) d ≡ g = ap (λ (t : ℕ). t - prec f) digits ∙ front (prec f) in
-      let side = last w (half-up q) (apart n q G Q r (isqrt-is N) P) in
+      let side = last w (half-up q) (sticky-shows n q G Q r (isqrt-is N) P) in
       let rounded : closest (a * l) (d * G) ≡ w = near a G Q s q w refl S least most l d (pow-pos (low f)) P e side in
       let made : grid f a d ≡ w * G = ap (λ (t : ℕ). closest (a * l) (d * 2 ^ t) * 2 ^ t) place ∙ ap (λ (t : ℕ). t * G) rounded in
       let value = round-val f a d (subst (λ (t : ℕ). t < overflow f) (sym made) fine) in

@@ -160,7 +160,7 @@ module _ (f : Format) (X : ℕ) (some : 0 < X) (r : Float) (fit : T (fits f r)) 
   held : Held (prec f) (h .R)
   held = held-of f r false (h .R) fit (h .value) .0
 
-  -- the root of one unit has more digits than the format keeps
+  -- the root of one unit has more digits than the format has
   enough : 2 ^ (prec f - 1) ≤ h .R
   enough =
       least-at f X r h (2 ^ (prec f - 1)) (held-pow f (prec f - 1))

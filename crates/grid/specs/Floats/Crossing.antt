@@ -50,7 +50,7 @@ pub record Crossed (r : LineLineIntr) (s1 s2 num den : ℕ) (P1 N1 D1 P2 N2 D2 :
   pub inside : Inside P1 N1 D1 → Inside P2 N2 D2 → r ≡ TrueIntersect t1 t2
 
 module _ (e : Float) (num den : ℕ) (h : Eps e num den) (v u w : Vector2) (A : Vec 21 v) (B : Vec 21 u) (C : Vec 21 w)
-    (apart : perp v u A B .p ≡ perp v u A B .n → ⊥) where
+    (not-level : perp v u A B .p ≡ perp v u A B .n → ⊥) where
   abbrev t1 : Float
   t1 = vector2.perpDot u w ⊘ vector2.perpDot v u
 
@@ -58,26 +58,26 @@ module _ (e : Float) (num den : ℕ) (h : Eps e num den) (v u w : Vector2) (A : 
   t2 = vector2.perpDot v w ⊘ vector2.perpDot v u
 
   pub first : Ratio 44 t1 (perp u w B C .p) (perp u w B C .n) (perp v u A B .p) (perp v u A B .n)
-  first = ratio 44 (vector2.perpDot u w) (vector2.perpDot v u) (perp u w B C) (perp v u A B) apart
+  first = ratio 44 (vector2.perpDot u w) (vector2.perpDot v u) (perp u w B C) (perp v u A B) not-level
 
   pub second : Ratio 44 t2 (perp v w A C .p) (perp v w A C .n) (perp v u A B .p) (perp v u A B .n)
-  second = ratio 44 (vector2.perpDot v w) (vector2.perpDot v u) (perp v w A C) (perp v u A B) apart
+  second = ratio 44 (vector2.perpDot v w) (vector2.perpDot v u) (perp v w A C) (perp v u A B) not-level
 
   -- the size of the perp dot, the divisor of both parameters
   abbrev pub base : ℕ
   base = gap (perp v u A B .p) (perp v u A B .n)
 
   pub long-v : Long v (square v A)
-  long-v = long v A (no-point v u A B apart)
+  long-v = long v A (no-point v u A B not-level)
 
   long-u : Long u (square u B)
-  long-u = long u B (no-point u v B A (λ e. apart (turned-perp v u A B e)))
+  long-u = long u B (no-point u v B A (λ e. not-level (turned-perp v u A B e)))
 
   pub crossing-says : Crossed (crossing v u w (vector2.perpDot v u) e) (square v A) (square u B) num den
       (first .P) (first .N) base (second .P) (second .N) base t1 t2
   unfolding crossing
   crossing-says = record {
-    answer = told (onSegment t1 v e) (onSegment t2 u e)
+    answer = by-tests (onSegment t1 v e) (onSegment t2 u e)
         (within-says e num den h v (square v A) long-v t1 (first .P) (first .N) base (first .place))
         (within-says e num den h u (square u B) long-u t2 (second .P) (second .N) base (second .place));
     inside = λ x y. sure (onSegment t1 v e) (onSegment t2 u e)
@@ -85,15 +85,15 @@ module _ (e : Float) (num den : ℕ) (h : Eps e num den) (v u w : Vector2) (A : 
         (within-yes e num den h u (square u B) long-u t2 (second .P) (second .N) base (second .place) (y .0) (y .1));
   }
     where
-      told : (a b : Bool) → (a ≡ true → Reaches (square v A) num den (first .P) (first .N) base)
+      by-tests : (a b : Bool) → (a ≡ true → Reaches (square v A) num den (first .P) (first .N) base)
           → (b ≡ true → Reaches (square u B) num den (second .P) (second .N) base)
           → ((cond (not a || not b) (FalseIntersect t1 t2) (TrueIntersect t1 t2) ≡ TrueIntersect t1 t2)
           × Reaches (square v A) num den (first .P) (first .N) base
           × Reaches (square u B) num den (second .P) (second .N) base)
           ⊎ (cond (not a || not b) (FalseIntersect t1 t2) (TrueIntersect t1 t2) ≡ FalseIntersect t1 t2)
-      told true true x y = inl (refl, x refl, y refl)
-      told true false x y = inr refl
-      told false b x y = inr refl
+      by-tests true true x y = inl (refl, x refl, y refl)
+      by-tests true false x y = inr refl
+      by-tests false b x y = inr refl
 
       sure : (a b : Bool) → a ≡ true → b ≡ true
           → cond (not a || not b) (FalseIntersect t1 t2) (TrueIntersect t1 t2) ≡ TrueIntersect t1 t2

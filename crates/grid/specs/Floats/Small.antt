@@ -27,7 +27,7 @@ sum-le i a b h k = omega (arith, pow-succ' 2 i)
 pub exact : (i a b : ℕ) → suc i ≤ 53 → a ≤ 2 ^ suc i → a ≤ b + 2 ^ 53
 exact i a b h k = let w : 2 ^ suc i ≤ 2 ^ 53 = pow-mono h in omega arith
 
--- a number is exact if its parts are at most 2 ^ 53 apart: one part is a + c, the other b + d
+-- a number is exact if its parts differ by at most 2 ^ 53: one part is a + c, the other b + d
 abbrev exactly : (i : ℕ) (r : Float) (a b c d : ℕ) → suc i ≤ 53 → a ≤ 2 ^ i → b ≤ 2 ^ i → c ≤ 2 ^ i → d ≤ 2 ^ i
     → (a + c ≤ b + d + 2 ^ 53 → b + d ≤ a + c + 2 ^ 53 → Diff r (a + c) (b + d) 1)
     → Small (suc i) r

@@ -1,4 +1,4 @@
--- Two segments that are not parallel: their lines cross at one point, the meeting point, which lies steps-v / base of the way
+-- Two segments that are not parallel: their lines cross at one point, the crossing point, which lies steps-v / base of the way
 -- along v and steps-u / base of the way along u. They share a point exactly if both places are from 0 to 1, and never more than
 -- one.
 use mathlib.Core.Path.{_≡_, refl, ap, _∙_, subst}
@@ -76,7 +76,7 @@ same-ratio a b c p q k H h e =
 on-line : (P : Point) (a b : Spot) → OnSegment P a b → OnLine P a b
 on-line P a b (s, t, l, h) = (pos s, t, h)
 
--- ---- the place of the meeting point
+-- ---- the place of the crossing point
 abbrev pub base : Spot → Spot → Spot → Spot → ℕ
 base v1 v2 u1 u2 = natAbs (across v1 v2 u1 u2)
 
@@ -113,8 +113,8 @@ module _ (v1 v2 u1 u2 : Spot) (slant : ¬ Parallel v1 v2 u1 u2) where
   pub base-pos : 0 < base v1 v2 u1 u2
   base-pos = size-pos (across v1 v2 u1 u2) (λ h. slant (across-parallel v1 v2 u1 u2 h))
 
-  abbrev pub meeting : Point
-  meeting =
+  abbrev pub crossing-point : Point
+  crossing-point =
       record {
         x = v1 .x *ℤ pos (base v1 v2 u1 u2) +ℤ (v2 .x -ℤ v1 .x) *ℤ steps-v v1 v2 u1 u2;
         y = v1 .y *ℤ pos (base v1 v2 u1 u2) +ℤ (v2 .y -ℤ v1 .y) *ℤ steps-v v1 v2 u1 u2;
@@ -122,11 +122,11 @@ module _ (v1 v2 u1 u2 : Spot) (slant : ¬ Parallel v1 v2 u1 u2) where
         positive = base-pos;
       }
 
-  pub meeting-v : Placed meeting v1 v2 (steps-v v1 v2 u1 u2)
-  meeting-v = record { at-x = refl; at-y = refl }
+  pub crossing-point-v : Placed crossing-point v1 v2 (steps-v v1 v2 u1 u2)
+  crossing-point-v = record { at-x = refl; at-y = refl }
 
-  pub meeting-u : Placed meeting u1 u2 (steps-u v1 v2 u1 u2)
-  meeting-u =
+  pub crossing-point-u : Placed crossing-point u1 u2 (steps-u v1 v2 u1 u2)
+  crossing-point-u =
       let same = cramer (v1 .x) (v1 .y) (v2 .x -ℤ v1 .x) (v2 .y -ℤ v1 .y) (u1 .x) (u1 .y) (u2 .x -ℤ u1 .x) (u2 .y -ℤ u1 .y) in
       let turn = turned-sum (across v1 v2 u1 u2) in
       record {
@@ -134,10 +134,10 @@ module _ (v1 v2 u1 u2 : Spot) (slant : ¬ Parallel v1 v2 u1 u2) where
         at-y = turn (v1 .y) (v2 .y -ℤ v1 .y) (first v1 v2 u1 u2) (u1 .y) (u2 .y -ℤ u1 .y) (second v1 v2 u1 u2) (same .1);
       }
 
-  pub meeting-crosses : Crossing v1 v2 u1 u2 meeting
-  meeting-crosses = (
-    (steps-v v1 v2 u1 u2, base v1 v2 u1 u2, placed-along meeting v1 v2 _ meeting-v),
-    (steps-u v1 v2 u1 u2, base v1 v2 u1 u2, placed-along meeting u1 u2 _ meeting-u),
+  pub crossing-point-crosses : Crossing v1 v2 u1 u2 crossing-point
+  crossing-point-crosses = (
+    (steps-v v1 v2 u1 u2, base v1 v2 u1 u2, placed-along crossing-point v1 v2 _ crossing-point-v),
+    (steps-u v1 v2 u1 u2, base v1 v2 u1 u2, placed-along crossing-point u1 u2 _ crossing-point-u),
   )
 
   -- ---- they share a point exactly if both places are from 0 to 1
@@ -154,8 +154,8 @@ module _ (v1 v2 u1 u2 : Spot) (slant : ¬ Parallel v1 v2 u1 u2) where
 
   -- ---- the lines cross at no other point
   pub crossing-is : (P : Point) → Crossing v1 v2 u1 u2 P
-      → (P .x *ℤ pos (base v1 v2 u1 u2) ≡ meeting .x *ℤ pos (P .over))
-      × (P .y *ℤ pos (base v1 v2 u1 u2) ≡ meeting .y *ℤ pos (P .over))
+      → (P .x *ℤ pos (base v1 v2 u1 u2) ≡ crossing-point .x *ℤ pos (P .over))
+      × (P .y *ℤ pos (base v1 v2 u1 u2) ≡ crossing-point .y *ℤ pos (P .over))
   crossing-is P ((s, t, on-v), (s', t', on-u)) =
       let place = turned-eq (across v1 v2 u1 u2) (first v1 v2 u1 u2) s (pos t) (place-v v1 v2 u1 u2 P s s' t t' on-v on-u) in (
         same-place (P .x) (v1 .x) (v2 .x -ℤ v1 .x) s (steps-v v1 v2 u1 u2) (P .over) t (base v1 v2 u1 u2) (on-v .some)
@@ -166,12 +166,12 @@ module _ (v1 v2 u1 u2 : Spot) (slant : ¬ Parallel v1 v2 u1 u2) where
 
   pub crossing-once : (P Q : Point) → Crossing v1 v2 u1 u2 P → Crossing v1 v2 u1 u2 Q → ¬ Differ P Q
   crossing-once P Q h k (inl a) =
-      a (same-ratio (P .x) (Q .x) (meeting .x) (P .over) (Q .over) (base v1 v2 u1 u2) base-pos (crossing-is P h .0)
+      a (same-ratio (P .x) (Q .x) (crossing-point .x) (P .over) (Q .over) (base v1 v2 u1 u2) base-pos (crossing-is P h .0)
       (crossing-is Q k .0))
   crossing-once P Q h k (inr a) =
-      a (same-ratio (P .y) (Q .y) (meeting .y) (P .over) (Q .over) (base v1 v2 u1 u2) base-pos (crossing-is P h .1)
+      a (same-ratio (P .y) (Q .y) (crossing-point .y) (P .over) (Q .over) (base v1 v2 u1 u2) base-pos (crossing-is P h .1)
       (crossing-is Q k .1))
 
   pub share-once : ¬ ShareMore v1 v2 u1 u2
-  share-once (P, Q, apart, (p, p'), (q, q')) =
-      crossing-once P Q (on-line P v1 v2 p, on-line P u1 u2 p') (on-line Q v1 v2 q, on-line Q u1 u2 q') apart
+  share-once (P, Q, differ, (p, p'), (q, q')) =
+      crossing-once P Q (on-line P v1 v2 p, on-line P u1 u2 p') (on-line Q v1 v2 q, on-line Q u1 u2 q') differ

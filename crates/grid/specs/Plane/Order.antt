@@ -44,7 +44,7 @@ pub other : {A B : Type 0} → A ⊎ B → B ⊎ A
 other (inl a) = inr a
 other (inr b) = inl b
 
--- naturals keep their order
+-- naturals are in the same order
 pub pos-le : (m n : ℕ) → (pos m ≤ℤ pos n) ↔ (m ≤ n)
 pos-le m n = simp naturals (λ h. omega arith, λ h. omega arith)
 

@@ -1,6 +1,5 @@
 -- Two segments on one line, measured on u along the x axis, if u is not upright (else the axes are exchanged): they share a point
--- exactly if the spans meet, and more than one exactly if the spans meet in more than one. What they share is found at their
--- ends.
+-- exactly if the spans do, and more than one exactly if the spans do. What they share is found at their ends.
 use mathlib.Core.Path.{_≡_, refl, sym, ap, subst}
 use mathlib.Core.Logic.{_⊎_, inl, inr, _↔_}
 use mathlib.Core.List.{[], _∷_}
@@ -42,8 +41,8 @@ use Rattle.grid.specs.Plane.Spots.{
   share-more-reversed,
 }
 use Rattle.grid.specs.Plane.Spans.{
-  Meet,
-  MeetMore,
+  SpansShare,
+  SpansShareMore,
   size,
   mark,
   Seen,
@@ -54,21 +53,21 @@ use Rattle.grid.specs.Plane.Spans.{
   before-start,
 }
 
--- ---- if a point is shared, the spans meet
-pub shared-meet : (v1 v2 u1 u2 : Spot) → Share v1 v2 u1 u2 → Meet (mark u1 u2 v1) (mark u1 u2 v2) (size u1 u2)
-shared-meet v1 v2 u1 u2 (P, (p, q)) =
+-- ---- if a point is shared, the spans share one
+pub share-spans : (v1 v2 u1 u2 : Spot) → Share v1 v2 u1 u2 → SpansShare (mark u1 u2 v1) (mark u1 u2 v2) (size u1 u2)
+share-spans v1 v2 u1 u2 (P, (p, q)) =
     let h = seen v1 v2 u1 u2 P p q in (
       not-past u1 u2 P (mark u1 u2 v1) (mark u1 u2 v2) (size u1 u2) h,
       not-before u1 u2 P (mark u1 u2 v1) (mark u1 u2 v2) (size u1 u2) h,
     )
 
-pub shared-more-meet : (v1 v2 u1 u2 : Spot) → 0 < size u1 u2 → ShareMore v1 v2 u1 u2
-    → MeetMore (mark u1 u2 v1) (mark u1 u2 v2) (size u1 u2)
-shared-more-meet v1 v2 u1 u2 K (P, Q, apart, (p, p'), (q, q')) = (
+pub share-spans-more : (v1 v2 u1 u2 : Spot) → 0 < size u1 u2 → ShareMore v1 v2 u1 u2
+    → SpansShareMore (mark u1 u2 v1) (mark u1 u2 v2) (size u1 u2)
+share-spans-more v1 v2 u1 u2 K (P, Q, differ, (p, p'), (q, q')) = (
   either (lt-or-le a (pos k)) (lt-or-le b (pos k))
-      (λ l m. spot-once P Q u2 (past-end u1 u2 P a b k at-P K l m) (past-end u1 u2 Q a b k at-Q K l m) apart),
+      (λ l m. spot-once P Q u2 (past-end u1 u2 P a b k at-P K l m) (past-end u1 u2 Q a b k at-Q K l m) differ),
   either (lt-or-le (pos 0) a) (lt-or-le (pos 0) b)
-      (λ l m. spot-once P Q u1 (before-start u1 u2 P a b k at-P K l m) (before-start u1 u2 Q a b k at-Q K l m) apart),
+      (λ l m. spot-once P Q u1 (before-start u1 u2 P a b k at-P K l m) (before-start u1 u2 Q a b k at-Q K l m) differ),
 )
   where
     a : ℤ
@@ -134,7 +133,7 @@ between-ends v1 v2 u1 u2 p h k = inside (v2 .x -ℤ v1 .x) (p .x -ℤ v1 .x) (go
     go (inr e) =
         inr (down (v1 .x) (v2 .x) (u1 .x) (p .x) (after _ _ (e .turn _) (e .turn _)) (not-after _ _ (e .turn _) (e .turn _)))
 
--- ---- if the spans meet, a point is shared
+-- ---- if the spans share a point, the segments do
 -- before 0, from 0 to k, or past k
 abbrev Where : ℤ → ℕ → Type 0
 Where m k = (m <ℤ pos 0) ⊎ Between m k ⊎ (pos k <ℤ m)
@@ -210,10 +209,10 @@ reversed v1 v2 u1 u2 c =
           (neg (num 1)) (wedge (leg start-v end-v) (leg start-u start-v)) (num 0) (c .from-v) tt;
     }
 
-pub meet-shared : (v1 v2 u1 u2 : Spot) → Collinear v1 v2 u1 u2 → ((u2 .x -ℤ u1 .x) ≡ pos 0 → ⊥)
-    → Meet (mark u1 u2 v1) (mark u1 u2 v2) (size u1 u2)
+pub spans-share : (v1 v2 u1 u2 : Spot) → Collinear v1 v2 u1 u2 → ((u2 .x -ℤ u1 .x) ≡ pos 0 → ⊥)
+    → SpansShare (mark u1 u2 v1) (mark u1 u2 v2) (size u1 u2)
     → Share v1 v2 u1 u2
-meet-shared v1 v2 u1 u2 c slant (lo, hi) =
+spans-share v1 v2 u1 u2 c slant (lo, hi) =
     go (where-is (mark u1 u2 v1) (size u1 u2)) (where-is (mark u1 u2 v2) (size u1 u2)) lo hi
   where
     go : Where (mark u1 u2 v1) (size u1 u2)
@@ -279,9 +278,9 @@ module _ (v1 v2 u1 u2 : Spot) (c : Collinear v1 v2 u1 u2) (slant : (u2 .x -ℤ u
           (subst (λ (z : ℤ). mark u1 u2 (lower .0) <ℤ z) (sym (mark-end u1 u2)) (lower .3))
 
 -- v has length, so its ends differ on u's axis
-pub apart-on-axis : (v1 v2 u1 u2 : Spot) → across v1 v2 u1 u2 ≡ pos 0 → ((u2 .x -ℤ u1 .x) ≡ pos 0 → ⊥) → v1 .x ≡ v2 .x
+pub same-on-axis : (v1 v2 u1 u2 : Spot) → across v1 v2 u1 u2 ≡ pos 0 → ((u2 .x -ℤ u1 .x) ≡ pos 0 → ⊥) → v1 .x ≡ v2 .x
     → Same v1 v2
-apart-on-axis v1 v2 u1 u2 flat slant e =
+same-on-axis v1 v2 u1 u2 flat slant e =
     let none : (v1 .y -ℤ v2 .y) *ℤ (u2 .x -ℤ u1 .x) ≡ pos 0 *ℤ (u2 .x -ℤ u1 .x)
     = combine2 (corners v1 v2 u1 u2 []) (leg end-v start-v .y ⊠ leg start-u end-u .x) (num 0 ⊠ leg start-u end-u .x)
     (num 1) (wedge (leg start-v end-v) (leg start-u end-u)) (num 0) (leg start-u end-u .y) (start-v .x) (end-v .x) flat e tt in
@@ -296,10 +295,10 @@ most-above : (a b k : ℤ) → a <ℤ b → (k <ℤ a) ⊎ (k <ℤ b) → k <ℤ
 most-above a b k l (inl m) = lt-trans k a b m l
 most-above a b k l (inr m) = m
 
-pub meet-shared-more : (v1 v2 u1 u2 : Spot) → Collinear v1 v2 u1 u2 → ((u2 .x -ℤ u1 .x) ≡ pos 0 → ⊥) → ¬ Same v1 v2
-    → MeetMore (mark u1 u2 v1) (mark u1 u2 v2) (size u1 u2)
+pub spans-share-more : (v1 v2 u1 u2 : Spot) → Collinear v1 v2 u1 u2 → ((u2 .x -ℤ u1 .x) ≡ pos 0 → ⊥) → ¬ Same v1 v2
+    → SpansShareMore (mark u1 u2 v1) (mark u1 u2 v2) (size u1 u2)
     → ShareMore v1 v2 u1 u2
-meet-shared-more v1 v2 u1 u2 c slant long (lo, hi) =
+spans-share-more v1 v2 u1 u2 c slant long (lo, hi) =
     go (lt-or-le a b) lo hi
   where
     a : ℤ
@@ -312,7 +311,7 @@ meet-shared-more v1 v2 u1 u2 c slant long (lo, hi) =
     k = pos (size u1 u2)
 
     same : a ≡ b → ⊥
-    same e = long (apart-on-axis v1 v2 u1 u2 (c .parallel) slant (turned-same (u2 .x -ℤ u1 .x) (v1 .x) (v2 .x) (u1 .x) e))
+    same e = long (same-on-axis v1 v2 u1 u2 (c .parallel) slant (turned-same (u2 .x -ℤ u1 .x) (v1 .x) (v2 .x) (u1 .x) e))
 
     go : (a <ℤ b) ⊎ (b ≤ℤ a) → (a <ℤ k) ⊎ (b <ℤ k) → (pos 0 <ℤ a) ⊎ (pos 0 <ℤ b) → ShareMore v1 v2 u1 u2
     go (inl l) m n = ordered v1 v2 u1 u2 c slant l (least-below a b k l m) (most-above a b (pos 0) l n)
@@ -324,9 +323,9 @@ meet-shared-more v1 v2 u1 u2 c slant long (lo, hi) =
 
 -- ---- both directions
 module _ (v1 v2 u1 u2 : Spot) (c : Collinear v1 v2 u1 u2) (slant : (u2 .x -ℤ u1 .x) ≡ pos 0 → ⊥) where
-  pub overlap : Share v1 v2 u1 u2 ↔ Meet (mark u1 u2 v1) (mark u1 u2 v2) (size u1 u2)
-  overlap = (shared-meet v1 v2 u1 u2, meet-shared v1 v2 u1 u2 c slant)
+  pub overlap : Share v1 v2 u1 u2 ↔ SpansShare (mark u1 u2 v1) (mark u1 u2 v2) (size u1 u2)
+  overlap = (share-spans v1 v2 u1 u2, spans-share v1 v2 u1 u2 c slant)
 
-  pub overlap-more : ¬ Same v1 v2 → ShareMore v1 v2 u1 u2 ↔ MeetMore (mark u1 u2 v1) (mark u1 u2 v2) (size u1 u2)
+  pub overlap-more : ¬ Same v1 v2 → ShareMore v1 v2 u1 u2 ↔ SpansShareMore (mark u1 u2 v1) (mark u1 u2 v2) (size u1 u2)
   overlap-more long =
-      (shared-more-meet v1 v2 u1 u2 (size-pos (u2 .x -ℤ u1 .x) slant), meet-shared-more v1 v2 u1 u2 c slant long)
+      (share-spans-more v1 v2 u1 u2 (size-pos (u2 .x -ℤ u1 .x) slant), spans-share-more v1 v2 u1 u2 c slant long)

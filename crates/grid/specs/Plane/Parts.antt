@@ -1,5 +1,5 @@
 -- The same in naturals, for floats whose values are differences p - n: signs and sizes of differences, places from 0 to 1,
--- distances beyond an end and from the meeting point, and a float's value.
+-- distances beyond an end and from the crossing point, and a float's value.
 use mathlib.Core.Path.{_≡_, refl, sym, subst}
 use mathlib.Core.Logic.{_↔_}
 use mathlib.Core.Bool.{true, false}

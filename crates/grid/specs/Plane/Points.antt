@@ -75,11 +75,11 @@ module _ (v1 v2 u1 u2 : Spot) (still : Same v1 v2) where
   )
 
   pub point-once : ¬ ShareMore v1 v2 u1 u2
-  point-once (P, Q, apart, (p, p'), (q, q')) = spot-once P Q v1 (only-spot P v1 v2 still p) (only-spot Q v1 v2 still q) apart
+  point-once (P, Q, differ, (p, p'), (q, q')) = spot-once P Q v1 (only-spot P v1 v2 still p) (only-spot Q v1 v2 still q) differ
 
 -- ---- neither has length: one and the same grid point
 pub both-points : (v1 v2 u1 u2 : Spot) → Same v1 v2 → Same u1 u2 → Share v1 v2 u1 u2 ↔ Same v1 u1
-both-points v1 v2 u1 u2 sv su = (meet, λ e. (spot v1, (start-on v1 v2, spot-lies (spot u1) v1 u1 u2 (is e) (start-on u1 u2))))
+both-points v1 v2 u1 u2 sv su = (equal, λ e. (spot v1, (start-on v1 v2, spot-lies (spot u1) v1 u1 u2 (is e) (start-on u1 u2))))
   where
     one : (a : ℤ) → a ≡ a *ℤ pos 1
     one a = solve (a ∷ []) (var 0) (var 0 ⊠ num 1) tt
@@ -87,8 +87,8 @@ both-points v1 v2 u1 u2 sv su = (meet, λ e. (spot v1, (start-on v1 v2, spot-lie
     is : Same v1 u1 → IsSpot (spot u1) v1
     is (ex, ey) = (sym ex ∙ one (v1 .x), sym ey ∙ one (v1 .y))
 
-    meet : Share v1 v2 u1 u2 → Same v1 u1
-    meet (P, (p, q)) =
+    equal : Share v1 v2 u1 u2 → Same v1 u1
+    equal (P, (p, q)) =
         let v = only-spot P v1 v2 sv p in
         let u = only-spot P u1 u2 su q in (
           cancel (v1 .x) (u1 .x) (P .over) (P .positive) (sym (v .0) ∙ u .0),

@@ -1,5 +1,5 @@
 -- Two segments on one line, measured on u along the x axis: u runs from 0 to size, v from start to stop. They share a point
--- exactly if these spans meet, and more than one exactly if they meet in more than one.
+-- exactly if these spans do, and more than one exactly if they do.
 use mathlib.Core.Path.{_≡_, refl, sym, ap, _∙_, subst}
 use mathlib.Core.Logic.{_⊎_, inl, inr}
 use mathlib.Core.List.{[], _∷_}
@@ -17,11 +17,11 @@ use Rattle.grid.specs.Plane.Sides.{same-x}
 use Rattle.grid.specs.Plane.Spots.{IsSpot, along-back, is-end}
 
 -- ---- spans: from a to b, in either order, against 0 to k
-abbrev pub Meet : ℤ → ℤ → ℕ → Type 0
-Meet a b k = ((a ≤ℤ pos k) ⊎ (b ≤ℤ pos k)) × ((pos 0 ≤ℤ a) ⊎ (pos 0 ≤ℤ b))
+abbrev pub SpansShare : ℤ → ℤ → ℕ → Type 0
+SpansShare a b k = ((a ≤ℤ pos k) ⊎ (b ≤ℤ pos k)) × ((pos 0 ≤ℤ a) ⊎ (pos 0 ≤ℤ b))
 
-abbrev pub MeetMore : ℤ → ℤ → ℕ → Type 0
-MeetMore a b k = ((a <ℤ pos k) ⊎ (b <ℤ pos k)) × ((pos 0 <ℤ a) ⊎ (pos 0 <ℤ b))
+abbrev pub SpansShareMore : ℤ → ℤ → ℕ → Type 0
+SpansShareMore a b k = ((a <ℤ pos k) ⊎ (b <ℤ pos k)) × ((pos 0 <ℤ a) ⊎ (pos 0 <ℤ b))
 
 -- ---- what a point s / t along v and s' / t' along u says of the spans; r is the rest of s to t
 -- with the sign of d moved
@@ -148,7 +148,7 @@ module _ (u1 u2 : Spot) (P : Point) (a b : ℤ) (k : ℕ) (h : Seen u1 u2 P a b 
       ∙ ap (λ (z : ℤ). (a *ℤ pos (h .r) +ℤ z *ℤ pos (h .s)) *ℤ pos (h .t')) (sym f)
       ∙ h .place)
 
-  -- the spans meet
+  -- the spans share a point
   pub not-past : (a ≤ℤ pos k) ⊎ (b ≤ℤ pos k)
   not-past = either (other (lt-or-le (pos k) a)) (other (lt-or-le (pos k) b)) both
     where
@@ -159,7 +159,7 @@ module _ (u1 u2 : Spot) (P : Point) (a b : ℤ) (k : ℕ) (h : Seen u1 u2 P a b 
           none-past (x .0) (y .0) k (h .r) (h .s) (h .s') (h .t') (up-place (x .0) (y .0) (x .1) (y .1)) (x .2) (y .2)
           (h .within) (h .on-u .some) (h .some)
 
-  -- if they meet at most in u's end, the point is that end
+  -- if they share at most u's end, the point is that end
   pub past-end : 0 < k → pos k ≤ℤ a → pos k ≤ℤ b → IsSpot P u2
   past-end K l m =
       let x = from k a l in

@@ -59,8 +59,8 @@ pub share-reversed : (v1 v2 u1 u2 : Spot) → Share v2 v1 u1 u2 → Share v1 v2 
 share-reversed v1 v2 u1 u2 (P, (p, q)) = (P, (reverse P v2 v1 p, q))
 
 pub share-more-reversed : (v1 v2 u1 u2 : Spot) → ShareMore v2 v1 u1 u2 → ShareMore v1 v2 u1 u2
-share-more-reversed v1 v2 u1 u2 (P, Q, apart, (p, p'), (q, q')) =
-    (P, Q, apart, (reverse P v2 v1 p, p'), (reverse Q v2 v1 q, q'))
+share-more-reversed v1 v2 u1 u2 (P, Q, differ, (p, p'), (q, q')) =
+    (P, Q, differ, (reverse P v2 v1 p, p'), (reverse Q v2 v1 q, q'))
 
 -- ---- u and v are exchanged
 pub share-swapped : (v1 v2 u1 u2 : Spot) → Share v1 v2 u1 u2 ↔ Share u1 u2 v1 v2
@@ -73,7 +73,7 @@ pub share-more-swapped : (v1 v2 u1 u2 : Spot) → ShareMore v1 v2 u1 u2 ↔ Shar
 share-more-swapped v1 v2 u1 u2 = (swap v1 v2 u1 u2, swap u1 u2 v1 v2)
   where
     swap : (a b c d : Spot) → ShareMore a b c d → ShareMore c d a b
-    swap a b c d (P, Q, apart, (p, p'), (q, q')) = (P, Q, apart, (p', p), (q', q))
+    swap a b c d (P, Q, differ, (p, p'), (q, q')) = (P, Q, differ, (p', p), (q', q))
 
 -- ---- the axes are exchanged
 abbrev pub flip : Spot → Spot
@@ -85,9 +85,9 @@ flip-point P = record { x = P .y; y = P .x; over = P .over; positive = P .positi
 flip-on : (P : Point) (a b : Spot) → OnSegment P a b → OnSegment (flip-point P) (flip a) (flip b)
 flip-on P a b (s, t, l, h) = (s, t, l, record { some = h .some; at-x = h .at-y; at-y = h .at-x })
 
-flip-apart : (P Q : Point) → Differ P Q → Differ (flip-point P) (flip-point Q)
-flip-apart P Q (inl h) = inr h
-flip-apart P Q (inr h) = inl h
+flip-differ : (P Q : Point) → Differ P Q → Differ (flip-point P) (flip-point Q)
+flip-differ P Q (inl h) = inr h
+flip-differ P Q (inr h) = inl h
 
 pub share-flipped : (v1 v2 u1 u2 : Spot) → Share v1 v2 u1 u2 ↔ Share (flip v1) (flip v2) (flip u1) (flip u2)
 share-flipped v1 v2 u1 u2 = (turn v1 v2 u1 u2, turn (flip v1) (flip v2) (flip u1) (flip u2))
@@ -99,10 +99,10 @@ pub share-more-flipped : (v1 v2 u1 u2 : Spot) → ShareMore v1 v2 u1 u2 ↔ Shar
 share-more-flipped v1 v2 u1 u2 = (turn v1 v2 u1 u2, turn (flip v1) (flip v2) (flip u1) (flip u2))
   where
     turn : (a b c d : Spot) → ShareMore a b c d → ShareMore (flip a) (flip b) (flip c) (flip d)
-    turn a b c d (P, Q, apart, (p, p'), (q, q')) = (
+    turn a b c d (P, Q, differ, (p, p'), (q, q')) = (
       flip-point P,
       flip-point Q,
-      flip-apart P Q apart,
+      flip-differ P Q differ,
       (flip-on P a b p, flip-on P c d p'),
       (flip-on Q a b q, flip-on Q c d q'),
     )

@@ -1,5 +1,5 @@
--- What it leaves to fill rows from a pair on, as a page; and the loop that does so, step by step. The loop keeps this true: the
--- remaining page, added to what the slices hold now, gives what the whole page gives.
+-- What it leaves to fill rows from a pair on, as a page; and the loop that does so, step by step. Its invariant: the remaining page,
+-- added to what the slices hold now, gives what the whole page gives.
 use mathlib.Core.Path.{_≡_, refl, sym, ap, _∙_}
 use mathlib.Core.Bool.{Bool, true, false, cond}
 use mathlib.Core.List.{List, _∷_}

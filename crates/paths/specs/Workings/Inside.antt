@@ -27,7 +27,7 @@ abbrev pub InsideBelow : List Float → ℕ → Type 0
 InsideBelow path i = (j : ℕ) → j < i → Inside (vertex path j)
 
 -- a yes says that all vertices are inside
-pub record Tells (path : List Float) (r : Bool) : Type 0 where
+pub record IfYes (path : List Float) (r : Bool) : Type 0 where
   pub all : T r → InsideBelow path (vertexCount path)
 
 pub none-yet : (path : List Float) → InsideBelow path 0
@@ -36,13 +36,13 @@ none-yet path j l = absurd (omega arith)
 pub one-more : (path : List Float) (i : ℕ) (v : PlineVertex) (b : Bool) → b ≡ vertexInside (v .x) (v .y) (v .bulge)
     → v ≡ vertex path i
     → not b ≡ false → InsideBelow path i → InsideBelow path (i + 1)
-one-more path i v b told read h below j l = go (eq-or-lt-of-le (close j i l))
+one-more path i v b is read h below j l = go (eq-or-lt-of-le (close j i l))
   where
     close : (j i : ℕ) → j < i + 1 → j ≤ i
     close j i l = omega arith
 
     here : Inside (vertex path i)
-    here = subst Inside read (subst T told (not-denied b h))
+    here = subst Inside read (subst T is (not-denied b h))
 
     go : (j ≡ i) ⊎ (j < i) → Inside (vertex path j)
     go (inl e) = subst (λ (k : ℕ). Inside (vertex path k)) (sym e) here

@@ -1,8 +1,8 @@
 -- The quick tests whether a parameter lies on a segment, without a root: if t is clearly inside 0..1 or clearly outside, and
 -- segment and epsilon are of usual size, the length does not matter. t, the length and epsilon are written T, R and E here.
 -- Inside, 0 <= T <= 31/32: T * R is below R by a 32nd, which is far more than its rounding error, and it is not below zero;
--- adding E does not make it smaller. Outside, rounding does not matter, since it keeps the order: from 33/32 up T * R is at least
--- R + R/32, which is at least R + E; from -1/32 down it is at most -R/32, which is at most -E.
+-- adding E does not make it smaller. Outside, rounding does not matter, since it never changes the order: from 33/32 up T * R is
+-- at least R + R/32, which is at least R + E; from -1/32 down it is at most -R/32, which is at most -E.
 use mathlib.Core.Path.{_≡_, refl, sym, _∙_, subst}
 use Prim.Native.Nat.{ℕ, _+_, _-_, _*_, _^_, _≤_, _<_}
 use native.Mathlib.Nat.{mul-pos, mul-le-mul-left, mul-le-mul-right, lt-of-mul-lt-mul-right}

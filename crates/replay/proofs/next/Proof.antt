@@ -1,4 +1,4 @@
--- `replay::next` is safe: a line has at most 18 numbers, so what it reads fits the 306 bytes that it keeps for them. Assumes
+-- `replay::next` is safe: a text line has at most 18 numbers, so what it reads fits the 306 bytes for them. Assumes
 -- nothing.
 use Prim.Native.Nat.{ℕ, _*_, _≤_}
 use mathlib.Core.Path.{sym}

@@ -15,8 +15,8 @@ use Rattle.answers.proofs.padded.of_pline_seg.Tie as tie
 as-class : (answer : PlineSegAnswer) (found : PlineSegIntr) (m : ClassAndPoints) (padded : PaddedAnswer) → answer ≡ Met found
     → m ≡ classAndPoints found → padded ≡ case (m .class) (m .x1) (m .y1) (m .x2) (m .y2) → padded ≡ ofPlineSeg answer
 unfolding ofPlineSeg case classAndPoints
-as-class answer found m padded e is told =
-    rw e (told ∙ ap (λ (k : ClassAndPoints). case (k .class) (k .x1) (k .y1) (k .x2) (k .y2)) is)
+as-class answer found m padded e is same =
+    rw e (same ∙ ap (λ (k : ClassAndPoints). case (k .class) (k .x1) (k .y1) (k .x2) (k .y2)) is)
 
 pub of-pline-seg-spec : {M : Type 1} → statement M
 unfolding ofPlineSeg refusal

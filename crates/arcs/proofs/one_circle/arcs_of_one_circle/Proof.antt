@@ -19,7 +19,7 @@ returns-5 c =
       c .before .before .before .if3 .left,
       ← c .before .before .new .ensures,
       ← c .before .new2 .ensures,
-      ← c .shared-sweep .ensures,
+      ← c .by-sweeps .ensures,
     )
 
 pub arcs-of-one-circle-spec : {M : Type 1} → statement M

@@ -1,4 +1,4 @@
--- `crossing::circle_circle::circle_circle` meets its contract: if the circles are far apart, or one is well inside the other,
+-- `crossing::circle_circle::circle_circle` meets its contract: if the circles are clearly apart, or one is well inside the other,
 -- Workings/Apart and Workings/Nested say what the plain form answers; else it is the plain form.
 use mathlib.Core.Path.{sym}
 use denote.Floats.{passes}

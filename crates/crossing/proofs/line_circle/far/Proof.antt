@@ -9,9 +9,9 @@ use Rattle.crossing.specs.Workings.FarLine.{moderate, sizes, orders, far
 use Rattle.crossing.proofs.line_circle.far.Statement.{statement}
 use Rattle.crossing.proofs.line_circle.far.Tie as tie
 
-told : (b1 b2 b3 b4 : Bool) (k q w z s : Float) → b1 ≡ moderate k → b2 ≡ moderate q → b3 ≡ moderate w → b4 ≡ moderate z
+tests-hold : (b1 b2 b3 b4 : Bool) (k q w z s : Float) → b1 ≡ moderate k → b2 ≡ moderate q → b3 ≡ moderate w → b4 ≡ moderate z
     → (((b1 && b2) && (b3 && b4)) && orders k q w z s) ≡ true → T (sizes k q w z && orders k q w z s)
-told b1 b2 b3 b4 k q w z s e1 e2 e3 e4 h =
+tests-hold b1 b2 b3 b4 k q w z s e1 e2 e3 e4 h =
     let o = orders k q w z s in
     passes (sizes k q w z && o)
     (ap (λ (b : Bool). ((b && moderate q) && (moderate w && moderate z)) && o) (sym e1)
@@ -29,7 +29,8 @@ returns c h =
     let g = p4 .before .good in
     far-line _ _ _ _ _ _ (passes _ (g .0 .1)) (passes _ (g .1 .0 .1)) (passes _ (g .1 .1 .0 .1)) (passes _ (g .1 .1 .1 .0 .1))
     (p4 .abs .ensures)
-    (told _ _ _ _ _ _ _ _ _ (p3 .moderate .ensures) (p2 .moderate2 .ensures) (p1 .moderate3 .ensures) (c .moderate4 .ensures) h)
+    (tests-hold _ _ _ _ _ _ _ _ _ (p3 .moderate .ensures) (p2 .moderate2 .ensures) (p1 .moderate3 .ensures)
+    (c .moderate4 .ensures) h)
 
 pub far-spec : {M : Type 1} → statement M
 far-spec =

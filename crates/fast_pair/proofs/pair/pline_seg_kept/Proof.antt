@@ -16,10 +16,10 @@ use Rattle.fast_pair.specs.Laws.Pair.{apart-pair, circle-given}
 use Rattle.fast_pair.proofs.pair.pline_seg_kept.Statement.{statement}
 use Rattle.fast_pair.proofs.pair.pline_seg_kept.Tie as tie
 
-told : (r : Bool) (v1 v2 u1 u2 : PlineVertex) (v u : Kept) (eps : Float) → T (fits binary64 eps)
+answer-known : (r : Bool) (v1 v2 u1 u2 : PlineVertex) (v u : Kept) (eps : Float) → T (fits binary64 eps)
     → v ≡ keptOf v1 v2 eps → u ≡ keptOf u1 u2 eps → r ≡ clearlyApart v1 v2 v u1 u2 u eps → r ≡ true
     → plineSeg v1 v2 u1 u2 eps ≡ NoIntersect
-told r v1 v2 u1 u2 v u eps f ev eu e y =
+answer-known r v1 v2 u1 u2 v u eps f ev eu e y =
     apart-pair v1 v2 u1 u2 eps f
     (passes _ (ap (λ (k : Kept). clearlyApart v1 v2 k u1 u2 (keptOf u1 u2 eps) eps) (sym ev)
     ∙ ap (λ (k : Kept). clearlyApart v1 v2 v u1 u2 k eps) (sym eu)
@@ -29,7 +29,7 @@ returns : tie.Need-returns
 returns c =
     let p1 = c .before in
     let s = p1 .before in
-    sym (told _ _ _ _ _ _ _ _ (passes _ (s .good .1 .1 .1 .1 .1 .1 .0 .1)) (s .pre .1 .0) (s .pre .1 .1)
+    sym (answer-known _ _ _ _ _ _ _ _ (passes _ (s .good .1 .1 .1 .1 .1 .1 .0 .1)) (s .pre .1 .0) (s .pre .1 .1)
     (p1 .clearly-apart .ensures) (c .if1 .taken))
 
 pline-seg-after-checks-requires : tie.Need-pline-seg-after-checks-requires

@@ -1,4 +1,4 @@
--- `floats::bits::abs` meets its contract: the mask keeps all bits but the sign's.
+-- `floats::bits::abs` meets its contract: the mask leaves all bits but the sign's.
 use lib.Bits.{and-mask}
 use Rattle.floats.specs.Bits
 use Rattle.floats.proofs.bits.abs.Statement.{statement}

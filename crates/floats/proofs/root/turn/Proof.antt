@@ -1,4 +1,4 @@
--- `floats::root::turn` meets its contract: each return is a branch of the definition, and `Room` keeps every sum in 64 bits.
+-- `floats::root::turn` meets its contract: each return is a branch of the definition, and by `Room` every sum fits 64 bits.
 use mathlib.Core.Path.{refl}
 use borrow.Author.Needs.{needs}
 use borrow.Author.Tests.{le-leb, lt-leb}

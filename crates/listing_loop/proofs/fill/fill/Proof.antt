@@ -1,4 +1,4 @@
--- `listing_loop::fill::fill` meets its contract: both loops keep the state of Laws/Loop, and each arm is one of its steps.
+-- `listing_loop::fill::fill` meets its contract: the state of Laws/Loop is an invariant of both loops, and each arm is one of its steps.
 use mathlib.Core.Path.{_≡_, refl, sym, _∙_}
 use mathlib.Core.List.{List}
 use Prim.Native.Nat.{ℕ, suc, _+_, _-_, _<_, _≤_}
@@ -16,7 +16,7 @@ use Rattle.listing_loop.specs.Laws.Loop.{looks, makes, stops}
 use Rattle.listing_loop.proofs.fill.fill.Statement.{statement}
 use Rattle.listing_loop.proofs.fill.fill.Tie as tie
 
--- the inner loop does not know what the slices held at the call: whatever that was, it keeps the state
+-- the inner loop does not know what the slices held at the call: whatever that was, the state holds
 abbrev Inv-loop2 : tie.InvT-loop2
 Inv-loop2 first second kept job part indices₀ points₀ i j₀ rows₀ budget looked₀ v v-kept to start end indices points j rows looked =
     (j₀ ≤ j)

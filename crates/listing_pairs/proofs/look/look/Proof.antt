@@ -1,4 +1,4 @@
--- `listing_pairs::look::look` meets its contract: the pair call's own look finds no fault at the pair, so the call may be made.
+-- `listing_pairs::look::look` meets its contract: the pair call's own check finds no fault in the pair, so the call may be made.
 use mathlib.Core.Path.{sym, ap, _∙_}
 use borrow.Author.Needs.{needs}
 use native.Mathlib.Omega.{arith}

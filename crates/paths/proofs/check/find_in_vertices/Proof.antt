@@ -1,4 +1,4 @@
--- `paths::check::find_in_vertices` meets its contract. It is a loop of `Laws/Along` over the vertices: what is left to look at
+-- `paths::check::find_in_vertices` meets its contract. It is a loop of `Laws/Along` over the vertices: what is left to check
 -- after the check g, from vertex i on, has the first fault of the whole. A fault in g is that first fault; past the last vertex
 -- g is the answer.
 use Prim.Native.Nat.{_-_, _≤_}

@@ -1,4 +1,4 @@
--- `paths::check::vertices_inside` meets its contract. The loop keeps: the vertices below i are inside.
+-- `paths::check::vertices_inside` meets its contract. The loop's invariant: the vertices below i are inside.
 use borrow.Author.Needs.{needs}
 use Prim.Native.Nat.{_-_}
 use Rattle.paths.specs.Path.{vertexCount}

@@ -41,13 +41,13 @@ same d i = refl
 abbrev call : Call
 call = record {
   more = plain (λ _. usize) ∷ [];
-  kept = (yes, tt);
+  lasting = (yes, tt);
   result = plain (λ _. S.the-row);
   path-says = λ _ path closed a. segments.segment path closed (a .0);
   view-says = λ _ d a. view.segment d (a .0);
   same = λ _ d a. same d (a .0);
   spell = λ _. (uint-vals w64, tt);
-  tell = λ _. (uint-tells w64, tt);
+  spell-is = λ _. (uint-tells w64, tt);
 }
 
 walk : {M : Type 1} (𝓤 : URA M) (H : Heap 𝓤) (A : Atoms 𝓤) → Given 𝓤 H A → (𝓣 : Tables 𝓤 H)

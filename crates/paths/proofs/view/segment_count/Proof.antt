@@ -36,13 +36,13 @@ same d = refl
 abbrev call : Call
 call = record {
   more = [];
-  kept = tt;
+  lasting = tt;
   result = plain (λ _. usize);
   path-says = λ _ path closed _. segments.segmentCount path closed;
   view-says = λ _ d _. view.segmentCount d;
   same = λ _ d _. same d;
   spell = λ _. tt;
-  tell = λ _. tt;
+  spell-is = λ _. tt;
 }
 
 walk : {M : Type 1} (𝓤 : URA M) (H : Heap 𝓤) (A : Atoms 𝓤) → Given 𝓤 H A → (𝓣 : Tables 𝓤 H)

@@ -54,8 +54,8 @@ module _ {M : Type 1} (𝓤 : URA M) (H : Heap 𝓤) (A : Atoms 𝓤) where
     abbrev to : This .Ghost
     to = ((κs, qs, tt, (s, (closed, tt)), (slice made ∷ [], (vbool closed ∷ [], tt))), tt)
 
-    abbrev tells : Lasts this.ended κs (s, (closed, tt)) → SProp 𝓤
-    tells ws = sep 𝓤 (sem 𝓤 H A (lasts this.ended κs (s, (closed, tt)) ws)) (fact 𝓤 (made ≡ view.viewOf s closed))
+    abbrev view-exit : Lasts this.ended κs (s, (closed, tt)) → SProp 𝓤
+    view-exit ws = sep 𝓤 (sem 𝓤 H A (lasts this.ended κs (s, (closed, tt)) ws)) (fact 𝓤 (made ≡ view.viewOf s closed))
 
     -- what the slice and the flag own is what the view owns
     ends : ent 𝓤 (onEntry 𝓤 H A this.signature κs qs (s, (closed, tt)) (to .0 .4)) (This .post to (mach made))
@@ -69,7 +69,7 @@ module _ {M : Type 1} (𝓤 : URA M) (H : Heap 𝓤) (A : Atoms 𝓤) where
         move ! (1 ∷ []) $
         use1 W (‵ (B κs .own made (mach made ∷ []))) (own-shut 𝓤 H A W (D κs) (L κs) (s, (closed, tt))) $
         move ! (1 ∷ 0 ∷ []) $ join ! $ frame ! $
-        show ! tells (tt, (tt, tt)) $ says ! refl $ nothing ! $ nothing ! $ nothing ! $ done !
+        show ! view-exit (tt, (tt, tt)) $ says ! refl $ nothing ! $ nothing ! $ nothing ! $ done !
 
     -- whatever holds of the view's machine value holds of what the function returns
     walk : (C : Calls 𝓤 H) (Λ : Loops 𝓤 H) (K : Val → SProp 𝓤) → Is (ShrSlice (named 0) (κs .0) f64) s (slice made ∷ [])

@@ -33,11 +33,11 @@ use Rattle.probe.proofs.viewed.segment.Code as code
 abbrev call : Call
 call = record {
   more = plain (λ _. usize) ∷ [];
-  kept = (yes, tt);
+  lasting = (yes, tt);
   result = plain (λ _. S.the-row);
   view-says = λ _ d a. view.segment d (a .0);
   spell = λ _. (uint-vals w64, tt);
-  tell = λ _. (uint-tells w64, tt);
+  spell-is = λ _. (uint-tells w64, tt);
 }
 
 walk : {M : Type 1} (𝓤 : URA M) (H : Heap 𝓤) (A : Atoms 𝓤) → Given 𝓤 H A → (𝓣 : Tables 𝓤 H)

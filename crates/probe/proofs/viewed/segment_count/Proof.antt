@@ -29,11 +29,11 @@ use Rattle.probe.proofs.viewed.segment_count.Code as code
 abbrev call : Call
 call = record {
   more = [];
-  kept = tt;
+  lasting = tt;
   result = plain (λ _. usize);
   view-says = λ _ d _. view.segmentCount d;
   spell = λ _. tt;
-  tell = λ _. tt;
+  spell-is = λ _. tt;
 }
 
 walk : {M : Type 1} (𝓤 : URA M) (H : Heap 𝓤) (A : Atoms 𝓤) → Given 𝓤 H A → (𝓣 : Tables 𝓤 H)

@@ -12,9 +12,9 @@ use Rattle.records.proofs.text.number.Tie as tie
 returns : tie.Need-returns
 unfolding numberAt
 returns c =
-    let told = c .before in
-    let is = sym (nanBits-is binary64 _) ∙ sym (told .is-nan .ensures) ∙ c .if1 .taken in
-    zero-over-zero ∙ the-nan _ is ∙ ap (ofBits binary64) (told .before .value .ensures)
+    let p1 = c .before in
+    let is = sym (nanBits-is binary64 _) ∙ sym (p1 .is-nan .ensures) ∙ c .if1 .taken in
+    zero-over-zero ∙ the-nan _ is ∙ ap (ofBits binary64) (p1 .before .value .ensures)
 
 returns-2 : tie.Need-returns-2
 unfolding numberAt

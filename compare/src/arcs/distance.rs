@@ -1,4 +1,4 @@
-//! How far apart two segments are that share no point, in floats: with an error of some 2^-16 at the largest radii, and far less
+//! The distance of two segments that share no point, in floats: with an error of some 2^-16 at the largest radii, and far less
 //! below.
 
 use super::piece::Piece;
@@ -99,7 +99,7 @@ impl Shape {
 }
 
 /// At an end of one, or where both run in parallel.
-pub fn apart(v: Piece, u: Piece) -> f64 {
+pub fn distance(v: Piece, u: Piece) -> f64 {
     let (v, u) = (Shape::of(v), Shape::of(u));
     let ends = [(v, u.from), (v, u.to), (u, v.from), (u, v.to)];
     let least = ends
@@ -146,20 +146,23 @@ mod tests {
             (piece(8, 0, 12, 0, ONE), 3.0),
             (piece(-1, 0, 1, 0, -ONE), 17f64.sqrt().min(4.0)),
         ] {
-            let told = apart(bowl, other);
-            assert!((told - away).abs() < 1e-9, "{other:?} {told} {away}");
-            assert_eq!(apart(other, bowl), told, "{other:?}");
+            let measured = distance(bowl, other);
+            assert!(
+                (measured - away).abs() < 1e-9,
+                "{other:?} {measured} {away}"
+            );
+            assert_eq!(distance(other, bowl), measured, "{other:?}");
         }
-        assert_eq!(apart(piece(0, 0, 4, 0, 0), piece(2, 1, 2, 5, 0)), 1.0);
+        assert_eq!(distance(piece(0, 0, 4, 0, 0), piece(2, 1, 2, 5, 0)), 1.0);
     }
 
     #[test]
-    fn a_flat_arc_keeps_its_digits() {
+    fn a_flat_arc_loses_no_digits() {
         let far = 1 << 20;
         let flat = piece(-far, 0, far, 0, 1);
-        let told = apart(flat, piece(-9, -17, 9, -17, 0));
-        assert!((told - 1.0).abs() < 1e-4, "{told}");
-        let told = apart(flat, piece(3, -13, 3, 7, 0));
-        assert!((told - 3.0).abs() < 1e-9, "{told}");
+        let measured = distance(flat, piece(-9, -17, 9, -17, 0));
+        assert!((measured - 1.0).abs() < 1e-4, "{measured}");
+        let measured = distance(flat, piece(3, -13, 3, 7, 0));
+        assert!((measured - 3.0).abs() < 1e-9, "{measured}");
     }
 }
