@@ -21,11 +21,11 @@ module _ (f : PaddedAnswer) (old : List Float) where
       → Handed f (f .number) old (sets old 0 (f .a ∷ f .b ∷ f .c ∷ f .d ∷ []))
   written h e = record { code-is = simp (le-ltb _ _ h, e); holds = simp (le-ltb _ _ h, e) }
 
--- what a call answers, put into numbers by `tell` and handed over; and its number is below that of refusals
-module _ {Answer : Type 0} (tell : Answer → PaddedAnswer) (padded : PaddedAnswer) (answer called : Answer) where
-  pub handed : (n : ℕ) (old now : List Float) → padded ≡ tell answer → answer ≡ called → Handed padded n old now
-      → Handed (tell called) n old now
-  handed n old now code-is is = subst (λ (f : PaddedAnswer). Handed f n old now) (code-is ∙ ap tell is)
+-- what a call answers, put into numbers by `numbers` and handed over; and its number is below that of refusals
+module _ {Answer : Type 0} (numbers : Answer → PaddedAnswer) (padded : PaddedAnswer) (answer called : Answer) where
+  pub handed : (n : ℕ) (old now : List Float) → padded ≡ numbers answer → answer ≡ called → Handed padded n old now
+      → Handed (numbers called) n old now
+  handed n old now code-is is = subst (λ (f : PaddedAnswer). Handed f n old now) (code-is ∙ ap numbers is)
 
-  pub small : padded ≡ tell answer → answer ≡ called → tell called .number < refusedCode → padded .number < refusedCode
-  small code-is is = subst (λ (f : PaddedAnswer). f .number < refusedCode) (sym (code-is ∙ ap tell is))
+  pub small : padded ≡ numbers answer → answer ≡ called → numbers called .number < refusedCode → padded .number < refusedCode
+  small code-is is = subst (λ (f : PaddedAnswer). f .number < refusedCode) (sym (code-is ∙ ap numbers is))

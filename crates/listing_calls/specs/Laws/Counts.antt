@@ -1,5 +1,5 @@
--- What a caller knows of a listing that was not refused: it has no more rows than both slices have room for, and the slices keep
--- their lengths.
+-- What a caller knows of a listing that was not refused: it has no more rows than both slices have room for, and the lengths of
+-- the slices are unchanged.
 use mathlib.Core.Path.{_≡_, refl}
 use mathlib.Core.Logic.{Iff·rfl}
 use mathlib.Core.Bool.{Bool, true, false, cond}
