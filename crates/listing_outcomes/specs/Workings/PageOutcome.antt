@@ -1,0 +1,106 @@
+-- The outcome of a page of checked paths, from what the loop leaves: the three refusals, and the rows filled in from the position on.
+use mathlib.Core.Path.{_≡_, refl, sym, ap, _∙_}
+use mathlib.Core.Bool.{false, true}
+use mathlib.Core.Logic.{_≢_}
+use mathlib.Core.List.{List}
+use Prim.Native.Nat.{ℕ, _+_, _*_, _≤_, _<_}
+use native.Mathlib.Nat.{sub-zero}
+use native.Mathlib.Omega.{arith}
+use borrow.Author.Tests.{le-ltb, lt-ltb, eq-eqb, ne-eqb}
+use lib.Ieee.{Float}
+use lib.ListN.{length, drop}
+use lib.Seq.{sets}
+use Rattle.checks.specs.Fault.{refuse, later}
+use Rattle.checks.specs.First.{first as firstFault}
+use Rattle.checks.specs.Refusal
+use Rattle.listing_pairs.specs.declared.row.Row.{Row}
+use Rattle.listing_pairs.specs.declared.row.Look.{Look}
+use Rattle.listing_pairs.specs.declared.order.Job.{Job}
+use Rattle.listing_pairs.specs.declared.order.Spot.{Spot}
+use Rattle.listing_pairs.specs.Row.{indicesARow, pointsARow, indicesOf, pointsOf, numbersOfRows}
+use Rattle.listing_pairs.specs.Order.{Pair}
+use Rattle.listing_pairs.specs.Page.{Page, page}
+use Rattle.listing_pairs.specs.Workings.Job as job_of
+use Rattle.listing_pairs.specs.Laws.Stores.{flat-length}
+use Rattle.listing_loop.specs.declared.fill.Part.{Part}
+use Rattle.listing_loop.specs.declared.fill.Filling.{Filling}
+use Rattle.listing_loop.specs.Laws.Pages.{joins}
+use Rattle.listing_loop.specs.Workings.Filling.{Filled}
+use Rattle.listing_outcomes.specs.declared.answer.PageAnswer.{PageAnswer}
+use Rattle.listing_outcomes.specs.declared.answer.PageAnswer.the-variants.{Refused, Paged}
+use Rattle.listing_outcomes.specs.Outcome.{Outcome, Leaves, overwrite, room}
+use Rattle.listing_outcomes.specs.PageOutcome.{positionCheck, budgetCheck, rowCheck, limits, pagedOf}
+use Rattle.listing_outcomes.specs.Laws.Overwrite.{sets-over}
+
+-- a page of checked paths
+abbrev pub paged : (ℕ → ℕ → Look) → List Pair → ℕ → ℕ → List ℕ → List Float → Outcome PageAnswer
+paged look ps position budget indices points =
+    pagedOf (firstFault (limits position (length ps) budget indices points))
+    (page look (drop position ps) (room indices points) budget) position (length ps) indices points
+
+-- where a part of it starts: at (i, j), with no row yet
+abbrev pub starting : ℕ → ℕ → ℕ → ℕ → Part
+starting i j m budget = record { i = i; j = j; rows = 0; room = m; budget = budget; write = true }
+
+module _ (look : ℕ → ℕ → Look) (ps : List Pair) (position budget : ℕ) (i₀ : List ℕ) (p₀ : List Float) where
+  abbrev whole : Page
+  whole = page look (drop position ps) (room i₀ p₀) budget
+
+  abbrev is : PageAnswer → List ℕ → List Float → Type 0
+  is r i p = Leaves (paged look ps position budget i₀ p₀) r i p
+
+  pub beyond : length ps < position → is (Refused Refusal.position) i₀ p₀
+  unfolding positionCheck refuse later
+  beyond h = rw (lt-ltb _ _ h) (record { answer = refl; indices = refl; points = refl })
+
+  module _ (within : position ≤ length ps) where
+    pub no-budget : budget ≡ 0 → is (Refused Refusal.budget) i₀ p₀
+    unfolding positionCheck budgetCheck refuse later
+    no-budget e =
+        rw (le-ltb (length ps) position within, eq-eqb budget 0 e) (record { answer = refl; indices = refl; points = refl })
+
+    module _ (some : budget ≢ 0) where
+      pub no-row : room i₀ p₀ ≡ 0 → is (Refused Refusal.rows) i₀ p₀
+      unfolding positionCheck budgetCheck rowCheck refuse later
+      no-row e =
+          rw (le-ltb (length ps) position within, ne-eqb budget 0 some, eq-eqb (room i₀ p₀) 0 e)
+          (record { answer = refl; indices = refl; points = refl })
+
+      module _ (fits : room i₀ p₀ ≢ 0) where
+        is-paged : (i : List ℕ) (p : List Float) (n passed next all : ℕ) → n ≡ length (whole .rows) → passed ≡ whole .passed
+            → next ≡ position + whole .passed → all ≡ length ps
+            → i ≡ overwrite i₀ (numbersOfRows indicesOf (whole .rows)) → p ≡ overwrite p₀ (numbersOfRows pointsOf (whole .rows))
+            → is (Paged n passed next all) i p
+        unfolding positionCheck budgetCheck rowCheck refuse later
+        is-paged i p n passed next all a b c d e f =
+            rw (le-ltb (length ps) position within, ne-eqb budget 0 some, ne-eqb (room i₀ p₀) 0 fits)
+            (record { answer = rw (a, b, c, d) refl; indices = e; points = f })
+
+        -- one kind of numbers, stored from the front on
+        stored-front : {A : Type 0} (numbers : Row → List A) (width : ℕ) → ((r : Row) → length (numbers r) ≡ width)
+            → (old : List A) → room i₀ p₀ * width ≤ length old
+            → sets old 0 (numbersOfRows numbers (whole .rows)) ≡ overwrite old (numbersOfRows numbers (whole .rows))
+        stored-front numbers width each old long =
+            sets-over old (numbersOfRows numbers (whole .rows)) (fewer (joins look (drop position ps) (room i₀ p₀) budget .few))
+          where
+            fewer : length (whole .rows) ≤ room i₀ p₀ → length (numbersOfRows numbers (whole .rows)) ≤ length old
+            fewer h =
+                omega (
+                  arith,
+                  flat-length numbers width each (whole .rows),
+                  native.Mathlib.Nat.mul-le-mul h (native.Mathlib.Nat.le-refl width),
+                  long,
+                )
+
+        -- the loop filled it from (i, j) on
+        pub filled-page : (job : Job) (i j all : ℕ) (r : Filling) (u : List ℕ) (v : List Float)
+            → job_of.left job i j ≡ drop position ps → all ≡ length ps
+            → Filled job (starting i j (room i₀ p₀) budget)
+            (page look (job_of.left job i j) (room i₀ p₀) budget) r i₀ u p₀ v
+            → is (Paged (r .rows) (r .passed) (position + r .passed) all) u v
+        filled-page job i j all r u v e d h =
+            let f = rw e at h in
+            is-paged u v (r .rows) (r .passed) (position + r .passed) all (omega (arith, f .rows)) (f .passed)
+            (ap (λ (k : ℕ). position + k) (f .passed)) d
+            (f .indices ∙ stored-front indicesOf indicesARow (λ r. refl) i₀ (omega arith))
+            (f .points ∙ stored-front pointsOf pointsARow (λ r. refl) p₀ (omega arith))

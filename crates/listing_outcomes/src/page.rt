@@ -1,0 +1,96 @@
+// A page of a listing of two checked paths: from a position on, as far as the budget and the caller's slices allow. Refusals 13 and
+// 14 are decided here, and a page's refusal 8.
+ghost use mathlib.Core.Path.{_≡_};
+ghost use Prim.Native.Nat.{_≤_, _*_};
+ghost use lib.ListN.{length};
+ghost use Rattle.listing_pairs.specs.Look;
+ghost use Rattle.listing_pairs.specs.Page as page_of;
+ghost use Rattle.listing_pairs.specs.Row as row_of;
+ghost use Rattle.listing_pairs.specs.Workings.Job as job_of;
+ghost use Rattle.listing_pairs.specs.Workings.Ready;
+ghost use Rattle.listing_loop.specs.Workings.Filling as filling;
+ghost use Rattle.listing_outcomes.specs.Outcome;
+ghost use Rattle.listing_outcomes.specs.Workings.PageOutcome as outcome_of;
+use super::answer::PageAnswer;
+use super::room::rows_room;
+use checks::refusal;
+use listing_loop::fill::Filling;
+use listing_loop::fill::Part;
+use listing_loop::fill::fill;
+use listing_pairs::keeping;
+use listing_pairs::order;
+use listing_pairs::order::Job;
+use listing_pairs::order::Spot;
+use paths::path;
+
+// Fills the slices from a pair on, with room for so many rows and a budget of so many pairs.
+fn fill_from(
+    first: &[f64],
+    second: &[f64],
+    job: Job,
+    spot: Spot,
+    room: usize,
+    budget: usize,
+    indices: &mut [u64],
+    points: &mut [f64],
+) -> Filling
+    requires { ⌜ Ready.Ready (now first) (now second) job ⌝ }
+    requires { ⌜ spot .i ≤ job .n ⌝ }
+    requires { ⌜ (room * row_of.indicesARow ≤ length (now indices)) × (room * row_of.pointsARow ≤ length (now points)) ⌝ }
+    ensures { λ r. ⌜
+        filling.Filled job (outcome_of.starting (spot .i) (spot .j) room budget)
+        (page_of.page (Look.look (now (first .entry)) (now (second .entry)) (job .epsilon)) (job_of.left job (spot .i) (spot .j))
+        room budget)
+        r (now (indices .entry)) (now (indices .exit)) (now (points .entry)) (now (points .exit)) ⌝ }
+{
+    // for each segment that a path may have: 96 KiB
+    let mut kept = [0.0f64; path::VERTICES * keeping::NUMBERS];
+    keeping::keep_reached(second, job, spot.i, spot.j, budget, &mut kept);
+    let part = Part {
+        i: spot.i,
+        j: spot.j,
+        rows: 0,
+        room: room,
+        budget: budget,
+        write: true,
+    };
+    fill(first, second, &kept, job, part, indices, points)
+}
+
+// The page of a job from a position on. If the position is beyond the end, if there is no budget, or if no whole row fits, it is
+// refused, and nothing is written.
+pub fn page(
+    first: &[f64],
+    second: &[f64],
+    job: Job,
+    position: usize,
+    budget: usize,
+    indices: &mut [u64],
+    points: &mut [f64],
+) -> PageAnswer
+    requires { ⌜ Ready.Ready (now first) (now second) job ⌝ }
+    ensures { λ r. ⌜
+        Outcome.Leaves (outcome_of.paged (Look.look (now (first .entry)) (now (second .entry)) (job .epsilon)) (job_of.every job)
+        position budget (now (indices .entry)) (now (points .entry)))
+        r (now (indices .exit)) (now (points .exit)) ⌝ }
+{
+    let all = order::count(job);
+    if position > all {
+        return PageAnswer::Refused(refusal::POSITION);
+    }
+    if budget == 0 {
+        return PageAnswer::Refused(refusal::BUDGET);
+    }
+    let room = rows_room(indices, points);
+    if room == 0 {
+        return PageAnswer::Refused(refusal::ROWS);
+    }
+    let spot = order::locate(job, position);
+    let filled = fill_from(first, second, job, spot, room, budget, indices, points);
+    PageAnswer::Paged {
+        rows: filled.rows,
+        pairs: filled.passed,
+        next: position + filled.passed,
+        all: all,
+    }
+}
