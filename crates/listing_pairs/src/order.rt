@@ -47,6 +47,16 @@ pub fn to(job: Job, i: usize) -> usize
     job.m
 }
 
+// a less b, and 0 if b is the larger.
+pub(crate) fn less(a: usize, b: usize) -> usize
+    ensures { λ r. ⌜ r ≡ a - b ⌝ }
+{
+    if a <= b {
+        return 0;
+    }
+    a - b
+}
+
 // How many pairs (i, j) there are.
 pub fn pairs_at(job: Job, i: usize) -> usize
     requires { ⌜ i ≤ Path.mostVertices ⌝ }
@@ -54,10 +64,7 @@ pub fn pairs_at(job: Job, i: usize) -> usize
 {
     let start = from(job, i);
     let end = to(job, i);
-    if end <= start {
-        return 0;
-    }
-    end - start
+    less(end, start)
 }
 
 // How many pairs there are in all.

@@ -1,17 +1,30 @@
 -- What is kept for the pairs that a listing looks at: the second segments of its first `budget` pairs from (i, j) on.
 use mathlib.Core.Path.{_≡_, refl, sym, ap, subst, _∙_}
+use mathlib.Core.Bool.{cond}
 use mathlib.Core.Logic.{_⊎_, inl, inr}
 use mathlib.Core.List.{List, [], _∷_, _++_}
 use Prim.Native.Nat.{ℕ, zero, suc, _+_, _-_, _*_, _≤_, _<_}
+use native.Mathlib.Numerals.{add-one}
 use native.Mathlib.Omega.{arith}
+use borrow.Author.Tests.{le-leb, lt-leb}
+use lib.Dec.{leb}
 use lib.Ieee.{Float}
 use lib.ListN.{length, take}
 use lib.Seq.{take-append-le, take-append-add}
+use Rattle.paths.specs.Path.{mostVertices}
 use Rattle.listing_pairs.specs.declared.order.Job.{Job}
 use Rattle.listing_pairs.specs.Order.{Pair, along, pairsFrom}
 use Rattle.listing_pairs.specs.Laws.Order.{lt-or-le, along-length, left-end, left-row}
 use Rattle.listing_pairs.specs.Workings.Job as job_of
-use Rattle.listing_pairs.specs.Workings.Keeping.{numbersKept, keep, KeptOf, KeptFor, kept-inside, kept-still}
+use Rattle.listing_pairs.specs.Workings.Keeping.{
+  numbersKept,
+  keep,
+  keep-length,
+  KeptOf,
+  KeptFor,
+  kept-inside,
+  kept-still,
+}
 
 module _ (second kept : List Float) (epsilon : Float) where
   abbrev Kept : ℕ → Type 0
@@ -67,3 +80,234 @@ pub keep-all : (second l : List Float) (job : Job) → job .m * numbersKept ≤ 
 keep-all second l job room =
     all-kept second (keep second 0 (job .m) (job .epsilon) l) (job .epsilon) job
     (λ h b. kept-inside second l 0 (job .m) (job .epsilon) room h (omega arith) b)
+
+-- ---- of the segments that the first `budget` pairs from (i, j) on can reach
+-- the smaller and the larger of two
+abbrev pub lesser : ℕ → ℕ → ℕ
+lesser a b = a - (a - b)
+
+abbrev pub greater : ℕ → ℕ → ℕ
+greater a b = b + (a - b)
+
+-- the end of the indices of `rest` pairs that start at index `low`: low + rest, and m at most
+abbrev pub highOf : ℕ → ℕ → ℕ → ℕ
+highOf m low rest = m - (m - low - rest)
+
+-- i has enough pairs
+abbrev pub keepHere : List Float → Job → ℕ → ℕ → ℕ → List Float → List Float
+keepHere second job i j budget l =
+    let end = job_of.to job i in keep second j (end - (end - j - budget)) (job .epsilon) l
+
+-- all pairs of i, and of those that follow
+abbrev pub keepBeyond : List Float → Job → ℕ → ℕ → ℕ → List Float → List Float
+keepBeyond second job i j budget l =
+    let end = job_of.to job i in
+    let low = job_of.from job (i + 1) in
+    let high = highOf (job .m) low (budget - (end - j)) in
+    keep second (greater j high) end (job .epsilon) (keep second (lesser j low) high (job .epsilon) l)
+
+unfoldable pub keepReached : List Float → Job → ℕ → ℕ → ℕ → List Float → List Float
+keepReached second job i j budget l =
+    cond (leb (job .n) i) l
+    (cond (leb budget (job_of.to job i - j)) (keepHere second job i j budget l) (keepBeyond second job i j budget l))
+
+module _ (second : List Float) (job : Job) (i j budget : ℕ) (l : List Float) where
+  pub reached-none : job .n ≤ i → keepReached second job i j budget l ≡ l
+  unfolding keepReached
+  reached-none h = rw (le-leb (job .n) i h) refl
+
+  pub reached-here : i < job .n → budget ≤ job_of.to job i - j
+      → keepReached second job i j budget l ≡ keepHere second job i j budget l
+  unfolding keepReached
+  reached-here h b = rw (lt-leb (job .n) i h, le-leb budget (job_of.to job i - j) b) refl
+
+  pub reached-beyond : i < job .n → job_of.to job i - j < budget
+      → keepReached second job i j budget l ≡ keepBeyond second job i j budget l
+  unfolding keepReached
+  reached-beyond h b = rw (lt-leb (job .n) i h, lt-leb budget (job_of.to job i - j) b) refl
+
+-- ---- these are all that the pairs need
+lesser-first : (a b c : ℕ) → a ≤ c → lesser a b ≤ c
+lesser-first a b c h = omega (arith, h)
+
+lesser-second : (a b c : ℕ) → b ≤ c → lesser a b ≤ c
+lesser-second a b c h = omega (arith, h)
+
+greater-most : (a b c : ℕ) → a ≤ c → b ≤ c → greater a b ≤ c
+greater-most a b c h l = omega (arith, h, l)
+
+take-along : (i j count budget : ℕ) → budget ≤ count → take budget (along i j count) ≡ along i j budget
+take-along i j count zero h = refl
+take-along i j zero (suc budget) h = absurd (omega (arith, h))
+take-along i j (suc count) (suc budget) h =
+    ap (λ (l : List Pair). record { i = i; j = j } ∷ l) (take-along i (suc j) count budget (omega (arith, h)))
+
+module _ (second kept : List Float) (epsilon : Float) (from to : ℕ → ℕ) where
+  -- the first pairs of i
+  here : (i j count budget : ℕ) → budget ≤ to i - j → ((h : ℕ) → j ≤ h → h < j + budget → KeptOf second kept epsilon h)
+      → KeptFor second kept epsilon (take budget (pairsFrom from to i j (suc count)))
+  here i j count budget enough all =
+      let these = along i j (to i - j) in
+      let rest = pairsFrom from to (suc i) (from (suc i)) count in
+      let room : budget ≤ length these = omega (arith, enough, along-length i j (to i - j)) in
+      rw (take-append-le budget these rest room, take-along i j (to i - j) budget enough)
+      (each-along second kept epsilon i j budget all)
+
+  -- all of them, and some of those that follow
+  beyond : (i j count budget : ℕ) → to i - j ≤ budget → ((h : ℕ) → j ≤ h → h < to i → KeptOf second kept epsilon h)
+      → KeptFor second kept epsilon (take (budget - (to i - j)) (pairsFrom from to (suc i) (from (suc i)) count))
+      → KeptFor second kept epsilon (take budget (pairsFrom from to i j (suc count)))
+  beyond i j count budget enough all later =
+      let these = along i j (to i - j) in
+      let rest = pairsFrom from to (suc i) (from (suc i)) count in
+      let e : budget ≡ length these + (budget - (to i - j)) = omega (arith, enough, along-length i j (to i - j)) in
+      rw (ap (λ (n : ℕ). take n (these ++ rest)) e, take-append-add these rest (budget - (to i - j)))
+      (each-append second kept epsilon these (take (budget - (to i - j)) rest)
+      (each-along second kept epsilon i j (to i - j) (λ h a b. all h a (omega (arith, a, b))))
+      later)
+
+  -- the first pairs from i on, if i goes up to m: if it has not enough of them, they reach up to m
+  from-start : (m : ℕ) → ((i : ℕ) → from i ≤ from (suc i)) → ((i : ℕ) → to i ≤ m) → (i count budget : ℕ) → to i ≡ m
+      → ((h : ℕ) → from i ≤ h → h < highOf m (from i) budget → KeptOf second kept epsilon h)
+      → KeptFor second kept epsilon (take budget (pairsFrom from to i (from i) count))
+  from-start m rises within i zero budget up all = each-take second kept epsilon budget [] (none second kept epsilon)
+  from-start m rises within i (suc count) budget up all = go (lt-or-le (to i - from i) budget)
+    where
+      go : (to i - from i < budget) ⊎ (budget ≤ to i - from i)
+          → KeptFor second kept epsilon (take budget (pairsFrom from to i (from i) (suc count)))
+      go (inr few) = here i (from i) count budget few (λ h a b. all h a (omega (arith, a, b, few, up)))
+      go (inl many) =
+          each-take second kept epsilon budget (pairsFrom from to i (from i) (suc count))
+          (each-above second kept epsilon from to m (from i) rises within (λ h a b. all h a (omega (arith, a, b, many, up)))
+          i (from i) (suc count) (omega arith) (rises i))
+
+module _ (second l : List Float) (job : Job) (room : job .m * numbersKept ≤ length l) (i j budget : ℕ) where
+  abbrev Enough : List Float → Type 0
+  Enough kept = KeptFor second kept (job .epsilon) (take budget (job_of.left job i j))
+
+  enough-here : i < job .n → budget ≤ job_of.to job i - j → Enough (keepHere second job i j budget l)
+  enough-here inside few =
+      let e : job .n - i ≡ suc (job .n - suc i) = omega (arith, inside) in
+      let end = job_of.to job i in
+      let stop = end - (end - j - budget) in
+      let up = job_of.to-within job i in
+      let fits : stop * numbersKept ≤ length l = omega (arith, room, up) in
+      rw e
+      (here second (keepHere second job i j budget l) (job .epsilon) (job_of.from job) (job_of.to job) i j
+      (job .n - suc i) budget few
+      (λ h a b. kept-inside second l j stop (job .epsilon) fits h a (omega (arith, a, b, few))))
+
+  enough-beyond : i < job .n → job_of.to job i - j < budget → Enough (keepBeyond second job i j budget l)
+  enough-beyond inside many =
+      let e : job .n - i ≡ suc (job .n - suc i) = omega (arith, inside) in
+      rw e
+      (beyond second kept (job .epsilon) (job_of.from job) (job_of.to job) i j (job .n - suc i) budget (omega (arith, many))
+      first
+      (from-start second kept (job .epsilon) (job_of.from job) (job_of.to job) (job .m) (job_of.from-rises job)
+      (job_of.to-within job) (suc i) (job .n - suc i) (budget - (end - j)) (job_of.to-all job i) later))
+    where
+      end : ℕ
+      end = job_of.to job i
+
+      low : ℕ
+      low = job_of.from job (i + 1)
+
+      high : ℕ
+      high = highOf (job .m) low (budget - (end - j))
+
+      once : List Float
+      once = keep second (lesser j low) high (job .epsilon) l
+
+      kept : List Float
+      kept = keepBeyond second job i j budget l
+
+      high-room : high * numbersKept ≤ length l
+      high-room = omega (arith, room)
+
+      end-room : end * numbersKept ≤ length once
+      end-room =
+          omega (arith, room, job_of.to-within job i, keep-length second (lesser j low) (high - lesser j low) (job .epsilon) l)
+
+      below : (h : ℕ) → lesser j low ≤ h → h < high → KeptOf second kept (job .epsilon) h
+      below h a b =
+          kept-still second once (greater j high) end (job .epsilon) end-room h
+          (kept-inside second l (lesser j low) high (job .epsilon) high-room h a b)
+
+      first : (h : ℕ) → j ≤ h → h < end → KeptOf second kept (job .epsilon) h
+      first h a b = go (lt-or-le h high)
+        where
+          go : (h < high) ⊎ (high ≤ h) → KeptOf second kept (job .epsilon) h
+          go (inl c) = below h (lesser-first j low h a) c
+          go (inr c) = kept-inside second once (greater j high) end (job .epsilon) end-room h (greater-most j high h a c) b
+
+      later : (h : ℕ) → job_of.from job (suc i) ≤ h → h < highOf (job .m) (job_of.from job (suc i)) (budget - (end - j))
+          → KeptOf second kept (job .epsilon) h
+      later h a b =
+          let e : job_of.from job (suc i) ≡ low = ap (job_of.from job) (sym (add-one i)) in
+          below h (lesser-second j low h (subst (λ (k : ℕ). k ≤ h) e a))
+          (subst (λ (k : ℕ). h < highOf (job .m) k (budget - (end - j))) e b)
+
+  pub reached-kept : Enough (keepReached second job i j budget l)
+  reached-kept = go (lt-or-le i (job .n)) (lt-or-le (job_of.to job i - j) budget)
+    where
+      go : (i < job .n) ⊎ (job .n ≤ i) → (job_of.to job i - j < budget) ⊎ (budget ≤ job_of.to job i - j)
+          → Enough (keepReached second job i j budget l)
+      go (inl inside) (inl many) = rw (reached-beyond second job i j budget l inside many) (enough-beyond inside many)
+      go (inl inside) (inr few) = rw (reached-here second job i j budget l inside few) (enough-here inside few)
+      go (inr done) some =
+          rw (left-end (job_of.from job) (job_of.to job) (job .n) i j done)
+          (each-take second (keepReached second job i j budget l) (job .epsilon) budget []
+          (none second (keepReached second job i j budget l) (job .epsilon)))
+
+-- ---- the code's steps
+-- a range that ends at s may be stored
+pub may-keep : {s m vertices room : ℕ} → s ≤ m → m ≤ vertices → m ≤ mostVertices → m * numbersKept ≤ room
+    → (s ≤ vertices) × ((s ≤ mostVertices) × (s * numbersKept ≤ room))
+may-keep up a b c = (omega (arith, up, a), (omega (arith, up, b), omega (arith, up, c)))
+
+pub less-most : {a m : ℕ} (b : ℕ) → a ≤ m → a - b ≤ m
+less-most b h = omega (arith, h)
+
+pub end-most : (job : Job) (i : ℕ) {end : ℕ} → end ≡ job_of.to job i → end ≤ job .m
+end-most job i {end} e = omega (arith, e, job_of.to-within job i)
+
+pub room-left : (second l : List Float) (from to m : ℕ) (epsilon : Float) {now : List Float}
+    → now ≡ keep second from to epsilon l → m * numbersKept ≤ length l → m * numbersKept ≤ length now
+room-left second l from to m epsilon {now} e room =
+    let long = ap length e ∙ keep-length second from (to - from) epsilon l in omega (arith, room, long)
+
+module _ (second : List Float) (job : Job) (i j budget : ℕ) (l : List Float) {end spent : ℕ} (inside : i < job .n)
+    (end-is : end ≡ job_of.to job i) (spent-is : spent ≡ end - j) where
+  counted : spent ≡ job_of.to job i - j
+  counted = spent-is ∙ ap (λ (n : ℕ). n - j) end-is
+
+  pub stored-here : {now : List Float} → budget ≤ spent
+      → now ≡ keep second j (end - (spent - budget)) (job .epsilon) l → now ≡ keepReached second job i j budget l
+  stored-here {now} few is =
+      let enough : budget ≤ job_of.to job i - j = subst (λ (n : ℕ). budget ≤ n) counted few in
+      is
+      ∙ ap (λ (n : ℕ). keep second j (end - (n - budget)) (job .epsilon) l) counted
+      ∙ ap (λ (n : ℕ). keep second j (n - (job_of.to job i - j - budget)) (job .epsilon) l) end-is
+      ∙ sym (reached-here second job i j budget l inside enough)
+
+  pub stored-beyond : {once now : List Float} {low wide over start more : ℕ} → spent < budget
+      → low ≡ job_of.from job (i + 1) → wide ≡ job .m - low → over ≡ wide - (budget - spent) → start ≡ lesser j low
+      → once ≡ keep second start (job .m - over) (job .epsilon) l → more ≡ greater j (job .m - over)
+      → now ≡ keep second more end (job .epsilon) once → now ≡ keepReached second job i j budget l
+  stored-beyond {once} {now} {low} {wide} {over} {start} {more} many low-is wide-is over-is start-is once-is more-is is =
+      let some : job_of.to job i - j < budget = subst (λ (n : ℕ). n < budget) counted many in
+      let top : job .m - over ≡ highOf (job .m) (job_of.from job (i + 1)) (budget - (job_of.to job i - j)) =
+      rw (over-is, wide-is, low-is, counted) refl in
+      let first : once
+      ≡ keep second (lesser j (job_of.from job (i + 1)))
+      (highOf (job .m) (job_of.from job (i + 1)) (budget - (job_of.to job i - j))) (job .epsilon) l =
+      once-is
+      ∙ ap (λ (n : ℕ). keep second n (job .m - over) (job .epsilon) l) (start-is ∙ ap (lesser j) low-is)
+      ∙ ap (λ (n : ℕ). keep second (lesser j (job_of.from job (i + 1))) n (job .epsilon) l) top in
+      is
+      ∙ ap (λ (n : ℕ). keep second n end (job .epsilon) once) (more-is ∙ ap (greater j) top)
+      ∙ ap (λ (n : ℕ). keep second
+      (greater j (highOf (job .m) (job_of.from job (i + 1)) (budget - (job_of.to job i - j)))) n (job .epsilon) once) end-is
+      ∙ ap (keep second (greater j (highOf (job .m) (job_of.from job (i + 1)) (budget - (job_of.to job i - j))))
+      (job_of.to job i) (job .epsilon)) first
+      ∙ sym (reached-beyond second job i j budget l inside some)
