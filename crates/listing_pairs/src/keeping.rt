@@ -55,8 +55,8 @@ fn greater(a: usize, b: usize) -> usize
 }
 
 // Stores what is kept of those segments of the second path that the first `budget` pairs from (i, j) on can reach. If i has
-// enough pairs, these are as many as the budget. Else they are all of i, and of the pairs that follow, which start at `low`, as
-// many as the rest of the budget, or all of them. Both are stored in one go if they overlap.
+// enough pairs or is the last, these are as many as the budget, or all that i has. Else they are all that i has, and of the pairs
+// that follow, which start at `low`, as many as the rest of the budget, or all of them. No segment is stored twice.
 pub fn keep_reached(second: &[f64], job: Job, i: usize, j: usize, budget: usize, kept: &mut [f64])
     requires { ⌜ job .m ≤ Path.vertexCount (now second) ⌝ }
     requires { ⌜ (job .n ≤ Path.mostVertices) × (job .m ≤ Path.mostVertices) ⌝ }
@@ -68,8 +68,8 @@ pub fn keep_reached(second: &[f64], job: Job, i: usize, j: usize, budget: usize,
     }
     let end = order::to(job, i);
     let spent = less(end, j);
-    if budget <= spent {
-        keep(second, j, end - (spent - budget), job.epsilon, kept);
+    if (budget <= spent) | (job.n <= i + 1) {
+        keep(second, j, end - less(spent, budget), job.epsilon, kept);
         return;
     }
     let low = order::from(job, i + 1);

@@ -1,12 +1,12 @@
 -- What is kept for the pairs that a listing looks at: the second segments of its first `budget` pairs from (i, j) on.
 use mathlib.Core.Path.{_≡_, refl, sym, ap, subst, _∙_}
-use mathlib.Core.Bool.{cond}
+use mathlib.Core.Bool.{Bool, true, false, cond, _||_, true≢false}
 use mathlib.Core.Logic.{_⊎_, inl, inr}
 use mathlib.Core.List.{List, [], _∷_, _++_}
 use Prim.Native.Nat.{ℕ, zero, suc, _+_, _-_, _*_, _≤_, _<_}
 use native.Mathlib.Numerals.{add-one}
 use native.Mathlib.Omega.{arith}
-use borrow.Author.Tests.{le-leb, lt-leb}
+use borrow.Author.Tests.{le-leb, lt-leb, leb-false}
 use lib.Dec.{leb}
 use lib.Ieee.{Float}
 use lib.ListN.{length, take}
@@ -14,7 +14,7 @@ use lib.Seq.{take-append-le, take-append-add}
 use Rattle.paths.specs.Path.{mostVertices}
 use Rattle.listing_pairs.specs.declared.order.Job.{Job}
 use Rattle.listing_pairs.specs.Order.{Pair, along, pairsFrom}
-use Rattle.listing_pairs.specs.Laws.Order.{lt-or-le, along-length, left-end, left-row}
+use Rattle.listing_pairs.specs.Laws.Order.{lt-or-le, along-length, left-end}
 use Rattle.listing_pairs.specs.Workings.Job as job_of
 use Rattle.listing_pairs.specs.Workings.Keeping.{
   numbersKept,
@@ -93,7 +93,10 @@ greater a b = b + (a - b)
 abbrev pub highOf : ℕ → ℕ → ℕ → ℕ
 highOf m low rest = m - (m - low - rest)
 
--- i has enough pairs
+-- i has enough pairs, or is the last
+abbrev pub isHere : Job → ℕ → ℕ → ℕ → Bool
+isHere job i spent budget = leb budget spent || leb (job .n) (i + 1)
+
 abbrev pub keepHere : List Float → Job → ℕ → ℕ → ℕ → List Float → List Float
 keepHere second job i j budget l =
     let end = job_of.to job i in keep second j (end - (end - j - budget)) (job .epsilon) l
@@ -109,22 +112,22 @@ keepBeyond second job i j budget l =
 unfoldable pub keepReached : List Float → Job → ℕ → ℕ → ℕ → List Float → List Float
 keepReached second job i j budget l =
     cond (leb (job .n) i) l
-    (cond (leb budget (job_of.to job i - j)) (keepHere second job i j budget l) (keepBeyond second job i j budget l))
+    (cond (isHere job i (job_of.to job i - j) budget) (keepHere second job i j budget l) (keepBeyond second job i j budget l))
 
 module _ (second : List Float) (job : Job) (i j budget : ℕ) (l : List Float) where
   pub reached-none : job .n ≤ i → keepReached second job i j budget l ≡ l
   unfolding keepReached
   reached-none h = rw (le-leb (job .n) i h) refl
 
-  pub reached-here : i < job .n → budget ≤ job_of.to job i - j
+  pub reached-here : i < job .n → isHere job i (job_of.to job i - j) budget ≡ true
       → keepReached second job i j budget l ≡ keepHere second job i j budget l
   unfolding keepReached
-  reached-here h b = rw (lt-leb (job .n) i h, le-leb budget (job_of.to job i - j) b) refl
+  reached-here h b = rw (lt-leb (job .n) i h, b) refl
 
-  pub reached-beyond : i < job .n → job_of.to job i - j < budget
+  pub reached-beyond : i < job .n → isHere job i (job_of.to job i - j) budget ≡ false
       → keepReached second job i j budget l ≡ keepBeyond second job i j budget l
   unfolding keepReached
-  reached-beyond h b = rw (lt-leb (job .n) i h, lt-leb budget (job_of.to job i - j) b) refl
+  reached-beyond h b = rw (lt-leb (job .n) i h, b) refl
 
 -- ---- these are all that the pairs need
 lesser-first : (a b c : ℕ) → a ≤ c → lesser a b ≤ c
@@ -247,14 +250,42 @@ module _ (second l : List Float) (job : Job) (room : job .m * numbersKept ≤ le
           below h (lesser-second j low h (subst (λ (k : ℕ). k ≤ h) e a))
           (subst (λ (k : ℕ). h < highOf (job .m) k (budget - (end - j))) e b)
 
-  pub reached-kept : Enough (keepReached second job i j budget l)
-  reached-kept = go (lt-or-le i (job .n)) (lt-or-le (job_of.to job i - j) budget)
+  -- no pairs follow those of i
+  enough-last : i < job .n → job .n ≤ i + 1 → job_of.to job i - j < budget → Enough (keepHere second job i j budget l)
+  enough-last inside last many =
+      let e : job .n - i ≡ 1 = omega (arith, inside, last) in
+      let end = job_of.to job i in
+      let kept = keepHere second job i j budget l in
+      let stop = end - (end - j - budget) in
+      let up = job_of.to-within job i in
+      let fits : stop * numbersKept ≤ length l = omega (arith, room, up) in
+      rw e
+      (each-take second kept (job .epsilon) budget (along i j (end - j) ++ [])
+      (each-append second kept (job .epsilon) (along i j (end - j)) []
+      (each-along second kept (job .epsilon) i j (end - j)
+      (λ h a b. kept-inside second l j stop (job .epsilon) fits h a (omega (arith, a, b, many))))
+      (none second kept (job .epsilon))))
+
+  pub reached-kept : KeptFor second (keepReached second job i j budget l) (job .epsilon) (take budget (job_of.left job i j))
+  reached-kept = go (lt-or-le i (job .n)) (lt-or-le (job_of.to job i - j) budget) (lt-or-le (i + 1) (job .n))
     where
-      go : (i < job .n) ⊎ (job .n ≤ i) → (job_of.to job i - j < budget) ⊎ (budget ≤ job_of.to job i - j)
+      spent : ℕ
+      spent = job_of.to job i - j
+
+      go : (i < job .n) ⊎ (job .n ≤ i) → (spent < budget) ⊎ (budget ≤ spent) → (i + 1 < job .n) ⊎ (job .n ≤ i + 1)
           → Enough (keepReached second job i j budget l)
-      go (inl inside) (inl many) = rw (reached-beyond second job i j budget l inside many) (enough-beyond inside many)
-      go (inl inside) (inr few) = rw (reached-here second job i j budget l inside few) (enough-here inside few)
-      go (inr done) some =
+      go (inl inside) (inl many) (inl more) =
+          let test : isHere job i spent budget ≡ false =
+          rw (lt-leb budget spent many, lt-leb (job .n) (i + 1) more) refl in
+          rw (reached-beyond second job i j budget l inside test) (enough-beyond inside many)
+      go (inl inside) (inl many) (inr last) =
+          let test : isHere job i spent budget ≡ true =
+          rw (lt-leb budget spent many, le-leb (job .n) (i + 1) last) refl in
+          rw (reached-here second job i j budget l inside test) (enough-last inside last many)
+      go (inl inside) (inr few) some =
+          let test : isHere job i spent budget ≡ true = rw (le-leb budget spent few) refl in
+          rw (reached-here second job i j budget l inside test) (enough-here inside few)
+      go (inr done) some other =
           rw (left-end (job_of.from job) (job_of.to job) (job .n) i j done)
           (each-take second (keepReached second job i j budget l) (job .epsilon) budget []
           (none second (keepReached second job i j budget l) (job .epsilon)))
@@ -264,6 +295,14 @@ module _ (second l : List Float) (job : Job) (room : job .m * numbersKept ≤ le
 pub may-keep : {s m vertices room : ℕ} → s ≤ m → m ≤ vertices → m ≤ mostVertices → m * numbersKept ≤ room
     → (s ≤ vertices) × ((s ≤ mostVertices) × (s * numbersKept ≤ room))
 may-keep up a b c = (omega (arith, up, a), (omega (arith, up, b), omega (arith, up, c)))
+
+-- the budget is more than i has
+pub not-here : (job : Job) (i spent budget : ℕ) → isHere job i spent budget ≡ false → spent ≤ budget
+not-here job i spent budget test = go (leb budget spent) refl test
+  where
+    go : (b : Bool) → leb budget spent ≡ b → (b || leb (job .n) (i + 1)) ≡ false → spent ≤ budget
+    go true e f = absurd (true≢false f)
+    go false e f = let h = leb-false budget spent e in omega (arith, h)
 
 pub less-most : {a m : ℕ} (b : ℕ) → a ≤ m → a - b ≤ m
 less-most b h = omega (arith, h)
@@ -281,33 +320,30 @@ module _ (second : List Float) (job : Job) (i j budget : ℕ) (l : List Float) {
   counted : spent ≡ job_of.to job i - j
   counted = spent-is ∙ ap (λ (n : ℕ). n - j) end-is
 
-  pub stored-here : {now : List Float} → budget ≤ spent
-      → now ≡ keep second j (end - (spent - budget)) (job .epsilon) l → now ≡ keepReached second job i j budget l
-  stored-here {now} few is =
-      let enough : budget ≤ job_of.to job i - j = subst (λ (n : ℕ). budget ≤ n) counted few in
+  pub stored-here : {now : List Float} {over : ℕ} → isHere job i spent budget ≡ true → over ≡ spent - budget
+      → now ≡ keep second j (end - over) (job .epsilon) l → now ≡ keepReached second job i j budget l
+  stored-here {now} {over} test over-is is =
       is
-      ∙ ap (λ (n : ℕ). keep second j (end - (n - budget)) (job .epsilon) l) counted
+      ∙ ap (λ (n : ℕ). keep second j (end - n) (job .epsilon) l) (over-is ∙ ap (λ (n : ℕ). n - budget) counted)
       ∙ ap (λ (n : ℕ). keep second j (n - (job_of.to job i - j - budget)) (job .epsilon) l) end-is
-      ∙ sym (reached-here second job i j budget l inside enough)
+      ∙ sym (reached-here second job i j budget l inside
+      (sym (ap (λ (n : ℕ). isHere job i n budget) counted) ∙ test))
 
-  pub stored-beyond : {once now : List Float} {low wide over start more : ℕ} → spent < budget
+  abbrev highest : ℕ
+  highest = highOf (job .m) (job_of.from job (i + 1)) (budget - (job_of.to job i - j))
+
+  pub stored-beyond : {once now : List Float} {low wide over start more : ℕ} → isHere job i spent budget ≡ false
       → low ≡ job_of.from job (i + 1) → wide ≡ job .m - low → over ≡ wide - (budget - spent) → start ≡ lesser j low
       → once ≡ keep second start (job .m - over) (job .epsilon) l → more ≡ greater j (job .m - over)
       → now ≡ keep second more end (job .epsilon) once → now ≡ keepReached second job i j budget l
-  stored-beyond {once} {now} {low} {wide} {over} {start} {more} many low-is wide-is over-is start-is once-is more-is is =
-      let some : job_of.to job i - j < budget = subst (λ (n : ℕ). n < budget) counted many in
-      let top : job .m - over ≡ highOf (job .m) (job_of.from job (i + 1)) (budget - (job_of.to job i - j)) =
-      rw (over-is, wide-is, low-is, counted) refl in
-      let first : once
-      ≡ keep second (lesser j (job_of.from job (i + 1)))
-      (highOf (job .m) (job_of.from job (i + 1)) (budget - (job_of.to job i - j))) (job .epsilon) l =
-      once-is
-      ∙ ap (λ (n : ℕ). keep second n (job .m - over) (job .epsilon) l) (start-is ∙ ap (lesser j) low-is)
-      ∙ ap (λ (n : ℕ). keep second (lesser j (job_of.from job (i + 1))) n (job .epsilon) l) top in
+  stored-beyond {once} {now} {low} {wide} {over} {start} {more} test low-is wide-is over-is start-is once-is more-is is =
+      let top : job .m - over ≡ highest = rw (over-is, wide-is, low-is, counted) refl in
       is
       ∙ ap (λ (n : ℕ). keep second n end (job .epsilon) once) (more-is ∙ ap (greater j) top)
-      ∙ ap (λ (n : ℕ). keep second
-      (greater j (highOf (job .m) (job_of.from job (i + 1)) (budget - (job_of.to job i - j)))) n (job .epsilon) once) end-is
-      ∙ ap (keep second (greater j (highOf (job .m) (job_of.from job (i + 1)) (budget - (job_of.to job i - j))))
-      (job_of.to job i) (job .epsilon)) first
-      ∙ sym (reached-beyond second job i j budget l inside some)
+      ∙ ap (λ (n : ℕ). keep second (greater j highest) n (job .epsilon) once) end-is
+      ∙ ap (keep second (greater j highest) (job_of.to job i) (job .epsilon))
+      (once-is
+      ∙ ap (λ (n : ℕ). keep second n (job .m - over) (job .epsilon) l) (start-is ∙ ap (lesser j) low-is)
+      ∙ ap (λ (n : ℕ). keep second (lesser j (job_of.from job (i + 1))) n (job .epsilon) l) top)
+      ∙ sym (reached-beyond second job i j budget l inside
+      (sym (ap (λ (n : ℕ). isHere job i n budget) counted) ∙ test))
