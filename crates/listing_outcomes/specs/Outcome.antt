@@ -36,9 +36,12 @@ pub record Leaves {A : Type 0} (o : Outcome A) (r : A) (i : List ℕ) (p : List 
 abbrev pub overwrite : {A : Type 0} → List A → List A → List A
 overwrite old values = values ++ drop (length values) old
 
--- how many rows both slices have room for
+-- how many rows fit whole into both slices, by their lengths
+abbrev pub rowRoom : ℕ → ℕ → ℕ
+rowRoom indices points = min (indices / indicesARow) (points / pointsARow)
+
 abbrev pub room : List ℕ → List Float → ℕ
-room indices points = min (length indices / indicesARow) (length points / pointsARow)
+room indices points = rowRoom (length indices) (length points)
 
 -- The outcome by the first fault, if there is one: a refusal, by its number, leaves both slices unchanged. Otherwise the call has its
 -- answer, and its rows are written.

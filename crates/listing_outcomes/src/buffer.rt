@@ -7,10 +7,11 @@ ghost use Rattle.listing_pairs.specs.Workings.Ready;
 ghost use Rattle.paths.specs.Path;
 ghost use Rattle.listing_outcomes.specs.Outcome;
 ghost use Rattle.listing_outcomes.specs.Workings.Outcome as outcome_of;
-ghost use Prim.Native.Nat.{_≤_, _<_, _*_, min};
+ghost use Prim.Native.Nat.{_≤_, _<_, _*_};
 ghost use lib.ListN.{length};
 ghost use mathlib.Core.Path.{_≡_};
 use super::answer::ListingAnswer;
+use super::room::row_room;
 use checks::refusal;
 use listing_loop::fill::Filling;
 use listing_loop::fill::Part;
@@ -20,20 +21,11 @@ use listing_pairs::order;
 use listing_pairs::order::Job;
 use listing_pairs::row;
 use listing_pairs::rows;
+use listing_pairs::sizes::lesser;
 use paths::path;
 
 // how many rows the buffer holds back until it is known that all fit: 112 KiB
 const ROWS: usize = 2048;
-
-// The smaller of two numbers.
-fn lesser(x: usize, y: usize) -> usize
-    ensures { λ r. ⌜ r ≡ min x y ⌝ }
-{
-    if x < y {
-        return x;
-    }
-    y
-}
 
 // As many pairs as there can be: each segment of one path with each of the other.
 fn every_pair(job: Job) -> usize
@@ -175,7 +167,7 @@ fn list_kept(
         (now (indices .entry)) (now (points .entry)))
         r (now (indices .exit)) (now (points .exit)) ⌝ }
 {
-    let room = lesser(indices.len() / row::INDICES, points.len() / row::POINTS);
+    let room = row_room(indices.len(), points.len());
     let budget = every_pair(job);
     // there is room for a row of every pair
     if budget <= room {

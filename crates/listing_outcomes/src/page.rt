@@ -12,7 +12,7 @@ ghost use Rattle.listing_loop.specs.Workings.Filling as filling;
 ghost use Rattle.listing_outcomes.specs.Outcome;
 ghost use Rattle.listing_outcomes.specs.Workings.PageOutcome as outcome_of;
 use super::answer::PageAnswer;
-use super::room::rows_room;
+use super::room::row_room;
 use checks::refusal;
 use listing_loop::fill::Filling;
 use listing_loop::fill::Part;
@@ -81,7 +81,7 @@ pub fn page(
     if budget == 0 {
         return PageAnswer::Refused(refusal::BUDGET);
     }
-    let room = rows_room(indices, points);
+    let room = row_room(indices.len(), points.len());
     if room == 0 {
         return PageAnswer::Refused(refusal::ROWS);
     }

@@ -5,6 +5,12 @@ ghost use Prim.Native.Nat.{_≤_, _<_, _+_, _*_};
 ghost use lib.ListN.{length};
 ghost use Rattle.paths.specs.Path;
 ghost use Rattle.listing_pairs.specs.Workings.Keeping;
+ghost use Rattle.listing_pairs.specs.Workings.Reached;
+use super::order;
+use super::order::Job;
+use super::sizes::greater;
+use super::sizes::less;
+use super::sizes::lesser;
 use fast_pair::kept::Kept;
 use fast_pair::kept::kept_of;
 use paths::segments;
@@ -28,6 +34,30 @@ pub fn keep(path: &[f64], from: usize, to: usize, epsilon: f64, kept: &mut [f64]
         kept[at + 2] = k.center_y_or_zero;
         j += 1;
     }
+}
+
+// Stores what is kept of those segments of the second path that the first `budget` pairs from (i, j) on can reach. If i has
+// enough pairs or is the last, these are as many as the budget, or all that i has. Else they are all that i has, and of the pairs
+// that follow, which start at `low`, as many as the rest of the budget, or all of them. No segment is stored twice.
+pub fn keep_reached(second: &[f64], job: Job, i: usize, j: usize, budget: usize, kept: &mut [f64])
+    requires { ⌜ job .m ≤ Path.vertexCount (now second) ⌝ }
+    requires { ⌜ (job .n ≤ Path.mostVertices) × (job .m ≤ Path.mostVertices) ⌝ }
+    requires { ⌜ job .m * Keeping.numbersKept ≤ length (now kept) ⌝ }
+    ensures { λ _. ⌜ now (kept .exit) ≡ Reached.keepReached (now (second .entry)) job i j budget (now (kept .entry)) ⌝ }
+{
+    if job.n <= i {
+        return;
+    }
+    let end = order::to(job, i);
+    let spent = less(end, j);
+    if (budget <= spent) | (job.n <= i + 1) {
+        keep(second, j, end - less(spent, budget), job.epsilon, kept);
+        return;
+    }
+    let low = order::from(job, i + 1);
+    let high = job.m - less(less(job.m, low), budget - spent);
+    keep(second, lesser(j, low), high, job.epsilon, kept);
+    keep(second, greater(j, high), end, job.epsilon, kept);
 }
 
 // What is kept of segment j.

@@ -5,3 +5,4 @@ pub mod look;
 pub mod order;
 pub mod row;
 pub mod rows;
+pub mod sizes;

@@ -4,6 +4,7 @@ ghost use Prim.Native.Nat.{_≤_, _-_};
 ghost use Rattle.paths.specs.Path;
 ghost use Rattle.listing_pairs.specs.Workings.Job as job_of;
 ghost use Rattle.listing_pairs.specs.Workings.Position;
+use super::sizes::less;
 
 // What a listing works on: n segments of the first path, m of the second, and epsilon. In a self listing (`own`) both are the
 // same path.
@@ -54,10 +55,7 @@ pub fn pairs_at(job: Job, i: usize) -> usize
 {
     let start = from(job, i);
     let end = to(job, i);
-    if end <= start {
-        return 0;
-    }
-    end - start
+    less(end, start)
 }
 
 // How many pairs there are in all.

@@ -10,7 +10,7 @@ use Rattle.listing_outcomes.specs.Workings.Outcome.{filled-first, joins-
 use Rattle.listing_outcomes.proofs.buffer.list_kept.Statement.{statement}
 use Rattle.listing_outcomes.proofs.buffer.list_kept.Tie as tie
 
-abbrev start : tie.After-lesser → tie.Start
+abbrev start : tie.After-row-room → tie.Start
 start c = c .before .before .before .before .before .before
 
 every-pair-requires : tie.Need-every-pair-requires
@@ -19,7 +19,7 @@ every-pair-requires c κs = let ready = start c .pre .pairs in (ready .few, read
 fill-requires : tie.Need-fill-requires
 fill-requires c κs =
     let n = c .before .before .before .before .before in
-    let e = n .lesser .ensures in
+    let e = n .row-room .ensures in
     (all-ready (start n .pre) _ _ _, (omega arith, (omega arith, (omega (arith, e), omega (arith, e)))))
 
 returns : tie.Need-returns
@@ -31,16 +31,16 @@ returns c =
     let a = start n .args in
     let F = look (now (a .first)) (now (a .second)) (a .job .epsilon) in
     let ps = job_of.every (a .job) in
-    let room = n .lesser .result in
+    let room = n .row-room .result in
     let done = filled-first F (a .job) (f .before .before .before .from .result) room (b .every-pair .result) (f .fill .result)
     (now (a .indices)) _ (now (a .points)) _ (f .before .before .before .from .ensures) (b .every-pair .ensures)
     (f .fill .ensures) in
-    on-one-page F ps (now (a .indices)) (now (a .points)) (joins-every F (a .job) room) (omega (arith, n .lesser .ensures))
+    on-one-page F ps (now (a .indices)) (now (a .points)) (joins-every F (a .job) room) (omega (arith, n .row-room .ensures))
     (no-more F (a .job) room (rw (b .every-pair .ensures) at (t .if1 .taken))) _ _ _ _
     (done .rows) (done .looked) (done .indices) (done .points)
 
 list-held-back-requires : tie.Need-list-held-back-requires
-list-held-back-requires c κs = let n = c .before .before .before .before in (start n .pre, n .lesser .ensures)
+list-held-back-requires c κs = let n = c .before .before .before .before in (start n .pre, n .row-room .ensures)
 
 pub list-kept-spec : {M : Type 1} → statement M
 list-kept-spec =
