@@ -15,7 +15,7 @@ use Rattle.layout_text.specs.Workings.Reader.{
   Got,
   nothing,
   got,
-  Passed,
+  Skipped,
   stuck,
   over,
   passed,
@@ -116,7 +116,7 @@ after-passed : (v : Vertex) (g : Got (List Vertex)) → passed g ≡ passed (and
 after-passed v nothing = refl
 after-passed v (got vs r) = refl
 
-module _ (text : List ℕ) (n i at : ℕ) (all : Passed) (inv : passed (verticesOf (n - i) (drop at text)) ≡ all) where
+module _ (text : List ℕ) (n i at : ℕ) (all : Skipped) (inv : passed (verticesOf (n - i) (drop at text)) ≡ all) where
   pub pass-end : n ≤ i → over (drop at text) ≡ all
   pass-end h = rw (lines-end n i _ h) at inv
 

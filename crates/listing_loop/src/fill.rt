@@ -87,7 +87,7 @@ pub fn fill(
         while j < end {
             let seen = look::look(v, v_kept, second, kept, job, i, j);
             match seen {
-                row::Look::Passed => {
+                row::Look::Skipped => {
                     j += 1;
                 }
                 row::Look::Nothing => {

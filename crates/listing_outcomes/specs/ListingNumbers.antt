@@ -33,9 +33,11 @@ pageNumbers (page.Refused n) = n ∷ []
 pageNumbers (page.Paged rows pairs next all) = rows ∷ pairs ∷ next ∷ all ∷ []
 
 page-back : List ℕ → PageAnswer
-page-back (rows ∷ pairs ∷ next ∷ all ∷ rest) = page.Paged rows pairs next all
-page-back (n ∷ rest) = page.Refused n
 page-back [] = page.Refused 0
+page-back (n ∷ []) = page.Refused n
+page-back (rows ∷ pairs ∷ []) = page.Refused 0
+page-back (rows ∷ pairs ∷ next ∷ []) = page.Refused 0
+page-back (rows ∷ pairs ∷ next ∷ all ∷ rest) = page.Paged rows pairs next all
 
 page-numbers-back : (a : PageAnswer) → page-back (pageNumbers a) ≡ a
 unfolding page-back

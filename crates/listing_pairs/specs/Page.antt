@@ -4,7 +4,7 @@ use mathlib.Core.List.{List, [], _∷_}
 use Prim.Native.Nat.{ℕ, zero, suc}
 use Rattle.listing_pairs.specs.declared.row.Row.{Row}
 use Rattle.listing_pairs.specs.declared.row.Look.{Look}
-use Rattle.listing_pairs.specs.declared.row.Look.the-variants.{Passed, Nothing, Made}
+use Rattle.listing_pairs.specs.declared.row.Look.the-variants.{Skipped, Nothing, Made}
 use Rattle.listing_pairs.specs.Order.{Pair}
 use Rattle.listing_pairs.specs.Rows.{onto, count}
 
@@ -27,7 +27,7 @@ pass s q =
 -- One pair, within the budget. `here` remains if the page stops before it; `go` is the page of the pairs after it, by the room that
 -- is left for rows.
 abbrev pub turn : Look → List Pair → (ℕ → Page) → ℕ → Page
-turn Passed here go room = pass Passed (go room)
+turn Skipped here go room = pass Skipped (go room)
 turn Nothing here go room = pass Nothing (go room)
 turn (Made r) here go zero = stop here
 turn (Made r) here go (suc room) = pass (Made r) (go room)

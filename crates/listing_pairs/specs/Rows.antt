@@ -4,18 +4,18 @@ use mathlib.Core.List.{List, [], _∷_}
 use Prim.Native.Nat.{ℕ, suc}
 use Rattle.listing_pairs.specs.declared.row.Row.{Row}
 use Rattle.listing_pairs.specs.declared.row.Look.{Look}
-use Rattle.listing_pairs.specs.declared.row.Look.the-variants.{Passed, Nothing, Made}
+use Rattle.listing_pairs.specs.declared.row.Look.the-variants.{Skipped, Nothing, Made}
 use Rattle.listing_pairs.specs.Order.{Pair}
 
 -- the pair's row, if it makes one, and then the rows of the rest
 abbrev pub onto : Look → List Row → List Row
-onto Passed rows = rows
+onto Skipped rows = rows
 onto Nothing rows = rows
 onto (Made r) rows = r ∷ rows
 
 -- one more, if the pair is looked at
 abbrev pub count : Look → ℕ → ℕ
-count Passed n = n
+count Skipped n = n
 count Nothing n = suc n
 count (Made r) n = suc n
 

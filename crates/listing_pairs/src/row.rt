@@ -21,9 +21,9 @@ pub struct Row {
     pub y2: f64,
 }
 
-// What a pair gives: it is passed over and does not count; or it is looked at and makes no row; or it makes one.
+// What a pair gives: it is skipped and does not count; or it is looked at and makes no row; or it makes one.
 pub enum Look {
-    Passed,
+    Skipped,
     Nothing,
     Made(Row),
 }

@@ -20,11 +20,11 @@ andThen nothing next = nothing
 andThen (got a rest) next = next a rest
 
 -- only what remains
-pub data Passed : Type 0 where
-  stuck : Passed
-  over : List ℕ → Passed
+pub data Skipped : Type 0 where
+  stuck : Skipped
+  over : List ℕ → Skipped
 
-abbrev pub passed : {A : Type 0} → Got A → Passed
+abbrev pub passed : {A : Type 0} → Got A → Skipped
 passed nothing = stuck
 passed (got a rest) = over rest
 

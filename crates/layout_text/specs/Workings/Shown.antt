@@ -12,7 +12,7 @@ use Rattle.layout_text.specs.Workings.Reader.{
   Got,
   nothing,
   got,
-  Passed,
+  Skipped,
   stuck,
   over,
   broken,
@@ -45,7 +45,7 @@ unfoldable pub numbersOf : Got Vertex → Got (List Float)
 numbersOf nothing = nothing
 numbersOf (got v rest) = got (pathOf (v ∷ [])) rest
 
-unfoldable pub shownPlace : List ℕ → Place → Passed
+unfoldable pub shownPlace : List ℕ → Place → Skipped
 shownPlace text Place·.Broken = stuck
 shownPlace text (Place·.At next) = over (drop next text)
 

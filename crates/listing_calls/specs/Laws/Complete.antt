@@ -9,7 +9,7 @@ use lib.ListN.{length, length-append, getD, drop}
 use lib.Seq.{getD-append-add}
 use Rattle.listing_pairs.specs.declared.row.Row.{Row}
 use Rattle.listing_pairs.specs.declared.row.Look.{Look}
-use Rattle.listing_pairs.specs.declared.row.Look.the-variants.{Passed, Nothing, Made}
+use Rattle.listing_pairs.specs.declared.row.Look.the-variants.{Skipped, Nothing, Made}
 use Rattle.listing_pairs.specs.Row.{indicesARow, indicesOf, numbersOfRows}
 use Rattle.listing_pairs.specs.Order.{Pair, along, pairsFrom}
 use Rattle.listing_pairs.specs.Rows.{onto, rowsOf}
@@ -77,7 +77,7 @@ module _ (look : ℕ → ℕ → Look) where
     where
       go : (s : Look) → rowsOf look (ps ++ qs) ≡ rowsOf look ps ++ rowsOf look qs
           → onto s (rowsOf look (ps ++ qs)) ≡ onto s (rowsOf look ps) ++ rowsOf look qs
-      go Passed e = e
+      go Skipped e = e
       go Nothing e = e
       go (Made r) e = ap (λ (l : List Row). r ∷ l) e
 

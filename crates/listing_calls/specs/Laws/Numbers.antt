@@ -23,7 +23,7 @@ use Rattle.paths.specs.Segments.{segmentCount, segmentFrom}
 use Rattle.paths.specs.Laws.Segments.{few-segments}
 use Rattle.listing_pairs.specs.declared.row.Row.{Row}
 use Rattle.listing_pairs.specs.declared.row.Look.{Look}
-use Rattle.listing_pairs.specs.declared.row.Look.the-variants.{Passed, Nothing, Made}
+use Rattle.listing_pairs.specs.declared.row.Look.the-variants.{Skipped, Nothing, Made}
 use Rattle.listing_pairs.specs.Row.{indicesOf, numbersOfRows, row, unlessApart, lookOf}
 use Rattle.listing_pairs.specs.Order.{Pair, along, pairsFrom, mutualPairs}
 use Rattle.listing_pairs.specs.Rows.{onto, rowsOf, lookedAt}
@@ -93,7 +93,7 @@ module _ (b : ℕ) (wide : mostVertices ≤ b) (first second : List Float) (epsi
 
   onto-below : (s : Look) (rows : List Row) → Below b (made s) → Below b (numbersOfRows indicesOf rows)
       → Below b (numbersOfRows indicesOf (onto s rows))
-  onto-below Passed rows p q = q
+  onto-below Skipped rows p q = q
   onto-below Nothing rows p q = q
   onto-below (Made r) rows p q = below-append b (indicesOf r) (numbersOfRows indicesOf rows) p q
 

@@ -11,7 +11,7 @@ use lib.Seq.{length-sets}
 use Rattle.paths.specs.Path.{mostVertices}
 use Rattle.listing_pairs.specs.declared.row.Row.{Row}
 use Rattle.listing_pairs.specs.declared.row.Look.{Look}
-use Rattle.listing_pairs.specs.declared.row.Look.the-variants.{Passed, Nothing, Made}
+use Rattle.listing_pairs.specs.declared.row.Look.the-variants.{Skipped, Nothing, Made}
 use Rattle.listing_pairs.specs.declared.order.Job.{Job}
 use Rattle.listing_pairs.specs.Order.{Pair}
 use Rattle.listing_pairs.specs.Page.{Page, page}
@@ -148,8 +148,8 @@ module _ {first second kept : List Float} {job : Job} {part : Part} {i₀ : List
               points = s .points;
             }
 
-        pub passes : f i j ≡ Passed → State first second kept job part i₀ p₀ i (j + 1) rows less looked l p
-        passes e = on (filling.passes f job part all i₀ p₀ i j rows budget _ looked l p inside below less one (s .left) e)
+        pub skips : f i j ≡ Skipped → State first second kept job part i₀ p₀ i (j + 1) rows less looked l p
+        skips e = on (filling.skips f job part all i₀ p₀ i j rows budget _ looked l p inside below less one (s .left) e)
 
         pub looks : f i j ≡ Nothing → State first second kept job part i₀ p₀ i (j + 1) rows less (looked + 1) l p
         looks e = on (filling.looks f job part all i₀ p₀ i j rows budget _ looked l p inside below less one (s .left) e)

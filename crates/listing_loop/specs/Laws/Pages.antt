@@ -7,7 +7,7 @@ use native.Mathlib.Omega.{arith}
 use lib.ListN.{length, length-append}
 use Rattle.listing_pairs.specs.declared.row.Row.{Row}
 use Rattle.listing_pairs.specs.declared.row.Look.{Look}
-use Rattle.listing_pairs.specs.declared.row.Look.the-variants.{Passed, Nothing, Made}
+use Rattle.listing_pairs.specs.declared.row.Look.the-variants.{Skipped, Nothing, Made}
 use Rattle.listing_pairs.specs.Order.{Pair}
 use Rattle.listing_pairs.specs.Rows.{onto, count, rowsOf, lookedAt}
 use Rattle.listing_pairs.specs.Page.{Page, page, stop, pass, turn}
@@ -38,7 +38,7 @@ module _ (look : ℕ → ℕ → Look) where
       → rowsOf look (p ∷ ps) ≡ onto s (rowsOf look ps)
       → lookedAt look (p ∷ ps) ≡ count s (lookedAt look ps)
       → Joins (p ∷ ps) room (suc budget) (turn s (p ∷ ps) go room)
-  turn-joins Passed p ps go room budget rest e g =
+  turn-joins Skipped p ps go room budget rest e g =
       let j = rest room in
       record {
         rows = j .rows ∙ sym e;
@@ -127,7 +127,7 @@ module _ (look : ℕ → ℕ → Look) where
 
   -- ---- a pair makes at most one row
   onto-few : (s : Look) (rows : List Row) (n : ℕ) → length rows ≤ n → length (onto s rows) ≤ suc n
-  onto-few Passed rows n h = omega (arith, h)
+  onto-few Skipped rows n h = omega (arith, h)
   onto-few Nothing rows n h = omega (arith, h)
   onto-few (Made r) rows n h = omega (arith, h)
 
@@ -136,7 +136,7 @@ module _ (look : ℕ → ℕ → Look) where
   few-rows (p ∷ ps) = onto-few (look (p .i) (p .j)) (rowsOf look ps) (length ps) (few-rows ps)
 
   count-few : (s : Look) (m n : ℕ) → m ≤ n → count s m ≤ suc n
-  count-few Passed m n h = omega (arith, h)
+  count-few Skipped m n h = omega (arith, h)
   count-few Nothing m n h = omega (arith, h)
   count-few (Made r) m n h = omega (arith, h)
 

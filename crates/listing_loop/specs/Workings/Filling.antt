@@ -11,7 +11,7 @@ use lib.Ieee.{Float}
 use lib.ListN.{length}
 use Rattle.listing_pairs.specs.declared.row.Row.{Row}
 use Rattle.listing_pairs.specs.declared.row.Look.{Look}
-use Rattle.listing_pairs.specs.declared.row.Look.the-variants.{Passed, Nothing, Made}
+use Rattle.listing_pairs.specs.declared.row.Look.the-variants.{Skipped, Nothing, Made}
 use Rattle.listing_pairs.specs.declared.order.Job.{Job}
 use Rattle.listing_pairs.specs.Order.{Pair}
 use Rattle.listing_pairs.specs.Page.{Page, page, stop, pass, turn}
@@ -82,9 +82,9 @@ left-start part q i p =
     record { count = refl; position = omega arith; views = omega arith; rest = refl; indices = refl; points = refl }
 
 module _ {part : Part} {whole : Page} {rows passed looked : ℕ} {i₀ i : List ℕ} {p₀ p : List Float} where
-  left-passed : {q : Page} → Left part whole (pass Passed q) rows passed looked i₀ i p₀ p
+  left-skipped : {q : Page} → Left part whole (pass Skipped q) rows passed looked i₀ i p₀ p
       → Left part whole q rows (passed + 1) looked i₀ i p₀ p
-  left-passed h =
+  left-skipped h =
       record {
         count = h .count;
         position = omega (arith, h .position);
@@ -190,8 +190,8 @@ module _ (look : ℕ → ℕ → Look) (job : Job) (part : Part) (whole : Page) 
               ∙ ap (λ (t : Look). turn t (record { i = i; j = j } ∷ after) (λ left. page look after left less) (part .room - rows))
               e
 
-          pub passes : look i j ≡ Passed → At i (j + 1) rows less (passed + 1) looked l p
-          passes e = left-passed (rw (step Passed e) at h)
+          pub skips : look i j ≡ Skipped → At i (j + 1) rows less (passed + 1) looked l p
+          skips e = left-skipped (rw (step Skipped e) at h)
 
           pub looks : look i j ≡ Nothing → At i (j + 1) rows less (passed + 1) (looked + 1) l p
           looks e = left-nothing (rw (step Nothing e) at h)

@@ -123,19 +123,23 @@ module _ (look : ℕ → ℕ → Look) (ps : List Pair) (i₀ : List ℕ) (p₀ 
         (g ∙ copied-all indicesOf indicesARow (λ r. refl) i₀ a₀ a n count x c)
         (h ∙ copied-all pointsOf pointsARow (λ r. refl) p₀ b₀ b n count y d)
 
+-- ---- all pairs, from the first on
+pub from-first : (job : Job) (start : ℕ) → start ≡ job_of.from job 0 → job_of.left job 0 start ≡ job_of.every job
+from-first job start e =
+    ap (λ (j : ℕ). pairsFrom (job_of.from job) (job_of.to job) 0 j (job .n - 0)) e
+    ∙ ap (pairsFrom (job_of.from job) (job_of.to job) 0 (job_of.from job 0)) (sub-zero (job .n))
+
+pub every-within : (job : Job) → length (job_of.every job) ≤ job .n * job .m
+every-within job = let start = job_of.from job 0 in omega (arith, ap length (from-first job start refl), few-left job 0 start)
+
 -- ---- filled from the first pair on
 module _ (look : ℕ → ℕ → Look) (job : Job) where
-  pub from-first : (start : ℕ) → start ≡ job_of.from job 0 → job_of.left job 0 start ≡ job_of.every job
-  from-first start e =
-      ap (λ (j : ℕ). pairsFrom (job_of.from job) (job_of.to job) 0 j (job .n - 0)) e
-      ∙ ap (pairsFrom (job_of.from job) (job_of.to job) 0 (job_of.from job 0)) (sub-zero (job .n))
-
   -- a budget for every pair
   abbrev pub budget : ℕ
   budget = job .n * job .m
 
   enough : length (job_of.every job) ≤ budget
-  enough = let start = job_of.from job 0 in omega (arith, ap length (from-first start refl), few-left job 0 start)
+  enough = every-within job
 
   -- a part that starts at the first pair
   abbrev pub front : ℕ → ℕ → ℕ → Part
@@ -144,7 +148,7 @@ module _ (look : ℕ → ℕ → Look) (job : Job) where
   pub filled-first : (start k b : ℕ) (r : Filling) (i₀ i : List ℕ) (p₀ p : List Float) → start ≡ job_of.from job 0 → b ≡ budget
       → Filled job (front start k b) (page look (job_of.left job 0 start) (k - 0) b) r i₀ i p₀ p
       → Filled job (front start k budget) (page look (job_of.every job) k budget) r i₀ i p₀ p
-  filled-first start k b r i₀ i p₀ p e same f = rw (same, sub-zero k, from-first start e) at f
+  filled-first start k b r i₀ i p₀ p e same f = rw (same, sub-zero k, from-first job start e) at f
 
   pub few-on-every : (k : ℕ) → job .n ≤ mostVertices → job .m ≤ mostVertices
       → page look (job_of.every job) k budget .looked ≤ mostPairs
@@ -152,7 +156,7 @@ module _ (look : ℕ → ℕ → Look) (job : Job) where
       let start = job_of.from job 0 in
       omega (
         arith,
-        ap (λ (ps : List Pair). page look ps k budget .looked) (from-first start refl),
+        ap (λ (ps : List Pair). page look ps k budget .looked) (from-first job start refl),
         few-on-page look job 0 start k budget n m,
       )
 

@@ -3,12 +3,12 @@ use mathlib.Core.Path.{_≡_, refl, sym, ap, _∙_}
 use mathlib.Core.Bool.{false, true}
 use mathlib.Core.Logic.{_≢_}
 use mathlib.Core.List.{List}
-use Prim.Native.Nat.{ℕ, _+_, _*_, _≤_, _<_}
-use native.Mathlib.Nat.{sub-zero}
+use Prim.Native.Nat.{ℕ, _+_, _-_, _*_, _≤_, _<_}
+use native.Mathlib.Nat.{sub-zero, mul-le-mul, le-refl}
 use native.Mathlib.Omega.{arith}
 use borrow.Author.Tests.{le-ltb, lt-ltb, eq-eqb, ne-eqb}
 use lib.Ieee.{Float}
-use lib.ListN.{length, drop}
+use lib.ListN.{length, length-drop, drop}
 use lib.Seq.{sets}
 use Rattle.checks.specs.Fault.{refuse, later}
 use Rattle.checks.specs.First.{first as firstFault}
@@ -26,11 +26,14 @@ use Rattle.listing_loop.specs.declared.fill.Part.{Part}
 use Rattle.listing_loop.specs.declared.fill.Filling.{Filling}
 use Rattle.listing_loop.specs.Laws.Pages.{joins}
 use Rattle.listing_loop.specs.Workings.Filling.{Filled}
+use Rattle.listing_loop.specs.Laws.Loop.{mostPairs}
 use Rattle.listing_outcomes.specs.declared.answer.PageAnswer.{PageAnswer}
 use Rattle.listing_outcomes.specs.declared.answer.PageAnswer.the-variants.{Refused, Paged}
 use Rattle.listing_outcomes.specs.Outcome.{Outcome, Leaves, overwrite, room}
 use Rattle.listing_outcomes.specs.PageOutcome.{positionCheck, budgetCheck, rowCheck, limits, pagedOf}
 use Rattle.listing_outcomes.specs.Laws.Overwrite.{sets-over}
+use Rattle.listing_outcomes.specs.Workings.Outcome.{every-within}
+use Rattle.paths.specs.Path.{mostVertices}
 
 -- a page of checked paths
 abbrev pub paged : (ℕ → ℕ → Look) → List Pair → ℕ → ℕ → List ℕ → List Float → Outcome PageAnswer
@@ -41,6 +44,21 @@ paged look ps position budget indices points =
 -- where a part of it starts: at (i, j), with no row yet
 abbrev pub starting : ℕ → ℕ → ℕ → ℕ → Part
 starting i j m budget = record { i = i; j = j; rows = 0; room = m; budget = budget; write = true }
+
+pub from-none : (look : ℕ → ℕ → Look) (job : Job) (i j m budget : ℕ) (r : Filling) (i₀ u : List ℕ) (p₀ v : List Float)
+    → Filled job (starting i j m budget) (page look (job_of.left job i j) (m - 0) budget) r i₀ u p₀ v
+    → Filled job (starting i j m budget) (page look (job_of.left job i j) m budget) r i₀ u p₀ v
+from-none look job i j m budget r i₀ u p₀ v h = rw (sub-zero m) at h
+
+-- there are not too many pairs
+pub every-few : (job : Job) → job .n ≤ mostVertices → job .m ≤ mostVertices → length (job_of.every job) ≤ mostPairs
+every-few job n m = omega (arith, every-within job, mul-le-mul n m)
+
+-- the next position is not beyond the end
+pub next-few : (look : ℕ → ℕ → Look) (ps : List Pair) (position m budget : ℕ) → position ≤ length ps
+    → position + page look (drop position ps) m budget .passed ≤ length ps
+next-few look ps position m budget within =
+    omega (arith, joins look (drop position ps) m budget .passed, length-drop position ps, within)
 
 module _ (look : ℕ → ℕ → Look) (ps : List Pair) (position budget : ℕ) (i₀ : List ℕ) (p₀ : List Float) where
   abbrev whole : Page
@@ -88,18 +106,17 @@ module _ (look : ℕ → ℕ → Look) (ps : List Pair) (position budget : ℕ) 
                 omega (
                   arith,
                   flat-length numbers width each (whole .rows),
-                  native.Mathlib.Nat.mul-le-mul h (native.Mathlib.Nat.le-refl width),
+                  mul-le-mul h (le-refl width),
                   long,
                 )
 
         -- the loop filled it from (i, j) on
-        pub filled-page : (job : Job) (i j all : ℕ) (r : Filling) (u : List ℕ) (v : List Float)
+        pub filled-page : (job : Job) (i j m all : ℕ) (r : Filling) (u : List ℕ) (v : List Float) → m ≡ room i₀ p₀
             → job_of.left job i j ≡ drop position ps → all ≡ length ps
-            → Filled job (starting i j (room i₀ p₀) budget)
-            (page look (job_of.left job i j) (room i₀ p₀) budget) r i₀ u p₀ v
+            → Filled job (starting i j m budget) (page look (job_of.left job i j) m budget) r i₀ u p₀ v
             → is (Paged (r .rows) (r .passed) (position + r .passed) all) u v
-        filled-page job i j all r u v e d h =
-            let f = rw e at h in
+        filled-page job i j m all r u v same e d h =
+            let f = rw (same, e) at h in
             is-paged u v (r .rows) (r .passed) (position + r .passed) all (omega (arith, f .rows)) (f .passed)
             (ap (λ (k : ℕ). position + k) (f .passed)) d
             (f .indices ∙ stored-front indicesOf indicesARow (λ r. refl) i₀ (omega arith))

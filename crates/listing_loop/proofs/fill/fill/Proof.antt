@@ -11,7 +11,7 @@ use Rattle.listing_pairs.specs.Look.{look}
 use Rattle.listing_pairs.specs.Workings.Job as job_of
 use Rattle.listing_pairs.specs.Workings.Ready.{at-segment, look-on}
 use Rattle.listing_loop.specs.Workings.Filling.{EndsWithin, so-ends}
-use Rattle.listing_loop.specs.Laws.Loop.{mostPairs, State, starts, few, ends, next-i, spent, kept-here, passes}
+use Rattle.listing_loop.specs.Laws.Loop.{mostPairs, State, starts, few, ends, next-i, spent, kept-here, skips}
 use Rattle.listing_loop.specs.Laws.Loop.{looks, makes, stops}
 use Rattle.listing_loop.proofs.fill.fill.Statement.{statement}
 use Rattle.listing_loop.proofs.fill.fill.Tie as tie
@@ -129,7 +129,7 @@ loop2-again c =
     let p = q .before in (
       on q,
       fewer q,
-      λ x y s. passes (p .loop2 .inv .2 x y s) (inside p) (below q) (less q) (allowed q)
+      λ x y s. skips (p .loop2 .inv .2 x y s) (inside p) (below q) (less q) (allowed q)
           (seen k ∙ c .enum-told .given .1),
     )
 

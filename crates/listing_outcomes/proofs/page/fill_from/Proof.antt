@@ -1,0 +1,46 @@
+-- `listing_outcomes::page::fill_from` meets its contract: what is kept is that of the segments that the page can reach, and the rest
+-- is the loop's.
+use mathlib.Core.Path.{_≡_}
+use Prim.Native.Nat.{ℕ, _*_}
+use native.Mathlib.Nat.{sub-zero}
+use native.Mathlib.Omega.{arith}
+use lib.Ieee.{Float, binary64, ofBits}
+use lib.ListN.{length, replicate, length-replicate}
+use Rattle.paths.specs.Path.{mostVertices}
+use Rattle.listing_pairs.specs.Workings.Keeping.{numbersKept}
+use Rattle.listing_pairs.specs.Workings.Reached.{reached-ready}
+use borrow.Author.Needs.{needs}
+use Rattle.listing_outcomes.specs.Workings.PageOutcome.{from-none}
+use Rattle.listing_outcomes.proofs.page.fill_from.Statement.{statement}
+use Rattle.listing_outcomes.proofs.page.fill_from.Tie as tie
+
+-- the numbers, at first
+abbrev all : ℕ
+all = mostVertices * numbersKept
+
+long : length (let z : Float = ofBits binary64 0 in replicate all z) ≡ all
+long = let z : Float = ofBits binary64 0 in length-replicate all z
+
+keep-reached-requires : tie.Need-keep-reached-requires
+keep-reached-requires c κs =
+    let ready = c .before .before .before .before .before .pre .0 in
+    (ready .m-within, ((ready .few, ready .few-second), omega (arith, long, ready .few-second)))
+
+fill-requires : tie.Need-fill-requires
+fill-requires c κs =
+    let k = c .before .before .before .before in
+    let s = k .before .before .before .before .before .before in
+    let h = s .pre in (
+      reached-ready _ _ _ _ _ _ _ _ (h .0) (omega (arith, long, h .0 .few-second)) (k .keep-reached .ensures),
+      (h .1 .0, (omega arith, h .1 .1)),
+    )
+
+returns : tie.Need-returns
+returns c = from-none _ _ _ _ _ _ _ _ _ _ _ (c .before .before .before .before .fill .ensures)
+
+pub fill-from-spec : {M : Type 1} → statement M
+fill-from-spec =
+    tie.close
+    (tie.spec
+    (λ c. search needs) keep-reached-requires (λ c. search needs) fill-requires (λ c. search needs) (λ c. search needs)
+    returns)
