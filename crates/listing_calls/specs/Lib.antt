@@ -1,8 +1,10 @@
--- The listings of two paths and of one, with their refusals (Listing), and the rows handed back (Filled); then what is proved of
--- them. A reader need not believe Laws.
+-- The listings of two paths and of one, with their refusals (Listing), their pages (Pages), and the rows handed back (Filled); then
+-- what is proved of them. A reader need not believe Workings and Laws.
 pub mod Listing
+pub mod Pages
 pub mod Filled
 pub mod Refusals
 pub mod HasRow
 pub mod Complete
+pub mod Workings
 pub mod Laws

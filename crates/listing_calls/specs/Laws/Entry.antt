@@ -1,10 +1,11 @@
--- From the checks of a listing to its outcome: the chain of calls is the list of checks; if they are fine, every pair of the job
--- is fine for the pair call; and the outcome is that of a listing of checked paths, or the refusal of the first fault.
+-- From the checks of a listing or a page to its outcome: the chain of calls is the list of checks; if they are fine, every pair of
+-- the job is fine for the pair call; and the outcome is that of checked paths, or the refusal of the first fault.
 use mathlib.Core.Path.{_≡_, refl, sym, ap, _∙_}
-use mathlib.Core.Bool.{Bool, true, false}
+use mathlib.Core.Bool.{Bool}
 use mathlib.Core.List.{List, [], _∷_, _++_}
 use Prim.Native.Nat.{ℕ}
 use lib.Ieee.{Float}
+use lib.ListN.{length}
 use Rattle.checks.specs.declared.fault.Fault.{Fault}
 use Rattle.checks.specs.declared.fault.Checked.{Checked}
 use Rattle.checks.specs.declared.fault.Checked.the-variants.{Fine, Bad}
@@ -17,6 +18,7 @@ use Rattle.paths.specs.Shape.{shape}
 use Rattle.paths.specs.Segments.{segmentCount}
 use Rattle.paths.specs.Check.{pathChecks, checkPath}
 use Rattle.paths.specs.Laws.Fine.{PathFine, path-fine}
+use Rattle.listing_pairs.specs.declared.row.Row.{Row}
 use Rattle.listing_pairs.specs.declared.row.Look.{Look}
 use Rattle.listing_pairs.specs.declared.order.Job.{Job}
 use Rattle.listing_pairs.specs.Order.{Pair, mutualPairs, selfPairs}
@@ -26,45 +28,66 @@ use Rattle.listing_pairs.specs.Workings.Job.{every}
 use Rattle.listing_pairs.specs.Laws.Sequence.{mutual-every, self-every}
 use Rattle.listing_pairs.specs.Workings.Ready.{Ready, paths-ready}
 use Rattle.listing_outcomes.specs.declared.answer.ListingAnswer.{ListingAnswer}
-use Rattle.listing_outcomes.specs.declared.answer.ListingAnswer.the-variants.{Refused}
-use Rattle.listing_outcomes.specs.Outcome.{Leaves, roomCheck, listedOf, outcome}
+use Rattle.listing_outcomes.specs.declared.answer.ListingAnswer.the-variants.{Refused, Listed}
+use Rattle.listing_outcomes.specs.declared.answer.PageAnswer.{PageAnswer}
+use Rattle.listing_outcomes.specs.declared.answer.PageAnswer.the-variants as pages
+use Rattle.listing_outcomes.specs.Outcome.{Leaves, roomCheck, outcomeOf, listedOf, outcome}
+use Rattle.listing_outcomes.specs.PageOutcome.{limits, pageOutcome}
 use Rattle.listing_outcomes.specs.Workings.Outcome.{listed}
+use Rattle.listing_outcomes.specs.Workings.PageOutcome.{paged}
+use Rattle.listing_calls.specs.Pages.{mutualPage, selfPage}
+use Rattle.listing_calls.specs.Workings.Jobs.{mutualJob, selfJob}
 use Rattle.listing_calls.specs.Listing.{mutualChecks, checkMutual, mutualListing, selfChecks, checkSelf, selfListing}
 
--- ---- any listing
-module _ (checks : List Checked) (f : ℕ → ℕ → Look) (ps : List Pair) (i₀ : List ℕ) (p₀ : List Float) where
-  found : firstFault (checks ++ (roomCheck (rowsOf f ps) i₀ p₀ ∷ [])) ≡ later (firstFault checks) (roomCheck (rowsOf f ps) i₀ p₀)
-  found =
-      let c = roomCheck (rowsOf f ps) i₀ p₀ in
-      first-append checks (c ∷ []) ∙ ap (later (firstFault checks)) (fine-right c)
-
-  outcome-fine : firstFault checks ≡ Fine → outcome checks f ps i₀ p₀ ≡ listed f ps i₀ p₀
-  unfolding outcome
+-- ---- any call: its checks, then the last ones
+module _ {A : Type 0} (refused : ℕ → A) (checks more : List Checked) (answer : A) (rows : List Row)
+    (i₀ : List ℕ) (p₀ : List Float) where
+  outcome-fine : firstFault checks ≡ Fine
+      → outcomeOf refused (firstFault (checks ++ more)) answer rows i₀ p₀
+      ≡ outcomeOf refused (firstFault more) answer rows i₀ p₀
   outcome-fine e =
-      let c = roomCheck (rowsOf f ps) i₀ p₀ in
-      ap (λ (t : Checked). listedOf t (rowsOf f ps) (lookedAt f ps) i₀ p₀)
-      (found ∙ ap (λ (t : Checked). later t c) e ∙ fine-left c)
+      ap (λ (t : Checked). outcomeOf refused t answer rows i₀ p₀)
+      (first-append checks more ∙ ap (λ (t : Checked). later t (firstFault more)) e ∙ fine-left (firstFault more))
 
-  outcome-bad : (x : Fault) → firstFault checks ≡ Bad x → Leaves (outcome checks f ps i₀ p₀) (Refused (x .number)) i₀ p₀
-  unfolding outcome later
+  outcome-bad : (x : Fault) → firstFault checks ≡ Bad x
+      → Leaves (outcomeOf refused (firstFault (checks ++ more)) answer rows i₀ p₀) (refused (x .number)) i₀ p₀
+  unfolding later
   outcome-bad x e =
-      let c = roomCheck (rowsOf f ps) i₀ p₀ in
-      rw (found ∙ ap (λ (t : Checked). later t c) e) (record { answer = refl; indices = refl; points = refl })
+      rw (first-append checks more ∙ ap (λ (t : Checked). later t (firstFault more)) e)
+      (record { answer = refl; indices = refl; points = refl })
 
--- if the checks are fine, the outcome is the listing of the job's pairs
-outcome-listed : (checks : List Checked) (first second : List Float) (job : Job) (i₀ : List ℕ) (p₀ : List Float)
-    {epsilon : Float} {ps : List Pair} {r : ListingAnswer} {i : List ℕ} {p : List Float}
-    → firstFault checks ≡ Fine → job .epsilon ≡ epsilon → every job ≡ ps
-    → Leaves (listed (look first second (job .epsilon)) (every job) i₀ p₀) r i p
-    → Leaves (outcome checks (look first second epsilon) ps i₀ p₀) r i p
-outcome-listed checks first second job i₀ p₀ {epsilon} {ps} {r} {i} {p} e same pairs h =
-    let g : Leaves (listed (look first second epsilon) ps i₀ p₀) r i p = rw (pairs, same) at h in
-    rw (outcome-fine checks (look first second epsilon) ps i₀ p₀ e) g
+-- a listing: if the checks are fine, it is that of checked paths
+listing-fine : (checks : List Checked) (f : ℕ → ℕ → Look) (ps : List Pair) (i₀ : List ℕ) (p₀ : List Float)
+    → firstFault checks ≡ Fine → outcome checks f ps i₀ p₀ ≡ listed f ps i₀ p₀
+unfolding outcome
+listing-fine checks f ps i₀ p₀ e =
+    let c = roomCheck (rowsOf f ps) i₀ p₀ in
+    outcome-fine Refused checks (c ∷ []) (Listed (length (rowsOf f ps)) (lookedAt f ps)) (rowsOf f ps) i₀ p₀ e
+    ∙ ap (λ (t : Checked). listedOf t (rowsOf f ps) (lookedAt f ps) i₀ p₀) (fine-right c)
+
+-- so is a page
+page-fine : (checks : List Checked) (f : ℕ → ℕ → Look) (ps : List Pair) (position budget : ℕ) (i₀ : List ℕ) (p₀ : List Float)
+    → firstFault checks ≡ Fine → pageOutcome checks f ps position budget i₀ p₀ ≡ paged f ps position budget i₀ p₀
+unfolding pageOutcome
+page-fine checks f ps position budget i₀ p₀ e =
+    outcome-fine pages.Refused checks (limits position (length ps) budget i₀ p₀) _ _ i₀ p₀ e
 
 -- ---- two paths
 module _ (first : List Float) (firstClosed : Bool) (second : List Float) (secondClosed : Bool) (epsilon : Float) where
   abbrev shapes : Checked
   shapes = later (later (Each.epsilon epsilon) (shape first 0)) (shape second 1)
+
+  abbrev these : List Checked
+  these = mutualChecks first firstClosed second secondClosed epsilon
+
+  abbrev job : Job
+  job = mutualJob first firstClosed second secondClosed epsilon
+
+  abbrev f : ℕ → ℕ → Look
+  f = look first second epsilon
+
+  abbrev between : List Pair
+  between = mutualPairs (segmentCount first firstClosed) (segmentCount second secondClosed)
 
   pub mutual-chain : checkPath (checkPath shapes first firstClosed 0) second secondClosed 1
       ≡ checkMutual first firstClosed second secondClosed epsilon
@@ -91,32 +114,52 @@ module _ (first : List Float) (firstClosed : Bool) (second : List Float) (second
         let a = Each.epsilon epsilon in
         later-fine a (shape first 0) .0 (later-fine (later a (shape first 0)) (shape second 1) .0 (inner .0) .0) .0
 
-    pub mutual-ready : (job : Job) → job .epsilon ≡ epsilon
-        → job .n ≡ segmentCount first firstClosed → job .m ≡ segmentCount second secondClosed → Ready first second job
-    mutual-ready job same n m =
-        paths-ready first second firstClosed secondClosed job
-        (ap Each.epsilon same ∙ eps) (inner .1) (outer .1) n m
+    pub mutual-ready : (j : Job) → j ≡ job → Ready first second j
+    mutual-ready j is = rw is (paths-ready first second firstClosed secondClosed job eps (inner .1) (outer .1) refl refl)
 
-    pub mutual-listed : (job : Job) (r : ListingAnswer) (i₀ i : List ℕ) (p₀ p : List Float) → job .own ≡ false
-        → job .epsilon ≡ epsilon
-        → job .n ≡ segmentCount first firstClosed → job .m ≡ segmentCount second secondClosed
-        → Leaves (listed (look first second (job .epsilon)) (every job) i₀ p₀) r i p
-        → Leaves (mutualListing first firstClosed second secondClosed epsilon i₀ p₀) r i p
-    unfolding mutualListing checkMutual
-    mutual-listed job r i₀ i p₀ p own same n m =
-        outcome-listed (mutualChecks first firstClosed second secondClosed epsilon) first second job i₀ p₀ e same
-        (mutual-every job own ∙ ap (λ (k : ℕ). mutualPairs k (job .m)) n ∙ ap (mutualPairs (segmentCount first firstClosed)) m)
+    module _ (j : Job) (is : j ≡ job) (i₀ i : List ℕ) (p₀ p : List Float) where
+      pub mutual-listed : (r : ListingAnswer) → Leaves (listed (look first second (j .epsilon)) (every j) i₀ p₀) r i p
+          → Leaves (mutualListing first firstClosed second secondClosed epsilon i₀ p₀) r i p
+      unfolding mutualListing checkMutual
+      mutual-listed r h =
+          let g : Leaves (listed f between i₀ p₀) r i p = rw (is, mutual-every job refl) at h in
+          rw (listing-fine these f between i₀ p₀ e) g
 
-  pub mutual-refused : (x : Fault) (i₀ : List ℕ) (p₀ : List Float)
-      → checkMutual first firstClosed second secondClosed epsilon ≡ Bad x
-      → Leaves (mutualListing first firstClosed second secondClosed epsilon i₀ p₀) (Refused (x .number)) i₀ p₀
-  unfolding mutualListing checkMutual
-  mutual-refused x i₀ p₀ e = outcome-bad (mutualChecks first firstClosed second secondClosed epsilon) _ _ i₀ p₀ x e
+      pub mutual-paged : (r : PageAnswer) (position budget : ℕ)
+          → Leaves (paged (look first second (j .epsilon)) (every j) position budget i₀ p₀) r i p
+          → Leaves (mutualPage first firstClosed second secondClosed epsilon position budget i₀ p₀) r i p
+      unfolding mutualPage checkMutual
+      mutual-paged r position budget h =
+          let g : Leaves (paged f between position budget i₀ p₀) r i p = rw (is, mutual-every job refl) at h in
+          rw (page-fine these f between position budget i₀ p₀ e) g
+
+  module _ (x : Fault) (i₀ : List ℕ) (p₀ : List Float) (e : checkMutual first firstClosed second secondClosed epsilon ≡ Bad x) where
+    pub mutual-refused : Leaves (mutualListing first firstClosed second secondClosed epsilon i₀ p₀) (Refused (x .number)) i₀ p₀
+    unfolding mutualListing outcome checkMutual
+    mutual-refused = outcome-bad Refused these _ _ _ i₀ p₀ x e
+
+    pub mutual-page-refused : (position budget : ℕ)
+        → Leaves (mutualPage first firstClosed second secondClosed epsilon position budget i₀ p₀)
+        (pages.Refused (x .number)) i₀ p₀
+    unfolding mutualPage pageOutcome checkMutual
+    mutual-page-refused position budget = outcome-bad pages.Refused these _ _ _ i₀ p₀ x e
 
 -- ---- one path
 module _ (path : List Float) (closed : Bool) (epsilon : Float) where
   abbrev shaped : Checked
   shaped = later (Each.epsilon epsilon) (shape path 0)
+
+  abbrev its : List Checked
+  its = selfChecks path closed epsilon
+
+  abbrev own-job : Job
+  own-job = selfJob path closed epsilon
+
+  abbrev g : ℕ → ℕ → Look
+  g = look path path epsilon
+
+  abbrev own : List Pair
+  own = selfPairs (segmentCount path closed) closed
 
   pub self-chain : checkPath shaped path closed 0 ≡ checkSelf path closed epsilon
   unfolding checkPath checkSelf
@@ -134,22 +177,31 @@ module _ (path : List Float) (closed : Bool) (epsilon : Float) where
     self-eps : Each.epsilon epsilon ≡ Fine
     self-eps = later-fine (Each.epsilon epsilon) (shape path 0) .0 (whole .0) .0
 
-    pub self-ready : (job : Job) → job .epsilon ≡ epsilon
-        → job .n ≡ segmentCount path closed → job .m ≡ segmentCount path closed → Ready path path job
-    self-ready job same n m =
-        paths-ready path path closed closed job (ap Each.epsilon same ∙ self-eps) (whole .1) (whole .1) n m
+    pub self-ready : (j : Job) → j ≡ own-job → Ready path path j
+    self-ready j is = rw is (paths-ready path path closed closed own-job self-eps (whole .1) (whole .1) refl refl)
 
-    pub self-listed : (job : Job) (r : ListingAnswer) (i₀ i : List ℕ) (p₀ p : List Float) → job .own ≡ true
-        → job .epsilon ≡ epsilon → job .closed ≡ closed → job .n ≡ segmentCount path closed → job .m ≡ segmentCount path closed
-        → Leaves (listed (look path path (job .epsilon)) (every job) i₀ p₀) r i p
-        → Leaves (selfListing path closed epsilon i₀ p₀) r i p
-    unfolding selfListing checkSelf
-    self-listed job r i₀ i p₀ p own same flag n m =
-        outcome-listed (selfChecks path closed epsilon) path path job i₀ p₀ e same
-        (self-every job own (m ∙ sym n) ∙ ap (λ (k : ℕ). selfPairs k (job .closed)) n
-        ∙ ap (selfPairs (segmentCount path closed)) flag)
+    module _ (j : Job) (is : j ≡ own-job) (i₀ i : List ℕ) (p₀ p : List Float) where
+      pub self-listed : (r : ListingAnswer) → Leaves (listed (look path path (j .epsilon)) (every j) i₀ p₀) r i p
+          → Leaves (selfListing path closed epsilon i₀ p₀) r i p
+      unfolding selfListing checkSelf
+      self-listed r h =
+          let k : Leaves (listed g own i₀ p₀) r i p = rw (is, self-every own-job refl refl) at h in
+          rw (listing-fine its g own i₀ p₀ e) k
 
-  pub self-refused : (x : Fault) (i₀ : List ℕ) (p₀ : List Float) → checkSelf path closed epsilon ≡ Bad x
-      → Leaves (selfListing path closed epsilon i₀ p₀) (Refused (x .number)) i₀ p₀
-  unfolding selfListing checkSelf
-  self-refused x i₀ p₀ e = outcome-bad (selfChecks path closed epsilon) _ _ i₀ p₀ x e
+      pub self-paged : (r : PageAnswer) (position budget : ℕ)
+          → Leaves (paged (look path path (j .epsilon)) (every j) position budget i₀ p₀) r i p
+          → Leaves (selfPage path closed epsilon position budget i₀ p₀) r i p
+      unfolding selfPage checkSelf
+      self-paged r position budget h =
+          let k : Leaves (paged g own position budget i₀ p₀) r i p = rw (is, self-every own-job refl refl) at h in
+          rw (page-fine its g own position budget i₀ p₀ e) k
+
+  module _ (x : Fault) (i₀ : List ℕ) (p₀ : List Float) (e : checkSelf path closed epsilon ≡ Bad x) where
+    pub self-refused : Leaves (selfListing path closed epsilon i₀ p₀) (Refused (x .number)) i₀ p₀
+    unfolding selfListing outcome checkSelf
+    self-refused = outcome-bad Refused its _ _ _ i₀ p₀ x e
+
+    pub self-page-refused : (position budget : ℕ)
+        → Leaves (selfPage path closed epsilon position budget i₀ p₀) (pages.Refused (x .number)) i₀ p₀
+    unfolding selfPage pageOutcome checkSelf
+    self-page-refused position budget = outcome-bad pages.Refused its _ _ _ i₀ p₀ x e

@@ -1,6 +1,6 @@
 -- `listing_calls::mutual_listing::mutual_listing` meets its contract: a fault is answered as it is; if there is none, every pair
 -- is fine for the pair call, and the job's listing is the two paths'.
-use mathlib.Core.Path.{_≡_, refl, sym, _∙_}
+use mathlib.Core.Path.{_≡_, sym, _∙_}
 use borrow.Author.Needs.{needs}
 use denote.Ref.{now}
 use Rattle.checks.specs.declared.fault.Checked.the-variants.{Fine}
@@ -20,17 +20,13 @@ fine c = sym (c .before .before .check-mutual .ensures) ∙ c .enum-told .given 
 
 list-requires : tie.Need-list-requires
 list-requires c κs =
-    let m = c .before .before in
-    let n = m .before in
-    mutual-ready _ _ _ _ _ (fine (n .before)) _ refl (n .segment-count .ensures) (m .segment-count2 .ensures)
+    let j = c .before .before in mutual-ready _ _ _ _ _ (fine (j .before)) _ (j .mutual-job .ensures)
 
 returns : tie.Need-returns
 returns c =
     let l = c .before .before .before .before in
-    let m = l .before .before .before in
-    let n = m .before in
-    mutual-listed _ _ _ _ _ (fine (n .before)) _ _ _ _ _ _ refl refl (n .segment-count .ensures) (m .segment-count2 .ensures)
-    (l .list .ensures)
+    let j = l .before .before .before in
+    mutual-listed _ _ _ _ _ (fine (j .before)) _ (j .mutual-job .ensures) _ _ _ _ _ (l .list .ensures)
 
 returns-2 : tie.Need-returns-2
 returns-2 c =
@@ -40,5 +36,5 @@ pub mutual-listing-spec : {M : Type 1} → statement M
 mutual-listing-spec =
     tie.close
     (tie.spec
-    (λ c. search needs) (λ c. search needs) (λ c. search needs) (λ c. search needs) list-requires
+    (λ c. search needs) (λ c. search needs) (λ c. search needs) list-requires
     (λ c. search needs) (λ c. search needs) (λ c. search needs) returns returns-2)

@@ -1,8 +1,8 @@
--- `listing_calls::self_listing::check_self` meets its contract: the chain of its calls is the list of checks.
+-- `listing_calls::jobs::check_self` meets its contract: the chain of its calls is the list of checks.
 use borrow.Author.Needs.{needs}
 use Rattle.listing_calls.specs.Laws.Entry.{self-chain}
-use Rattle.listing_calls.proofs.self_listing.check_self.Statement.{statement}
-use Rattle.listing_calls.proofs.self_listing.check_self.Tie as tie
+use Rattle.listing_calls.proofs.jobs.check_self.Statement.{statement}
+use Rattle.listing_calls.proofs.jobs.check_self.Tie as tie
 
 pub check-self-spec : {M : Type 1} → statement M
 check-self-spec =

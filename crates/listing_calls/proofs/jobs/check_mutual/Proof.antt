@@ -1,8 +1,8 @@
--- `listing_calls::mutual_listing::check_mutual` meets its contract: the chain of its calls is the list of checks.
+-- `listing_calls::jobs::check_mutual` meets its contract: the chain of its calls is the list of checks.
 use borrow.Author.Needs.{needs}
 use Rattle.listing_calls.specs.Laws.Entry.{mutual-chain}
-use Rattle.listing_calls.proofs.mutual_listing.check_mutual.Statement.{statement}
-use Rattle.listing_calls.proofs.mutual_listing.check_mutual.Tie as tie
+use Rattle.listing_calls.proofs.jobs.check_mutual.Statement.{statement}
+use Rattle.listing_calls.proofs.jobs.check_mutual.Tie as tie
 
 pub check-mutual-spec : {M : Type 1} → statement M
 check-mutual-spec =
