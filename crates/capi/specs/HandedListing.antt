@@ -1,5 +1,5 @@
--- How a listing goes to a caller in C, as decided here: a number is returned, the two counts go into a third lent slice, and the
--- rows into the two slices that the listing is lent.
+-- How a listing and a page go to a caller in C, as decided here: a number is returned, the counts go into a third lent slice, and the
+-- rows into the two slices that the call is lent.
 use Prim.Native.Nat.{ℕ, _+_}
 use mathlib.Core.Path.{_≡_}
 use mathlib.Core.Bool.{Bool, cond}
@@ -10,29 +10,46 @@ use lib.Seq.{sets}
 use lib.Ieee.{Float}
 use Rattle.listing_outcomes.specs.declared.answer.ListingAnswer.{ListingAnswer}
 use Rattle.listing_outcomes.specs.declared.answer.ListingAnswer.the-variants.{Refused, Listed}
+use Rattle.listing_outcomes.specs.declared.answer.PageAnswer.{PageAnswer}
+use Rattle.listing_outcomes.specs.declared.answer.PageAnswer.the-variants as page
 use Rattle.listing_outcomes.specs.Outcome.{Outcome}
 use Rattle.capi.specs.Handed.{noRoomCode, refusedCode}
 
--- how many places the counts take
+-- ---- what is returned of an answer, and the counts that are written
+pub record Counted : Type 0 where
+  pub code : ℕ
+  pub counts : List ℕ
+
+-- the code and number of a refusal, and no counts; else 0, and the counts
+abbrev pub refusedCounts : ℕ → Counted
+refusedCounts n = record { code = refusedCode + n; counts = [] }
+
+-- a listing: rows written, pairs looked at
 abbrev pub countPlaces : ℕ
 countPlaces = 2
 
--- the counts' slice has too few
-abbrev pub short : List ℕ → Bool
-short counts = ltb (length counts) countPlaces
+abbrev pub listing : ListingAnswer → Counted
+listing (Refused n) = refusedCounts n
+listing (Listed rows pairs) = record { code = 0; counts = rows ∷ pairs ∷ [] }
 
--- the code and number of a refusal; of a listing 0
-abbrev pub code : ListingAnswer → ℕ
-code (Refused n) = refusedCode + n
-code (Listed rows pairs) = 0
+-- a page: rows written, pairs passed, the next position, all pairs
+abbrev pub pagePlaces : ℕ
+pagePlaces = 4
 
--- rows written, pairs looked at
-abbrev pub counted : ListingAnswer → List ℕ → List ℕ
-counted (Refused n) old = old
-counted (Listed rows pairs) old = sets old 0 (rows ∷ pairs ∷ [])
+abbrev pub ofPage : PageAnswer → Counted
+ofPage (page.Refused n) = refusedCounts n
+ofPage (page.Paged rows pairs next all) = record { code = 0; counts = rows ∷ pairs ∷ next ∷ all ∷ [] }
 
-pub record HandedListing (o : Outcome ListingAnswer) (returned : ℕ) (c₀ c i₀ i : List ℕ) (p₀ p : List Float) : Type 0 where
-  pub code-is : returned ≡ cond (short c₀) noRoomCode (code (o .answer))
-  pub counts : c ≡ cond (short c₀) c₀ (counted (o .answer) c₀)
-  pub indices : i ≡ cond (short c₀) i₀ (o .indices)
-  pub points : p ≡ cond (short c₀) p₀ (o .points)
+-- ---- handed over, for any kind of answer; nothing is done if the counts' slice has too few places
+pub record HandedOver {A : Type 0} (places : ℕ) (count : A → Counted) (o : Outcome A)
+    (returned : ℕ) (c₀ c i₀ i : List ℕ) (p₀ p : List Float) : Type 0 where
+  pub code-is : returned ≡ cond (ltb (length c₀) places) noRoomCode (count (o .answer) .code)
+  pub counts : c ≡ cond (ltb (length c₀) places) c₀ (sets c₀ 0 (count (o .answer) .counts))
+  pub indices : i ≡ cond (ltb (length c₀) places) i₀ (o .indices)
+  pub points : p ≡ cond (ltb (length c₀) places) p₀ (o .points)
+
+abbrev pub HandedListing : Outcome ListingAnswer → ℕ → List ℕ → List ℕ → List ℕ → List ℕ → List Float → List Float → Type 0
+HandedListing o returned c₀ c i₀ i p₀ p = HandedOver countPlaces listing o returned c₀ c i₀ i p₀ p
+
+abbrev pub HandedPage : Outcome PageAnswer → ℕ → List ℕ → List ℕ → List ℕ → List ℕ → List Float → List Float → Type 0
+HandedPage o returned c₀ c i₀ i p₀ p = HandedOver pagePlaces ofPage o returned c₀ c i₀ i p₀ p

@@ -4,17 +4,18 @@ use Prim.Native.Nat.{ℕ}
 use mathlib.Core.Path.{_≡_, sym, _∙_}
 use mathlib.Core.List.{List}
 use lib.Ieee.{Float}
-use Rattle.listing_outcomes.specs.declared.answer.ListingAnswer.{ListingAnswer}
 use Rattle.listing_outcomes.specs.Outcome.{Outcome}
 use Rattle.capi.specs.Handed.{Handed}
-use Rattle.capi.specs.HandedListing.{HandedListing}
+use Rattle.capi.specs.HandedListing.{Counted, HandedOver}
 use Rattle.answers.specs.declared.padded.PaddedAnswer.{PaddedAnswer}
 
 pub handed-one-result : {f : PaddedAnswer} {r s : ℕ} {old a b : List Float} → Handed f r old a → Handed f s old b
     → (r ≡ s) × (a ≡ b)
 handed-one-result p q = (p .code-is ∙ sym (q .code-is), p .holds ∙ sym (q .holds))
 
-pub listing-one-result : {o : Outcome ListingAnswer} {r s : ℕ} {c₀ c d i₀ i j : List ℕ} {p₀ p q : List Float}
-    → HandedListing o r c₀ c i₀ i p₀ p → HandedListing o s c₀ d i₀ j p₀ q → (r ≡ s) × (c ≡ d) × (i ≡ j) × (p ≡ q)
-listing-one-result a b =
+pub counted-one-result : {A : Type 0} {places : ℕ} {count : A → Counted} {o : Outcome A} {r s : ℕ}
+    {c₀ c d i₀ i j : List ℕ} {p₀ p q : List Float}
+    → HandedOver places count o r c₀ c i₀ i p₀ p → HandedOver places count o s c₀ d i₀ j p₀ q
+    → (r ≡ s) × (c ≡ d) × (i ≡ j) × (p ≡ q)
+counted-one-result a b =
     (a .code-is ∙ sym (b .code-is), a .counts ∙ sym (b .counts), a .indices ∙ sym (b .indices), a .points ∙ sym (b .points))

@@ -2,6 +2,7 @@
 ghost use mathlib.Core.Path.{_≡_};
 ghost use Prim.Native.Nat.{_≤_, _<_};
 ghost use lib.ListN.{length};
+ghost use lib.Seq.{sets};
 ghost use Rattle.listing_calls.specs.Listing;
 ghost use Rattle.capi.specs.Handed.{noRoomCode};
 ghost use Rattle.capi.specs.HandedListing as handed;
@@ -14,13 +15,13 @@ use listing_outcomes::answer::ListingAnswer;
 // how many counts a listing hands over
 const COUNTS: usize = 2;
 
-// Writes the counts of an answer to the front of `counts` and returns 0. A refusal writes nothing and returns 256 plus its
+// Writes the counts of an answer to the front of `counts` and returns 0. A refusal writes nothing and returns REFUSED plus its
 // number.
 fn hand_counts(answer: ListingAnswer, counts: &mut [u64]) -> u64
     requires { ⌜ handed.countPlaces ≤ length (now counts) ⌝ }
-    requires { ⌜ handed.code answer < noRoomCode ⌝ }
-    ensures { λ r. ⌜ r ≡ handed.code answer ⌝ }
-    ensures { λ r. ⌜ now (counts .exit) ≡ handed.counted answer (now (counts .entry)) ⌝ }
+    requires { ⌜ handed.listing answer .code < noRoomCode ⌝ }
+    ensures { λ r. ⌜ r ≡ handed.listing answer .code ⌝ }
+    ensures { λ r. ⌜ now (counts .exit) ≡ sets (now (counts .entry)) 0 (handed.listing answer .counts) ⌝ }
 {
     match answer {
         ListingAnswer::Refused(n) => REFUSED + n,

@@ -2,12 +2,12 @@
 use native.Mathlib.Omega.{arith}
 use borrow.Author.Needs.{needs}
 use mathlib.Core.Path.{ap}
-use Rattle.capi.specs.HandedListing.{code}
+use Rattle.capi.specs.HandedListing.{Counted, listing}
 use Rattle.capi.proofs.listing.hand_counts.Statement.{statement}
 use Rattle.capi.proofs.listing.hand_counts.Tie as tie
 
 add-result : tie.Need-add-result
-add-result c = omega (arith, ap code (c .before .answer .given .1), c .before .before .before .pre .1)
+add-result c = omega (arith, ap (λ a. listing a .code) (c .before .answer .given .1), c .before .before .before .pre .1)
 
 returns : tie.Need-returns
 returns c = (simp (c .before .answer .given .1), simp (c .before .answer .given .1))
