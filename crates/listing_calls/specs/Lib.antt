@@ -4,6 +4,8 @@ pub mod Listing
 pub mod Pages
 pub mod Filled
 pub mod Refusals
+pub mod PageRefusals
+pub mod Chain
 pub mod HasRow
 pub mod Complete
 pub mod Workings

@@ -4,7 +4,7 @@ use mathlib.Core.Bool.{Bool, true, false, true≢false}
 use mathlib.Core.List.{List, [], _∷_, _++_, append-nil}
 use Prim.Native.Nat.{ℕ, zero, suc, _+_, _≤_, _<_}
 use native.Mathlib.Omega.{arith}
-use lib.ListN.{length, length-append}
+use lib.ListN.{length, length-append, take}
 use Rattle.listing_pairs.specs.declared.row.Row.{Row}
 use Rattle.listing_pairs.specs.declared.row.Look.{Look}
 use Rattle.listing_pairs.specs.declared.row.Look.the-variants.{Skipped, Nothing, Made}
@@ -143,3 +143,35 @@ module _ (look : ℕ → ℕ → Look) where
   pub few-looked : (ps : List Pair) → lookedAt look ps ≤ length ps
   few-looked [] = omega arith
   few-looked (p ∷ ps) = count-few (look (p .i) (p .j)) (lookedAt look ps) (length ps) (few-looked ps)
+
+  -- ---- the rows of a page are those of the pairs that it passed
+  turn-taken : (s : Look) (p : Pair) (ps : List Pair) (go : ℕ → Page) (room : ℕ) → look (p .i) (p .j) ≡ s
+      → ((room : ℕ) → go room .rows ≡ rowsOf look (take (go room .passed) ps))
+      → turn s (p ∷ ps) go room .rows ≡ rowsOf look (take (turn s (p ∷ ps) go room .passed) (p ∷ ps))
+  turn-taken Skipped p ps go room e rest = rw e (rest room)
+  turn-taken Nothing p ps go room e rest = rw e (rest room)
+  turn-taken (Made r) p ps go zero e rest = refl
+  turn-taken (Made r) p ps go (suc room) e rest = rw e (ap (λ (l : List Row). r ∷ l) (rest room))
+
+  pub taken : (ps : List Pair) (room budget : ℕ)
+      → page look ps room budget .rows ≡ rowsOf look (take (page look ps room budget .passed) ps)
+  unfolding page
+  taken [] room budget = refl
+  taken (p ∷ ps) room zero = refl
+  taken (p ∷ ps) room (suc budget) =
+      turn-taken (look (p .i) (p .j)) p ps (λ left. page look ps left budget) room refl (λ left. taken ps left budget)
+
+  -- ---- if a row fits and there is a budget, the first pair is passed
+  turn-on : (s : Look) (here : List Pair) (go : ℕ → Page) (room : ℕ) → 0 < turn s here go (suc room) .passed
+  turn-on Skipped here go room = omega arith
+  turn-on Nothing here go room = omega arith
+  turn-on (Made r) here go room = omega arith
+
+  pub passes-one : (ps : List Pair) (room budget : ℕ) → 0 < length ps → 0 < room → 0 < budget
+      → 0 < page look ps room budget .passed
+  unfolding page
+  passes-one [] room budget h r b = absurd (omega (arith, h))
+  passes-one (p ∷ ps) zero budget h r b = absurd (omega (arith, r))
+  passes-one (p ∷ ps) (suc room) zero h r b = absurd (omega (arith, b))
+  passes-one (p ∷ ps) (suc room) (suc budget) h r b =
+      turn-on (look (p .i) (p .j)) (p ∷ ps) (λ left. page look ps left budget) room
