@@ -85,7 +85,8 @@ fn by_distance(
     meeting(radius1, center1, radius2, cv, d2, d, epsilon)
 }
 
-// How two circles meet, for any numbers. It takes no root if they are clearly apart, or if one is well inside the other.
+// How two circles meet, for any numbers. It takes no root if they are clearly outside each other, or if one is well inside the
+// other.
 pub fn circle_circle(
     radius1: f64,
     center1: Vector2,

@@ -18,7 +18,7 @@ pub struct Line {
     pub c: f64,
 }
 
-// A segment that is a point: it touches the circle if its distance from the centre is near the radius.
+// A segment that is a point: it meets the circle if its distance from the centre is near the radius.
 fn point_circle(
     p0: Vector2,
     p1: Vector2,
@@ -37,8 +37,8 @@ fn point_circle(
     LineCircleIntr::NoIntersect
 }
 
-// The line through two points, whose coordinates are relative to the circle's centre; dx and dy lead from the first to the
-// second. As in the Rust, the line counts as vertical if dx is near zero by the default epsilon, not by the given one. This test
+// The straight line through two points, whose coordinates are relative to the circle's centre; dx and dy lead from the first to
+// the second. As in the Rust, it counts as vertical if dx is near zero by the default epsilon, not by the given one. This test
 // only sees to it that the slope's divisor is not too small; the given epsilon would turn slanted lines upright and lose digits.
 // A vertical line stands at the mean of the two x. No case of the answer is chosen here.
 fn line_through(dx: f64, dy: f64, p0_shifted: Vector2, p1_shifted: Vector2) -> Line

@@ -9,7 +9,7 @@ pub struct MinMax {
     pub max: f64,
 }
 
-// The two numbers in order. Equal numbers come swapped (zeros of either sign are equal), and so does a pair with a NaN.
+// The two numbers in order. Equal numbers come swapped (zeros of either sign are equal), and so do two of which one is a NaN.
 pub fn min_max(v1: f64, v2: f64) -> MinMax
     ensures { λ r. ⌜ r ≡ BaseMath.minMax v1 v2 ⌝ }
 {

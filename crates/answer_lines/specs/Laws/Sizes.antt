@@ -1,4 +1,4 @@
--- No part of a line has more bytes than Sizes.antt says, and no answer has.
+-- No part of a text line has more bytes than Sizes.antt says, and no answer has.
 use Prim.Native.Nat.{ℕ, zero, suc, _+_, _*_, _^_, _≤_, _<_}
 use mathlib.Core.Path.{_≡_}
 use mathlib.Core.Bool.{Bool, true, false, cond}

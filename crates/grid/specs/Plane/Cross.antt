@@ -1,6 +1,6 @@
--- Two segments that are not parallel: their lines cross at one point, the crossing point, which lies steps-v / base of the way
--- along v and steps-u / base of the way along u. They share a point exactly if both places are from 0 to 1, and never more than
--- one.
+-- Two segments that are not parallel: their straight lines cross at one point, the crossing point, which lies steps-v / base of
+-- the way along v and steps-u / base of the way along u. They share a point exactly if both places are from 0 to 1, and never
+-- more than one.
 use mathlib.Core.Path.{_≡_, refl, ap, _∙_, subst}
 use mathlib.Core.Logic.{inl, inr}
 use mathlib.Core.List.{[], _∷_}

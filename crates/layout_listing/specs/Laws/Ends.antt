@@ -1,5 +1,5 @@
--- How answering a text ends: no room, the line of a refusal, the lines of a listing; and what the reader's answer says of the
--- buffers.
+-- How answering a text ends: no room, the text line of a refusal, the text lines of a listing; and what the reader's answer
+-- says of the buffers.
 use mathlib.Core.Path.{_≡_, refl, sym, ap, _∙_}
 use mathlib.Core.Bool.{Bool, false}
 use mathlib.Core.List.{List}

@@ -1,4 +1,4 @@
--- A text of the form is read: a number's digits and the byte that ends it, a vertex's line, the lines of a path.
+-- A text of the form is read: a number's digits and the byte that ends it, a vertex's text line, the text lines of a path.
 use Prim.Native.Nat.{ℕ, zero, suc, _+_, _*_, _/_, _%_, _≤_, _<_}
 use mathlib.Core.Path.{_≡_, refl, ap, _∙_}
 use mathlib.Core.Bool.{Bool, true, false}
