@@ -11,7 +11,7 @@ use plane::fuzzy::fuzzy_eq_eps;
 use plane::fuzzy::fuzzy_eq_zero;
 use plane::vector2::Vector2;
 
-// The line a * x + b * y + c = 0.
+// The straight line a * x + b * y + c = 0.
 pub struct Line {
     pub a: f64,
     pub b: f64,
@@ -39,8 +39,8 @@ fn point_circle(
 
 // The straight line through two points, whose coordinates are relative to the circle's centre; dx and dy lead from the first to
 // the second. As in the Rust, it counts as vertical if dx is near zero by the default epsilon, not by the given one. This test
-// only sees to it that the slope's divisor is not too small; the given epsilon would turn slanted lines upright and lose digits.
-// A vertical line stands at the mean of the two x. No case of the answer is chosen here.
+// only sees to it that the slope's divisor is not too small; the given epsilon would turn slanted ones upright and lose digits.
+// A vertical one stands at the mean of the two x. No case of the answer is chosen here.
 fn line_through(dx: f64, dy: f64, p0_shifted: Vector2, p1_shifted: Vector2) -> Line
     ensures { λ r. ⌜ r ≡ LineCircle.lineThrough dx dy «p0_shifted» «p1_shifted» ⌝ }
 {

@@ -81,8 +81,8 @@ fn rising(t0: f64, t1: f64) -> Span
     Span { t0, t1 }
 }
 
-// Where the ends of the first segment lie on the second's line, as parameters of the second: w and w2 lead from u1 to v1 and to
-// v2.
+// Where the ends of the first segment lie on the second's straight line, as parameters of the second: w and w2 lead from u1 to v1
+// and to v2.
 fn span_of(w: Vector2, w2: Vector2, u: Vector2, eps: f64) -> Span
     ensures { λ r. ⌜ r ≡ LineLine.spanOf w w2 u eps ⌝ }
 {

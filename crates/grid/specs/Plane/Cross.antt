@@ -152,7 +152,7 @@ module _ (v1 v2 u1 u2 : Spot) (slant : ¬ Parallel v1 v2 u1 u2) where
         (place-u v1 v2 u1 u2 P (pos s) (pos s') t t' on-v on-u)),
   )
 
-  -- ---- the lines cross at no other point
+  -- ---- the straight lines cross at no other point
   pub crossing-is : (P : Point) → Crossing v1 v2 u1 u2 P
       → (P .x *ℤ pos (base v1 v2 u1 u2) ≡ crossing-point .x *ℤ pos (P .over))
       × (P .y *ℤ pos (base v1 v2 u1 u2) ≡ crossing-point .y *ℤ pos (P .over))

@@ -100,7 +100,7 @@ module _ (most end e : ℕ) (ends : kindOf e ≡ end) (mark : 9 < end) where
   whole-read (pos m) t h = rw (ne-eqb (firstKind (decimal m ++ (e ∷ t))) minus (no-minus m t)) (count-read m t h)
   whole-read (negsuc m) t h = positive-read true most end e ends mark (suc m) t (omega arith) h
 
--- ---- lines
+-- ---- text lines
 
 is-space : kindOf 32 ≡ space
 unfolding kindOf
