@@ -8,9 +8,10 @@ use plane::pline_seg::seg_arc_radius_and_center;
 use plane::pline_vertex::PlineVertex;
 use plane::vector2::Vector2;
 
-// The numbers kept of a segment. Of an arc: its radius and the x and y of its centre. Of a line on the straight line a * x + b *
-// y + c = 0: a, which is its slope, or 1 if it is vertical; then a number that is not below the root of a * a + b * b, which is
-// 2^101 if there is no sound guess or the segment is a point; and 0. The bulge of the segment says which of the two it is.
+// The numbers kept of a segment. Of an arc: its radius and the x and y of its centre. Of a line on the straight line
+// a * x + b * y + c = 0: a, which is its slope, or 1 if it is vertical; then a number that is not below the root of
+// a * a + b * b, or 2^101 if there is no sound guess or the segment is a point; and 0. The bulge of the segment says which of
+// the two it is.
 pub struct Kept {
     pub radius_or_slope: f64,
     pub center_x_or_root: f64,
