@@ -68,7 +68,7 @@ prove_changed() {
     quietly rt check &
     rest=$!
     if [ -n "$trials" ]; then
-        wait "$trials" || fail "a wrong function was not refused as it should be: $(cat "$scratch/trials")"
+        wait "$trials" || fail "a wrong function was not rejected as it should be: $(cat "$scratch/trials")"
         say "$(tail -n 1 "$scratch/trials") ($(echo $changed))"
     fi
     note_time "$start"
@@ -82,7 +82,7 @@ prove_rest() {
 # Tries wrong functions, many at a time. rt ci has tried the must-fail edits one by one. It needs the proved crates.
 try_functions() {
     local start=$SECONDS said
-    said=$(.ci/trials) || fail "a wrong function was not refused as it should be: $said"
+    said=$(.ci/trials) || fail "a wrong function was not rejected as it should be: $said"
     say "$said"
     note_time "$start"
 }
@@ -109,11 +109,11 @@ check_paths() {
     esac
 }
 
-# docs/FRAUDS.md says where each wrong program was refused. Some fact must fail for each must-fail edit too.
+# docs/FRAUDS.md says where each wrong program was rejected. Some fact must fail for each must-fail edit too.
 check_frauds() {
     local start=$SECONDS
     .ci/frauds ${quick:+quick} ||
-        fail "docs/FRAUDS.md and what was refused differ as above: .ci/frauds write writes what is generated"
+        fail "docs/FRAUDS.md and what was rejected differ as above: .ci/frauds write writes what is generated"
     note_time "$start"
 }
 

@@ -1,6 +1,6 @@
 """What the checker says of a wrong program, and which of it counts.
 
-A program counts as refused if the checker shows a fact that no longer holds: two sides of an equation, or two statements, that
+A program counts as rejected if the checker shows a fact that no longer holds: two sides of an equation, or two statements, that
 differ; an equation that remains after all known facts are used; numbers for which all known facts hold and the goal fails; or a
 search that tried every way. All other errors say that the proof does not fit the changed text (a place that is not there, a step
 that finds nothing to do, an answer too few or too many, a bound that was reached), or that the text does not compile. A right

@@ -1,4 +1,4 @@
--- Worked examples: a refusal's line, the scope's own output, and a row of two points with an infinity and a NaN.
+-- Worked examples: a refusal's text line, the scope's own output, and a row of two points with an infinity and a NaN.
 use mathlib.Core.Path.{_≡_, refl}
 use mathlib.Core.Bool.{true}
 use mathlib.Core.List.{List, [], _∷_, _++_}

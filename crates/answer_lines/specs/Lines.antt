@@ -114,7 +114,7 @@ indicesARow = 3
 abbrev pub pointsARow : ℕ
 pointsARow = 4
 
--- the line of row k, by its numbers among the index rows and among the float rows
+-- the text line of row k, by its numbers among the index rows and among the float rows
 unfoldable pub rowAt : List ℕ → List Float → ℕ → List ℕ
 rowAt index points k =
     let i = k * indicesARow in

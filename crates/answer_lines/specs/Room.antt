@@ -50,7 +50,7 @@ pub record Whole (bytes : List ℕ) (r : Written) (old now : List ℕ) : Type 0 
   pub inside : length bytes ≤ length old
   pub holds : now ≡ bytes ++ drop (length bytes) old
 
--- what a promise of lines says if nothing is missing and the bytes fit
+-- what a promise of text lines says if nothing is missing and the bytes fit
 pub lines-whole : (bytes : List ℕ) (r : Written) (old now : List ℕ)
     → Lines false false bytes r old now → length bytes ≤ length old → Whole bytes r old now
 lines-whole bytes r old now l h =

@@ -1,2 +1,2 @@
--- What the private functions that put bytes promise. No answer's definition names it, so a reader need not believe it.
+-- The contracts of the private functions that put bytes. No answer's definition names it, so a reader need not believe it.
 pub mod Put

@@ -1,5 +1,5 @@
--- A line and an arc whose circle it touches or crosses: pline_seg_intersect.rs, lines 243-336, line for line. Read the two side
--- by side.
+-- A line and an arc, where the line is tangent to the arc's circle or crosses it: pline_seg_intersect.rs, lines 243-336, line for
+-- line. Read the two side by side.
 use mathlib.Core.Bool.{Bool, cond, not, _||_}
 use lib.Ieee.{Float}
 use Rattle.floats.specs.Ops.{_⊗_, _≺_, f0}

@@ -1,4 +1,4 @@
--- Two arcs on two circles that touch or cross: pline_seg_intersect.rs, lines 385-511, line for line. Read the two side by side.
+-- Two arcs on two tangent or crossing circles: pline_seg_intersect.rs, lines 385-511, line for line. Read the two side by side.
 use mathlib.Core.List.{List, [], _∷_}
 use mathlib.Core.Bool.{Bool, cond, _&&_}
 use lib.Ieee.{Float}

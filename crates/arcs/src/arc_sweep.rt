@@ -111,8 +111,8 @@ fn exactly_within_sweep(is_clockwise: bool, start_cross: f64, end_cross: f64) ->
     (start_cross >= 0.0) & (end_cross <= 0.0)
 }
 
-// Whether a point lies on the same side of the centre as an edge, and so near the edge's line that the square of the cross
-// product is below the limit.
+// Whether a point lies on the same side of the centre as an edge, and so near the edge's straight line that the square of the
+// cross product is below the limit.
 fn beside(edge: Vector2, point_vector: Vector2, cross: f64, fuzzy_limit: f64) -> bool
     ensures { λ r. ⌜ r ≡ sweep.beside edge «point_vector» cross «fuzzy_limit» ⌝ }
 {

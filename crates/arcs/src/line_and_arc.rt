@@ -1,7 +1,7 @@
-// A line and an arc whose circle it touches or crosses, for any numbers: pline_seg_intersect.rs, lines 243-336. Ends are sticky:
-// if an end of the line lies on the arc, the answer has that end as its point. A line that nearly follows the arc meets the
-// circle a little before and a little after such an end, but what else meets the line at that end answers the end itself. Sticky
-// ends make these answers agree.
+// A line and an arc, where the line is tangent to the arc's circle or crosses it, for any numbers: pline_seg_intersect.rs, lines
+// 243-336. Ends are sticky: if an end of the line lies on the arc, the answer has that end as its point. A line that nearly
+// follows the arc crosses the circle a little before and a little after such an end, but any other segment that meets the line
+// at that end answers the end itself. Sticky ends make these answers agree.
 ghost use mathlib.Core.Path.{_≡_};
 ghost use Rattle.arcs.specs.LineAndArc;
 ghost use Rattle.plane.specs.Vector2 as vector2;
@@ -45,8 +45,8 @@ pub fn point_in_sweep(
     PointInSweep::Nothing
 }
 
-// A line that touches the circle at t0. The answer's point is an end of the line if it lies on the arc, else the point at t0 if
-// it is on the segment and in the sweep; otherwise the two are apart.
+// A line that is tangent to the circle at t0. The answer's point is an end of the line if it lies on the arc, else the point at
+// t0 if it is on the segment and in the sweep; otherwise the two are apart.
 pub fn tangent_line_arc(
     t0: f64,
     p0: Vector2,

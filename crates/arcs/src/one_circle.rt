@@ -57,7 +57,7 @@ fn overlap_by_direction(
     }
 }
 
-// Two arcs of one circle whose ends don't touch: how they meet depends on which ends lie in the other's sweep.
+// Two arcs of one circle of which no ends are near each other: how they meet depends on which ends lie in the other's sweep.
 fn by_sweeps(
     v1: Vector2,
     v2: Vector2,
@@ -90,7 +90,7 @@ fn by_sweeps(
     PlineSegIntr::NoIntersect
 }
 
-// Two arcs of one circle. If ends touch, by their distance, these are the answer; else the sweeps decide. These use
+// Two arcs of one circle. If ends are near each other, by their distance, these are the answer; else the sweeps decide. These use
 // 1e-8 of the radius as their epsilon, whatever epsilon is given.
 fn arcs_of_one_circle(
     v1: Vector2,
@@ -147,7 +147,7 @@ fn arcs_of_one_circle(
     )
 }
 
-// Two arcs of one circle: the same arc, or two that touch, overlap or are apart.
+// Two arcs of one circle: the same arc, or two that meet at ends, overlap or are apart.
 pub fn overlapping_arc_arc(
     v1: PlineVertex,
     v2: PlineVertex,

@@ -1,5 +1,5 @@
-// Two arcs on two circles that touch or cross, for any numbers: pline_seg_intersect.rs, lines 385-511. Ends are sticky here too:
-// an end of one arc that lies on the other arc replaces a crossing near it.
+// Two arcs on two circles that are tangent or cross, for any numbers: pline_seg_intersect.rs, lines 385-511. Ends are sticky here
+// too: an end of one arc that lies on the other arc replaces a crossing near it.
 ghost use mathlib.Core.Path.{_≡_};
 ghost use Rattle.arcs.specs.TwoArcs;
 ghost use Rattle.arcs.specs.Workings.Ends;
@@ -24,8 +24,8 @@ fn both_sweep(arc1: ArcGeometry, arc2: ArcGeometry, point: Vector2) -> bool
     false
 }
 
-// Two arcs whose circles touch at `point`. The answer's point is the first end that lies on the other arc, else `point` if it is
-// in both sweeps; otherwise the two are apart.
+// Two arcs whose circles are tangent at `point`. The answer's point is the first end that lies on the other arc, else `point` if
+// it is in both sweeps; otherwise the two are apart.
 pub fn tangent_arc_arc(
     point: Vector2,
     v1: Vector2,

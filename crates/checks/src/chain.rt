@@ -1,6 +1,6 @@
 // The steps of a chain of checks. Each step answers the first fault of `f` and of a point, a vertex or a circle, number by
-// number: a fault in `f` was found earlier and is passed on. So a chain is written as one straight line, and it answers its first
-// fault.
+// number: a fault in `f` was found earlier and is passed on. So a chain is written as one call after the other, and it answers
+// its first fault.
 ghost use mathlib.Core.Path.{_≡_};
 ghost use mathlib.Core.List.{_∷_};
 ghost use Rattle.checks.specs.First.{first};

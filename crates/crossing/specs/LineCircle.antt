@@ -46,7 +46,7 @@ twoPoints p0 p1 line x0 y0 mult eps =
     (TangentIntersect t)
     (TwoIntersects (ts .min) (ts .max))
 
--- lines 130-171: the line a * x + b * y + c = 0, relative to the centre (h, k)
+-- lines 130-171: the straight line a * x + b * y + c = 0, relative to the centre (h, k)
 unfoldable pub lineMeets : Vector2 → Vector2 → Line → Float → Float → Float → Float → LineCircleIntr
 lineMeets p0 p1 line radius h k eps =
     let a = line .a in

@@ -53,7 +53,7 @@ spanOf w w2 u eps =
     (rising (w .y ⊘ u .y) (w2 .y ⊘ u .y))
     (rising (w .x ⊘ u .x) (w2 .x ⊘ u .x))
 
--- lines 212-217: 0 if v1 touches, else 1
+-- lines 212-217: 0 if v1 is near an end of the other, else 1
 unfoldable pub touchingEnd : Vector2 → Vector2 → Vector2 → Float → Float
 touchingEnd v1 u1 u2 eps = cond (vector2.fuzzyEqEps v1 u1 eps || vector2.fuzzyEqEps v1 u2 eps) f0 f1
 
@@ -69,7 +69,7 @@ overlap v1 u1 u2 u s eps =
     (TrueIntersect (touchingEnd v1 u1 u2 eps) seg2T0)
     (Overlapping seg2T0 seg2T1))
 
--- lines 131-225: parallel, and perhaps on one line
+-- lines 131-225: parallel, and perhaps on one straight line
 unfoldable pub parallel : Vector2 → Vector2 → Vector2 → Vector2 → Vector2 → Vector2 → Vector2 → Float → LineLineIntr
 parallel v1 v2 u1 u2 v u w eps =
     let vPdotW = vector2.perpDot v w in

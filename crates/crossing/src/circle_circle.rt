@@ -20,7 +20,8 @@ fn same_center(radius1: f64, radius2: f64, eps: f64) -> CircleCircleIntr
     CircleCircleIntr::NoIntersect
 }
 
-// The two points beside the line of centres: each is h_over_d times the vector cv, turned by a quarter, away from `midpoint`.
+// The two points beside the straight line of centres: each is h_over_d times the vector cv, turned by a quarter, away from
+// `midpoint`.
 fn two_sides(midpoint: Vector2, cv: Vector2, h_over_d: f64, eps: f64) -> CircleCircleIntr
     ensures { λ r. ⌜ r ≡ CircleCircle.twoSides midpoint cv «h_over_d» eps ⌝ }
 {
@@ -85,7 +86,8 @@ fn by_distance(
     meeting(radius1, center1, radius2, cv, d2, d, epsilon)
 }
 
-// How two circles meet, for any numbers. It takes no root if they are clearly apart, or if one is well inside the other.
+// How two circles meet, for any numbers. It takes no root if they are clearly outside each other, or if one is well inside the
+// other.
 pub fn circle_circle(
     radius1: f64,
     center1: Vector2,

@@ -2,7 +2,7 @@ use plane::vector2::Vector2;
 
 // How two circles meet.
 pub enum CircleCircleIntr {
-    // Apart, or one inside the other.
+    // Outside each other, or one inside the other.
     NoIntersect,
     // One point, or two that are near each other.
     TangentIntersect { point: Vector2 },

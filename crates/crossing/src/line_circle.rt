@@ -11,14 +11,14 @@ use plane::fuzzy::fuzzy_eq_eps;
 use plane::fuzzy::fuzzy_eq_zero;
 use plane::vector2::Vector2;
 
-// The line a * x + b * y + c = 0.
+// The straight line a * x + b * y + c = 0.
 pub struct Line {
     pub a: f64,
     pub b: f64,
     pub c: f64,
 }
 
-// A segment that is a point: it touches the circle if its distance from the centre is near the radius.
+// A segment that is a point: it meets the circle if its distance from the centre is near the radius.
 fn point_circle(
     p0: Vector2,
     p1: Vector2,
@@ -37,10 +37,10 @@ fn point_circle(
     LineCircleIntr::NoIntersect
 }
 
-// The line through two points, whose coordinates are relative to the circle's centre; dx and dy lead from the first to the
-// second. As in the Rust, the line counts as vertical if dx is near zero by the default epsilon, not by the given one. This test
-// only sees to it that the slope's divisor is not too small; the given epsilon would turn slanted lines upright and lose digits.
-// A vertical line stands at the mean of the two x. No case of the answer is chosen here.
+// The straight line through two points, whose coordinates are relative to the circle's centre; dx and dy lead from the first to
+// the second. As in the Rust, it counts as vertical if dx is near zero by the default epsilon, not by the given one. This test
+// only sees to it that the slope's divisor is not too small; the given epsilon would turn slanted ones upright and lose digits.
+// A vertical one stands at the mean of the two x. No case of the answer is chosen here.
 fn line_through(dx: f64, dy: f64, p0_shifted: Vector2, p1_shifted: Vector2) -> Line
     ensures { λ r. ⌜ r ≡ LineCircle.lineThrough dx dy «p0_shifted» «p1_shifted» ⌝ }
 {

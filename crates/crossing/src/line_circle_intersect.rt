@@ -13,7 +13,7 @@ pub enum LineCircleAnswer {
     Met(LineCircleIntr),
 }
 
-// How the line through p0 and p1 meets a circle, or the refusal of the first number at fault.
+// How the line from p0 to p1 meets a circle, or the refusal of the first number at fault.
 pub fn line_circle_intr(
     p0: Vector2,
     p1: Vector2,

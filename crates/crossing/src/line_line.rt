@@ -9,13 +9,13 @@ use plane::fuzzy::fuzzy_lt_eps;
 use plane::vector2::Vector2;
 use ranges::range::on_segment;
 
-// Two parameters of a segment's line: the first and the last of a stretch.
+// Two parameters on a segment's straight line: the first and the last of a stretch.
 pub struct Span {
     pub t0: f64,
     pub t1: f64,
 }
 
-// Two segments that are not parallel: their lines cross at one point, which lies on both segments or not.
+// Two segments that are not parallel: their straight lines cross at one point, which lies on both segments or not.
 fn crossing(v: Vector2, u: Vector2, w: Vector2, v_pdot_u: f64, eps: f64) -> LineLineIntr
     ensures { λ r. ⌜ r ≡ LineLine.crossing v u w «v_pdot_u» eps ⌝ }
 {
@@ -81,8 +81,8 @@ fn rising(t0: f64, t1: f64) -> Span
     Span { t0, t1 }
 }
 
-// Where the ends of the first segment lie on the second's line, as parameters of the second: w and w2 lead from u1 to v1 and to
-// v2.
+// Where the ends of the first segment lie on the second's straight line, as parameters of the second: w and w2 lead from u1 to v1
+// and to v2.
 fn span_of(w: Vector2, w2: Vector2, u: Vector2, eps: f64) -> Span
     ensures { λ r. ⌜ r ≡ LineLine.spanOf w w2 u eps ⌝ }
 {
@@ -92,7 +92,7 @@ fn span_of(w: Vector2, w2: Vector2, u: Vector2, eps: f64) -> Span
     rising(w.x / u.x, w2.x / u.x)
 }
 
-// The first segment's parameter at the end that touches the second: two segments of one line, end to end.
+// The first segment's parameter at the end that is near the second: two segments of one straight line, end to end.
 fn touching_end(v1: Vector2, u1: Vector2, u2: Vector2, eps: f64) -> f64
     ensures { λ r. ⌜ r ≡ LineLine.touchingEnd v1 u1 u2 eps ⌝ }
 {
@@ -102,13 +102,13 @@ fn touching_end(v1: Vector2, u1: Vector2, u2: Vector2, eps: f64) -> f64
     1.0
 }
 
-// Two segments of one line, neither a point: apart, end to end, or overlapping. s has the first segment's ends as parameters of
-// the second.
+// Two segments of one straight line, neither a point: apart, end to end, or overlapping. s has the first segment's ends as
+// parameters of the second.
 fn overlap(v1: Vector2, u1: Vector2, u2: Vector2, u: Vector2, s: Span, eps: f64) -> LineLineIntr
     ensures { λ r. ⌜ r ≡ LineLine.overlap v1 u1 u2 u s eps ⌝ }
 {
     let seg2_length = u.length();
-    // Ends are sticky: a near miss counts as a touch.
+    // Ends are sticky: two that are near each other meet.
     if !fuzzy_lt_eps(s.t0 * seg2_length, seg2_length, eps)
         | !fuzzy_gt_eps(s.t1 * seg2_length, 0.0, eps)
     {
@@ -126,7 +126,7 @@ fn overlap(v1: Vector2, u1: Vector2, u2: Vector2, u: Vector2, s: Span, eps: f64)
     LineLineIntr::Overlapping { seg2_t0, seg2_t1 }
 }
 
-// Two parallel segments, on one line or not, either of which may be a point.
+// Two parallel segments, on one straight line or not, either of which may be a point.
 fn parallel(
     v1: Vector2,
     v2: Vector2,

@@ -17,7 +17,8 @@ pub fn moderate(x: f64) -> bool
     (x >= TINY) & (x <= HUGE)
 }
 
-// Whether two circles are clearly apart. `reach` is the sum of their radii and epsilon, d2 the squared distance of their centres.
+// Whether two circles are clearly outside each other. `reach` is the sum of their radii and epsilon, d2 the squared distance of
+// their centres.
 pub fn apart(d2: f64, reach: f64, eps: f64) -> bool
     ensures { λ r. ⌜ r ≡ Apart.apart d2 reach eps ⌝ }
 {

@@ -1,5 +1,5 @@
 // Lists where the two paths of a layout meet: it reads the layout's text from standard input and writes the listing's text to
-// standard output. If a read or a write fails, it says so in one line on standard error.
+// standard output. If a read or a write fails, it says so in one text line on standard error.
 use answer_lines::Written;
 use layout_text::limits;
 
@@ -18,8 +18,8 @@ fn main() {
     answer(&text[..n]);
 }
 
-// Writes the answer to a text. There is room for the longest answer, so the last line is never reached: `answer-whole` of
-// layout_listing/specs/Room.antt proves it for every text.
+// Writes the answer to a text. There is room for the longest answer, so the end of this function is never reached: `answer-whole`
+// of layout_listing/specs/Room.antt proves it for every text.
 fn answer(text: &[u8]) {
     let mut out = [0u8; layout_listing::ROOM];
     let written = layout_listing::list_layout(text, &mut out);

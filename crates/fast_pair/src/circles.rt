@@ -1,4 +1,4 @@
-// Two circles that are clearly apart, or one well inside the other.
+// Two circles that are clearly apart: outside each other, or one well inside the other.
 ghost use mathlib.Core.Path.{_≡_};
 ghost use Rattle.fast_pair.specs.Workings.ClearlyApart;
 use crossing::shortcuts::apart;

@@ -1,4 +1,4 @@
-// What a listing keeps of a segment, so that no pair computes it again.
+// What is kept of a segment, so that no pair of a listing computes it again.
 ghost use mathlib.Core.Path.{_≡_};
 ghost use Rattle.fast_pair.specs.Workings.Kept as keeping;
 use crossing::shortcuts::moderate;
@@ -8,16 +8,18 @@ use plane::pline_seg::seg_arc_radius_and_center;
 use plane::pline_vertex::PlineVertex;
 use plane::vector2::Vector2;
 
-// The numbers kept of a segment. An arc keeps its radius and the x and y of its centre. A line a * x + b * y + c = 0 keeps a,
-// which is its slope, or 1 if it is vertical; then a number that is not below the root of a * a + b * b; and 0. The bulge of the
-// segment says which of the two it is.
+// The numbers kept of a segment. Of an arc: its radius and the x and y of its centre. Of a line on the straight line
+// a * x + b * y + c = 0: a, which is its slope, or 1 if it is vertical; then a number that is not below the root of
+// a * a + b * b, or 2^101 if there is no sound guess or the segment is a point; and 0. The bulge of the segment says which of
+// the two it is.
 pub struct Kept {
     pub radius_or_slope: f64,
     pub center_x_or_root: f64,
     pub center_y_or_zero: f64,
 }
 
-// The second number of a line if there is no good guess of its root: 2^101, too large for the quick test, which then says no.
+// The second number of a line if there is no sound guess of its root, or the segment is a point: 2^101, too large for the quick
+// test, which then says no.
 const NO_GUESS: f64 = 2535301200456458802993406410752.0;
 
 const HALF: f64 = 0.5;

@@ -13,8 +13,8 @@ const MOST: f64 = 1267650600228229401496703205376.0;
 // A little more than 1.
 const MORE: f64 = 129.0 / 128.0;
 
-// The constant c of the line through two points, whose coordinates are relative to the circle's centre; dx leads from the first
-// to the second, and the line rises by `slope`.
+// The constant c of the straight line through two points, whose coordinates are relative to the circle's centre; dx leads from
+// the first to the second, and `slope` is the slope.
 fn constant(dx: f64, slope: f64, p0_shifted: Vector2, p1_shifted: Vector2) -> f64
     ensures { λ r. ⌜ r ≡ ClearlyApart.constant dx slope «p0_shifted» «p1_shifted» ⌝ }
 {
@@ -24,7 +24,8 @@ fn constant(dx: f64, slope: f64, p0_shifted: Vector2, p1_shifted: Vector2) -> f6
     p1_shifted.y - slope * p1_shifted.x
 }
 
-// A quick test whether the line of a segment passes the circle farther away than epsilon. `kept` is what is kept of the segment.
+// A quick test whether the straight line of a segment is farther from the circle than epsilon. `kept` is what is kept of the
+// segment.
 pub fn line_beside(p0: Vector2, p1: Vector2, kept: Kept, circle: ArcRadiusCenter, eps: f64) -> bool
     ensures { λ r. ⌜ r ≡ ClearlyApart.lineBeside p0 p1 kept circle eps ⌝ }
 {

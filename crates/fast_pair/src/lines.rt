@@ -19,15 +19,15 @@ fn quotient_outside(n: f64, d: f64) -> bool
     ((n > end) & (n > start)) | ((n < end) & (n < start))
 }
 
-// Whether the lines of two segments that are not parallel cross clearly outside `segment`, given as a vector.
+// Whether the straight lines of two segments that are not parallel cross clearly outside `segment`, given as a vector.
 fn crosses_outside(n: f64, d: f64, segment: Vector2, eps: f64) -> bool
     ensures { λ r. ⌜ r ≡ ClearlyApart.crossesOutside n d segment eps ⌝ }
 {
     usual(segment.length_squared(), eps) & quotient_outside(n, d)
 }
 
-// A quick test whether two line segments are apart: their lines cross clearly outside one of the two, or they are parallel and
-// not on one line.
+// A quick test whether two line segments are apart: their straight lines cross clearly outside one of the two, or they are
+// parallel and not on one straight line.
 pub fn lines_apart(v1: Vector2, v2: Vector2, u1: Vector2, u2: Vector2, eps: f64) -> bool
     ensures { λ r. ⌜ r ≡ ClearlyApart.linesApart v1 v2 u1 u2 eps ⌝ }
 {

@@ -55,8 +55,8 @@ MinNum a b r = Num (λ x y. lt x y) a b r
 abbrev pub MaxNum : ℕ → ℕ → ℕ → Type 0
 MaxNum a b r = Num (λ x y. lt y x) a b r
 
--- A pair of patterns is mixed if one is a signalling NaN and the other a number. For a mixed pair minimum and maximum differ from
--- the standard; for every other pair they agree with it. So each pair falls under one of the two theorems on minimum, and under
+-- Two patterns are mixed if one is a signalling NaN and the other a number. For mixed patterns minimum and maximum differ from
+-- the standard; for all others they agree with it. So any two patterns fall under one of the two theorems on minimum, and under
 -- one of the two on maximum. `is` stands for min-is-minNum and max-is-maxNum, `departs` for min-departs and max-departs:
 --
 --                             b a number     b a quiet NaN     b a signalling NaN
@@ -66,7 +66,7 @@ MaxNum a b r = Num (λ x y. lt y x) a b r
 abbrev pub mixed : ℕ → ℕ → Bool
 mixed a b = (signalling a && not (nanBits binary64 b)) || (signalling b && not (nanBits binary64 a))
 
--- The answer for a mixed pair: the number, as for a quiet NaN. The standard wants a quiet NaN.
+-- The answer for mixed patterns: the number, as for a quiet NaN. The standard wants a quiet NaN.
 pub record Departs (a b r : ℕ) : Type 0 where
   pub first : nanBits binary64 a ≡ false → r ≡ a
   pub second : nanBits binary64 b ≡ false → r ≡ b
@@ -143,7 +143,7 @@ departs f a b h = go (nanBits binary64 a) refl (one-nan (nanBits binary64 a) (na
 
 -- ---- what is proved
 
--- they agree for every pair that is not mixed
+-- they agree for every two patterns that are not mixed
 pub min-is-minNum : (a b : ℕ) → mixed a b ≡ false → MinNum a b (Bits.min a b)
 unfolding Bits.min Bits.below
 min-is-minNum = agrees (λ x y. lt x y) (λ x y. lt-numbers x y) (λ x y. lt-once x y)
@@ -152,7 +152,7 @@ pub max-is-maxNum : (a b : ℕ) → mixed a b ≡ false → MaxNum a b (Bits.max
 unfolding Bits.max Bits.below
 max-is-maxNum = agrees (λ x y. lt y x) (λ x y h. let n = lt-numbers y x h in (n .1, n .0)) (λ x y. lt-once y x)
 
--- they differ for every mixed pair
+-- they differ for mixed patterns
 pub min-departs : (a b : ℕ) → mixed a b ≡ true → Departs a b (Bits.min a b)
 unfolding Bits.min
 min-departs a b = departs (Bits.below a b) a b
@@ -161,7 +161,7 @@ pub max-departs : (a b : ℕ) → mixed a b ≡ true → Departs a b (Bits.max a
 unfolding Bits.max
 max-departs a b = departs (Bits.below b a) a b
 
--- no answer for a mixed pair does both, whatever the comparison is
+-- no answer for mixed patterns does both, whatever the comparison is
 pub never-both : (less : Float → Float → Bool) (a b r : ℕ) → mixed a b ≡ true → Departs a b r → ¬ Num less a b r
 never-both less a b r h d n =
     let q = n .signalled (or-either (signalling a) (signalling b) _ _ h) in

@@ -44,7 +44,7 @@ reach P a b m S p n D num den h e f g r =
     (λ j k. nearer j S (long a b) D (P .over) num den g (sym f) (r .start j k))
     (λ j k. nearer j S (long a b) D (P .over) num den g (sym f) (r .end j (subst (λ (z : ℕ). j + (n + z) ≡ p) f k)))
 
--- a coordinate near x + way * m / base
+-- a coordinate close to x + way * m / base
 pub coordinate : (c : Float) (x w m : ℤ) (k a b wp wn p n D : ℕ) → x ≡ diff a b → w ≡ diff wp wn → m ≡ diff p n → k ≡ D
     → Beside c a b wp wn p n D
     → NearExact c (x *ℤ pos k +ℤ w *ℤ m) k

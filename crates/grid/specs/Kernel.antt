@@ -88,7 +88,7 @@ module _ (e : Float) (num den : ℕ) (h : Eps e num den)
   second-is : second p1 p2 q1 q2 ≡ diff (perp v w F H .p) (perp v w F H .n)
   second-is = cross-at v w F H (way p1 p2) (way q1 p1) v-at w-at
 
-  -- what the kernel tests: the two are parallel, and each lies on the other's line
+  -- what the kernel tests: the two are parallel, and each lies on the other's straight line
   abbrev Level : Type 0
   Level = perp v u F G .p ≡ perp v u F G .n
 

@@ -53,7 +53,7 @@ pub record Point : Type 0 where
 abbrev pub On : PlineVertex → Spot → Type 0
 On v p = Is (v .x) (p .x) 1 × (natAbs (p .x) ≤ 1048576) × Is (v .y) (p .y) 1 × (natAbs (p .y) ≤ 1048576)
 
--- ---- lines. P lies s / t of the way from a to b. It is on the segment from a to b if s is from 0 to t.
+-- ---- straight lines. P lies s / t of the way from a to b. It is on the segment from a to b if s is from 0 to t.
 pub record Along (P : Point) (a b : Spot) (s : ℤ) (t : ℕ) : Type 0 where
   pub some : 0 < t
   pub at-x : P .x *ℤ pos t ≡ pos (P .over) *ℤ (a .x *ℤ pos t +ℤ (b .x -ℤ a .x) *ℤ s)
@@ -65,7 +65,7 @@ OnLine P a b = (s : ℤ) × (t : ℕ) × Along P a b s t
 abbrev pub OnSegment : Point → Spot → Spot → Type 0
 OnSegment P a b = (s : ℕ) × (t : ℕ) × (s ≤ t) × Along P a b (pos s) t
 
--- The points P and Q differ; P is less than 2 * num / den from a, by squares; P is on the segment, or that near to one of its
+-- The points P and Q differ; P is less than 2 * num / den from a, by squares; P is on the segment, or that close to one of its
 -- ends.
 abbrev pub Differ : Point → Point → Type 0
 Differ P Q = (P .x *ℤ pos (Q .over) ≢ Q .x *ℤ pos (P .over)) ⊎ (P .y *ℤ pos (Q .over) ≢ Q .y *ℤ pos (P .over))
@@ -87,8 +87,8 @@ pub record NearExact (c : Float) (x : ℤ) (over : ℕ) : Type 0 where
   pub value : Is c a d
   pub near : natAbs (a *ℤ pos over -ℤ x *ℤ pos d) * 1073741824 ≤ d * over
 
--- ---- two segments, v1 to v2 and u1 to u2. A segment without length is parallel to every other. `Crossing P`: their lines cross
--- at P.
+-- ---- two segments, v1 to v2 and u1 to u2. A segment without length is parallel to every other. `Crossing P`: their straight
+-- lines cross at P.
 module _ (v1 v2 u1 u2 : Spot) where
   abbrev pub Shared : Point → Type 0
   Shared P = OnSegment P v1 v2 × OnSegment P u1 u2

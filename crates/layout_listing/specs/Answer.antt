@@ -53,8 +53,8 @@ answerOf (layout l) = linesFor (pathOf (l .first)) (pathOf (l .second))
 unfoldable pub answerTo : List ℕ → List ℕ
 answerTo text = answerOf (reads text)
 
--- ---- what the functions promise: these bytes at the front of the slice, or nothing if it has too little room for the lines of
--- the most rows
+-- ---- what the functions promise: these bytes at the front of the slice, or nothing if it has too little room for the text
+-- lines of the most rows
 abbrev pub room : ℕ
 room = roomFor mostRows
 

@@ -16,7 +16,7 @@ use Rattle.answer_lines.specs.Room.{Whole, lines-whole}
 use Rattle.layout_listing.specs.Answer.{answerTo, room, AnswerTo}
 use Rattle.layout_listing.specs.Laws.Bytes.{taken-fits}
 
--- 512 rows and the line with the counts, 128 bytes each
+-- 512 rows and the text line with the counts, 128 bytes each
 pub room-is : room ≡ 65664
 room-is = refl
 

@@ -17,7 +17,7 @@ pub const EPSILON: f64 = 0.0009765625;
 // how many rows the listing has room for
 pub const ROWS: usize = 512;
 
-// how many bytes of room the answer's text needs: a line for the counts and one for every row
+// how many bytes of room the answer's text needs: a text line for the counts and one for every row
 pub const ROOM: usize = (ROWS + 1) * LINE;
 
 // Writes the text lines of the listing of two open paths to the front of `out`, and answers how many bytes they have.

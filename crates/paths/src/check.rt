@@ -10,7 +10,7 @@ use checks::chain;
 use checks::fault::Checked;
 use checks::fault::later;
 
-// A quick test whether the numbers of every vertex are inside their limits. A no promises nothing.
+// A quick test whether the numbers of every vertex are inside their limits. A no says nothing.
 fn vertices_inside(path: &[f64]) -> bool
     ensures { λ r. ⌜ Inside.IfYes (now (path .entry)) r ⌝ }
 {

@@ -9,7 +9,7 @@ pub struct MinMax {
     pub max: f64,
 }
 
-// The two numbers in order. Equal numbers come swapped (zeros of either sign are equal), and so does a pair with a NaN.
+// The two numbers in order. Equal numbers come swapped (zeros of either sign are equal), and so do two of which one is a NaN.
 pub fn min_max(v1: f64, v2: f64) -> MinMax
     ensures { λ r. ⌜ r ≡ BaseMath.minMax v1 v2 ⌝ }
 {
@@ -34,8 +34,8 @@ pub fn point_from_parametric(p0: Vector2, p1: Vector2, t: f64) -> Vector2
     p0.add(p1.sub(p0).scale(t))
 }
 
-// The t at which the segment from p0 to p1 passes a point of its line. `epsilon` has no effect: the Rust has this parameter, and
-// there only an assertion of a debug build reads it.
+// The t at which the segment from p0 to p1 passes a point of its straight line. `epsilon` has no effect: the Rust has this
+// parameter, and there only an assertion of a debug build reads it.
 pub fn parametric_from_point(p0: Vector2, p1: Vector2, point: Vector2, epsilon: f64) -> f64
     ensures { λ r. ⌜ r ≡ BaseMath.parametricFromPoint p0 p1 point epsilon ⌝ }
 {

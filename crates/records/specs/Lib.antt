@@ -1,4 +1,4 @@
--- When a line of the recorded list is right: which calls there are, how a line is read, and how its answers are judged.
+-- When a text line of the recorded list is right: which calls there are, how it is read, and how its answers are judged.
 pub mod Calls
 pub mod Names
 pub mod OnFloats

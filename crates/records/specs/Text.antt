@@ -8,16 +8,16 @@ use lib.Ieee.{Float, binary64, ofBits}
 use Rattle.records.specs.declared.text.Field.{Field}
 use Rattle.records.specs.declared.text.Field.the-variants as Field·
 
--- ---- how long a line is
+-- ---- how long a text line is
 
--- the hex digits of a number, and the bytes that it takes in a line with what stands after it
+-- the hex digits of a number, and the bytes that it takes in a text line with what stands after it
 abbrev pub fieldDigits : ℕ
 fieldDigits = 16
 
 abbrev pub fieldBytes : ℕ
 fieldBytes = fieldDigits + 1
 
--- the most numbers that a line has
+-- the most numbers that a text line has
 abbrev pub mostNumbers : ℕ
 mostNumbers = 18
 
@@ -41,7 +41,7 @@ spelt n (b ∷ rest) = cond (ltb 15 (digitOf b)) Field·.Broken (spelt (n % 2 ^ 
 abbrev pub wordOf : List ℕ → Field
 wordOf text = spelt 0 text
 
--- ---- a line
+-- ---- a text line
 
 -- five bytes as one number, the first byte the highest
 unfoldable pub nameOf : List ℕ → ℕ
@@ -74,7 +74,7 @@ fieldsFrom n body (suc k) i =
 unfoldable pub isLine : ℕ → List ℕ → Bool
 isLine n body = cond (eqb (length body) (n * fieldBytes)) (fieldsFrom n body n 0) false
 
--- ---- the numbers of a line, as patterns and as numbers
+-- ---- the numbers of a text line, as patterns and as numbers
 
 unfoldable pub valueOf : Field → ℕ
 valueOf (Field·.Number x) = x

@@ -1,5 +1,5 @@
-// The text of a recorded list. A line is a call's name, then numbers as fields of sixteen hex digits with one space before each,
-// then a newline. A call's name shows how many numbers follow it, and so how long its lines are.
+// The text of a recorded list. A text line is a call's name, then numbers as fields of sixteen hex digits with one space before
+// each, then a newline. A call's name shows how many numbers follow it, and so how long its text lines are.
 ghost use mathlib.Core.Path.{_≡_};
 ghost use Prim.Native.Nat.{_≤_, _<_};
 ghost use lib.Ieee.{nanBits, binary64};

@@ -1,6 +1,6 @@
 // Replays a recorded list of answers from standard input. It prints how many records the list has, and for how many our answer
-// differs. A line that is no record counts as a difference, and so does a record that is cut short. If a read or a write fails,
-// it says so in one line on standard error.
+// differs. A text line that is no record counts as a difference, and so does a record that is cut short. If a read or a write
+// fails, it says so in one text line on standard error.
 
 // What reading one record showed.
 enum Seen {
@@ -52,7 +52,7 @@ fn put_number(n: u64) -> bool {
     put(&digits[..k])
 }
 
-// Replays the whole list. Nothing promises that the input ends, so the loop also ends where the count would not fit.
+// Replays the whole list. Nothing says that the input ends, so the loop also ends where the count would not fit.
 fn replay() -> Tally {
     let mut records: u64 = 0;
     let mut differences: u64 = 0;

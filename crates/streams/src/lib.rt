@@ -1,9 +1,9 @@
-// Standard input and output of the programs: a slice is read until it is full or the input ends, and written to its end. A call
-// that a signal interrupts before it moved a byte is made again. A failed call is not the same as the end of the input.
+// Standard input and output of the programs: a slice is read until it is full or the input ends, and written to its end. A read
+// or write that a signal interrupts before it moved a byte is made again. A failed one is not the same as the end of the input.
 ghost use Prim.Native.Nat.{_≤_};
 ghost use lib.ListN.{length};
 
-// how often a call is made at most: nothing promises that signals end, but a proved loop must
+// how often a read or write is tried at most: nothing says that signals end, but a proved loop must
 const TRIES: u64 = u64::MAX;
 
 // How many bytes were read, and whether a read failed.

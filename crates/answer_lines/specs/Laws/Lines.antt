@@ -1,4 +1,4 @@
--- The parts of a line, put one after the other, make the line; and it is short.
+-- The parts of a text line, put one after the other, make the text line; and it is short.
 use Prim.Native.Nat.{ℕ}
 use mathlib.Core.List.{List}
 use native.Mathlib.Omega.{arith}

@@ -1,4 +1,4 @@
--- No part of a line has more bytes than Sizes.antt says, and no answer has.
+-- No part of a text line has more bytes than Sizes.antt says, and no answer has.
 use Prim.Native.Nat.{ℕ, zero, suc, _+_, _*_, _^_, _≤_, _<_}
 use mathlib.Core.Path.{_≡_}
 use mathlib.Core.Bool.{Bool, true, false, cond}
@@ -51,7 +51,7 @@ points-short class x1 y1 x2 y2 = go (ltb class 1) (ltb class 3) (ltb class 6)
         simp length-append (omega (arith, float-long x1, float-long y1, float-long x2, float-long y2))
     go false false false = omega arith
 
--- ---- lines
+-- ---- text lines
 pub refusal-short : (n : ℕ) → n < 2 ^ 64 → length (Lines.refusedText n) ≤ Sizes.refusal
 unfolding Lines.refusedText
 refusal-short n h = let digits = whole-short n h in simp length-append (omega arith)

@@ -1,5 +1,5 @@
--- Two circles that are clearly apart, by the squared distance of their centres. `reach` is the sum of the radii and epsilon. If
--- it is at least epsilon and not below zero, and its square is below the squared distance, the distance is at least `reach`
+-- Two circles clearly outside each other, by the squared distance of their centres. `reach` is the sum of the radii and epsilon.
+-- If it is at least epsilon and not below zero, and its square is below the squared distance, the distance is at least `reach`
 -- (floats, Laws/RootBeside). So the distance is neither near zero nor below `reach`, and the circles do not meet.
 use mathlib.Core.Path.{_≡_, ap, _∙_}
 use mathlib.Core.Bool.{Bool, false, not, cond, _&&_, _||_}

@@ -74,7 +74,7 @@ module _ (p0 p1 : Vector2) (line : Line) (point : Bool) (circle : ArcRadiusCente
             (sure (sound q w) (t .1)) r)),
       )
 
--- ---- the definition's line: its a and b are those behind the kept number, and its c is the one that the quick test computes
+-- ---- the definition's straight line: its a and b are those behind the kept number, and its c is the one of the quick test
 met : (point : Bool) (x y : LineCircleIntr) → (point ≡ false) × (y ≡ NoIntersect) → cond point x y ≡ NoIntersect
 met point x y h = rw (h .0, h .1)
 

@@ -287,13 +287,13 @@ module _ (v1 v2 u1 u2 : Vector2) (eps : Float) (e-fits : T (fits binary64 eps)) 
   n2-fits : T (fits binary64 n2)
   n2-fits = sub-fits binary64 (v .x ⊗ w .y) (v .y ⊗ w .x)
 
-  -- parallel, and not on one line
+  -- parallel, and not on one straight line
   side-by-side : fuzzyEqZeroEps d eps ≡ true → T (not (fuzzyEqZeroEps n1 eps))
       → lineLine v1 v2 u1 u2 eps ≡ lines.NoIntersect
   unfolding lineLine parallel
   side-by-side near t = beside (fuzzyEqZeroEps d eps) (fuzzyEqZeroEps n2 eps) (fuzzyEqZeroEps n1 eps) _ _ _ near t
 
-  -- not parallel, and the lines cross outside one of the segments
+  -- not parallel, and the straight lines cross outside one of the segments
   cross-outside : fuzzyEqZeroEps d eps ≡ false → T (crossesOutside n1 d v eps || crossesOutside n2 d u eps)
       → lineLineOf (lineLine v1 v2 u1 u2 eps) v1 v2 u1 u2 ≡ NoIntersect
   unfolding lineLine crossing fuzzyEqZeroEps

@@ -14,7 +14,7 @@ use Rattle.plane.specs.declared.pline_seg.ArcRadiusCenter.{ArcRadiusCenter}
 use Rattle.crossing.specs.Workings.FarLine.{moderate}
 use Rattle.fast_pair.specs.declared.kept.Kept.{Kept}
 
--- 2^101
+-- 2^101: kept of a line if there is no sound guess, or if the segment is a point
 abbrev pub noGuess : Float
 noGuess = ofBits binary64 0x4640_0000_0000_0000
 

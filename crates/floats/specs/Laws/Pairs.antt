@@ -1,5 +1,5 @@
--- Logic on the kinds of two patterns: s and t say that the first and the second is a signalling NaN, m and n that it is a NaN. A
--- pair is mixed if one is a signalling NaN and the other is no NaN.
+-- Logic on the kinds of two patterns: s and t say that the first and the second is a signalling NaN, m and n that it is a NaN.
+-- The two are mixed if one is a signalling NaN and the other is no NaN.
 use mathlib.Core.Path.{_≡_, refl}
 use mathlib.Core.Logic.{_⊎_, inl, inr}
 use mathlib.Core.Bool.{Bool, true, false, not, _&&_, _||_, true≢false, false≢true}

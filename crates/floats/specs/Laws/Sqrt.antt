@@ -215,7 +215,7 @@ pub record Root (p L A c : ℕ) (r : Float) : Type 0 where
   -- it does not cross a value of the format
   pub least : (Y : ℕ) → Held p Y → Y * Y * c ≤ A * (L * L) → Y ≤ R
   pub most : (Y : ℕ) → Held p Y → A * (L * L) ≤ Y * Y * c → R ≤ Y
-  -- its square is near A / c
+  -- its square is close to A / c
   pub above : 2 ^ p * 2 ^ p * (A * (L * L)) ≤ R * R * c * ((2 ^ p + 1) * (2 ^ p + 1))
   pub below : 2 ^ p * 2 ^ p * (R * R * c) ≤ A * (L * L) * ((2 ^ p + 2) * (2 ^ p + 2))
 

@@ -1,4 +1,4 @@
--- Bounds in units: if the exact value does not exceed a whole number, the float does not either; the float is near its exact
+-- Bounds in units: if the exact value does not exceed a whole number, the float does not either; the float is close to its exact
 -- value, with the common unit cancelled; and a product with a length is no larger than the product of the bounds.
 use mathlib.Core.Path.{_≡_, ap}
 use Prim.Native.Nat.{ℕ, _+_, _*_, _^_, _≤_, _<_}
@@ -25,7 +25,7 @@ bounded t P N D r C k few u l p n d =
 pub cut : (a b e L : ℕ) → 0 < L → 2 ^ 54 * (a * L) ≤ 2 ^ 54 * (b * L) + e * (L * L) → 2 ^ 54 * a ≤ 2 ^ 54 * b + e * L
 cut a b e L C h = le-of-mul-le-mul-right {m = 2 ^ 54 * a} {n = 2 ^ 54 * b + e * L} {k = L} (omega arith) C
 
--- near (P - N) / D, if D is k units: from above, and from below
+-- close to (P - N) / D, if D is k units: from above, and from below
 pub near-over : (L k D e : ℕ) → 0 < L → D ≡ k * L → (r : Float) (P N : ℕ) (x : Near L r P N D e (2 ^ 54))
     → (2 ^ 54 * (x .p * k + N) ≤ 2 ^ 54 * (P + x .n * k) + e * (k * L))
     × (2 ^ 54 * (x .n * k + P) ≤ 2 ^ 54 * (N + x .p * k) + e * (k * L))

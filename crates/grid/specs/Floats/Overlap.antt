@@ -1,6 +1,6 @@
--- Grid segments on one line, in whole numbers. The ends of the first lie at (P0 - N0) / D and (P1 - N1) / D of the second, where
--- D is a side of it. The kernel answers NoIntersect if both lie beyond 1 or both before 0, Overlapping if the segments share more
--- than a point, and TrueIntersect if they share one.
+-- Grid segments on one straight line, in whole numbers. The ends of the first lie at (P0 - N0) / D and (P1 - N1) / D of the
+-- second, where D is a side of it. The kernel answers NoIntersect if both lie beyond 1 or both before 0, Overlapping if the
+-- segments share more than a point, and TrueIntersect if they share one.
 use mathlib.Core.Path.{_≡_, refl, sym, _∙_, subst}
 use mathlib.Core.Logic.{_⊎_, inl, inr}
 use Prim.Native.Nat.{ℕ, _+_, _-_, _*_, _^_, _≤_, _<_, min}

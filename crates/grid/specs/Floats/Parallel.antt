@@ -1,5 +1,5 @@
 -- Parallel grid segments, in whole numbers: where a point lies along a segment and whether the range test finds it there, and how
--- two segments on one line overlap.
+-- two segments on one straight line overlap.
 use mathlib.Core.Path.{_≡_, refl, sym, subst}
 use mathlib.Core.Logic.{_⊎_, inl, inr, _↔_}
 use Prim.Native.Nat.{ℕ, zero, suc, _+_, _*_, _^_, _≤_, _<_}
@@ -46,7 +46,7 @@ abs-gap i x A =
     same true X k = omega arith
     same false X k = omega arith
 
--- where c lies on the line from a to b: from x or from y
+-- where c lies on the straight line from a to b: from x or from y
 module _ (e : Float) (a b c : Vector2) (A : Vec 20 a) (B : Vec 20 b) (C : Vec 20 c) where
   abbrev U : Vec 21 (vector2.sub b a)
   U = vec-sub b a B A
@@ -143,7 +143,7 @@ point-at e num den h a b c A B C long-u met = go (along e a b c A B C long-u)
     go (inl k) = inl (k, point-on e num den h (vector2.sub b a) (vec-sub b a B A) long-u _ _ _ _ _ k (side-x _ _) met)
     go (inr k) = inr (k, point-on e num den h (vector2.sub b a) (vec-sub b a B A) long-u _ _ _ _ _ k (side-y _ _) met)
 
--- ---- two segments on one line: the ends of the first lie at x / d and z / d of the second
+-- ---- two segments on one straight line: the ends of the first lie at x / d and z / d of the second
 pub record Spanned (r : LineLineIntr) (xp xn zp zn dp dn : ℕ) : Type 0 where
   pub from : Float
   pub to : Float

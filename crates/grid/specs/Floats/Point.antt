@@ -99,7 +99,7 @@ module _ (a b c d P N D L tp tn qp qn cp cn : ℕ) where
           → 2 ^ 30 * (cp * D + (b * D + (c * N + d * P)) * L) ≤ 2 ^ 30 * ((a * D + (c * P + d * N)) * L + cn * D) + 1 * (D * L)
       flat h = omega arith
 
--- so the exact sum is near the exact point, and at most 2 ^ 21 in size
+-- so the exact sum is close to the exact point, and at most 2 ^ 21 in size
 in-size : (m1 m2 m3 m4 n1 n2 n3 n4 q1 q2 a1 b1 w : ℕ)
     → 2 ^ 54 * (m1 + n1 + n2 + m2) ≤ 2 ^ 54 * (n3 + m3 + m4 + n4) + 2 ^ 22 * w
     → 2 ^ 54 * (q1 + m3 + m4) ≤ 2 ^ 54 * (m1 + m2 + q2) + 2 ^ 22 * w

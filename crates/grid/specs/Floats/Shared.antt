@@ -1,6 +1,6 @@
--- The shared part between two parameters: x0 and x1, near m0 / D and m1 / D, on a vector with a side D. Their difference times
--- the length is near zero exactly if m0 is m1, for m0 at most m1 at most D. The argument: if they differ, they differ by at least
--- 1 / D, and the length is at least D; if they do not, what remains is below 2 ^ -29.
+-- The shared part between two parameters: x0 and x1, close to m0 / D and m1 / D, on a vector with a side D. Their difference
+-- times the length is near zero exactly if m0 is m1, for m0 at most m1 at most D. The argument: if they differ, they differ by at
+-- least 1 / D, and the length is at least D; if they do not, what remains is below 2 ^ -29.
 use mathlib.Core.Path.{_≡_, refl, ap, subst}
 use mathlib.Core.Logic.{_↔_}
 use Prim.Native.Nat.{ℕ, _+_, _-_, _*_, _^_, _≤_, _<_}
@@ -27,7 +27,7 @@ use Rattle.grid.specs.Floats.Bounds.{bounded, near-over, near-at, one-un
 use Rattle.grid.specs.Floats.Span.{Part}
 
 -- ---- arithmetic. The parameters are s0 / L and s1 / L, their difference is (dp - dn) / L, and its product with the length
--- (qp - qn) / L. Both are near the same m / D.
+-- (qp - qn) / L. Both are close to the same m / D.
 same-near : (D L s0 s1 m : ℕ) → 0 < D → 2 ^ 54 * (s1 * D) ≤ 2 ^ 54 * (m * L) + 1 * (D * L)
     → 2 ^ 54 * (m * L) ≤ 2 ^ 54 * (s0 * D) + 1 * (D * L)
     → 2 ^ 54 * s1 ≤ 2 ^ 54 * s0 + 2 * L

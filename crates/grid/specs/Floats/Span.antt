@@ -1,5 +1,5 @@
 -- Parameters of a whole number over a side D, for the overlap case: floats have the order of their exact values; the greater of
--- one and 0, and the lesser of one and 1, are near the exact ones, cut off in the same way.
+-- one and 0, and the lesser of one and 1, are close to the exact ones, cut off in the same way.
 use mathlib.Core.Path.{_≡_, refl, sym, subst}
 use mathlib.Core.Logic.{_⊎_, inl, inr}
 use Prim.Native.Nat.{ℕ, _+_, _-_, _*_, _^_, _≤_, _<_, min}

@@ -145,7 +145,7 @@ module _ (e : Float) (num den : ℕ) (h : Eps e num den) where
         ∙ ap (λ (z : Bool). ways a b z (vector2.fuzzyEqEps u1 u2 e)) r
         ∙ ap (λ (z : Bool). ways a b c z) s
 
-    -- not on one line
+    -- not on one straight line
     pub beside : (off-v .p ≡ off-v .n → ⊥) ⊎ (off-u .p ≡ off-u .n → ⊥) → parallel v1 v2 u1 u2 v u w e ≡ NoIntersect
     beside (inl x) = goes false _ _ _ (off (off-v .p) (off-v .n) _ zero-v x) refl refl refl
     beside (inr x) =
@@ -155,7 +155,7 @@ module _ (e : Float) (num den : ℕ) (h : Eps e num den) where
         either true = refl
         either false = refl
 
-    -- on one line
+    -- on one straight line
     module _ (x : off-v .p ≡ off-v .n) (y : off-u .p ≡ off-u .n) where
       at : (c d : Bool) → vector2.fuzzyEqEps v1 v2 e ≡ c → vector2.fuzzyEqEps u1 u2 e ≡ d
           → parallel v1 v2 u1 u2 v u w e ≡ ways true true c d

@@ -1,5 +1,5 @@
--- How far a point of a segment's line lies from the segment's ends, by squares: m / over of the way from a to b, it is m / over
--- times the length from a, and (m - over) / over times the length from b.
+-- How far a point of a segment's straight line lies from the segment's ends, by squares: m / over of the way from a to b, it is
+-- m / over times the length from a, and (m - over) / over times the length from b.
 use mathlib.Core.Path.{_≡_, refl, sym, ap, _∙_, subst}
 use mathlib.Core.Logic.{_⊎_, inl, inr}
 use mathlib.Core.List.{[], _∷_}

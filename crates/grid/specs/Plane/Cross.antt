@@ -1,6 +1,6 @@
--- Two segments that are not parallel: their lines cross at one point, the crossing point, which lies steps-v / base of the way
--- along v and steps-u / base of the way along u. They share a point exactly if both places are from 0 to 1, and never more than
--- one.
+-- Two segments that are not parallel: their straight lines cross at one point, the crossing point, which lies steps-v / base of
+-- the way along v and steps-u / base of the way along u. They share a point exactly if both places are from 0 to 1, and never
+-- more than one.
 use mathlib.Core.Path.{_≡_, refl, ap, _∙_, subst}
 use mathlib.Core.Logic.{inl, inr}
 use mathlib.Core.List.{[], _∷_}
@@ -152,7 +152,7 @@ module _ (v1 v2 u1 u2 : Spot) (slant : ¬ Parallel v1 v2 u1 u2) where
         (place-u v1 v2 u1 u2 P (pos s) (pos s') t t' on-v on-u)),
   )
 
-  -- ---- the lines cross at no other point
+  -- ---- the straight lines cross at no other point
   pub crossing-is : (P : Point) → Crossing v1 v2 u1 u2 P
       → (P .x *ℤ pos (base v1 v2 u1 u2) ≡ crossing-point .x *ℤ pos (P .over))
       × (P .y *ℤ pos (base v1 v2 u1 u2) ≡ crossing-point .y *ℤ pos (P .over))

@@ -1,5 +1,5 @@
--- Two segments on one line, measured on u along the x axis, if u is not upright (else the axes are exchanged): they share a point
--- exactly if the spans do, and more than one exactly if the spans do. What they share is found at their ends.
+-- Two segments on one straight line, measured on u along the x axis, if u is not upright (else the axes are exchanged): they
+-- share a point exactly if the spans do, and more than one exactly if the spans do. What they share is found at their ends.
 use mathlib.Core.Path.{_≡_, refl, sym, ap, subst}
 use mathlib.Core.Logic.{_⊎_, inl, inr, _↔_}
 use mathlib.Core.List.{[], _∷_}
@@ -85,7 +85,7 @@ share-spans-more v1 v2 u1 u2 K (P, Q, differ, (p, p'), (q, q')) = (
     at-Q : Seen u1 u2 Q a b k
     at-Q = seen v1 v2 u1 u2 Q q q'
 
--- ---- the ends of each lie on the other's line
+-- ---- the ends of each lie on the other's straight line
 second-on-u : (v1 v2 u1 u2 : Spot) → Collinear v1 v2 u1 u2 → cross (way u1 u2) (way u1 v2) ≡ pos 0
 second-on-u v1 v2 u1 u2 c =
     combine2 (corners v1 v2 u1 u2 []) (wedge (leg start-u end-u) (leg start-u end-v)) (num 0)

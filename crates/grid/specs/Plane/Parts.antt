@@ -96,7 +96,7 @@ reached-parts P a b p n num den h before past = reached P a b (diff p n) num den
             wrote k (long a b) den (P .over) (past k j)
         go (negsuc k) e f l = absurd (omega arith)
 
--- ---- near a coordinate X / k, where X is P - N
+-- ---- close to a coordinate X / k, where X is P - N
 pub within-parts : (c : Float) (x : ℤ) (k p n d P N : ℕ) → Is c (diff p n) d → 0 < d → x ≡ diff P N
     → 1073741824 * (p * k + N * d) ≤ 1073741824 * (P * d + n * k) + d * k
     → 1073741824 * (P * d + n * k) ≤ 1073741824 * (p * k + N * d) + d * k

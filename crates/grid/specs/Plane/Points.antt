@@ -1,6 +1,6 @@
--- Parallel segments that share a point lie on one line, also if the segments or the axes are exchanged. If the first has no
--- length, or neither has, to share a point means that one grid point lies on the other segment. Then they never share more than
--- that point.
+-- Parallel segments that share a point lie on one straight line, also if the segments or the axes are exchanged. If the first has
+-- no length, or neither has, to share a point means that one grid point lies on the other segment. Then they never share more
+-- than that point.
 use mathlib.Core.Path.{_≡_, sym, _∙_}
 use mathlib.Core.Logic.{_↔_}
 use mathlib.Core.List.{[], _∷_}
@@ -41,7 +41,7 @@ use Rattle.grid.specs.Plane.Spots.{
 }
 use Rattle.grid.specs.Plane.Spans.{size, mark}
 
--- ---- on one line
+-- ---- on one straight line
 pub record Collinear (v1 v2 u1 u2 : Spot) : Type 0 where
   pub parallel : across v1 v2 u1 u2 ≡ pos 0
   pub from-u : first v1 v2 u1 u2 ≡ pos 0
@@ -65,7 +65,7 @@ share-collinear v1 v2 u1 u2 par (P, ((s, t, l, on-v), (s', t', l', on-u))) =
           (place-u v1 v2 u1 u2 P (pos s) (pos s') t t' on-v on-u) flat;
     }
 
--- ---- v has no length and lies on the line of u, which is not upright: they share v exactly if its place along x is from 0 to 1
+-- ---- v has no length and lies on u's straight line, which is not upright: they share v exactly if its place along x is 0 to 1
 module _ (v1 v2 u1 u2 : Spot) (still : Same v1 v2) where
   pub point-share : ((u2 .x -ℤ u1 .x) ≡ pos 0 → ⊥) → cross (way u1 u2) (way u1 v1) ≡ pos 0
       → Share v1 v2 u1 u2 ↔ Between (mark u1 u2 v1) (size u1 u2)

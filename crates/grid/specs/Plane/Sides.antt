@@ -1,6 +1,6 @@
 -- The products that the kernel divides, over whole numbers. v is the way from v1 to v2, u the way from u1 to u2 and w the way
--- from u1 to v1. Then across is v × u, v's place is (u × w) / across, and u's place is (v × w) / across. A point of both lines
--- lies there, so if across is 0 both products are 0.
+-- from u1 to v1. Then across is v × u, v's place is (u × w) / across, and u's place is (v × w) / across. A point of both straight
+-- lines lies there, so if across is 0 both products are 0.
 use mathlib.Core.Path.{_≡_}
 use mathlib.Core.List.{List, [], _∷_}
 use Prim.Native.Nat.{ℕ, _<_}
@@ -59,7 +59,7 @@ wedge p q = p .x ⊠ q .y ⊟ p .y ⊠ q .x
 abbrev pub corners : Spot → Spot → Spot → Spot → List ℤ → List ℤ
 corners v1 v2 u1 u2 more = v1 .x ∷ v1 .y ∷ v2 .x ∷ v2 .y ∷ u1 .x ∷ u1 .y ∷ u2 .x ∷ u2 .y ∷ more
 
--- ---- one point on two lines
+-- ---- one point on two straight lines
 
 -- a coordinate c that lies s / t of the way from x to x2, and s' / t' of the way from a to a2
 one-value : (c x x2 a a2 s s' : ℤ) (q t t' : ℕ) → 0 < q
@@ -76,7 +76,7 @@ one-value c x x2 a a2 s s' q t t' Q h k =
         (combine2 (c ∷ l ∷ r ∷ pos q ∷ pos t ∷ pos t' ∷ []) (L ⊠ B ⊠ O) (R ⊠ A ⊠ O)
         (neg B) (C ⊠ A) (O ⊠ L) A (C ⊠ B) (O ⊠ R) h k tt)
 
--- s / t on the line from (x, y) by (vx, vy) and s' / t' on the line from (a, b) by (ux, uy), multiplied out by u's way
+-- s / t on the straight line from (x, y) by (vx, vy) and s' / t' on that from (a, b) by (ux, uy), multiplied out by u's way
 by-u : (x y vx vy a b ux uy s t s' t' : ℤ)
     → (x *ℤ t +ℤ vx *ℤ s) *ℤ t' ≡ (a *ℤ t' +ℤ ux *ℤ s') *ℤ t
     → (y *ℤ t +ℤ vy *ℤ s) *ℤ t' ≡ (b *ℤ t' +ℤ uy *ℤ s') *ℤ t

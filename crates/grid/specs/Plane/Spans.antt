@@ -1,5 +1,5 @@
--- Two segments on one line, measured on u along the x axis: u runs from 0 to size, v from start to stop. They share a point
--- exactly if these spans do, and more than one exactly if they do.
+-- Two segments on one straight line, measured on u along the x axis: u runs from 0 to size, v from start to stop. They share a
+-- point exactly if these spans do, and more than one exactly if they do.
 use mathlib.Core.Path.{_≡_, refl, sym, ap, _∙_, subst}
 use mathlib.Core.Logic.{_⊎_, inl, inr}
 use mathlib.Core.List.{[], _∷_}

@@ -1,5 +1,5 @@
 -- Grid points on segments: an end lies on its segment; a segment's ends may be exchanged, and so may the axes; a segment without
--- length has one point; and a grid point on a segment's line lies on the segment exactly if it does so on the x axis.
+-- length has one point; and a grid point on a segment's straight line lies on the segment exactly if it does so on the x axis.
 use mathlib.Core.Path.{_≡_, refl, ap, subst}
 use mathlib.Core.Logic.{inl, inr, _↔_}
 use mathlib.Core.List.{[], _∷_}
@@ -174,7 +174,7 @@ pub spot-once : (P Q : Point) (a : Spot) → IsSpot P a → IsSpot Q a → ¬ Di
 spot-once P Q a h k (inl n) = n (same-spot (P .x) (Q .x) (a .x) (P .over) (Q .over) (h .0) (k .0))
 spot-once P Q a h k (inr n) = n (same-spot (P .y) (Q .y) (a .y) (P .over) (Q .over) (h .1) (k .1))
 
--- ---- a grid point p and a segment from a to b that is not upright: on its line, and on the x axis from 0 to 1 of the way
+-- ---- a grid point p and a segment from a to b that is not upright: on its straight line, and on the x axis 0 to 1 of the way
 pub record Level (a b p : Spot) : Type 0 where
   pub on-line : cross (way a b) (way a p) ≡ pos 0
   pub on-axis : Between (turned (b .x -ℤ a .x) (p .x -ℤ a .x)) (natAbs (b .x -ℤ a .x))

@@ -36,7 +36,7 @@ not-one r p e f = let z : _≡_ {A = ℕ} 0 1 = cc in omega arith
 same-one : (o p : Vector2) → OneIntersect o ≡ OneIntersect p → o ≡ p
 same-one o p e = cc
 
--- ---- lines that cross: none if a place is not from 0 to 1; or one point near the crossing point, which is near both segments
+-- ---- lines that cross: none if a place is not from 0 to 1; or one point close to the crossing, which is close to both segments
 module _ (v1 v2 u1 u2 : Spot) (slant : ¬ Parallel v1 v2 u1 u2) (num den : ℕ) where
   pub slanted-none : (Between (steps-v v1 v2 u1 u2) (base v1 v2 u1 u2) → Between (steps-u v1 v2 u1 u2) (base v1 v2 u1 u2) → ⊥)
       → Promised v1 v2 u1 u2 num den NoIntersect
@@ -133,12 +133,12 @@ parallel-promised v1 v2 u1 u2 num den r par (inr (inr (p, q, e, s))) =
       exact = λ o f slant. absurd (slant par);
     }
 
--- ---- parallel lines that are not one line
+-- ---- parallel lines that are not on one straight line
 pub apart-matched : (v1 v2 u1 u2 : Spot) (r : PlineSegIntr) → Parallel v1 v2 u1 u2 → ¬ Collinear v1 v2 u1 u2 → r ≡ NoIntersect
     → Matched v1 v2 u1 u2 r
 apart-matched v1 v2 u1 u2 r par n e = inl (e, λ s. n (share-collinear v1 v2 u1 u2 par s))
 
--- ---- on one line, both with length: by the spans along x
+-- ---- on one straight line, both with length: by the spans along x
 abbrev pub MatchedBySpans : ℤ → ℤ → ℕ → PlineSegIntr → Type 0
 MatchedBySpans a b k r = Matches (SpansShare a b k) (SpansShareMore a b k) r
 
@@ -148,7 +148,7 @@ pub spans-matched : (v1 v2 u1 u2 : Spot) (r : PlineSegIntr) → Collinear v1 v2 
     → Matched v1 v2 u1 u2 r
 spans-matched v1 v2 u1 u2 r c long slant = matched-of r (overlap v1 v2 u1 u2 c slant) (overlap-more v1 v2 u1 u2 c slant long)
 
--- ---- on one line, one or both without length: one exactly if the point lies on the other
+-- ---- on one straight line, one or both without length: one exactly if the point lies on the other
 abbrev pub MatchedIf : Type 0 → PlineSegIntr → Type 0
 MatchedIf A r = ((r ≡ NoIntersect) × (¬ A)) ⊎ ((p : Vector2) × (r ≡ OneIntersect p) × A)
 

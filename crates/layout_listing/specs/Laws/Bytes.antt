@@ -1,5 +1,5 @@
--- The lines of every listing of two paths fit the room: there are no more rows than the room is for, and each of its numbers fits
--- a u64. These are a refusal's number, the count of pairs, and the numbers of rows in a slice that held zeros.
+-- The text lines of every listing of two paths fit the room: there are no more rows than the room is for, and each of its numbers
+-- fits a u64. These are a refusal's number, the count of pairs, and the numbers of rows in a slice that held zeros.
 use mathlib.Core.Path.{_≡_, refl}
 use mathlib.Core.Bool.{false}
 use mathlib.Core.List.{List}

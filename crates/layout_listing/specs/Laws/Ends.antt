@@ -1,5 +1,5 @@
--- How answering a text ends: no room, the line of a refusal, the lines of a listing; and what the reader's answer says of the
--- buffers.
+-- How answering a text ends: no room, the text line of a refusal, the text lines of a listing; and what the reader's answer
+-- says of the buffers.
 use mathlib.Core.Path.{_≡_, refl, sym, ap, _∙_}
 use mathlib.Core.Bool.{Bool, false}
 use mathlib.Core.List.{List}
@@ -47,7 +47,7 @@ use Rattle.layout_listing.specs.Answer.{
   AnswerTo,
 }
 
--- ---- lines
+-- ---- text lines
 module _ (bytes old : List ℕ) where
   pub no-room : length old < room → Lines false (ltb (length old) room) bytes Written·.NoRoom old old
   no-room h = let e = lt-ltb (length old) room h in record { answer-is = rw e refl; holds = rw e refl }
@@ -66,7 +66,7 @@ pub refusal-line : (n : ℕ) (old : List ℕ) → room ≤ length old → (r : W
 refusal-line n old h r now l =
     enough (refusedText n) old h (ltb (length old) line) (le-ltb (length old) line (omega (arith, h))) r now l
 
--- ---- the lines of a listing
+-- ---- the text lines of a listing
 module _ (first second : List Float) (old : List ℕ) (h : room ≤ length old) (a : ListingAnswer) (i : List ℕ) (p : List Float)
     (leaves : Leaves (mutualListing first false second false epsilon noIndices noPoints) a i p) (r : Written) (now : List ℕ) where
   lines : linesFor first second ≡ linesOf a i p

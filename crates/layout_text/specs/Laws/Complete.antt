@@ -1,4 +1,4 @@
--- A text of the form is read: a number's digits and the byte that ends it, a vertex's line, the lines of a path.
+-- A text of the form is read: a number's digits and the byte that ends it, a vertex's text line, the text lines of a path.
 use Prim.Native.Nat.{ℕ, zero, suc, _+_, _*_, _/_, _%_, _≤_, _<_}
 use mathlib.Core.Path.{_≡_, refl, ap, _∙_}
 use mathlib.Core.Bool.{Bool, true, false}
@@ -100,7 +100,7 @@ module _ (most end e : ℕ) (ends : kindOf e ≡ end) (mark : 9 < end) where
   whole-read (pos m) t h = rw (ne-eqb (firstKind (decimal m ++ (e ∷ t))) minus (no-minus m t)) (count-read m t h)
   whole-read (negsuc m) t h = positive-read true most end e ends mark (suc m) t (omega arith) h
 
--- ---- lines
+-- ---- text lines
 
 is-space : kindOf 32 ≡ space
 unfolding kindOf

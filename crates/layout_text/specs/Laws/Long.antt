@@ -14,7 +14,7 @@ use Rattle.layout_text.specs.Decimal.{decimal}
 use Rattle.layout_text.specs.Form.{wholeText, vertexText, verticesText, textOf}
 use Rattle.layout_text.specs.Laws.Decimal.{decimal-small, decimal-large}
 
--- the most bytes of a vertex's line, and of the line with the counts
+-- the most bytes of a vertex's text line, and of the text line with the counts
 abbrev pub vertexLine : ℕ
 vertexLine = 25
 

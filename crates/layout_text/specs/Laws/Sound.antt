@@ -210,7 +210,7 @@ module _ (most end : ℕ) (known : end < other) {z : ℤ} {rest : List ℕ} wher
           let s = count-spelt text e in
           (s .0 ∙ ap (λ (l : List ℕ). l ++ (byteOf end ∷ rest)) (sym (plain-text z (s .2))), s .1)
 
--- ---- lines
+-- ---- text lines
 
 is-space : byteOf space ≡ 32
 unfolding byteOf
@@ -230,7 +230,7 @@ carried {A} P {a} {b} {s} {t} e h =
 abbrev VertexLine : List ℕ → List ℕ → Vertex → Type 0
 VertexLine text rest v = (text ≡ vertexText v ++ rest) × VertexWithin v
 
--- three numbers, each with the byte that ends it, are a line
+-- three numbers, each with the byte that ends it, are a text line
 line-spelt : (text t1 t2 rest : List ℕ) (x y b : ℤ) → ByteText limit.coordinate space text x t1
     → ByteText limit.coordinate space t1 y t2
     → ByteText limit.bulge newline t2 b rest → VertexLine text rest (record { x = x; y = y; bulge = b })

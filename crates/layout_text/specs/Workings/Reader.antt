@@ -98,7 +98,7 @@ unfoldable pub wholeOf : ℕ → ℕ → List ℕ → Got ℤ
 wholeOf most end text =
     cond (eqb (firstKind text) minus) (positiveOf true most end (drop 1 text)) (countOf most end text)
 
--- ---- lines
+-- ---- text lines
 
 unfoldable pub vertexOf : List ℕ → Got Vertex
 vertexOf text =
