@@ -1,6 +1,6 @@
 // What is kept of a segment, so that no pair of a listing computes it again.
 ghost use mathlib.Core.Path.{_≡_};
-ghost use Rattle.fast_pair.specs.Workings.Kept as keeping;
+ghost use Rattle.fast_pair.specs.Workings.Kept as workings;
 use crossing::shortcuts::moderate;
 use plane::fuzzy::fuzzy_eq_zero;
 use plane::pline_seg::ArcRadiusCenter;
@@ -30,7 +30,7 @@ const HALF_MORE: f64 = 513.0 / 1024.0;
 // A number that is most often a little above the root of q: two steps of Newton's method from a first guess g that is not far
 // off, and a thousandth more. No answer depends on how good it is.
 fn guess(g: f64, q: f64) -> f64
-    ensures { λ r. ⌜ r ≡ keeping.guess g q ⌝ }
+    ensures { λ r. ⌜ r ≡ workings.guess g q ⌝ }
 {
     let w = (g + q / g) * HALF;
     (w + q / w) * HALF_MORE
@@ -38,7 +38,7 @@ fn guess(g: f64, q: f64) -> f64
 
 // What is kept of a line with this a and b. `point` says that the segment is a point, for which no guess is kept.
 fn of_slant(a: f64, b: f64, point: bool) -> Kept
-    ensures { λ r. ⌜ r ≡ keeping.ofSlant a b point ⌝ }
+    ensures { λ r. ⌜ r ≡ workings.ofSlant a b point ⌝ }
 {
     let q = a * a + b * b;
     let w = guess(floats::abs(a) + floats::abs(b), q);
@@ -65,7 +65,7 @@ fn of_slant(a: f64, b: f64, point: bool) -> Kept
 
 // What is kept of a line segment.
 fn of_line(p0: Vector2, p1: Vector2, eps: f64) -> Kept
-    ensures { λ r. ⌜ r ≡ keeping.ofLine p0 p1 eps ⌝ }
+    ensures { λ r. ⌜ r ≡ workings.ofLine p0 p1 eps ⌝ }
 {
     let dx = p1.x - p0.x;
     let dy = p1.y - p0.y;
@@ -78,7 +78,7 @@ fn of_line(p0: Vector2, p1: Vector2, eps: f64) -> Kept
 
 // What is kept of an arc.
 fn of_arc(v1: PlineVertex, v2: PlineVertex) -> Kept
-    ensures { λ r. ⌜ r ≡ keeping.ofArc v1 v2 ⌝ }
+    ensures { λ r. ⌜ r ≡ workings.ofArc v1 v2 ⌝ }
 {
     let arc = seg_arc_radius_and_center(v1, v2);
     Kept {
@@ -90,7 +90,7 @@ fn of_arc(v1: PlineVertex, v2: PlineVertex) -> Kept
 
 // What is kept of the segment from v1 to v2.
 pub fn kept_of(v1: PlineVertex, v2: PlineVertex, eps: f64) -> Kept
-    ensures { λ r. ⌜ r ≡ keeping.keptOf v1 v2 eps ⌝ }
+    ensures { λ r. ⌜ r ≡ workings.keptOf v1 v2 eps ⌝ }
 {
     if v1.bulge_is_zero() {
         return of_line(v1.pos(), v2.pos(), eps);
@@ -100,7 +100,7 @@ pub fn kept_of(v1: PlineVertex, v2: PlineVertex, eps: f64) -> Kept
 
 // The circle of an arc, from what is kept of it.
 pub fn circle_of(kept: Kept) -> ArcRadiusCenter
-    ensures { λ r. ⌜ r ≡ keeping.circleOf kept ⌝ }
+    ensures { λ r. ⌜ r ≡ workings.circleOf kept ⌝ }
 {
     ArcRadiusCenter {
         radius: kept.radius_or_slope,

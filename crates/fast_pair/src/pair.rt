@@ -6,7 +6,7 @@ ghost use Rattle.checks.specs.declared.fault.Checked.the-variants.{Fine};
 ghost use Rattle.crossing.specs.PlineSeg;
 ghost use Rattle.crossing.specs.PlineSegIntersect;
 ghost use Rattle.fast_pair.specs.Workings.ClearlyApart;
-ghost use Rattle.fast_pair.specs.Workings.Kept as keeping;
+ghost use Rattle.fast_pair.specs.Workings.Kept as workings;
 use super::all_fine::pair_fine;
 use super::circles::circles_apart;
 use super::kept::Kept;
@@ -57,8 +57,8 @@ pub fn pline_seg_kept(
     pos_equal_eps: f64,
 ) -> PlineSegIntr
     requires { ⌜ Calls.checkPlineSeg v1 v2 u1 u2 «pos_equal_eps» ≡ Fine ⌝ }
-    requires { ⌜ v ≡ keeping.keptOf v1 v2 «pos_equal_eps» ⌝ }
-    requires { ⌜ u ≡ keeping.keptOf u1 u2 «pos_equal_eps» ⌝ }
+    requires { ⌜ v ≡ workings.keptOf v1 v2 «pos_equal_eps» ⌝ }
+    requires { ⌜ u ≡ workings.keptOf u1 u2 «pos_equal_eps» ⌝ }
     ensures { λ r. ⌜ r ≡ PlineSeg.plineSeg v1 v2 u1 u2 «pos_equal_eps» ⌝ }
 {
     if clearly_apart(v1, v2, v, u1, u2, u, pos_equal_eps) {

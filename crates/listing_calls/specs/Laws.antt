@@ -5,3 +5,4 @@ pub mod Complete
 pub mod Counts
 pub mod RefusalNumbers
 pub mod Numbers
+pub mod Chains

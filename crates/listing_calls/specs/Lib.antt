@@ -6,6 +6,7 @@ pub mod Filled
 pub mod Refusals
 pub mod PageRefusals
 pub mod Chain
+pub mod Chained
 pub mod HasRow
 pub mod Complete
 pub mod Workings

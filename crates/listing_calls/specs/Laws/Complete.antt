@@ -71,7 +71,7 @@ pairs-have from to i j (suc count) a h l f t =
 
 -- ---- its row among the rows
 module _ (look : ℕ → ℕ → Look) where
-  rows-append : (ps qs : List Pair) → rowsOf look (ps ++ qs) ≡ rowsOf look ps ++ rowsOf look qs
+  pub rows-append : (ps qs : List Pair) → rowsOf look (ps ++ qs) ≡ rowsOf look ps ++ rowsOf look qs
   rows-append [] qs = refl
   rows-append (p ∷ ps) qs = go (look (p .i) (p .j)) (rows-append ps qs)
     where

@@ -1,12 +1,12 @@
 -- `fast_pair::kept::kept_of` meets its contract: its calls and tests lead to the branches of the definition.
 use borrow.Author.Needs.{needs}
 use Rattle.float_laws.specs.Branches.{branches}
-use Rattle.fast_pair.specs.Workings.Kept as keeping
+use Rattle.fast_pair.specs.Workings.Kept as workings
 use Rattle.fast_pair.proofs.kept.kept_of.Statement.{statement}
 use Rattle.fast_pair.proofs.kept.kept_of.Tie as tie
 
 pub kept-of-spec : {M : Type 1} → statement M
-unfolding keeping.keptOf
+unfolding workings.keptOf
 kept-of-spec =
     tie.close
     (tie.spec

@@ -1,9 +1,9 @@
 -- `fast_pair::kept::of_arc` meets its contract: its calls are the definition's, one by one.
 use borrow.Author.Needs.{needs}
-use Rattle.fast_pair.specs.Workings.Kept as keeping
+use Rattle.fast_pair.specs.Workings.Kept as workings
 use Rattle.fast_pair.proofs.kept.of_arc.Statement.{statement}
 use Rattle.fast_pair.proofs.kept.of_arc.Tie as tie
 
 pub of-arc-spec : {M : Type 1} → statement M
-unfolding keeping.ofArc
+unfolding workings.ofArc
 of-arc-spec = tie.close (tie.spec (λ c. search needs) (λ c. cc))

@@ -4,7 +4,7 @@ use mathlib.Core.Bool.{cond, _&&_}
 use borrow.Author.Needs.{needs}
 use Rattle.floats.specs.Ops.{_⊕_, _⊗_, _≺_, f0}
 use Rattle.fast_pair.specs.declared.kept.Kept.{Kept}
-use Rattle.fast_pair.specs.Workings.Kept as keeping
+use Rattle.fast_pair.specs.Workings.Kept as workings
 use Rattle.fast_pair.proofs.kept.of_slant.Statement.{statement}
 use Rattle.fast_pair.proofs.kept.of_slant.Tie as tie
 
@@ -16,11 +16,11 @@ guessed : (c : tie.After-moderate2) → let m = c .before in let t = m .before .
     _≡_ {A = Kept}
     (record {
       «radius_or_slope» = a .a;
-      «center_x_or_root» = cond ((m .moderate .result && c .moderate2 .result) && (q ≺ w ⊗ w)) w keeping.noGuess;
+      «center_x_or_root» = cond ((m .moderate .result && c .moderate2 .result) && (q ≺ w ⊗ w)) w workings.noGuess;
       «center_y_or_zero» = f0;
     })
-    (keeping.ofSlant (a .a) (a .b) (a .point))
-unfolding keeping.ofSlant
+    (workings.ofSlant (a .a) (a .b) (a .point))
+unfolding workings.ofSlant
 guessed c =
     let t = c .before .before .before in
     simp (
@@ -33,7 +33,7 @@ guessed c =
     )
 
 pub of-slant-spec : {M : Type 1} → statement M
-unfolding keeping.ofSlant
+unfolding workings.ofSlant
 of-slant-spec =
     tie.close
     (tie.spec
