@@ -20,6 +20,8 @@ use Rattle.paths.specs.Segments.{segmentFrom, segmentCount}
 use Rattle.listing_outcomes.specs.declared.answer.ListingAnswer.the-variants.{Listed}
 use Rattle.listing_calls.specs.Listing.{mutualListing}
 use Rattle.listing_calls.specs.HasRow.{HasRow}
+use Rattle.listing_calls.specs.Chain.{Lent}
+use Rattle.listing_calls.specs.ChainedCalls.{mutualChain, mutualEnd}
 
 -- ---- numbers. ℤ has the whole numbers with a sign: `pos n` is n, and `natAbs` the size. `Is x a c` says that the float x is a /
 -- c. A finite float is m * 2 ^ e, with a minus if s is true, and 2 ^ e is up e / down e.
@@ -135,3 +137,13 @@ ListingPromise = (first : List Float) (closed : Bool) (second : List Float) (clo
     → (i j : ℕ) → i < segmentCount first closed → j < segmentCount second closed′
     → (p1 p2 q1 q2 : Spot) → GridLine first i p1 p2 → GridLine second j q1 q2
     → Share p1 p2 q1 q2 → HasRow rows (o .indices) i j
+
+-- the same of a chain of pages: if it went from the first pair to the end and no call was refused, its joined rows have the row
+abbrev pub PagesPromise : Type 0
+PagesPromise = (first : List Float) (closed : Bool) (second : List Float) (closed′ : Bool) (e : Float) (num den : ℕ)
+    (lents : List Lent) → Epsilon e num den
+    → let all = mutualChain first closed second closed′ e lents in
+    all .refused ≡ false → all .next ≡ mutualEnd first closed second closed′ e
+    → (i j : ℕ) → i < segmentCount first closed → j < segmentCount second closed′
+    → (p1 p2 q1 q2 : Spot) → GridLine first i p1 p2 → GridLine second j q1 q2
+    → Share p1 p2 q1 q2 → HasRow (all .rows) (all .indices) i j

@@ -24,8 +24,9 @@ use Rattle.arcs.specs.declared.pline_seg_intr.PlineSegIntr.the-variants.{
   OverlappingArcs,
 }
 use Rattle.paths.specs.Segments.{segmentFrom}
-use Rattle.listing_calls.specs.Complete.{complete}
-use Rattle.grid.specs.Promise.{Spot, On, Epsilon, Promised, Promise, ListingPromise}
+use Rattle.listing_calls.specs.Complete.{pairOf, complete}
+use Rattle.listing_calls.specs.ChainedCalls.{chain-complete}
+use Rattle.grid.specs.Promise.{Spot, On, Epsilon, Share, Promised, Promise, GridLine, ListingPromise, PagesPromise}
 use Rattle.grid.specs.Accepted.{accepted, two-lines}
 use Rattle.grid.specs.Joined.{At, vec, vec-at, eps}
 use Rattle.grid.specs.Kernel.{crossed-promised, level-promised}
@@ -84,10 +85,20 @@ class-above (TwoIntersects p q) h = omega arith
 class-above (OverlappingLines p q) h = omega arith
 class-above (OverlappingArcs p q) h = omega arith
 
+module _ (first second : List Float) (e : Float) (num den : ℕ) (small : Epsilon e num den) (i j : ℕ) (p1 p2 q1 q2 : Spot) where
+  above : GridLine first i p1 p2 → GridLine second j q1 q2 → Share p1 p2 q1 q2 → 0 < classOf (pairOf first second e i j)
+  above v u share =
+      let a = segmentFrom first i in
+      let b = segmentFrom second j in
+      let k = promised (a .v1) (a .v2) (b .v1) (b .v2) p1 p2 q1 q2 e num den (v .0) (v .1) (u .0) (u .1) (v .2) (u .2) small in
+      class-above (plineSeg (a .v1) (a .v2) (b .v1) (b .v2) e) (λ none. k .none-missed none share)
+
 pub listing-promise : ListingPromise
 listing-promise first closed second closed′ e num den indices points rows pairs small is i j hi hj p1 p2 q1 q2 v u share =
-    let a = segmentFrom first i in
-    let b = segmentFrom second j in
-    let k = promised (a .v1) (a .v2) (b .v1) (b .v2) p1 p2 q1 q2 e num den (v .0) (v .1) (u .0) (u .1) (v .2) (u .2) small in
     complete first closed second closed′ e indices points rows pairs is i j hi hj
-    (class-above (plineSeg (a .v1) (a .v2) (b .v1) (b .v2) e) (λ none. k .none-missed none share))
+    (above first second e num den small i j p1 p2 q1 q2 v u share)
+
+pub pages-promise : PagesPromise
+pages-promise first closed second closed′ e num den lents small fine end i j hi hj p1 p2 q1 q2 v u share =
+    chain-complete first closed second closed′ e lents fine end i j hi hj
+    (above first second e num den small i j p1 p2 q1 q2 v u share)

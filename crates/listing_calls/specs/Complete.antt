@@ -38,7 +38,7 @@ never : {n k : ℕ} {m : ℕ} → Refused n ≡ Listed k m → ⊥
 never e = let z : _≡_ {A = ℕ} 0 1 = cc in omega (arith, z)
 
 -- a pair that meets makes a row
-makes : (first second : List Float) (epsilon : Float) (i j : ℕ) → 0 < classOf (pairOf first second epsilon i j)
+pub makes : (first second : List Float) (epsilon : Float) (i j : ℕ) → 0 < classOf (pairOf first second epsilon i j)
     → look first second epsilon i j ≡ Made (row i j (pairOf first second epsilon i j))
 unfolding look lookOf
 makes first second epsilon i j h =

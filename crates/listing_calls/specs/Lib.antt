@@ -9,5 +9,6 @@ pub mod Chain
 pub mod Chained
 pub mod HasRow
 pub mod Complete
+pub mod ChainedCalls
 pub mod Workings
 pub mod Laws

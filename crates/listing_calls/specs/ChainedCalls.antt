@@ -1,0 +1,171 @@
+-- Chains of `mutualPage` and of `selfPage` beside the listing: calls from position 0 to the end, none refused, join to the listing's
+-- rows, as read from its slices, and pass the pairs that the listing looks at. So no row is left out of the joined rows either.
+use mathlib.Core.Path.{_≡_, refl, sym, ap, _∙_}
+use mathlib.Core.Bool.{Bool, true, false}
+use mathlib.Core.List.{List, [], _∷_, _++_, append-nil}
+use Prim.Native.Nat.{ℕ, zero, suc, _+_, _*_, _<_, zero-le}
+use native.Mathlib.Omega.{arith}
+use lib.Ieee.{Float}
+use lib.ListN.{length, take, drop}
+use lib.Seq.{take-at}
+use Rattle.checks.specs.declared.fault.Checked.{Checked}
+use Rattle.checks.specs.declared.fault.Checked.the-variants.{Fine, Bad}
+use Rattle.checks.specs.First.{first as firstFault}
+use Rattle.crossing.specs.PlineSegIntr.{classOf}
+use Rattle.paths.specs.Segments.{segmentFrom, segmentCount}
+use Rattle.listing_pairs.specs.declared.row.Row.{Row}
+use Rattle.listing_pairs.specs.declared.row.Look.{Look}
+use Rattle.listing_pairs.specs.declared.row.Look.the-variants.{Skipped, Nothing, Made}
+use Rattle.listing_pairs.specs.Order.{Pair, mutualPairs, selfPairs}
+use Rattle.listing_pairs.specs.Row.{indicesARow, pointsARow, indicesOf, pointsOf, numbersOfRows, row, unlessApart, lookOf}
+use Rattle.listing_pairs.specs.Rows.{rowsOf, count, lookedAt}
+use Rattle.listing_pairs.specs.Look.{look}
+use Rattle.listing_pairs.specs.Laws.Stores.{flat-length}
+use Rattle.listing_outcomes.specs.declared.answer.ListingAnswer.{ListingAnswer}
+use Rattle.listing_outcomes.specs.declared.answer.ListingAnswer.the-variants.{Refused, Listed}
+use Rattle.listing_outcomes.specs.declared.answer.PageAnswer.{PageAnswer}
+use Rattle.listing_outcomes.specs.Outcome.{Outcome, overwrite, roomCheck, listedOf, outcome}
+use Rattle.listing_calls.specs.Listing.{mutualChecks, mutualListing, selfChecks, selfListing}
+use Rattle.listing_calls.specs.Pages.{mutualPage, selfPage}
+use Rattle.listing_calls.specs.HasRow.{HasRow, RowAt}
+use Rattle.listing_calls.specs.Complete.{pairOf, makes}
+use Rattle.listing_calls.specs.Chain.{Lent, Joined, chain}
+use Rattle.listing_calls.specs.Chained.{pagesOf, Whole, whole}
+use Rattle.listing_calls.specs.Laws.Complete.{Within, pairs-have, row-of-pair, row-in-slice}
+
+-- ---- the calls of a chain
+abbrev pub mutualPages : List Float → Bool → List Float → Bool → Float → ℕ → Lent → Outcome PageAnswer
+mutualPages first firstClosed second secondClosed epsilon position l =
+    mutualPage first firstClosed second secondClosed epsilon position (l .budget) (l .indices) (l .points)
+
+abbrev pub selfPages : List Float → Bool → Float → ℕ → Lent → Outcome PageAnswer
+selfPages path closed epsilon position l = selfPage path closed epsilon position (l .budget) (l .indices) (l .points)
+
+-- ---- what was joined is what a listing wrote
+pub record SameAs (o : Outcome ListingAnswer) (rows pairs : ℕ) (j : Joined) : Type 0 where
+  pub row-count : j .rows ≡ rows
+  pub pair-count : j .pairs ≡ pairs
+  pub indices : j .indices ≡ take (rows * indicesARow) (o .indices)
+  pub points : j .points ≡ take (rows * pointsARow) (o .points)
+
+-- every pair is looked at
+never-skipped : (class : ℕ) (r : Row) (n : ℕ) → count (unlessApart class r) n ≡ suc n
+never-skipped zero r n = refl
+never-skipped (suc class) r n = refl
+
+all-looked : (first second : List Float) (epsilon : Float) (ps : List Pair) → lookedAt (look first second epsilon) ps ≡ length ps
+unfolding look lookOf
+all-looked first second epsilon [] = refl
+all-looked first second epsilon (p ∷ ps) =
+    let m = pairOf first second epsilon (p .i) (p .j) in
+    never-skipped (classOf m) (row (p .i) (p .j) m) (lookedAt (look first second epsilon) ps)
+    ∙ ap suc (all-looked first second epsilon ps)
+
+listed-never : {n k m : ℕ} → Refused n ≡ Listed k m → ⊥
+listed-never e = let z : _≡_ {A = ℕ} 0 1 = cc in omega (arith, z)
+
+module _ (f : ℕ → ℕ → Look) (ps : List Pair) (seen : lookedAt f ps ≡ length ps) (checks : List Checked) (j : Joined)
+    (w : Whole checks f ps j) (indices : List ℕ) (points : List Float) where
+  read : {A : Type 0} (numbers : Row → List A) (width : ℕ) → ((r : Row) → length (numbers r) ≡ width) → (old : List A) (rows : ℕ)
+      → rows ≡ length (rowsOf f ps)
+      → numbersOfRows numbers (rowsOf f ps) ≡ take (rows * width) (overwrite old (numbersOfRows numbers (rowsOf f ps)))
+  read numbers width each old rows is =
+      let written = numbersOfRows numbers (rowsOf f ps) in
+      sym (take-at written (drop (length written) old) (rows * width)
+      (flat-length numbers width each (rowsOf f ps) ∙ ap (λ (n : ℕ). n * width) (sym is)))
+
+  same-checked : (c : Checked) {rows pairs : ℕ}
+      → listedOf c (rowsOf f ps) (lookedAt f ps) indices points .answer ≡ Listed rows pairs
+      → SameAs (listedOf c (rowsOf f ps) (lookedAt f ps) indices points) rows pairs j
+  same-checked (Bad fault) e = absurd (listed-never e)
+  same-checked Fine {rows} {pairs} e =
+      let rows-are : rows ≡ length (rowsOf f ps) = cc in
+      let pairs-are : pairs ≡ lookedAt f ps = cc in
+      record {
+        row-count = w .rows ∙ sym rows-are;
+        pair-count = w .pairs ∙ sym seen ∙ sym pairs-are;
+        indices = w .indices ∙ read indicesOf indicesARow (λ r. refl) indices rows rows-are;
+        points = w .points ∙ read pointsOf pointsARow (λ r. refl) points rows rows-are;
+      }
+
+  same-outcome : {rows pairs : ℕ} → outcome checks f ps indices points .answer ≡ Listed rows pairs
+      → SameAs (outcome checks f ps indices points) rows pairs j
+  unfolding outcome
+  same-outcome e = same-checked (firstFault (checks ++ (roomCheck (rowsOf f ps) indices points ∷ []))) e
+
+-- ---- two paths
+module _ (first : List Float) (firstClosed : Bool) (second : List Float) (secondClosed : Bool) (epsilon : Float) where
+  -- how many pairs there are, and the chain from the first on
+  abbrev pub mutualEnd : ℕ
+  mutualEnd = length (mutualPairs (segmentCount first firstClosed) (segmentCount second secondClosed))
+
+  abbrev pub mutualChain : List Lent → Joined
+  mutualChain lents = chain (mutualPages first firstClosed second secondClosed epsilon) 0 lents
+
+  mutual-whole : (lents : List Lent) → mutualChain lents .refused ≡ false → mutualChain lents .next ≡ mutualEnd
+      → Whole (mutualChecks first firstClosed second secondClosed epsilon) (look first second epsilon)
+      (mutualPairs (segmentCount first firstClosed) (segmentCount second secondClosed)) (mutualChain lents)
+  unfolding mutualPage
+  mutual-whole lents =
+      whole (mutualChecks first firstClosed second secondClosed epsilon) (look first second epsilon)
+      (mutualPairs (segmentCount first firstClosed) (segmentCount second secondClosed)) lents
+
+  pub mutual-chain : (lents : List Lent) → mutualChain lents .refused ≡ false → mutualChain lents .next ≡ mutualEnd
+      → (indices : List ℕ) (points : List Float) (rows pairs : ℕ)
+      → mutualListing first firstClosed second secondClosed epsilon indices points .answer ≡ Listed rows pairs
+      → SameAs (mutualListing first firstClosed second secondClosed epsilon indices points) rows pairs (mutualChain lents)
+  unfolding mutualListing
+  mutual-chain lents fine end indices points rows pairs e =
+      let ps = mutualPairs (segmentCount first firstClosed) (segmentCount second secondClosed) in
+      same-outcome (look first second epsilon) ps (all-looked first second epsilon ps)
+      (mutualChecks first firstClosed second secondClosed epsilon) (mutualChain lents) (mutual-whole lents fine end)
+      indices points e
+
+  -- no row is left out
+  pub chain-complete : (lents : List Lent) → mutualChain lents .refused ≡ false → mutualChain lents .next ≡ mutualEnd
+      → (i j : ℕ) → i < segmentCount first firstClosed → j < segmentCount second secondClosed
+      → 0 < classOf (pairOf first second epsilon i j)
+      → HasRow (mutualChain lents .rows) (mutualChain lents .indices) i j
+  chain-complete lents fine end i j hi hj meets =
+      let f = look first second epsilon in
+      let n = segmentCount first firstClosed in
+      let m = segmentCount second secondClosed in
+      let ps = mutualPairs n m in
+      let all = mutual-whole lents fine end in
+      let r = row i j (pairOf first second epsilon i j) in
+      let here = pairs-have (λ i. 0) (λ i. m) i j n 0 zero-le (omega (arith, hi)) zero-le hj in
+      let w = row-of-pair f (record { i = i; j = j }) ps r here (makes first second epsilon i j meets) in
+      let stands = row-in-slice r (rowsOf f ps) [] w in
+      let none : overwrite [] (numbersOfRows indicesOf (rowsOf f ps)) ≡ mutualChain lents .indices =
+      rest-none (numbersOfRows indicesOf (rowsOf f ps)) ∙ sym (all .indices) in
+      record {
+        k = length (w .before);
+        written = omega (arith, stands .0, all .rows);
+        at = rw none at (stands .1);
+      }
+    where
+      rest-none : (l : List ℕ) → overwrite [] l ≡ l
+      rest-none l = ap (λ (r : List ℕ). l ++ r) (nothing (length l)) ∙ append-nil l
+        where
+          nothing : (n : ℕ) → _≡_ {A = List ℕ} (drop n []) []
+          nothing zero = refl
+          nothing (suc n) = refl
+
+-- ---- one path
+module _ (path : List Float) (closed : Bool) (epsilon : Float) where
+  abbrev pub selfEnd : ℕ
+  selfEnd = length (selfPairs (segmentCount path closed) closed)
+
+  abbrev pub selfChain : List Lent → Joined
+  selfChain lents = chain (selfPages path closed epsilon) 0 lents
+
+  pub self-chain : (lents : List Lent) → selfChain lents .refused ≡ false → selfChain lents .next ≡ selfEnd
+      → (indices : List ℕ) (points : List Float) (rows pairs : ℕ)
+      → selfListing path closed epsilon indices points .answer ≡ Listed rows pairs
+      → SameAs (selfListing path closed epsilon indices points) rows pairs (selfChain lents)
+  unfolding selfPage selfListing
+  self-chain lents fine end indices points rows pairs e =
+      let ps = selfPairs (segmentCount path closed) closed in
+      let checks = selfChecks path closed epsilon in
+      same-outcome (look path path epsilon) ps (all-looked path path epsilon ps) checks (selfChain lents)
+      (whole checks (look path path epsilon) ps lents fine end) indices points e
