@@ -1,7 +1,7 @@
 //! Whole-path listings compared with a listing that is written here from the scope's prose, over the Rust's pair function: rows,
 //! counts, refusals and their order, and every place of the lent slices.
 
-mod bench;
+pub mod bench;
 pub mod damage;
 pub mod draw;
 #[cfg(test)]
@@ -15,8 +15,6 @@ pub mod score;
 pub mod shapes;
 pub mod sheets;
 mod sites;
-
-pub use bench::run as bench;
 
 use layout::{Call, Drawn, Layout, CALLS};
 use lent::{Old, Room};

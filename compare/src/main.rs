@@ -69,7 +69,8 @@ usage: compare check [COUNT [SEED]]  compare each float function on COUNT random
        compare layouts FOLDER        write the model's output NAME.out for each text NAME.txt there
        compare record FILE           write the recorded list for the program replay
        compare bench [PART...]       nanoseconds of processor time a call or a pair, ours beside the machine's own and the Rust's,
-                                     the least of five rounds or more by turns; all parts, or some of: floats calls listings";
+                                     the least of five rounds or more by turns; all parts, or some of: floats calls listings
+                                     pages";
 
 const COUNT: u64 = 10 << 20;
 const ON_AN_EDGE: u64 = 1 << 20;
@@ -78,7 +79,7 @@ const SEARCHED_ARCS: u64 = 11 << 20;
 const CLIMBED: u64 = 1 << 20;
 const TEXTS: u64 = 3072;
 const SEED: u64 = 1;
-const BENCHES: [&str; 3] = ["floats", "calls", "listings"];
+const BENCHES: [&str; 4] = ["floats", "calls", "listings", "pages"];
 
 fn main() -> ExitCode {
     let words: Vec<String> = env::args().skip(1).collect();
@@ -175,6 +176,7 @@ fn time(parts: &[&str]) -> Result<(), String> {
             "floats" => bench::run(),
             "calls" => time_calls(),
             "listings" => time_listings(),
+            "pages" => time_pages(),
             _ => return Err(USAGE.to_string()),
         }
     }
@@ -240,8 +242,16 @@ fn time_calls() {
 
 #[cfg(feature = "rust-text")]
 fn time_listings() {
-    listings::bench();
+    listings::bench::run();
 }
+
+#[cfg(feature = "rust-text")]
+fn time_pages() {
+    pages::bench();
+}
+
+#[cfg(not(feature = "rust-text"))]
+fn time_pages() {}
 
 #[cfg(not(feature = "rust-text"))]
 fn time_calls() {}

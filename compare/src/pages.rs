@@ -2,6 +2,7 @@
 //! by itself, every place of the lent slices, and the joined rows of chains.
 
 mod ask;
+mod bench;
 mod chain;
 mod kinds;
 mod met;
@@ -12,6 +13,8 @@ mod small;
 mod tests;
 
 use std::collections::BTreeSet;
+
+pub use bench::run as bench;
 
 use ask::{room_of, rooms_at, Asked};
 use score::{Known, Score};
@@ -236,7 +239,7 @@ impl Run {
                 room,
                 old: Old::Nans,
             });
-            for _ in 0..1024 {
+            for _ in 0..256 {
                 chain::anywhere(score, &known, rng);
             }
             score.done_with(&known);
