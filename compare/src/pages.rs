@@ -10,6 +10,8 @@ mod model;
 mod score;
 mod small;
 #[cfg(test)]
+mod stand_in;
+#[cfg(test)]
 mod tests;
 
 use std::collections::BTreeSet;
@@ -84,8 +86,8 @@ impl Run {
     }
 
     fn all(&mut self, count: u64) {
-        self.small();
         self.damaged();
+        self.small();
         self.long_paths();
         while self.chained < count / 10 && self.goes_on() {
             self.chained += self.chains();

@@ -115,9 +115,9 @@ pub fn any(rng: &mut Rng) -> Asked {
         0 => 0,
         1 => rng.below(16),
         2 => BEYOND_ALL + rng.below(4),
-        _ => beyond(BEYOND_ALL, rng),
+        _ => beyond(rng.pick(&[0, 16, BEYOND_ALL]), rng),
     };
-    let budget = rng.pick(&[0, 1, 2, 7, u64::MAX]);
+    let budget = rng.pick(&[0, 1, 2, 7, 1 << 32, u64::MAX]);
     let rows = rng.below(6) as usize;
     let mut room = if rng.one_in(3) {
         no_row(rng)
