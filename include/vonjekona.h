@@ -220,15 +220,15 @@ uint64_t vj_self(const double *path, size_t len, bool closed, double epsilon,
  *
  *   VJ_NO_ROOM      if counts_room is below 4: nothing is written;
  *   VJ_REFUSED + N  else, if there is a fault: nothing is written;
- *   0               else. Then counts[0] is how many rows were written, counts[1]
- *                   how many pairs were passed, counts[2] the next position,
- *                   which is position + counts[1], and counts[3] the number of
- *                   all pairs. What follows the last row, and what follows
- *                   counts[3], is unchanged.
+ *   0               else. Then counts[0] is how many rows were written,
+ *                   counts[1] how many pairs were passed, counts[2] the next
+ *                   position, which is position + counts[1], and counts[3] the
+ *                   number of all pairs. What follows the last row, and what
+ *                   follows counts[3], is unchanged.
  *
- * The order of faults: as for a listing up to the last path's arcs; then refusal
- * 13 if the position is beyond the end; 14 if the budget is 0; last, 8 if not
- * one whole row fits, also at the end. A position and a budget may be any
+ * The order of faults: as for a listing up to the last path's arcs; then
+ * refusal 13 if the position is beyond the end; 14 if the budget is 0; last, 8
+ * if not one whole row fits, also at the end. A position and a budget may be any
  * number, and their sum may be above 2^64.
  *
  * Start at position 0 and give each call the position that the last one
@@ -241,8 +241,8 @@ uint64_t vj_self(const double *path, size_t len, bool closed, double epsilon,
  * A call has no state, so it can start at any position: several machines can
  * share a listing if each takes a range of positions, with budgets that end at
  * the end of its range. Each call checks both paths anew, however small its
- * budget is. A page needs some 100 KiB of stack and a little more: three numbers
- * for each segment of the second path.
+ * budget is. A page needs some 100 KiB of stack: it holds no rows back, but it
+ * has three numbers for each segment of the second path.
  *
  * examples/panel.c is a panel's cycle.
  */
