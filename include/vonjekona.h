@@ -210,6 +210,59 @@ uint64_t vj_self(const double *path, size_t len, bool closed, double epsilon,
                  uint64_t *indices, size_t indices_room, double *points,
                  size_t points_room, uint64_t *counts, size_t counts_room);
 
+/*
+ * Pages: the same listings, handed out in calls. A position says how many pairs
+ * come before it, in the order of the rows: 0 is the front, and the number of
+ * all pairs is the end. A call looks at the pairs from `position` on. It stops
+ * when it has passed `budget` pairs, at the end, or before a pair that makes a
+ * row where no row is left. That pair is not passed: the next call starts with
+ * it. The call returns
+ *
+ *   VJ_NO_ROOM      if counts_room is below 4: nothing is written;
+ *   VJ_REFUSED + N  else, if there is a fault: nothing is written;
+ *   0               else. Then counts[0] is how many rows were written,
+ *                   counts[1] how many pairs were passed, counts[2] the next
+ *                   position, which is position + counts[1], and counts[3] the
+ *                   number of all pairs. What follows the last row, and what
+ *                   follows counts[3], is unchanged.
+ *
+ * The order of faults: as for a listing up to the last path's arcs; then
+ * refusal 13 if the position is beyond the end; 14 if the budget is 0; last, 8
+ * if not one whole row fits, also at the end. A position and a budget may be any
+ * number, and their sum may be above 2^64.
+ *
+ * Start at position 0 and give each call the position that the last one
+ * answered, until counts[2] equals counts[3]. If paths, flags and epsilon stay
+ * the same and no call is refused, the rows of all calls, one after the other,
+ * are the listing. Each call before the end passes at least one pair, so there
+ * are no more calls than pairs, if there are any. A call at the end answers no
+ * rows and passes no pair. Budgets and rooms may change from call to call.
+ *
+ * A call has no state, so it can start at any position: several machines can
+ * share a listing if each takes a range of positions, with budgets that end at
+ * the end of its range. Each call checks both paths anew, however small its
+ * budget is. A page needs some 100 KiB of stack: it holds no rows back, but it
+ * has three numbers for each segment of the second path.
+ *
+ * examples/panel.c is a panel's cycle.
+ */
+
+/* A page of vj_mutual's listing. */
+uint64_t vj_mutual_page(const double *first, size_t first_len,
+                        bool first_closed, const double *second,
+                        size_t second_len, bool second_closed, double epsilon,
+                        uint64_t position, uint64_t budget, uint64_t *indices,
+                        size_t indices_room, double *points,
+                        size_t points_room, uint64_t *counts,
+                        size_t counts_room);
+
+/* A page of vj_self's listing. */
+uint64_t vj_self_page(const double *path, size_t len, bool closed,
+                      double epsilon, uint64_t position, uint64_t budget,
+                      uint64_t *indices, size_t indices_room, double *points,
+                      size_t points_room, uint64_t *counts,
+                      size_t counts_room);
+
 #ifdef __cplusplus
 }
 #endif

@@ -98,6 +98,37 @@ mod raw {
             counts: *mut u64,
             counts_room: usize,
         ) -> u64;
+        pub fn vj_mutual_page(
+            first: *const f64,
+            first_len: usize,
+            first_closed: bool,
+            second: *const f64,
+            second_len: usize,
+            second_closed: bool,
+            epsilon: f64,
+            position: u64,
+            budget: u64,
+            indices: *mut u64,
+            indices_room: usize,
+            points: *mut f64,
+            points_room: usize,
+            counts: *mut u64,
+            counts_room: usize,
+        ) -> u64;
+        pub fn vj_self_page(
+            path: *const f64,
+            len: usize,
+            closed: bool,
+            epsilon: f64,
+            position: u64,
+            budget: u64,
+            indices: *mut u64,
+            indices_room: usize,
+            points: *mut f64,
+            points_room: usize,
+            counts: *mut u64,
+            counts_room: usize,
+        ) -> u64;
     }
 }
 
@@ -183,6 +214,75 @@ pub fn vj_self(path: (&[f64], bool), epsilon: f64, rows: Rows) -> u64 {
             path.0.len(),
             path.1,
             epsilon,
+            indices.as_mut_ptr(),
+            indices.len(),
+            points.as_mut_ptr(),
+            points.len(),
+            counts.as_mut_ptr(),
+            counts.len(),
+        )
+    }
+}
+
+/// Where a page starts, and how many pairs it may pass.
+#[cfg(feature = "rust-text")]
+#[derive(Clone, Copy, Debug, PartialEq)]
+pub struct Span {
+    pub position: u64,
+    pub budget: u64,
+}
+
+/// A page of `vj_mutual`'s listing.
+#[cfg(feature = "rust-text")]
+pub fn vj_mutual_page(
+    first: (&[f64], bool),
+    second: (&[f64], bool),
+    epsilon: f64,
+    page: Span,
+    rows: Rows,
+) -> u64 {
+    let Rows {
+        indices,
+        points,
+        counts,
+    } = rows;
+    unsafe {
+        raw::vj_mutual_page(
+            first.0.as_ptr(),
+            first.0.len(),
+            first.1,
+            second.0.as_ptr(),
+            second.0.len(),
+            second.1,
+            epsilon,
+            page.position,
+            page.budget,
+            indices.as_mut_ptr(),
+            indices.len(),
+            points.as_mut_ptr(),
+            points.len(),
+            counts.as_mut_ptr(),
+            counts.len(),
+        )
+    }
+}
+
+/// A page of `vj_self`'s listing.
+#[cfg(feature = "rust-text")]
+pub fn vj_self_page(path: (&[f64], bool), epsilon: f64, page: Span, rows: Rows) -> u64 {
+    let Rows {
+        indices,
+        points,
+        counts,
+    } = rows;
+    unsafe {
+        raw::vj_self_page(
+            path.0.as_ptr(),
+            path.0.len(),
+            path.1,
+            epsilon,
+            page.position,
+            page.budget,
             indices.as_mut_ptr(),
             indices.len(),
             points.as_mut_ptr(),

@@ -1,22 +1,20 @@
 //! Whole-path listings compared with a listing that is written here from the scope's prose, over the Rust's pair function: rows,
 //! counts, refusals and their order, and every place of the lent slices.
 
-mod bench;
-mod damage;
+pub mod bench;
+pub mod damage;
 pub mod draw;
 #[cfg(test)]
 mod examples;
 mod kinds;
 pub mod layout;
-mod lent;
+pub mod lent;
 pub mod model;
 mod rooms;
-mod score;
+pub mod score;
 pub mod shapes;
 pub mod sheets;
 mod sites;
-
-pub use bench::run as bench;
 
 use layout::{Call, Drawn, Layout, CALLS};
 use lent::{Old, Room};
@@ -28,10 +26,10 @@ use crate::numbers::{hex, Numbers};
 use crate::rng::Rng;
 
 /// Whether each of two paths is closed.
-const FLAGS: [[bool; 2]; 4] = [[false, false], [false, true], [true, false], [true, true]];
+pub const FLAGS: [[bool; 2]; 4] = [[false, false], [false, true], [true, false], [true, true]];
 
 /// From this count on, the largest possible listings take part.
-const FULL: u64 = 1 << 20;
+pub const FULL: u64 = 1 << 20;
 
 /// Compares the listings on small paths of every size with every room, on layouts with chosen numbers of rows, and on layouts
 /// with one fault and with two; on `count / 16` pairs of segments; and on random layouts until `count` pairs were looked at.

@@ -20,6 +20,8 @@ mod listings;
 #[cfg_attr(not(feature = "rust-text"), allow(dead_code))]
 mod numbers;
 #[cfg(feature = "rust-text")]
+mod pages;
+#[cfg(feature = "rust-text")]
 mod partings;
 #[cfg(feature = "rust-text")]
 mod plane;
@@ -46,10 +48,12 @@ usage: compare check [COUNT [SEED]]  compare each float function on COUNT random
                                      eighth of all bit patterns, and some beside the limits; each kernel and the pair
                                      call until twice as many were answered, and on some that are refused; listings of
                                      whole paths until as many pairs were looked at, and on chosen ones; then as compare
-                                     edges, with a tenth of COUNT
+                                     pages, and as compare edges with a tenth of COUNT
        compare edges [COUNT [SEED]]  compare the kernels, the pair call and listings on COUNT inputs an edge (default 1048576,
                                      seed 1): where two numbers that are compared, by the Rust or by a shortcut of ours,
                                      are all but equal
+       compare pages [COUNT [SEED]]  compare pages of listings: every position on small paths, and chains of calls on random
+                                     paths, a tenth of COUNT calls (default 10485760, seed 1)
        compare search [COUNT [SEED]] try to break what is promised of lines on the grid, on COUNT pairs (default 25165824,
                                      seed 1)
        compare arcs [COUNT [SEED]]   count how often touching segments with arcs are missed, and how far from each other
@@ -65,7 +69,8 @@ usage: compare check [COUNT [SEED]]  compare each float function on COUNT random
        compare layouts FOLDER        write the model's output NAME.out for each text NAME.txt there
        compare record FILE           write the recorded list for the program replay
        compare bench [PART...]       nanoseconds of processor time a call or a pair, ours beside the machine's own and the Rust's,
-                                     the least of five rounds or more by turns; all parts, or some of: floats calls listings";
+                                     the least of five rounds or more by turns; all parts, or some of: floats calls listings
+                                     pages";
 
 const COUNT: u64 = 10 << 20;
 const ON_AN_EDGE: u64 = 1 << 20;
@@ -74,7 +79,7 @@ const SEARCHED_ARCS: u64 = 11 << 20;
 const CLIMBED: u64 = 1 << 20;
 const TEXTS: u64 = 3072;
 const SEED: u64 = 1;
-const BENCHES: [&str; 3] = ["floats", "calls", "listings"];
+const BENCHES: [&str; 4] = ["floats", "calls", "listings", "pages"];
 
 fn main() -> ExitCode {
     let words: Vec<String> = env::args().skip(1).collect();
@@ -82,6 +87,7 @@ fn main() -> ExitCode {
     let done = match words[..] {
         ["check", ref numbers @ ..] => check(numbers),
         ["edges", ref numbers @ ..] => edges(numbers),
+        ["pages", ref numbers @ ..] => pages(numbers),
         ["search", ref numbers @ ..] => search(numbers),
         ["arcs", "climb", ref numbers @ ..] => climb_arcs(numbers),
         ["arcs", "cures", ref numbers @ ..] => cure_arcs(numbers),
@@ -115,6 +121,14 @@ fn check(numbers: &[&str]) -> Result<(), String> {
 fn edges(numbers: &[&str]) -> Result<(), String> {
     let (count, seed) = count_and_seed(numbers, ON_AN_EDGE)?;
     match check_edges(count, seed) {
+        0 => Ok(()),
+        differences => Err(format!("{differences} differences")),
+    }
+}
+
+fn pages(numbers: &[&str]) -> Result<(), String> {
+    let (count, seed) = count_and_seed(numbers, COUNT)?;
+    match check_pages(count, seed) {
         0 => Ok(()),
         differences => Err(format!("{differences} differences")),
     }
@@ -162,6 +176,7 @@ fn time(parts: &[&str]) -> Result<(), String> {
             "floats" => bench::run(),
             "calls" => time_calls(),
             "listings" => time_listings(),
+            "pages" => time_pages(),
             _ => return Err(USAGE.to_string()),
         }
     }
@@ -188,12 +203,18 @@ fn check_text(count: u64, seed: u64) -> u64 {
         + plane::check(count, seed)
         + crossing::check(count, seed)
         + listings::check(count, seed)
+        + check_pages(count, seed)
         + check_edges(count / 10, seed)
 }
 
 #[cfg(feature = "rust-text")]
 fn check_edges(count: u64, seed: u64) -> u64 {
     crossing::check_edges(count, seed)
+}
+
+#[cfg(feature = "rust-text")]
+fn check_pages(count: u64, seed: u64) -> u64 {
+    pages::check(count, seed)
 }
 
 #[cfg(not(feature = "rust-text"))]
@@ -208,6 +229,12 @@ fn check_edges(_count: u64, _seed: u64) -> u64 {
     0
 }
 
+#[cfg(not(feature = "rust-text"))]
+fn check_pages(_count: u64, _seed: u64) -> u64 {
+    println!("rust text not compiled in: nothing was compared with it");
+    0
+}
+
 #[cfg(feature = "rust-text")]
 fn time_calls() {
     crossing::bench();
@@ -215,8 +242,16 @@ fn time_calls() {
 
 #[cfg(feature = "rust-text")]
 fn time_listings() {
-    listings::bench();
+    listings::bench::run();
 }
+
+#[cfg(feature = "rust-text")]
+fn time_pages() {
+    pages::bench();
+}
+
+#[cfg(not(feature = "rust-text"))]
+fn time_pages() {}
 
 #[cfg(not(feature = "rust-text"))]
 fn time_calls() {}

@@ -109,7 +109,7 @@ fn open(path: &[Vertex]) -> Drawn {
     Drawn::new(path, false)
 }
 
-fn of_sheet(sheet: &Sheet, vertices: usize, rng: &mut Rng) -> Layout {
+pub fn of_sheet(sheet: &Sheet, vertices: usize, rng: &mut Rng) -> Layout {
     let [first, second] = sheet.paths(vertices, rng);
     Layout {
         first: Drawn::new(&first, true),

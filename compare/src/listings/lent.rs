@@ -2,7 +2,7 @@
 //! afterwards every place can be compared with what it should be.
 
 use super::layout::Drawn;
-use super::model::{Path, Row, Rows};
+use super::model::{Path, Row};
 use crate::capi;
 use crate::crossing::{NO_ROOM, REFUSED};
 use crate::numbers::{hex, same};
@@ -75,7 +75,10 @@ pub enum Expected<'a> {
     /// The counts have no room: this comes before everything else.
     NoRoom,
     Refused(u64),
-    Answered(&'a Rows),
+    Answered {
+        rows: &'a [Row],
+        counts: Vec<u64>,
+    },
 }
 
 pub struct Lent {
@@ -108,33 +111,31 @@ impl Lent {
 
     /// What is not as expected, if anything: the returned number, or a place of a slice, or a place beside it.
     pub fn wrong(&self, answer: u64, expected: &Expected) -> Option<String> {
-        let (returned, rows) = match expected {
-            Expected::NoRoom => (NO_ROOM, None),
-            Expected::Refused(number) => (REFUSED + number, None),
-            Expected::Answered(rows) => (0, Some(*rows)),
+        let (returned, rows, counts): (u64, &[Row], &[u64]) = match expected {
+            Expected::NoRoom => (NO_ROOM, &[], &[]),
+            Expected::Refused(number) => (REFUSED + number, &[], &[]),
+            Expected::Answered { rows, counts } => (0, rows, counts),
         };
         if answer != returned {
             return Some(format!("returned {answer}, expected {returned}"));
         }
-        let written = rows.map_or(0, |rows| rows.rows.len());
-        let counted = if rows.is_some() { 2 } else { 0 };
-        rows.and_then(|rows| self.wrong_counts(rows))
-            .or_else(|| rows.and_then(|rows| self.wrong_row(rows)))
+        let written = rows.len();
+        self.wrong_counts(counts)
+            .or_else(|| self.wrong_row(rows))
             .or_else(|| self.touched("indices", &self.indices, 3 * written, |x| *x))
             .or_else(|| self.touched("points", &self.points, 4 * written, |x| x.to_bits()))
-            .or_else(|| self.touched("counts", &self.counts, counted, |x| *x))
+            .or_else(|| self.touched("counts", &self.counts, counts.len(), |x| *x))
     }
 
-    fn wrong_counts(&self, rows: &Rows) -> Option<String> {
-        let ours = &self.counts[GUARD..GUARD + 2];
-        let expected = [rows.rows.len() as u64, rows.pairs];
+    fn wrong_counts(&self, expected: &[u64]) -> Option<String> {
+        let ours = &self.counts[GUARD..GUARD + expected.len()];
         (ours != expected).then(|| format!("counts {ours:?}, expected {expected:?}"))
     }
 
-    fn wrong_row(&self, rows: &Rows) -> Option<String> {
+    fn wrong_row(&self, rows: &[Row]) -> Option<String> {
         let indices = self.indices[GUARD..].chunks_exact(3);
         let points = self.points[GUARD..].chunks_exact(4);
-        for ((row, indices), points) in rows.rows.iter().zip(indices).zip(points) {
+        for ((row, indices), points) in rows.iter().zip(indices).zip(points) {
             if !is_row(row, indices, points) {
                 let Row {
                     indices: [i, j],
@@ -167,7 +168,7 @@ impl Lent {
 }
 
 /// Whether this is the row, with +0 in the places that its points do not need.
-fn is_row(row: &Row, indices: &[u64], points: &[f64]) -> bool {
+pub fn is_row(row: &Row, indices: &[u64], points: &[f64]) -> bool {
     let (given, absent) = points.split_at(row.given);
     indices == [row.indices[0], row.indices[1], row.class]
         && same(given, &row.points[..row.given])
@@ -185,18 +186,12 @@ mod tests {
     };
 
     /// A row of one point, whose x is a NaN and whose y is zero, and two unused places.
-    fn rows() -> Rows {
-        let row = Row {
-            indices: [3, 5],
-            class: 2,
-            points: [f64::NAN, 0.0, 0.0, 0.0],
-            given: 2,
-        };
-        Rows {
-            rows: vec![row],
-            pairs: 40,
-        }
-    }
+    const ROW: Row = Row {
+        indices: [3, 5],
+        class: 2,
+        points: [f64::NAN, 0.0, 0.0, 0.0],
+        given: 2,
+    };
 
     /// What a right call leaves, and then a change to it.
     fn answered(spoil: impl Fn(capi::Rows)) -> Option<String> {
@@ -206,7 +201,8 @@ mod tests {
         slices.points[..4].copy_from_slice(&[-f64::NAN, -0.0, 0.0, 0.0]);
         slices.counts[..2].copy_from_slice(&[1, 40]);
         spoil(lent.slices());
-        lent.wrong(0, &Expected::Answered(&rows()))
+        let (rows, counts) = (&[ROW][..], vec![1, 40]);
+        lent.wrong(0, &Expected::Answered { rows, counts })
     }
 
     #[test]

@@ -14,7 +14,7 @@ impl Room {
     }
 
     /// Room for this many rows, whichever slice decides it, with or without places beyond the whole rows.
-    fn uneven(rows: usize, rng: &mut Rng) -> Room {
+    pub fn uneven(rows: usize, rng: &mut Rng) -> Room {
         let Room {
             mut indices,
             mut points,

@@ -8,7 +8,7 @@ use super::model::{row_room, Fault, Listing};
 use super::sites::Sites;
 
 const SHOWN: u64 = 5;
-const CLASSES: [&str; 6] = ["none", "tangent", "one", "two", "lines", "arcs"];
+pub const CLASSES: [&str; 6] = ["none", "tangent", "one", "two", "lines", "arcs"];
 
 pub struct Score {
     call: Call,
@@ -54,7 +54,10 @@ impl<'a> Known<'a> {
         let expected = match fault {
             _ if room.counts < 2 => Expected::NoRoom,
             Some(fault) => Expected::Refused(fault.number),
-            None => Expected::Answered(&self.listing.rows),
+            None => Expected::Answered {
+                rows: &self.listing.rows.rows,
+                counts: vec![self.rows() as u64, self.pairs()],
+            },
         };
         (fault, expected)
     }
@@ -111,10 +114,10 @@ impl Score {
         match expected {
             Expected::NoRoom => self.no_room += 1,
             Expected::Refused(number) => self.refusals[*number as usize] += 1,
-            Expected::Answered(rows) => {
+            Expected::Answered { rows, counts } => {
                 self.answered += 1;
-                self.pairs += rows.pairs;
-                for row in &rows.rows {
+                self.pairs += counts[1];
+                for row in *rows {
                     self.classes[row.class as usize] += 1;
                 }
             }

@@ -1,0 +1,103 @@
+//! What pages cost: a chain of them beside the full listing, for each pair; and a page of one pair beside the checks alone, for
+//! each call. A call with the budget 0 is refused after all checks of the paths, so it stands for these.
+
+use std::hint::black_box;
+
+use super::model::NO_BUDGET;
+use super::ours;
+use crate::bench::{head, Row};
+use crate::capi::{Rows, Span};
+use crate::crossing::REFUSED;
+use crate::listings::bench::of_sheet;
+use crate::listings::layout::{self, Call};
+use crate::listings::model::Listed;
+use crate::listings::sheets::{EPSILONS, SHEETS};
+use crate::rng::Rng;
+
+const VERTICES: usize = 4096;
+/// Calls of one pair in a round.
+const A_ROUND: u64 = 64;
+
+pub fn run() {
+    let layout = of_sheet(&SHEETS[0], VERTICES, &mut Rng::new(0xbe7c));
+    let mutual = layout.listed(Call::Mutual);
+    head("4,096 lines by 4,096, in pages, beside the full listing");
+    for epsilon in EPSILONS {
+        for budget in [1 << 20, 1 << 16] {
+            chain(mutual, epsilon, budget);
+        }
+    }
+    head("a page of one pair, 4,096 lines by 4,096, beside the checks");
+    let pairs = (VERTICES * VERTICES) as u64;
+    one_pair("the first pair", mutual, 0);
+    one_pair("a pair in the middle", mutual, pairs / 2);
+    one_pair("the last pair", mutual, pairs - 1);
+    // of a closed path by itself: each segment with all but itself and its neighbours, every pair once
+    let pairs = (VERTICES * (VERTICES - 3) / 2) as u64;
+    let own = layout.listed(Call::Own);
+    one_pair("the first pair of one path by itself", own, 0);
+    one_pair("the last pair of one path by itself", own, pairs - 1);
+}
+
+/// Slices with room for all rows.
+struct Lent {
+    indices: Vec<u64>,
+    points: Vec<f64>,
+    counts: [u64; 4],
+}
+
+impl Lent {
+    fn new(rows: usize) -> Lent {
+        Lent {
+            indices: vec![0; 3 * rows],
+            points: vec![0.0; 4 * rows],
+            counts: [0; 4],
+        }
+    }
+
+    fn slices(&mut self) -> Rows<'_> {
+        Rows {
+            indices: &mut self.indices,
+            points: &mut self.points,
+            counts: &mut self.counts,
+        }
+    }
+}
+
+fn chain(listed: Listed, epsilon: f64, budget: u64) {
+    let found = listed.rows(epsilon);
+    let (pairs, rows) = (found.pairs, found.rows.len());
+    let (mut lent, mut lent_too) = (Lent::new(rows), Lent::new(rows));
+    let paged = || {
+        let (mut position, mut rows_too) = (0, 0);
+        while position < pairs {
+            let span = Span { position, budget };
+            assert_eq!(black_box(ours(listed, epsilon, span, lent.slices())), 0);
+            rows_too += lent.counts[0];
+            position = lent.counts[2];
+        }
+        assert_eq!(rows_too, rows as u64, "the pages have other rows");
+    };
+    let full = || {
+        let answer = layout::ours(listed, epsilon, lent_too.slices());
+        assert_eq!(black_box(answer), 0);
+    };
+    let name = format!("pages of {budget} pairs");
+    let row = Row::new(&name).epsilon(epsilon).of(pairs).meeting(rows);
+    row.timed(pairs, paged, full);
+}
+
+fn one_pair(name: &str, listed: Listed, position: u64) {
+    let epsilon = EPSILONS[1];
+    let (mut lent, mut lent_too) = (Lent::new(1), Lent::new(1));
+    let call = |budget: u64, expected: u64, lent: &mut Lent| {
+        let answer = ours(listed, epsilon, Span { position, budget }, lent.slices());
+        assert_eq!(black_box(answer), expected);
+    };
+    let row = Row::new(name).epsilon(epsilon).of(1);
+    row.timed(
+        A_ROUND,
+        || call(1, 0, &mut lent),
+        || call(0, REFUSED + NO_BUDGET, &mut lent_too),
+    );
+}

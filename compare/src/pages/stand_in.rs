@@ -1,0 +1,279 @@
+//! A stand-in for the library, right or with a defect, to try the comparison on. It goes pair by pair through a list of them.
+
+use std::cell::{Cell, RefCell};
+use std::collections::HashMap;
+
+use super::ask::BEYOND_ALL;
+use super::model::{BEYOND, NO_BUDGET, NO_ROW_FITS};
+use super::Ours;
+use crate::capi::{Rows, Span};
+use crate::crossing::{NO_ROOM, REFUSED};
+use crate::listings::model::{row_room, Listed, Listing, Path};
+
+pub const STAND_IN: Ours = Ours { page, full };
+
+/// Gives the stand-in a defect, or none if the name is empty.
+pub fn set(defect: &'static str) {
+    DEFECT.set(defect);
+    LAST.set(None);
+}
+
+/// A listing with its pairs in order, and the row of each, if it makes one.
+struct Given {
+    listing: Listing,
+    pairs: Vec<[u64; 2]>,
+    row: Vec<Option<usize>>,
+}
+
+impl Given {
+    fn new(listed: Listed, epsilon: f64) -> Given {
+        let listing = Listing::new(listed, epsilon);
+        let pairs = match listed {
+            _ if !listing.faults.is_empty() => Vec::new(),
+            Listed::Mutual(first, second) => both(first, second),
+            Listed::Own(path) => {
+                let n = path.segments() as u64;
+                let around =
+                    |i, j| path.closed && i == 0 && j == n - 1 && !is("with the closing pair");
+                let mut pairs = both(path, path);
+                pairs.retain(|&[i, j]| i + 1 < j && !around(i, j));
+                pairs
+            }
+        };
+        let places = listing.rows.rows.iter().enumerate();
+        let row_of: HashMap<[u64; 2], usize> = places.map(|(at, row)| (row.indices, at)).collect();
+        let row = pairs.iter().map(|pair| row_of.get(pair).copied()).collect();
+        Given {
+            listing,
+            pairs,
+            row,
+        }
+    }
+}
+
+fn both(first: Path, second: Path) -> Vec<[u64; 2]> {
+    let of = |path: Path| 0..path.segments() as u64;
+    let mut pairs: Vec<[u64; 2]> = of(first)
+        .flat_map(|i| of(second).map(move |j| [i, j]))
+        .collect();
+    if is("j outer, i inner") {
+        pairs.sort_by_key(|&[i, j]| (j, i));
+    }
+    pairs
+}
+
+type Key = (Vec<Vec<u64>>, Vec<bool>, u64);
+
+thread_local! {
+    /// What is wrong with the stand-in.
+    static DEFECT: Cell<&'static str> = const { Cell::new("") };
+    /// The last listing, since most calls are on the same paths.
+    static LAST: RefCell<Option<(Key, Given)>> = const { RefCell::new(None) };
+}
+
+fn is(defect: &str) -> bool {
+    DEFECT.get() == defect
+}
+
+fn page(listed: Listed, epsilon: f64, span: Span, lent: Rows) -> u64 {
+    let paths = listed.paths();
+    let bits = |path: &Path| path.numbers.iter().map(|x| x.to_bits()).collect();
+    let key = (
+        paths.iter().map(bits).collect(),
+        paths.iter().map(|path| path.closed).collect(),
+        epsilon.to_bits(),
+    );
+    LAST.with_borrow_mut(|last| {
+        if last.as_ref().is_none_or(|(of, _)| *of != key) {
+            *last = Some((key, Given::new(listed, epsilon)));
+        }
+        let (_, given) = last.as_ref().expect("it was put there");
+        answer(given, span, lent)
+    })
+}
+
+fn refusal(given: &Given, span: Span, lent: &Rows) -> Option<u64> {
+    let (indices, points) = (lent.indices.len(), lent.points.len());
+    let all = given.pairs.len() as u64;
+    let position = if is("a position of 32 bits") {
+        span.position & 0xffff_ffff
+    } else {
+        span.position
+    };
+    let beyond = match position {
+        _ if is("13 at the end") => position >= all,
+        _ if is("13 at no pairs") => position > all || all == 0,
+        _ if is("13 two beyond") => position > all + 1,
+        _ => position > all,
+    };
+    let no_budget = match span.budget {
+        _ if is("a budget of 32 bits") => span.budget as u32 == 0,
+        _ if is("no 14") => false,
+        _ => span.budget == 0,
+    };
+    let row = |at: usize| given.row[at].is_some();
+    let no_row = match row_room(indices, points) {
+        _ if is("8 by the indices only") => indices < 3,
+        _ if is("8 by the points only") => points < 4,
+        _ if is("8 by a number less") => indices < 2 || points < 3,
+        0 if is("8 before the end only") => position < all,
+        0 if is("8 for a row only") => position < all && row(position as usize),
+        room => room == 0,
+    };
+    let fault = given.listing.faults.first().map(|fault| fault.number);
+    let far = span.position >= BEYOND_ALL;
+    let last = [
+        (beyond, BEYOND),
+        (no_budget, NO_BUDGET),
+        (no_row, NO_ROW_FITS),
+    ];
+    let order = match () {
+        _ if is("14 before 13") => [1, 0, 2],
+        _ if is("8 before 14") => [0, 2, 1],
+        _ if is("8 before 13") => [2, 0, 1],
+        _ => [0, 1, 2],
+    };
+    match fault {
+        Some(_) if is("13 before faults") && far => Some(BEYOND),
+        Some(_) if is("14 before faults") && no_budget => Some(NO_BUDGET),
+        Some(_) if is("8 before faults") && no_row => Some(NO_ROW_FITS),
+        Some(5) if is("13 before 5") && far => Some(BEYOND),
+        Some(number) => Some(number),
+        None => order
+            .into_iter()
+            .map(|at| last[at])
+            .find(|one| one.0)
+            .map(|one| one.1),
+    }
+}
+
+fn answer(given: &Given, span: Span, lent: Rows) -> u64 {
+    let counts = if is("room for three counts") { 3 } else { 4 };
+    if lent.counts.len() < counts && !is("room for counts last") {
+        return NO_ROOM;
+    }
+    if let Some(number) = refusal(given, span, &lent) {
+        if is("a refusal clears the counts") {
+            lent.counts.fill(0);
+        }
+        if is("a refusal clears a number") && !lent.points.is_empty() {
+            lent.points[0] = 0.0;
+        }
+        return REFUSED + number;
+    }
+    if lent.counts.len() < counts {
+        return NO_ROOM;
+    }
+    write(given, span, lent);
+    0
+}
+
+fn write(given: &Given, Span { position, budget }: Span, lent: Rows) {
+    let all = given.pairs.len() as u64;
+    let room = row_room(lent.indices.len(), lent.points.len());
+    let room = match room {
+        _ if is("a row less fits") => (room - 1).max(1),
+        _ => room,
+    };
+    let position = if is("a position of 32 bits") {
+        position & 0xffff_ffff
+    } else {
+        position
+    };
+    let end = match position.saturating_add(budget) {
+        _ if is("the budget wraps round") => position.wrapping_add(budget),
+        _ if is("a pair more") => position.saturating_add(budget).saturating_add(1),
+        _ if is("a pair less") => position.saturating_add((budget - 1).max(1)),
+        _ if is("a signed end") => position.wrapping_add(budget).min(i64::MAX as u64),
+        _ if is("the budget counts rows") => all,
+        end => end,
+    };
+    let end = end.min(all);
+    let all_rows = &given.listing.rows.rows;
+    let mut rows = Vec::new();
+    let mut at = position;
+    while at < end {
+        let pair = given.pairs[at as usize];
+        let row = given.row[at as usize].map(|at| &all_rows[at]);
+        let lost = is("the first pair's row is lost") && at == position && position > 0;
+        if let Some(row) = row.filter(|_| !lost) {
+            if rows.len() == room {
+                break;
+            }
+            rows.push(row);
+        }
+        at += 1;
+        if is("stops after the last row") && rows.len() == room {
+            break;
+        }
+        if is("the budget counts rows") && rows.len() as u64 == budget {
+            break;
+        }
+        if is("stops where i changes") && at < end && given.pairs[at as usize][0] != pair[0] {
+            break;
+        }
+    }
+    let stopped = at < end && rows.len() == room;
+    if is("the pair without room is passed") && stopped {
+        at += 1;
+    }
+    if is("rows in reverse") {
+        rows.reverse();
+    }
+    for (k, row) in rows.iter().enumerate() {
+        let mut indices = [row.indices[0], row.indices[1], row.class];
+        let mut points = row.points;
+        match () {
+            _ if is("indices exchanged") => indices.swap(0, 1),
+            _ if is("j from the page's start") => indices[1] = indices[1].saturating_sub(position),
+            _ if is("an absent number is -0") && row.given == 2 => points[3] = -0.0,
+            _ if is("a NaN") => points[0] = f64::NAN,
+            _ => {}
+        }
+        lent.indices[3 * k..3 * k + 3].copy_from_slice(&indices);
+        lent.points[4 * k..4 * k + 4].copy_from_slice(&points);
+    }
+    if is("what follows is cleared") {
+        lent.indices[3 * rows.len()..].fill(0);
+    }
+    if is("the row without room is begun") && stopped {
+        if let Some(place) = lent.indices.get_mut(3 * rows.len()) {
+            *place = given.pairs[at as usize][0];
+        }
+    }
+    let mut counts = [rows.len() as u64, at - position, at, all];
+    match () {
+        _ if is("passed and next exchanged") => counts.swap(1, 2),
+        _ if is("the end's next is 0") && position == all => counts[2] = 0,
+        _ if is("what is left, not all") => counts[3] = all - at,
+        _ if is("rows since 0") => counts[0] = all_rows.len() as u64,
+        _ if is("a pair passed at the end") && position == all => counts[1] = 1,
+        _ if is("never at the end") => counts[2] = counts[2].min(all.saturating_sub(1)),
+        _ => {}
+    }
+    let places = lent.counts.len().min(4);
+    lent.counts[..places].copy_from_slice(&counts[..places]);
+    if is("a fifth count") && lent.counts.len() > 4 {
+        lent.counts[4] = 0;
+    }
+}
+
+/// The full listing, from the same rows.
+fn full(listed: Listed, epsilon: f64, lent: Rows) -> u64 {
+    let listing = Listing::new(listed, epsilon);
+    let rows = &listing.rows.rows;
+    if row_room(lent.indices.len(), lent.points.len()) < rows.len() {
+        return REFUSED + 8;
+    }
+    for (k, row) in rows.iter().enumerate() {
+        let indices = [row.indices[0], row.indices[1], row.class];
+        let mut points = row.points;
+        if is("the full listing has other points") && k == 1 {
+            points[0] += 1.0;
+        }
+        lent.indices[3 * k..3 * k + 3].copy_from_slice(&indices);
+        lent.points[4 * k..4 * k + 4].copy_from_slice(&points);
+    }
+    lent.counts[..2].copy_from_slice(&[rows.len() as u64, listing.rows.pairs]);
+    0
+}
