@@ -1,5 +1,5 @@
--- Every number of a listing's or a page's answer is below the code of refusals, by the checks that give it; so what is returned of it
--- is below the code of no room. And the ends of handing an outcome over.
+-- Every number of a listing's or a page's answer is below the code of refusals, by the checks that give it; so what is returned
+-- of it is below the code of no room. And the ends of handing an outcome over.
 use Prim.Native.Nat.{ℕ, _<_, _≤_}
 use native.Mathlib.Omega.{arith}
 use mathlib.Core.Path.{_≡_, refl, ap, _∙_}

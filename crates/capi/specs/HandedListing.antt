@@ -1,5 +1,5 @@
--- How a listing and a page go to a caller in C, as decided here: a number is returned, the counts go into a third lent slice, and the
--- rows into the two slices that the call is lent.
+-- How a listing and a page go to a caller in C, as decided here: a number is returned, the counts go into a third lent slice,
+-- and the rows into the two slices that the call is lent.
 use Prim.Native.Nat.{ℕ, _+_}
 use mathlib.Core.Path.{_≡_}
 use mathlib.Core.Bool.{Bool, cond}

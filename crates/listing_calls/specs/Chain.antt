@@ -1,5 +1,5 @@
--- A chain of pages: calls one after the other, each at the position that the one before answered. The rows of a call are read from
--- its lent slices, as its answer says how many they are, and joined to those of the calls before it.
+-- A chain of pages: calls one after the other, each at the position that the one before answered. The rows of a call are read
+-- from its lent slices, as its answer says how many they are, and joined to those of the calls before it.
 use mathlib.Core.Bool.{Bool, true, false}
 use mathlib.Core.List.{List, [], _∷_, _++_}
 use Prim.Native.Nat.{ℕ, _+_, _-_, _*_, _<_}

@@ -1,6 +1,6 @@
--- What a chain of pages gives, for any sequence of pairs and any list of budgets and lent slices: if no call was refused, its joined
--- rows are those of the pairs from its first position to its last. Each call before the end passes at least one pair, so a chain
--- that stops at the end has no more calls than there are pairs; and a call at the end gives nothing.
+-- What a chain of pages gives, for any sequence of pairs and any list of budgets and lent slices: if no call was refused, its
+-- joined rows are those of the pairs from its first position to its last. Each call before the end passes at least one pair, so
+-- a chain that stops at the end has no more calls than there are pairs; and a call at the end gives nothing.
 use mathlib.Core.Path.{_≡_, refl, sym, ap, _∙_}
 use mathlib.Core.Bool.{true, false, true≢false}
 use mathlib.Core.List.{List, [], _∷_, _++_}

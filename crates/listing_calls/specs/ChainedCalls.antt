@@ -1,5 +1,6 @@
--- Chains of `mutualPage` and of `selfPage` beside the listing: calls from position 0 to the end, none refused, join to the listing's
--- rows, as read from its slices, and pass the pairs that the listing looks at. So no row is left out of the joined rows either.
+-- Chains of `mutualPage` and of `selfPage` beside the listing: calls from position 0 to the end, none refused, join to the
+-- listing's rows, as read from its slices, and pass the pairs that the listing looks at. So no row is left out of the joined
+-- rows either.
 use mathlib.Core.Path.{_≡_, refl, sym, ap, _∙_}
 use mathlib.Core.Bool.{Bool, true, false}
 use mathlib.Core.List.{List, [], _∷_, _++_, append-nil}

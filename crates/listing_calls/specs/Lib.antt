@@ -1,5 +1,5 @@
--- The listings of two paths and of one, with their refusals (Listing), their pages (Pages), and the rows handed back (Filled); then
--- what is proved of them. A reader need not believe Workings and Laws.
+-- The listings of two paths and of one, with their refusals (Listing), their pages (Pages), and the rows handed back (Filled);
+-- then what is proved of them. A reader need not believe Workings and Laws.
 pub mod Listing
 pub mod Pages
 pub mod Filled

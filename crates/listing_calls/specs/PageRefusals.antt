@@ -1,5 +1,5 @@
--- When exactly a page is refused: with number n if and only if the first fault of its checks in order, with 13, 14 and 8 as the last,
--- has that number. It is answered if and only if every check passes. A refusal leaves both slices unchanged.
+-- When exactly a page is refused: with number n if and only if the first fault of its checks in order, with 13, 14 and 8 as the
+-- last, has that number. It is answered if and only if every check passes. A refusal leaves both slices unchanged.
 use mathlib.Core.Path.{_≡_, refl, sym}
 use mathlib.Core.Bool.{Bool}
 use mathlib.Core.Logic.{_↔_, _≢_, Iff·trans}
@@ -135,7 +135,8 @@ module _ (first : List Float) (firstClosed : Bool) (second : List Float) (second
   mutual-page-untouched = page-untouched these (look first second epsilon) pairs position budget indices points
 
 -- ---- one path
-module _ (path : List Float) (closed : Bool) (epsilon : Float) (position budget : ℕ) (indices : List ℕ) (points : List Float) where
+module _ (path : List Float) (closed : Bool) (epsilon : Float) (position budget : ℕ)
+    (indices : List ℕ) (points : List Float) where
   abbrev own : List Pair
   own = selfPairs (segmentCount path closed) closed
 

@@ -1,5 +1,5 @@
--- The pages of this crate, `mutualPage` and `selfPage`: the listing's checks in order, then those of position, budget and room, and
--- the page of the listing's pairs from the position on.
+-- The pages of this crate, `mutualPage` and `selfPage`: the listing's checks in order, then those of position, budget and room,
+-- and the page of the listing's pairs from the position on.
 use mathlib.Core.Bool.{Bool}
 use mathlib.Core.List.{List}
 use Prim.Native.Nat.{ℕ}

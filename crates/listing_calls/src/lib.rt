@@ -1,5 +1,5 @@
-// Listings: which segments of two paths, or of one path, meet, and where; whole, or page by page. A listing checks its numbers first
-// and refuses what is out of range. Rows go into slices that the caller lends.
+// Listings: which segments of two paths, or of one path, meet, and where; whole, or page by page. A listing checks its numbers
+// first and refuses what is out of range. Rows go into slices that the caller lends.
 pub mod filled;
 mod jobs;
 pub mod mutual_listing;

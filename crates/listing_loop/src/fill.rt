@@ -51,8 +51,8 @@ fn end_within(j: usize, to: usize, budget: usize) -> usize
     to
 }
 
-// Walks the pairs of a part. It stops at the end, when the budget is spent, or before a pair whose row has no room. `kept` is kept
-// of the second path's segments that it can reach.
+// Walks the pairs of a part. It stops at the end, when the budget is spent, or before a pair whose row has no room. `kept` is
+// kept of the second path's segments that it can reach.
 pub fn fill(
     first: &[f64],
     second: &[f64],

@@ -43,8 +43,8 @@ rowRoom indices points = min (indices / indicesARow) (points / pointsARow)
 abbrev pub room : List ℕ → List Float → ℕ
 room indices points = rowRoom (length indices) (length points)
 
--- The outcome by the first fault, if there is one: a refusal, by its number, leaves both slices unchanged. Otherwise the call has its
--- answer, and its rows are written.
+-- The outcome by the first fault, if there is one: a refusal, by its number, leaves both slices unchanged. Otherwise the call
+-- has its answer, and its rows are written.
 abbrev pub outcomeOf : {A : Type 0} → (ℕ → A) → Checked → A → List Row → List ℕ → List Float → Outcome A
 outcomeOf refused (Bad fault) answer rows indices points =
     record { answer = refused (fault .number); indices = indices; points = points }

@@ -1,5 +1,5 @@
--- What a page of any sequence of pairs answers, and what it leaves in the slices: its refusals in order, its rows, how many pairs it
--- passed, the position after them, and how many pairs there are in all.
+-- What a page of any sequence of pairs answers, and what it leaves in the slices: its refusals in order, its rows, how many
+-- pairs it passed, the position after them, and how many pairs there are in all.
 use mathlib.Core.List.{List, [], _∷_, _++_}
 use Prim.Native.Nat.{ℕ, _+_}
 use lib.Dec.{eqb, ltb}

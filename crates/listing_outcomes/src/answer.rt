@@ -10,8 +10,8 @@ pub enum ListingAnswer {
 pub enum PageAnswer {
     // The number of the refusal. Both slices are unchanged.
     Refused(u64),
-    // How many rows were written from the front of both slices, how many pairs were passed, the position of the next page, and how
-    // many pairs there are in all.
+    // How many rows were written from the front of both slices, how many pairs were passed, the position of the next page, and
+    // how many pairs there are in all.
     Paged {
         rows: usize,
         pairs: usize,

@@ -35,8 +35,8 @@ fn every_pair(job: Job) -> usize
     job.n * job.m
 }
 
-// The listing of a job whose first ROWS rows are held back, up to the pair at which `held` stopped, which makes one more. It walks
-// the remaining pairs twice: count, then write if all rows fit.
+// The listing of a job whose first ROWS rows are held back, up to the pair at which `held` stopped, which makes one more. It
+// walks the remaining pairs twice: count, then write if all rows fit.
 fn list_behind(
     first: &[f64],
     second: &[f64],

@@ -1,5 +1,5 @@
-// What a listing answers, and a page of one, and what they leave in the slices that the caller lends. Whether the rows fit, which is
-// refusal 8, is decided in `buffer`; refusals 13 and 14, and 8 of a page, are decided in `page`.
+// What a listing answers, and a page of one, and what they leave in the slices that the caller lends. Whether the rows fit,
+// which is refusal 8, is decided in `buffer`; refusals 13 and 14, and 8 of a page, are decided in `page`.
 pub mod answer;
 pub mod buffer;
 pub mod page;

@@ -1,5 +1,5 @@
-// A page of a listing of two checked paths: from a position on, as far as the budget and the caller's slices allow. Refusals 13 and
-// 14 are decided here, and a page's refusal 8.
+// A page of a listing of two checked paths: from a position on, as far as the budget and the caller's slices allow. Refusals 13
+// and 14 are decided here, and a page's refusal 8.
 ghost use mathlib.Core.Path.{_≡_};
 ghost use Prim.Native.Nat.{_≤_, _*_};
 ghost use lib.ListN.{length};

@@ -1,5 +1,5 @@
--- A page of a listing: from the front of a sequence of pairs on, a pair is passed until the budget is spent, the sequence ends, or
--- the next pair makes a row and no row is left. `look` says what a pair gives; any will do.
+-- A page of a listing: from the front of a sequence of pairs on, a pair is passed until the budget is spent, the sequence ends,
+-- or the next pair makes a row and no row is left. `look` says what a pair gives; any will do.
 use mathlib.Core.List.{List, [], _∷_}
 use Prim.Native.Nat.{ℕ, zero, suc}
 use Rattle.listing_pairs.specs.declared.row.Row.{Row}
@@ -24,8 +24,8 @@ abbrev pub pass : Look → Page → Page
 pass s q =
     record { rows = onto s (q .rows); passed = suc (q .passed); looked = count s (q .looked); rest = q .rest }
 
--- One pair, within the budget. `here` remains if the page stops before it; `go` is the page of the pairs after it, by the room that
--- is left for rows.
+-- One pair, within the budget. `here` remains if the page stops before it; `go` is the page of the pairs after it, by the room
+-- that is left for rows.
 abbrev pub turn : Look → List Pair → (ℕ → Page) → ℕ → Page
 turn Skipped here go room = pass Skipped (go room)
 turn Nothing here go room = pass Nothing (go room)

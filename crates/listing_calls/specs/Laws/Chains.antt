@@ -110,7 +110,8 @@ between-joins p q r ps h l =
     let there : p + (q - p) ≡ q = omega (arith, h) in
     ap (λ (n : ℕ). take n (drop p ps)) whole
     ∙ take-more (q - p) (r - q) (drop p ps)
-    ∙ ap (λ (l : List Pair). take (q - p) (drop p ps) ++ take (r - q) l) (drop-drop (q - p) p ps ∙ ap (λ (n : ℕ). drop n ps) there)
+    ∙ ap (λ (l : List Pair). take (q - p) (drop p ps) ++ take (r - q) l)
+    (drop-drop (q - p) p ps ∙ ap (λ (n : ℕ). drop n ps) there)
 
 -- ---- one call's rows, as read from its slices
 module _ {look : ℕ → ℕ → Look} {ps : List Pair} {position budget : ℕ} {i₀ : List ℕ} {p₀ : List Float} {o : Outcome PageAnswer}

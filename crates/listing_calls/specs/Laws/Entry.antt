@@ -1,5 +1,5 @@
--- From the checks of a listing or a page to its outcome: the chain of calls is the list of checks; if they are fine, every pair of
--- the job is fine for the pair call; and the outcome is that of checked paths, or the refusal of the first fault.
+-- From the checks of a listing or a page to its outcome: the chain of calls is the list of checks; if they are fine, every pair
+-- of the job is fine for the pair call; and the outcome is that of checked paths, or the refusal of the first fault.
 use mathlib.Core.Path.{_≡_, refl, sym, ap, _∙_}
 use mathlib.Core.Bool.{Bool}
 use mathlib.Core.List.{List, [], _∷_, _++_}
@@ -133,7 +133,8 @@ module _ (first : List Float) (firstClosed : Bool) (second : List Float) (second
           let g : Leaves (paged f between position budget i₀ p₀) r i p = rw (is, mutual-every job refl) at h in
           rw (page-fine these f between position budget i₀ p₀ e) g
 
-  module _ (x : Fault) (i₀ : List ℕ) (p₀ : List Float) (e : checkMutual first firstClosed second secondClosed epsilon ≡ Bad x) where
+  module _ (x : Fault) (i₀ : List ℕ) (p₀ : List Float)
+      (e : checkMutual first firstClosed second secondClosed epsilon ≡ Bad x) where
     pub mutual-refused : Leaves (mutualListing first firstClosed second secondClosed epsilon i₀ p₀) (Refused (x .number)) i₀ p₀
     unfolding mutualListing outcome checkMutual
     mutual-refused = outcome-bad Refused these _ _ _ i₀ p₀ x e

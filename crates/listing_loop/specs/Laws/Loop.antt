@@ -47,8 +47,8 @@ few-on-page look job i j room budget n m =
 abbrev whole : (ℕ → ℕ → Look) → Job → Part → Page
 whole look job part = page look (job_of.left job (part .i) (part .j)) (part .room - part .rows) (part .budget)
 
--- At the pair (i, j), with `rows` rows in all, a budget that is left, `looked` pairs looked at, and the slices as they are now; when
--- the call began they were i₀ and p₀.
+-- At the pair (i, j), with `rows` rows in all, a budget that is left, `looked` pairs looked at, and the slices as they are now;
+-- when the call began they were i₀ and p₀.
 pub record State (first second kept : List Float) (job : Job) (part : Part) (i₀ : List ℕ) (p₀ : List Float)
     (i j rows budget looked : ℕ) (l : List ℕ) (p : List Float) : Type 0 where
   pub left :

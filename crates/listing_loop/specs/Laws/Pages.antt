@@ -22,8 +22,8 @@ empty-nil [] e = refl
 empty-nil (p ∷ ps) e = absurd (true≢false (sym e))
 
 module _ (look : ℕ → ℕ → Look) where
-  -- A page and the remaining pairs make up the whole; the page has no more rows than fit and passes no more pairs than its budget.
-  -- If pairs remain and the budget is for all, it is full and one of them makes a row.
+  -- A page and the remaining pairs make up the whole; the page has no more rows than fit and passes no more pairs than its
+  -- budget. If pairs remain and the budget is for all, it is full and one of them makes a row.
   pub record Joins (ps : List Pair) (room budget : ℕ) (q : Page) : Type 0 where
     pub rows : q .rows ++ rowsOf look (q .rest) ≡ rowsOf look ps
     pub looked : q .looked + lookedAt look (q .rest) ≡ lookedAt look ps

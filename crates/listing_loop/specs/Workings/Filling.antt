@@ -1,5 +1,5 @@
--- What it leaves to fill rows from a pair on, as a page; and the loop that does so, step by step. Its invariant: the remaining page,
--- added to what the slices hold now, gives what the whole page gives.
+-- What it leaves to fill rows from a pair on, as a page; and the loop that does so, step by step. Its invariant: the remaining
+-- page, added to what the slices hold now, gives what the whole page gives.
 use mathlib.Core.Path.{_≡_, refl, sym, ap, _∙_}
 use mathlib.Core.Bool.{Bool, true, false, cond}
 use mathlib.Core.List.{List, _∷_}
@@ -187,7 +187,8 @@ module _ (look : ℕ → ℕ → Look) (job : Job) (part : Part) (whole : Page) 
               let after = job_of.left job i (j + 1) in
               ap (λ (b : ℕ). page look (job_of.left job i j) (part .room - rows) b) allowed
               ∙ ap (λ (ps : List Pair). page look ps (part .room - rows) (suc less)) here
-              ∙ ap (λ (t : Look). turn t (record { i = i; j = j } ∷ after) (λ left. page look after left less) (part .room - rows))
+              ∙ ap
+              (λ (t : Look). turn t (record { i = i; j = j } ∷ after) (λ left. page look after left less) (part .room - rows))
               e
 
           pub skips : look i j ≡ Skipped → At i (j + 1) rows less (passed + 1) looked l p

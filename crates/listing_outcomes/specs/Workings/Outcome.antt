@@ -75,7 +75,8 @@ module _ (look : ℕ → ℕ → Look) (ps : List Pair) (i₀ : List ℕ) (p₀ 
   fit-points n h = omega (arith, h)
 
   -- ---- no pair remains after a page with room for k rows
-  module _ {k budget : ℕ} {q : Page} (j : Joins look ps k budget q) (within : k ≤ room i₀ p₀) (ended : empty (q .rest) ≡ true) where
+  module _ {k budget : ℕ} {q : Page} (j : Joins look ps k budget q) (within : k ≤ room i₀ p₀)
+      (ended : empty (q .rest) ≡ true) where
     all : q .rows ≡ rows
     all = whole-rows look j ended
 
@@ -196,7 +197,8 @@ just-all numbers width each rows old k n l =
 
 -- a page that fills slices with exactly its room, after which pairs remain
 pub hold : (look : ℕ → ℕ → Look) (job : Job) (start k m : ℕ) (r : Filling) (a₀ a : List ℕ) (b₀ b : List Float) → m ≡ k
-    → Filled job (front look job start m (job .n * job .m)) (page look (job_of.every job) m (job .n * job .m)) r a₀ a b₀ b → r .ended ≡ false
+    → Filled job (front look job start m (job .n * job .m)) (page look (job_of.every job) m (job .n * job .m)) r a₀ a b₀ b
+    → r .ended ≡ false
     → length a₀ ≡ k * indicesARow → length b₀ ≡ k * pointsARow
     → Held look job k r a b
 hold look job start k m r a₀ a b₀ b same g e x y =
@@ -213,7 +215,8 @@ hold look job start k m r a₀ a b₀ b same g e x y =
       points = f .points ∙ just-all pointsOf pointsARow (λ r. refl) (q .rows) b₀ k n y;
     }
 
-module _ {look : ℕ → ℕ → Look} {job : Job} {k : ℕ} {r : Filling} {a : List ℕ} {b : List Float} (held : Held look job k r a b) where
+module _ {look : ℕ → ℕ → Look} {job : Job} {k : ℕ} {r : Filling} {a : List ℕ} {b : List Float}
+    (held : Held look job k r a b) where
   abbrev ps : List Pair
   ps = job_of.every job
 
@@ -303,7 +306,8 @@ module _ {look : ℕ → ℕ → Look} {job : Job} {k : ℕ} {r : Filling} {a : 
           ∙ ap (overwrite old) (sym (flat-append numbers (before .rows) (behind .rows)) ∙ ap (numbersOfRows numbers) (sym both))
 
       -- u and v: the slices after the held-back rows are copied to their fronts
-      pub behind-listed : (n l : ℕ) (u x : List ℕ) (v y : List Float) → n ≡ k + length (behind .rows) → l ≡ r .looked + behind .looked
+      pub behind-listed : (n l : ℕ) (u x : List ℕ) (v y : List Float) → n ≡ k + length (behind .rows)
+          → l ≡ r .looked + behind .looked
           → u ≡ paste i₀ 0 a (k * indicesARow) → v ≡ paste p₀ 0 b (k * pointsARow)
           → x ≡ sets u (k * indicesARow) (numbersOfRows indicesOf (behind .rows))
           → y ≡ sets v (k * pointsARow) (numbersOfRows pointsOf (behind .rows))

@@ -1,4 +1,5 @@
--- The outcome of a page of checked paths, from what the loop leaves: the three refusals, and the rows filled in from the position on.
+-- The outcome of a page of checked paths, from what the loop leaves: the three refusals, and the rows filled in from the
+-- position on.
 use mathlib.Core.Path.{_≡_, refl, sym, ap, _∙_}
 use mathlib.Core.Bool.{false, true}
 use mathlib.Core.Logic.{_≢_}

@@ -30,7 +30,8 @@ returns c =
 
 returns-2 : tie.Need-returns-2
 returns-2 c =
-    mutual-page-refused _ _ _ _ _ _ _ _ (sym (c .before .before .before .check-mutual .ensures) ∙ c .before .checked .given .1) _ _
+    mutual-page-refused _ _ _ _ _ _ _ _
+    (sym (c .before .before .before .check-mutual .ensures) ∙ c .before .checked .given .1) _ _
 
 pub mutual-page-spec : {M : Type 1} → statement M
 mutual-page-spec =

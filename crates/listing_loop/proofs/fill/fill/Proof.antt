@@ -1,4 +1,5 @@
--- `listing_loop::fill::fill` meets its contract: the state of Laws/Loop is an invariant of both loops, and each arm is one of its steps.
+-- `listing_loop::fill::fill` meets its contract: the state of Laws/Loop is an invariant of both loops, and each arm is one of
+-- its steps.
 use mathlib.Core.Path.{_≡_, refl, sym, _∙_}
 use mathlib.Core.List.{List}
 use Prim.Native.Nat.{ℕ, suc, _+_, _-_, _<_, _≤_}
@@ -18,7 +19,8 @@ use Rattle.listing_loop.proofs.fill.fill.Tie as tie
 
 -- the inner loop does not know what the slices held at the call: whatever that was, the state holds
 abbrev Inv-loop2 : tie.InvT-loop2
-Inv-loop2 first second kept job part indices₀ points₀ i j₀ rows₀ budget looked₀ v v-kept to start end indices points j rows looked =
+Inv-loop2 first second kept job part indices₀ points₀ i j₀ rows₀ budget looked₀ v v-kept to start end indices points j rows
+    looked =
     (j₀ ≤ j)
     × (j - j₀ ≤ budget)
     × ((x : List ℕ) (y : List Float)
@@ -172,7 +174,8 @@ returns c =
     let k = saw m in
     let q = k .before in
     let p = q .before in
-    stops (inner p) (inside p) (below q) (less q) (allowed q) _ (seen k ∙ m .before .before .seen .given .1) (c .before .if2 .taken)
+    stops (inner p) (inside p) (below q) (less q) (allowed q) _ (seen k ∙ m .before .before .seen .given .1)
+    (c .before .if2 .taken)
 
 put-row-requires : tie.Need-put-row-requires Inv-loop2 μ-loop2 Inv-loop μ-loop
 put-row-requires c κs =

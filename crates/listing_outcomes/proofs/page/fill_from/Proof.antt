@@ -1,5 +1,5 @@
--- `listing_outcomes::page::fill_from` meets its contract: what is kept is that of the segments that the page can reach, and the rest
--- is the loop's.
+-- `listing_outcomes::page::fill_from` meets its contract: what is kept is that of the segments that the page can reach, and the
+-- rest is the loop's.
 use mathlib.Core.Path.{_≡_}
 use Prim.Native.Nat.{ℕ, _*_}
 use native.Mathlib.Nat.{sub-zero}

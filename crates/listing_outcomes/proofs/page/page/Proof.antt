@@ -1,5 +1,5 @@
--- `listing_outcomes::page::page` meets its contract: each refusal is the first of the three that holds; else the loop fills the page
--- from the pair at the position on.
+-- `listing_outcomes::page::page` meets its contract: each refusal is the first of the three that holds; else the loop fills the
+-- page from the pair at the position on.
 use mathlib.Core.Path.{_≡_, sym, ap, _∙_}
 use mathlib.Core.List.{List}
 use Prim.Native.Nat.{ℕ, _+_, _≤_}
@@ -89,7 +89,8 @@ add-t14 c =
     let there = ap (λ p. job_of.left (a .job) (p .i) (p .j)) (l .locate .ensures) ∙ located (a .job) (a .position) in
     let passed = f .fill-from .ensures .passed
     ∙ ap (λ qs. page (looks (counted f)) qs (r .row-room .result) (a .budget) .passed) there in
-    let few = next-few (looks (counted f)) (pairs (counted f)) (a .position) (r .row-room .result) (a .budget) (within (r .before .before)) in
+    let few = next-few (looks (counted f)) (pairs (counted f)) (a .position) (r .row-room .result) (a .budget)
+    (within (r .before .before)) in
     omega (arith, passed, few, every-few (a .job) (s .pre .few) (s .pre .few-second))
 
 returns-4 : tie.Need-returns-4
