@@ -1,5 +1,5 @@
-// A listing of two checked paths into the caller's slices, if all rows fit. Only here is refusal 8 decided: it is the answer if
-// there are more rows than both slices have room for, and then nothing is written.
+// A listing of two checked paths into the caller's slices, if all rows fit. Only here is a listing's refusal 8 decided: it is
+// the answer if there are more rows than both slices have room for, and then nothing is written.
 ghost use Rattle.listing_pairs.specs.Look;
 ghost use Rattle.listing_pairs.specs.Workings.Job as job_of;
 ghost use Rattle.listing_pairs.specs.Workings.Keeping;

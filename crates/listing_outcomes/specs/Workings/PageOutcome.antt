@@ -11,7 +11,10 @@ use borrow.Author.Tests.{le-ltb, lt-ltb, eq-eqb, ne-eqb}
 use lib.Ieee.{Float}
 use lib.ListN.{length, length-drop, drop}
 use lib.Seq.{sets}
-use Rattle.checks.specs.Fault.{refuse, later}
+use Rattle.checks.specs.declared.fault.Place.{Place}
+use Rattle.checks.specs.declared.fault.Item.the-variants.{Rows, Position, Budget}
+use Rattle.checks.specs.declared.fault.Checked.the-variants.{Fine}
+use Rattle.checks.specs.Fault.{at, bad, refuse, later}
 use Rattle.checks.specs.First.{first as firstFault}
 use Rattle.checks.specs.Refusal
 use Rattle.listing_pairs.specs.declared.row.Row.{Row}
@@ -68,32 +71,59 @@ module _ (look : ℕ → ℕ → Look) (ps : List Pair) (position budget : ℕ) 
   abbrev is : PageAnswer → List ℕ → List Float → Type 0
   is r i p = Leaves (paged look ps position budget i₀ p₀) r i p
 
+  -- what the first fault of the three checks is
+  refused : (n : ℕ) (p : Place) → firstFault (limits position (length ps) budget i₀ p₀) ≡ bad n p → is (Refused n) i₀ p₀
+  refused n p e = rw e (record { answer = refl; indices = refl; points = refl })
+
+  is-beyond : length ps < position → positionCheck position (length ps) ≡ bad Refusal.position (at 0 0 Position)
+  unfolding positionCheck refuse
+  is-beyond h = rw (lt-ltb _ _ h) refl
+
   pub beyond : length ps < position → is (Refused Refusal.position) i₀ p₀
-  unfolding positionCheck refuse later
-  beyond h = rw (lt-ltb _ _ h) (record { answer = refl; indices = refl; points = refl })
+  unfolding later
+  beyond h = refused Refusal.position (at 0 0 Position) (rw (is-beyond h) refl)
 
   module _ (within : position ≤ length ps) where
+    position-passes : positionCheck position (length ps) ≡ Fine
+    unfolding positionCheck refuse
+    position-passes = rw (le-ltb (length ps) position within) refl
+
+    budget-none : budget ≡ 0 → budgetCheck budget ≡ bad Refusal.budget (at 0 0 Budget)
+    unfolding budgetCheck refuse
+    budget-none e = rw (eq-eqb budget 0 e) refl
+
     pub no-budget : budget ≡ 0 → is (Refused Refusal.budget) i₀ p₀
-    unfolding positionCheck budgetCheck refuse later
-    no-budget e =
-        rw (le-ltb (length ps) position within, eq-eqb budget 0 e) (record { answer = refl; indices = refl; points = refl })
+    unfolding later
+    no-budget e = refused Refusal.budget (at 0 0 Budget) (rw (position-passes, budget-none e) refl)
 
     module _ (some : budget ≢ 0) where
+      budget-passes : budgetCheck budget ≡ Fine
+      unfolding budgetCheck refuse
+      budget-passes = rw (ne-eqb budget 0 some) refl
+
+      row-none : room i₀ p₀ ≡ 0 → rowCheck i₀ p₀ ≡ bad Refusal.rows (at 0 0 Rows)
+      unfolding rowCheck refuse
+      row-none e = rw (eq-eqb (room i₀ p₀) 0 e) refl
+
       pub no-row : room i₀ p₀ ≡ 0 → is (Refused Refusal.rows) i₀ p₀
-      unfolding positionCheck budgetCheck rowCheck refuse later
-      no-row e =
-          rw (le-ltb (length ps) position within, ne-eqb budget 0 some, eq-eqb (room i₀ p₀) 0 e)
-          (record { answer = refl; indices = refl; points = refl })
+      unfolding later
+      no-row e = refused Refusal.rows (at 0 0 Rows) (rw (position-passes, budget-passes, row-none e) refl)
 
       module _ (fits : room i₀ p₀ ≢ 0) where
+        row-passes : rowCheck i₀ p₀ ≡ Fine
+        unfolding rowCheck refuse
+        row-passes = rw (ne-eqb (room i₀ p₀) 0 fits) refl
+
+        all-pass : firstFault (limits position (length ps) budget i₀ p₀) ≡ Fine
+        unfolding later
+        all-pass = rw (position-passes, budget-passes, row-passes) refl
+
         is-paged : (i : List ℕ) (p : List Float) (n passed next all : ℕ) → n ≡ length (whole .rows) → passed ≡ whole .passed
             → next ≡ position + whole .passed → all ≡ length ps
             → i ≡ overwrite i₀ (numbersOfRows indicesOf (whole .rows)) → p ≡ overwrite p₀ (numbersOfRows pointsOf (whole .rows))
             → is (Paged n passed next all) i p
-        unfolding positionCheck budgetCheck rowCheck refuse later
         is-paged i p n passed next all a b c d e f =
-            rw (le-ltb (length ps) position within, ne-eqb budget 0 some, ne-eqb (room i₀ p₀) 0 fits)
-            (record { answer = rw (a, b, c, d) refl; indices = e; points = f })
+            rw all-pass (record { answer = rw (a, b, c, d) refl; indices = e; points = f })
 
         -- one kind of numbers, stored from the front on
         stored-front : {A : Type 0} (numbers : Row → List A) (width : ℕ) → ((r : Row) → length (numbers r) ≡ width)
