@@ -3,7 +3,7 @@
 use mathlib.Core.Path.{_≡_, refl, sym, ap, _∙_}
 use mathlib.Core.Bool.{false, true}
 use mathlib.Core.Logic.{_≢_}
-use mathlib.Core.List.{List}
+use mathlib.Core.List.{List, [], _∷_}
 use Prim.Native.Nat.{ℕ, _+_, _-_, _*_, _≤_, _<_}
 use native.Mathlib.Nat.{sub-zero, mul-le-mul, le-refl}
 use native.Mathlib.Omega.{arith}
@@ -13,6 +13,7 @@ use lib.ListN.{length, length-drop, drop}
 use lib.Seq.{sets}
 use Rattle.checks.specs.declared.fault.Place.{Place}
 use Rattle.checks.specs.declared.fault.Item.the-variants.{Rows, Position, Budget}
+use Rattle.checks.specs.declared.fault.Checked.{Checked}
 use Rattle.checks.specs.declared.fault.Checked.the-variants.{Fine}
 use Rattle.checks.specs.Fault.{at, bad, refuse, later}
 use Rattle.checks.specs.First.{first as firstFault}
@@ -38,6 +39,23 @@ use Rattle.listing_outcomes.specs.PageOutcome.{positionCheck, budgetChec
 use Rattle.listing_outcomes.specs.Laws.Overwrite.{sets-over}
 use Rattle.listing_outcomes.specs.Workings.Outcome.{every-within}
 use Rattle.paths.specs.Path.{mostVertices}
+
+-- the first fault of three checks: the first, or the second, or the third
+in-first : (a b c : Checked) (n : ℕ) (p : Place) → a ≡ bad n p → firstFault (a ∷ b ∷ c ∷ []) ≡ bad n p
+unfolding later
+in-first a b c n p e = rw e refl
+
+in-second : (a b c : Checked) (n : ℕ) (p : Place) → a ≡ Fine → b ≡ bad n p → firstFault (a ∷ b ∷ c ∷ []) ≡ bad n p
+unfolding later
+in-second a b c n p e f = rw (e, f) refl
+
+in-third : (a b c : Checked) (n : ℕ) (p : Place) → a ≡ Fine → b ≡ Fine → c ≡ bad n p → firstFault (a ∷ b ∷ c ∷ []) ≡ bad n p
+unfolding later
+in-third a b c n p e f g = rw (e, f, g) refl
+
+in-none : (a b c : Checked) → a ≡ Fine → b ≡ Fine → c ≡ Fine → firstFault (a ∷ b ∷ c ∷ []) ≡ Fine
+unfolding later
+in-none a b c e f g = rw (e, f, g) refl
 
 -- a page of checked paths
 abbrev pub paged : (ℕ → ℕ → Look) → List Pair → ℕ → ℕ → List ℕ → List Float → Outcome PageAnswer
@@ -80,8 +98,9 @@ module _ (look : ℕ → ℕ → Look) (ps : List Pair) (position budget : ℕ) 
   is-beyond h = rw (lt-ltb _ _ h) refl
 
   pub beyond : length ps < position → is (Refused Refusal.position) i₀ p₀
-  unfolding later
-  beyond h = refused Refusal.position (at 0 0 Position) (rw (is-beyond h) refl)
+  beyond h =
+      refused Refusal.position (at 0 0 Position)
+      (in-first (positionCheck position (length ps)) (budgetCheck budget) (rowCheck i₀ p₀) _ _ (is-beyond h))
 
   module _ (within : position ≤ length ps) where
     position-passes : positionCheck position (length ps) ≡ Fine
@@ -93,8 +112,9 @@ module _ (look : ℕ → ℕ → Look) (ps : List Pair) (position budget : ℕ) 
     budget-none e = rw (eq-eqb budget 0 e) refl
 
     pub no-budget : budget ≡ 0 → is (Refused Refusal.budget) i₀ p₀
-    unfolding later
-    no-budget e = refused Refusal.budget (at 0 0 Budget) (rw (position-passes, budget-none e) refl)
+    no-budget e =
+        refused Refusal.budget (at 0 0 Budget)
+        (in-second (positionCheck position (length ps)) (budgetCheck budget) (rowCheck i₀ p₀) _ _ position-passes (budget-none e))
 
     module _ (some : budget ≢ 0) where
       budget-passes : budgetCheck budget ≡ Fine
@@ -106,8 +126,10 @@ module _ (look : ℕ → ℕ → Look) (ps : List Pair) (position budget : ℕ) 
       row-none e = rw (eq-eqb (room i₀ p₀) 0 e) refl
 
       pub no-row : room i₀ p₀ ≡ 0 → is (Refused Refusal.rows) i₀ p₀
-      unfolding later
-      no-row e = refused Refusal.rows (at 0 0 Rows) (rw (position-passes, budget-passes, row-none e) refl)
+      no-row e =
+          refused Refusal.rows (at 0 0 Rows)
+          (in-third (positionCheck position (length ps)) (budgetCheck budget) (rowCheck i₀ p₀) _ _
+          position-passes budget-passes (row-none e))
 
       module _ (fits : room i₀ p₀ ≢ 0) where
         row-passes : rowCheck i₀ p₀ ≡ Fine
@@ -115,8 +137,9 @@ module _ (look : ℕ → ℕ → Look) (ps : List Pair) (position budget : ℕ) 
         row-passes = rw (ne-eqb (room i₀ p₀) 0 fits) refl
 
         all-pass : firstFault (limits position (length ps) budget i₀ p₀) ≡ Fine
-        unfolding later
-        all-pass = rw (position-passes, budget-passes, row-passes) refl
+        all-pass =
+            in-none (positionCheck position (length ps)) (budgetCheck budget) (rowCheck i₀ p₀)
+            position-passes budget-passes row-passes
 
         is-paged : (i : List ℕ) (p : List Float) (n passed next all : ℕ) → n ≡ length (whole .rows) → passed ≡ whole .passed
             → next ≡ position + whole .passed → all ≡ length ps
