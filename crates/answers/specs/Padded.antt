@@ -1,10 +1,12 @@
--- A call's answer as plain numbers: whether it is a refusal, its number (the refusal's or the case's), and four values. Values
+-- A call's answer as plain numbers: whether it is a refusal, its number (the refusal's word or the case's number), and four values. Values
 -- that the case lacks are +0.
 use Prim.Native.Nat.{ℕ}
-use mathlib.Core.Bool.{true, false}
+use mathlib.Core.Bool.{true, false, cond}
 use mathlib.Core.List.{List, [], _∷_}
 use lib.Ieee.{Float}
 use Rattle.floats.specs.Ops.{f0}
+use Rattle.checks.specs.declared.fault.Fault.{Fault}
+use Rattle.checks.specs.Word.{wordOf, word}
 use Rattle.crossing.specs.AnswerNumbers.{AnswerNumbers}
 use Rattle.crossing.specs.LineLineIntersect
 use Rattle.crossing.specs.LineCircleIntersect
@@ -18,8 +20,8 @@ use Rattle.answers.specs.declared.padded.PaddedAnswer.{PaddedAnswer}
 
 -- ---- a refusal, and a case with its values
 
-unfoldable pub refusal : ℕ → PaddedAnswer
-refusal n = record { refused = true; number = n; a = f0; b = f0; c = f0; d = f0 }
+unfoldable pub refusal : Fault → PaddedAnswer
+refusal f = record { refused = true; number = word f; a = f0; b = f0; c = f0; d = f0 }
 
 unfoldable pub case : ℕ → Float → Float → Float → Float → PaddedAnswer
 case n a b c d = record { refused = false; number = n; a = a; b = b; c = c; d = d }
@@ -38,7 +40,7 @@ abbrev pub padded : AnswerNumbers → PaddedAnswer
 padded t =
     record {
       refused = t .refused;
-      number = t .number;
+      number = cond (t .refused) (wordOf (t .number) (t .owner) (t .index) (t .item)) (t .number);
       a = firstValue (t .values);
       b = firstValue (laterValues (t .values));
       c = firstValue (laterValues (laterValues (t .values)));

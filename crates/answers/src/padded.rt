@@ -2,6 +2,8 @@
 ghost use mathlib.Core.Path.{_≡_};
 ghost use Rattle.answers.specs.Padded as padding;
 use super::class_and_points::class_and_points;
+use checks::fault::Fault;
+use checks::word::word;
 use crossing::circle_circle_intersect::CircleCircleAnswer;
 use crossing::circle_circle_intr::CircleCircleIntr;
 use crossing::line_circle_intersect::LineCircleAnswer;
@@ -10,7 +12,7 @@ use crossing::line_line_intersect::LineLineAnswer;
 use crossing::line_line_intr::LineLineIntr;
 use crossing::pline_seg_intersect::PlineSegAnswer;
 
-// A refusal and its number, or the number of the case and four values. Values that the case lacks are +0.
+// A refusal and its word, or the number of the case and four values. Values that the case lacks are +0.
 pub struct PaddedAnswer {
     pub refused: bool,
     pub number: u64,
@@ -20,13 +22,13 @@ pub struct PaddedAnswer {
     pub d: f64,
 }
 
-// The refusal with this number.
-fn refusal(number: u64) -> PaddedAnswer
-    ensures { λ r. ⌜ r ≡ padding.refusal number ⌝ }
+// The refusal of a fault, with its word.
+fn refusal(fault: Fault) -> PaddedAnswer
+    ensures { λ r. ⌜ r ≡ padding.refusal fault ⌝ }
 {
     PaddedAnswer {
         refused: true,
-        number: number,
+        number: word(fault),
         a: 0.0,
         b: 0.0,
         c: 0.0,
@@ -53,7 +55,7 @@ pub fn of_line_line(answer: LineLineAnswer) -> PaddedAnswer
     ensures { λ r. ⌜ r ≡ padding.ofLineLine answer ⌝ }
 {
     match answer {
-        LineLineAnswer::Refused(n) => refusal(n),
+        LineLineAnswer::Refused(fault) => refusal(fault),
         LineLineAnswer::Met(intr) => match intr {
             LineLineIntr::NoIntersect => case(0, 0.0, 0.0, 0.0, 0.0),
             LineLineIntr::TrueIntersect { seg1_t, seg2_t } => case(1, seg1_t, seg2_t, 0.0, 0.0),
@@ -68,7 +70,7 @@ pub fn of_line_circle(answer: LineCircleAnswer) -> PaddedAnswer
     ensures { λ r. ⌜ r ≡ padding.ofLineCircle answer ⌝ }
 {
     match answer {
-        LineCircleAnswer::Refused(n) => refusal(n),
+        LineCircleAnswer::Refused(fault) => refusal(fault),
         LineCircleAnswer::Met(intr) => match intr {
             LineCircleIntr::NoIntersect => case(0, 0.0, 0.0, 0.0, 0.0),
             LineCircleIntr::TangentIntersect { t0 } => case(1, t0, 0.0, 0.0, 0.0),
@@ -82,7 +84,7 @@ pub fn of_circle_circle(answer: CircleCircleAnswer) -> PaddedAnswer
     ensures { λ r. ⌜ r ≡ padding.ofCircleCircle answer ⌝ }
 {
     match answer {
-        CircleCircleAnswer::Refused(n) => refusal(n),
+        CircleCircleAnswer::Refused(fault) => refusal(fault),
         CircleCircleAnswer::Met(intr) => match intr {
             CircleCircleIntr::NoIntersect => case(0, 0.0, 0.0, 0.0, 0.0),
             CircleCircleIntr::TangentIntersect { point } => case(1, point.x, point.y, 0.0, 0.0),
@@ -99,7 +101,7 @@ pub fn of_pline_seg(answer: PlineSegAnswer) -> PaddedAnswer
     ensures { λ r. ⌜ r ≡ padding.ofPlineSeg answer ⌝ }
 {
     match answer {
-        PlineSegAnswer::Refused(n) => refusal(n),
+        PlineSegAnswer::Refused(fault) => refusal(fault),
         PlineSegAnswer::Met(intr) => {
             let m = class_and_points(intr);
             case(m.class, m.x1, m.y1, m.x2, m.y2)

@@ -1,5 +1,5 @@
 -- How an answer goes to a caller in C, as decided here: a number is returned, and four values go into the lent slice.
-use Prim.Native.Nat.{ℕ, _+_}
+use Prim.Native.Nat.{ℕ}
 use mathlib.Core.Path.{_≡_}
 use mathlib.Core.Bool.{Bool, cond, _||_}
 use mathlib.Core.List.{List, [], _∷_}
@@ -9,7 +9,6 @@ use lib.Seq.{sets}
 use lib.Ieee.{Float}
 use Rattle.plane.specs.declared.vector2.Vector2.{Vector2}
 use Rattle.plane.specs.declared.pline_vertex.PlineVertex.{PlineVertex}
-use Rattle.checks.specs.Refusal
 use Rattle.answers.specs.declared.padded.PaddedAnswer.{PaddedAnswer}
 
 -- ---- in
@@ -20,7 +19,7 @@ point x y = record { x = x; y = y }
 abbrev pub vertex : Float → Float → Float → PlineVertex
 vertex x y bulge = record { x = x; y = y; bulge = bulge }
 
--- ---- out: one code if the slice has too few places, else another plus the number of a refusal, else the number of the case
+-- ---- out: a code if the slice has too few places, else the word of a refusal, else the number of the case
 
 -- how many places an answer takes
 abbrev pub places : ℕ
@@ -30,15 +29,11 @@ places = 4
 abbrev pub noRoomCode : ℕ
 noRoomCode = 512
 
--- what is returned of a refusal: this plus its number
-abbrev pub refusedCode : ℕ
-refusedCode = Refusal.numbersBelow
-
 abbrev pub short : List Float → Bool
 short old = ltb (length old) places
 
 abbrev pub code : PaddedAnswer → List Float → ℕ
-code f old = cond (short old) noRoomCode (cond (f .refused) (refusedCode + f .number) (f .number))
+code f old = cond (short old) noRoomCode (f .number)
 
 abbrev pub written : PaddedAnswer → List Float → List Float
 written f old = cond (short old || f .refused) old (sets old 0 (f .a ∷ f .b ∷ f .c ∷ f .d ∷ []))

@@ -1,6 +1,6 @@
 -- How a listing and a page go to a caller in C, as decided here: a number is returned, the counts go into a third lent slice,
 -- and the rows into the two slices that the call is lent.
-use Prim.Native.Nat.{ℕ, _+_}
+use Prim.Native.Nat.{ℕ}
 use mathlib.Core.Path.{_≡_}
 use mathlib.Core.Bool.{Bool, cond}
 use mathlib.Core.List.{List, [], _∷_}
@@ -8,28 +8,30 @@ use lib.Dec.{ltb}
 use lib.ListN.{length}
 use lib.Seq.{sets}
 use lib.Ieee.{Float}
+use Rattle.checks.specs.declared.fault.Fault.{Fault}
+use Rattle.checks.specs.Word.{word}
 use Rattle.listing_outcomes.specs.declared.answer.ListingAnswer.{ListingAnswer}
 use Rattle.listing_outcomes.specs.declared.answer.ListingAnswer.the-variants.{Refused, Listed}
 use Rattle.listing_outcomes.specs.declared.answer.PageAnswer.{PageAnswer}
 use Rattle.listing_outcomes.specs.declared.answer.PageAnswer.the-variants as page
 use Rattle.listing_outcomes.specs.Outcome.{Outcome}
-use Rattle.capi.specs.Handed.{noRoomCode, refusedCode}
+use Rattle.capi.specs.Handed.{noRoomCode}
 
 -- ---- what is returned of an answer, and the counts that are written
 pub record Counted : Type 0 where
   pub code : ℕ
   pub counts : List ℕ
 
--- the code and number of a refusal, and no counts; else 0, and the counts
-abbrev pub refusedCounts : ℕ → Counted
-refusedCounts n = record { code = refusedCode + n; counts = [] }
+-- the word of a refusal, and no counts; else 0, and the counts
+abbrev pub refusedCounts : Fault → Counted
+refusedCounts f = record { code = word f; counts = [] }
 
 -- a listing: rows written, pairs looked at
 abbrev pub countPlaces : ℕ
 countPlaces = 2
 
 abbrev pub listing : ListingAnswer → Counted
-listing (Refused n) = refusedCounts n
+listing (Refused f) = refusedCounts f
 listing (Listed rows pairs) = record { code = 0; counts = rows ∷ pairs ∷ [] }
 
 -- a page: rows written, pairs passed, the next position, all pairs
@@ -37,7 +39,7 @@ abbrev pub pagePlaces : ℕ
 pagePlaces = 4
 
 abbrev pub ofPage : PageAnswer → Counted
-ofPage (page.Refused n) = refusedCounts n
+ofPage (page.Refused f) = refusedCounts f
 ofPage (page.Paged rows pairs next all) = record { code = 0; counts = rows ∷ pairs ∷ next ∷ all ∷ [] }
 
 -- ---- handed over, for any kind of answer; nothing is done if the counts' slice has too few places

@@ -1,13 +1,12 @@
 // The listings of two paths and of one. The counts go into a lent slice of their own.
 ghost use mathlib.Core.Path.{_≡_};
-ghost use Prim.Native.Nat.{_≤_, _<_};
+ghost use Prim.Native.Nat.{_≤_};
 ghost use lib.ListN.{length};
 ghost use lib.Seq.{sets};
 ghost use Rattle.listing_calls.specs.Listing;
-ghost use Rattle.capi.specs.Handed.{noRoomCode};
 ghost use Rattle.capi.specs.HandedListing as handed;
 use super::hand_over::NO_ROOM;
-use super::hand_over::REFUSED;
+use checks::word::word;
 use listing_calls::mutual_listing;
 use listing_calls::self_listing;
 use listing_outcomes::answer::ListingAnswer;
@@ -15,16 +14,14 @@ use listing_outcomes::answer::ListingAnswer;
 // how many counts a listing hands over
 const COUNTS: usize = 2;
 
-// Writes the counts of an answer to the front of `counts` and returns 0. A refusal writes nothing and returns REFUSED plus its
-// number.
+// Writes the counts of an answer to the front of `counts` and returns 0. A refusal writes nothing and returns its word.
 fn hand_counts(answer: ListingAnswer, counts: &mut [u64]) -> u64
     requires { ⌜ handed.countPlaces ≤ length (now counts) ⌝ }
-    requires { ⌜ handed.listing answer .code < noRoomCode ⌝ }
     ensures { λ r. ⌜ r ≡ handed.listing answer .code ⌝ }
     ensures { λ r. ⌜ now (counts .exit) ≡ sets (now (counts .entry)) 0 (handed.listing answer .counts) ⌝ }
 {
     match answer {
-        ListingAnswer::Refused(n) => REFUSED + n,
+        ListingAnswer::Refused(fault) => word(fault),
         ListingAnswer::Listed { rows, pairs } => {
             counts[0] = rows as u64;
             counts[1] = pairs as u64;

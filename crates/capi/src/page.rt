@@ -1,13 +1,12 @@
 // Pages of the listings of two paths and of one. The counts go into a lent slice of their own.
 ghost use mathlib.Core.Path.{_≡_};
-ghost use Prim.Native.Nat.{_≤_, _<_};
+ghost use Prim.Native.Nat.{_≤_};
 ghost use lib.ListN.{length};
 ghost use lib.Seq.{sets};
 ghost use Rattle.listing_calls.specs.Pages;
-ghost use Rattle.capi.specs.Handed.{noRoomCode};
 ghost use Rattle.capi.specs.HandedListing as handed;
 use super::hand_over::NO_ROOM;
-use super::hand_over::REFUSED;
+use checks::word::word;
 use listing_calls::mutual_page;
 use listing_calls::self_page;
 use listing_outcomes::answer::PageAnswer;
@@ -15,16 +14,14 @@ use listing_outcomes::answer::PageAnswer;
 // how many counts a page hands over
 const COUNTS: usize = 4;
 
-// Writes the counts of an answer to the front of `counts` and returns 0. A refusal writes nothing and returns REFUSED plus its
-// number.
+// Writes the counts of an answer to the front of `counts` and returns 0. A refusal writes nothing and returns its word.
 fn hand_page(answer: PageAnswer, counts: &mut [u64]) -> u64
     requires { ⌜ handed.pagePlaces ≤ length (now counts) ⌝ }
-    requires { ⌜ handed.ofPage answer .code < noRoomCode ⌝ }
     ensures { λ r. ⌜ r ≡ handed.ofPage answer .code ⌝ }
     ensures { λ r. ⌜ now (counts .exit) ≡ sets (now (counts .entry)) 0 (handed.ofPage answer .counts) ⌝ }
 {
     match answer {
-        PageAnswer::Refused(n) => REFUSED + n,
+        PageAnswer::Refused(fault) => word(fault),
         PageAnswer::Paged {
             rows,
             pairs,

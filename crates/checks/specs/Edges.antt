@@ -58,12 +58,15 @@ abbrev pub due : Place → List Entry → List Checked
 due p [] = []
 due p (entry check bits n ∷ entries) = answer n p ∷ due p entries
 
--- a NaN, +infinity and -infinity are refused with number n
-abbrev pub notNumbers : (Float → Place → Checked) → ℕ → List Entry
-notNumbers check n =
+-- NaNs (quiet and signalling, of either sign) are refused with number n, and +infinity and -infinity with m
+abbrev pub notNumbers : (Float → Place → Checked) → ℕ → ℕ → List Entry
+notNumbers check n m =
     entry check 0x7ff8_0000_0000_0000 n ∷
-    entry check 0x7ff0_0000_0000_0000 n ∷
-    entry check 0xfff0_0000_0000_0000 n ∷ []
+    entry check 0xfff8_0000_0000_0000 n ∷
+    entry check 0x7ff0_0000_0000_0001 n ∷
+    entry check 0xfff0_0000_0000_0001 n ∷
+    entry check 0x7ff0_0000_0000_0000 m ∷
+    entry check 0xfff0_0000_0000_0000 m ∷ []
 
 -- an upper limit in magnitude: the limit and the next float beyond it, whose pattern is one more, with either sign
 abbrev pub upTo : (Float → Place → Checked) → ℕ → ℕ → List Entry
@@ -87,20 +90,20 @@ epsilonEntries =
     let check : Float → Place → Checked = λ x p. Each.epsilon x in
     from check 0x3d70_0000_0000_0000 4
     ++ (entry check 0x3fe0_0000_0000_0000 0 ∷ entry check 0x3fe0_0000_0000_0001 4 ∷ [])
-    ++ notNumbers check 4
+    ++ notNumbers check 4 4
 
 -- the numbers that can stand at any place
 abbrev pub entries : List Entry
 entries =
     upTo Each.coordinate 0x4130_0000_0000_0000 2
-    ++ notNumbers Each.coordinate 1
+    ++ notNumbers Each.coordinate 11 12
     ++ upTo Each.bulge 0x3ff0_0000_0000_0000 3
-    ++ notNumbers Each.bulge 1
+    ++ notNumbers Each.bulge 11 12
     ++ from Each.radius 0x3d50_0000_0000_0000 9
     ++ (entry Each.radius 0x42e0_0000_0000_0000 0 ∷ entry Each.radius 0x42e0_0000_0000_0001 9 ∷ [])
-    ++ notNumbers Each.radius 1
+    ++ notNumbers Each.radius 11 12
     ++ upTo Each.center 0x42f0_0000_0000_0000 9
-    ++ notNumbers Each.center 1
+    ++ notNumbers Each.center 11 12
     ++ from Each.chord 0x3d70_0000_0000_0000 5
     ++ (entry Each.chord 0x7ff8_0000_0000_0000 0 ∷ [])
 

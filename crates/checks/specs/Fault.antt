@@ -3,6 +3,7 @@ use Prim.Native.Nat.{ℕ}
 use mathlib.Core.Bool.{Bool, cond}
 use Rattle.checks.specs.declared.fault.Item.{Item}
 use Rattle.checks.specs.declared.fault.Place.{Place}
+use Rattle.checks.specs.declared.fault.Fault.{Fault}
 use Rattle.checks.specs.declared.fault.Checked.{Checked}
 use Rattle.checks.specs.declared.fault.Checked.the-variants.{Fine, Bad}
 
@@ -12,6 +13,10 @@ at owner index item = record { owner = owner; index = index; item = item }
 
 abbrev pub bad : ℕ → Place → Checked
 bad n p = Bad (record { number = n; place = p })
+
+-- a fault whose place has no owner and no index
+abbrev pub whole : ℕ → Item → Fault
+whole n item = record { number = n; place = at 0 0 item }
 
 -- the number of the refusal that a check gives, or 0 if it is fine
 abbrev pub refusal : Checked → ℕ

@@ -3,7 +3,8 @@
 use mathlib.Core.Path.{_≡_, refl, sym, ap, _∙_}
 use mathlib.Core.Bool.{cond}
 use mathlib.Core.List.{List, [], _∷_}
-use Prim.Native.Nat.{ℕ}
+use Prim.Native.Nat.{ℕ, _<_}
+use native.Mathlib.Omega.{arith}
 use lib.Dec.{eqb}
 use Rattle.checks.specs.declared.fault.Item.{Item}
 use Rattle.checks.specs.declared.fault.Item.the-variants.{
@@ -38,12 +39,30 @@ item Rows = 9
 item Position = 10
 item Budget = 11
 
+-- how many items there are
+abbrev pub items : ℕ
+items = 12
+
+pub item-below : (i : Item) → item i < items
+item-below Epsilon = omega arith
+item-below X = omega arith
+item-below Y = omega arith
+item-below Bulge = omega arith
+item-below Radius = omega arith
+item-below CenterX = omega arith
+item-below CenterY = omega arith
+item-below Chord = omega arith
+item-below Length = omega arith
+item-below Rows = omega arith
+item-below Position = omega arith
+item-below Budget = omega arith
+
 abbrev pub faultNumbers : Checked → List ℕ
 faultNumbers Fine = 0 ∷ []
 faultNumbers (Bad f) = f .number ∷ f .place .owner ∷ f .place .index ∷ item (f .place .item) ∷ []
 
 -- ---- back from the numbers
-item-back : ℕ → Item
+pub item-back : ℕ → Item
 item-back n =
     cond (eqb n 0) Epsilon
     (cond (eqb n 1) X
@@ -58,7 +77,7 @@ item-back n =
     (cond (eqb n 10) Position
     Budget))))))))))
 
-item-same : (i : Item) → item-back (item i) ≡ i
+pub item-same : (i : Item) → item-back (item i) ≡ i
 unfolding item-back
 item-same Epsilon = refl
 item-same X = refl

@@ -17,5 +17,6 @@ pub mod Chord
 pub mod Answered
 pub mod ExactlyWhen
 pub mod FaultNumbers
+pub mod Word
 pub mod Workings
 pub mod Laws

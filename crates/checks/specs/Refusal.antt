@@ -2,10 +2,6 @@
 -- position and budget can give.
 use Prim.Native.Nat.{ℕ}
 
--- a coordinate, bulge or radius is NaN or infinite
-abbrev pub notFinite : ℕ
-notFinite = 1
-
 -- a coordinate of a point or vertex is too large
 abbrev pub coordinate : ℕ
 coordinate = 2
@@ -37,6 +33,13 @@ rows = 8
 -- a circle's radius is out of its range, or a coordinate of its centre is too large
 abbrev pub circle : ℕ
 circle = 9
+
+-- a coordinate, bulge or radius is NaN; it is infinite
+abbrev pub nan : ℕ
+nan = 11
+
+abbrev pub infinite : ℕ
+infinite = 12
 
 -- a page's position is beyond the end
 abbrev pub position : ℕ

@@ -11,14 +11,15 @@ use super::limit;
 use super::number;
 use super::refusal;
 
-// Refusal 1 if x is a NaN or an infinity.
+// Refusal 11 if x is a NaN, 12 if it is infinite.
 pub fn finite(x: f64, place: Place) -> Checked
     ensures { λ r. ⌜ r ≡ Each.finite x place ⌝ }
 {
-    refuse(number::not_finite(x), refusal::NOT_FINITE, place)
+    let a = refuse(number::is_nan(x), refusal::NAN, place);
+    later(a, refuse(number::is_infinite(x), refusal::INFINITE, place))
 }
 
-// Refusal 1 if x is a NaN or an infinity, then refusal `number` if `bad`.
+// Refusal 11 if x is a NaN, 12 if it is infinite, then refusal `number` if `bad`.
 fn finite_then(x: f64, bad: bool, number: u64, place: Place) -> Checked
     ensures { λ r. ⌜ r ≡ Each.finiteThen x bad number place ⌝ }
 {
@@ -36,7 +37,7 @@ pub fn epsilon(eps: f64) -> Checked
     )
 }
 
-// A coordinate of a point or vertex: refusal 1 if it is not finite, then 2 if it exceeds 1,048,576 in magnitude.
+// A coordinate of a point or vertex: refusal 11 if it is a NaN, 12 if it is infinite, then 2 if it exceeds 1,048,576 in magnitude.
 pub fn coordinate(x: f64, place: Place) -> Checked
     ensures { λ r. ⌜ r ≡ Each.coordinate x place ⌝ }
 {
@@ -48,14 +49,14 @@ pub fn coordinate(x: f64, place: Place) -> Checked
     )
 }
 
-// A bulge: refusal 1 if it is not finite, then 3 if it exceeds 1 in magnitude.
+// A bulge: refusal 11 if it is a NaN, 12 if it is infinite, then 3 if it exceeds 1 in magnitude.
 pub fn bulge(b: f64, place: Place) -> Checked
     ensures { λ r. ⌜ r ≡ Each.bulge b place ⌝ }
 {
     finite_then(b, number::beyond(limit::BULGE, b), refusal::BULGE, place)
 }
 
-// A circle's radius: refusal 1 if it is not finite, then 9 if it is below 2^-42, as zero and negative ones are, or above 2^47.
+// A circle's radius: refusal 11 if it is a NaN, 12 if it is infinite, then 9 if it is below 2^-42, as zero and negative ones are, or above 2^47.
 pub fn radius(r: f64, place: Place) -> Checked
     ensures { λ a. ⌜ a ≡ Each.radius r place ⌝ }
 {
@@ -67,7 +68,7 @@ pub fn radius(r: f64, place: Place) -> Checked
     )
 }
 
-// A coordinate of a circle's centre: refusal 1 if it is not finite, then 9 if it exceeds 2^48 in magnitude.
+// A coordinate of a circle's centre: refusal 11 if it is a NaN, 12 if it is infinite, then 9 if it exceeds 2^48 in magnitude.
 pub fn center(x: f64, place: Place) -> Checked
     ensures { λ r. ⌜ r ≡ Each.center x place ⌝ }
 {

@@ -52,6 +52,16 @@ pub fn at(owner: u64, index: u64, item: Item) -> Place
     }
 }
 
+// The fault with this number at a place that has no owner and no index.
+pub fn whole(number: u64, item: Item) -> Fault
+    ensures { λ r. ⌜ r ≡ fault.whole number item ⌝ }
+{
+    Fault {
+        number: number,
+        place: at(0, 0, item),
+    }
+}
+
 // The fault with this number and place if `bad`, else fine.
 pub fn refuse(bad: bool, number: u64, place: Place) -> Checked
     ensures { λ r. ⌜ r ≡ fault.refuse bad number place ⌝ }

@@ -8,3 +8,4 @@ pub mod fault;
 pub mod limit;
 pub mod number;
 pub mod refusal;
+pub mod word;

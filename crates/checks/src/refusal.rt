@@ -2,9 +2,6 @@
 // position and budget can give.
 // specs/Refusal.antt has the same numbers.
 
-// a coordinate, bulge or radius is NaN or infinite
-pub const NOT_FINITE: u64 = 1;
-
 // a coordinate of a point or vertex is too large
 pub const COORDINATE: u64 = 2;
 
@@ -28,6 +25,11 @@ pub const ROWS: u64 = 8;
 
 // a circle's radius is out of its range, or a coordinate of its centre is too large
 pub const CIRCLE: u64 = 9;
+
+// a coordinate, bulge or radius is NaN; it is infinite
+pub const NAN: u64 = 11;
+
+pub const INFINITE: u64 = 12;
 
 // a page's position is beyond the end
 pub const POSITION: u64 = 13;

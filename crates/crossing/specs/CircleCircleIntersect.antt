@@ -1,12 +1,11 @@
 -- The call of src/circle_circle_intersect.rt. It checks its numbers first (`checks`, Calls.antt), and the first fault is its
 -- answer.
-use mathlib.Core.Bool.{true, false}
 use mathlib.Core.List.{[], _∷_}
 use lib.Ieee.{Float}
 use Rattle.plane.specs.declared.vector2.Vector2.{Vector2}
 use Rattle.checks.specs.Calls.{checkCircleCircle}
 use Rattle.checks.specs.Answered.{answered}
-use Rattle.crossing.specs.AnswerNumbers.{AnswerNumbers}
+use Rattle.crossing.specs.AnswerNumbers.{AnswerNumbers, ofFault, ofCase}
 use Rattle.crossing.specs.CircleCircle.{circleCircle}
 use Rattle.crossing.specs.declared.circle_circle_intr.CircleCircleIntr.the-variants.{
   NoIntersect,
@@ -17,7 +16,7 @@ use Rattle.crossing.specs.declared.circle_circle_intr.CircleCircleIntr.t
 use Rattle.crossing.specs.declared.circle_circle_intersect.CircleCircleAnswer.{CircleCircleAnswer}
 use Rattle.crossing.specs.declared.circle_circle_intersect.CircleCircleAnswer.the-variants.{Refused, Met}
 
--- the number of the first fault; if there is none, how the two meet
+-- the first fault; if there is none, how the two meet
 unfoldable pub circleCircleIntr : Float → Vector2 → Float → Vector2 → Float → CircleCircleAnswer
 circleCircleIntr radius1 center1 radius2 center2 epsilon =
     answered Refused Met (checkCircleCircle radius1 center1 radius2 center2 epsilon)
@@ -25,8 +24,8 @@ circleCircleIntr radius1 center1 radius2 center2 epsilon =
 
 -- ---- the answer in numbers
 abbrev pub numbersOf : CircleCircleAnswer → AnswerNumbers
-numbersOf (Refused n) = record { refused = true; number = n; values = [] }
-numbersOf (Met NoIntersect) = record { refused = false; number = 0; values = [] }
-numbersOf (Met (TangentIntersect p)) = record { refused = false; number = 1; values = p .x ∷ p .y ∷ [] }
-numbersOf (Met (TwoIntersects p q)) = record { refused = false; number = 2; values = p .x ∷ p .y ∷ q .x ∷ q .y ∷ [] }
-numbersOf (Met Overlapping) = record { refused = false; number = 3; values = [] }
+numbersOf (Refused f) = ofFault f
+numbersOf (Met NoIntersect) = ofCase 0 []
+numbersOf (Met (TangentIntersect p)) = ofCase 1 (p .x ∷ p .y ∷ [])
+numbersOf (Met (TwoIntersects p q)) = ofCase 2 (p .x ∷ p .y ∷ q .x ∷ q .y ∷ [])
+numbersOf (Met Overlapping) = ofCase 3 []

@@ -1,5 +1,5 @@
--- When exactly the kernels and the pair call refuse: with number n if and only if the first fault among their numbers, in the
--- order of the call's list of checks, has that number. They answer how the two meet if and only if every number passes.
+-- When exactly the kernels and the pair call refuse: with the fault f, number and place, if and only if f is the first fault among
+-- their numbers, in the order of the call's list of checks. They answer how the two meet if and only if every number passes.
 -- RefusalTable.antt of the crate `checks` says of each check when it finds which fault.
 use lib.Ieee.{Float}
 use Rattle.plane.specs.declared.vector2.Vector2.{Vector2}
@@ -26,7 +26,7 @@ pub line-line : (v1 v2 u1 u2 : Vector2) (epsilon : Float)
     (lineLine v1 v2 u1 u2 epsilon)
 unfolding lines.lineLineIntr calls.checkLineLine
 line-line v1 v2 u1 u2 epsilon =
-    let distinct : Distinct ofLines.Refused ofLines.Met = record { numbers = λ n m e. cc; kinds = λ n i e. no-number cc } in
+    let distinct : Distinct ofLines.Refused ofLines.Met = record { faults = λ f g e. cc; kinds = λ f i e. no-number cc } in
     exactly-when ofLines.Refused ofLines.Met distinct (calls.lineLineChecks v1 v2 u1 u2 epsilon) (lineLine v1 v2 u1 u2 epsilon)
 
 pub line-circle : (p0 p1 : Vector2) (radius : Float) (circleCenter : Vector2) (epsilon : Float)
@@ -37,7 +37,7 @@ pub line-circle : (p0 p1 : Vector2) (radius : Float) (circleCenter : Vector2) (e
 unfolding lineAndCircle.lineCircleIntr calls.checkLineCircle
 line-circle p0 p1 radius circleCenter epsilon =
     let distinct : Distinct ofLineAndCircle.Refused ofLineAndCircle.Met =
-    record { numbers = λ n m e. cc; kinds = λ n i e. no-number cc } in
+    record { faults = λ f g e. cc; kinds = λ f i e. no-number cc } in
     exactly-when ofLineAndCircle.Refused ofLineAndCircle.Met distinct
     (calls.lineCircleChecks p0 p1 radius circleCenter epsilon)
     (lineCircle p0 p1 radius circleCenter epsilon)
@@ -49,7 +49,7 @@ pub circle-circle : (radius1 : Float) (center1 : Vector2) (radius2 : Float) (cen
     (circleCircle radius1 center1 radius2 center2 epsilon)
 unfolding circles.circleCircleIntr calls.checkCircleCircle
 circle-circle radius1 center1 radius2 center2 epsilon =
-    let distinct : Distinct ofCircles.Refused ofCircles.Met = record { numbers = λ n m e. cc; kinds = λ n i e. no-number cc } in
+    let distinct : Distinct ofCircles.Refused ofCircles.Met = record { faults = λ f g e. cc; kinds = λ f i e. no-number cc } in
     exactly-when ofCircles.Refused ofCircles.Met distinct
     (calls.circleCircleChecks radius1 center1 radius2 center2 epsilon)
     (circleCircle radius1 center1 radius2 center2 epsilon)
@@ -61,6 +61,6 @@ pub pline-seg : (v1 v2 u1 u2 : PlineVertex) (posEqualEps : Float)
     (plineSeg v1 v2 u1 u2 posEqualEps)
 unfolding pairs.plineSegIntr calls.checkPlineSeg
 pline-seg v1 v2 u1 u2 posEqualEps =
-    let distinct : Distinct ofPairs.Refused ofPairs.Met = record { numbers = λ n m e. cc; kinds = λ n i e. no-number cc } in
+    let distinct : Distinct ofPairs.Refused ofPairs.Met = record { faults = λ f g e. cc; kinds = λ f i e. no-number cc } in
     exactly-when ofPairs.Refused ofPairs.Met distinct (calls.plineSegChecks v1 v2 u1 u2 posEqualEps)
     (plineSeg v1 v2 u1 u2 posEqualEps)

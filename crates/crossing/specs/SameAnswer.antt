@@ -6,7 +6,12 @@ use mathlib.Core.List.{List, [], _∷_}
 use lib.Dec.{eqb}
 use lib.Ieee.{Float}
 use Rattle.plane.specs.declared.vector2.Vector2.{Vector2}
-use Rattle.crossing.specs.AnswerNumbers.{AnswerNumbers}
+use Rattle.checks.specs.declared.fault.Item.{Item}
+use Rattle.checks.specs.declared.fault.Fault.{Fault}
+use Rattle.checks.specs.Fault.{at}
+use Rattle.checks.specs.FaultNumbers.{item-back, item-same}
+use Rattle.arcs.specs.declared.pline_seg_intr.PlineSegIntr.the-variants as plineSegIs
+use Rattle.crossing.specs.AnswerNumbers.{AnswerNumbers, ofFault}
 use Rattle.crossing.specs.Laws.Answers.{answer, again}
 use Rattle.crossing.specs.LineLineIntersect as lines
 use Rattle.crossing.specs.LineCircleIntersect as lineAndCircle
@@ -29,6 +34,15 @@ same-by : {A : Type 0} (numbers : A → AnswerNumbers) (back : AnswerNumbers →
     → numbers a ≡ numbers b → a ≡ b
 same-by numbers back is a b e = sym (is a) ∙ ap back e ∙ is b
 
+-- the fault of a refusal
+faultOf : AnswerNumbers → Fault
+faultOf t = record { number = t .number; place = at (t .owner) (t .index) (item-back (t .item)) }
+
+fault-again : (f : Fault) → faultOf (ofFault f) ≡ f
+unfolding faultOf
+fault-again f = ap (λ (i : Item). record { number = f .number; place = at (f .place .owner) (f .place .index) i })
+    (item-same (f .place .item))
+
 -- one, two or four values, and what stands for any other count
 abbrev one : {A : Type 0} → (Float → A) → A → List Float → A
 one f other [] = other
@@ -49,7 +63,7 @@ point x y = record { x = x; y = y }
 -- ---- two lines
 line-line-back : AnswerNumbers → LineLineAnswer
 line-line-back t =
-    cond (t .refused) (ofLines.Refused (t .number))
+    cond (t .refused) (ofLines.Refused (faultOf t))
     (cond (eqb (t .number) 1)
     (two (λ a b. ofLines.Met (lineLineIs.TrueIntersect a b))
     (ofLines.Met lineLineIs.NoIntersect) (t .values))
@@ -63,7 +77,7 @@ line-line-back t =
 
 line-line-again : (a : LineLineAnswer) → line-line-back (lines.numbersOf a) ≡ a
 unfolding line-line-back
-line-line-again (ofLines.Refused n) = refl
+line-line-again (ofLines.Refused f) = ap ofLines.Refused (fault-again f)
 line-line-again (ofLines.Met lineLineIs.NoIntersect) = refl
 line-line-again (ofLines.Met (lineLineIs.TrueIntersect t1 t2)) = refl
 line-line-again (ofLines.Met (lineLineIs.Overlapping t0 t1)) = refl
@@ -75,7 +89,7 @@ line-line = same-by lines.numbersOf line-line-back line-line-again
 -- ---- a line and a circle
 line-circle-back : AnswerNumbers → LineCircleAnswer
 line-circle-back t =
-    cond (t .refused) (ofLineAndCircle.Refused (t .number))
+    cond (t .refused) (ofLineAndCircle.Refused (faultOf t))
     (cond (eqb (t .number) 1)
     (one (λ a. ofLineAndCircle.Met (lineCircleIs.TangentIntersect a))
     (ofLineAndCircle.Met lineCircleIs.NoIntersect) (t .values))
@@ -86,7 +100,7 @@ line-circle-back t =
 
 line-circle-again : (a : LineCircleAnswer) → line-circle-back (lineAndCircle.numbersOf a) ≡ a
 unfolding line-circle-back
-line-circle-again (ofLineAndCircle.Refused n) = refl
+line-circle-again (ofLineAndCircle.Refused f) = ap ofLineAndCircle.Refused (fault-again f)
 line-circle-again (ofLineAndCircle.Met lineCircleIs.NoIntersect) = refl
 line-circle-again (ofLineAndCircle.Met (lineCircleIs.TangentIntersect t0)) = refl
 line-circle-again (ofLineAndCircle.Met (lineCircleIs.TwoIntersects t0 t1)) = refl
@@ -97,7 +111,7 @@ line-circle = same-by lineAndCircle.numbersOf line-circle-back line-circle-again
 -- ---- two circles
 circle-circle-back : AnswerNumbers → CircleCircleAnswer
 circle-circle-back t =
-    cond (t .refused) (ofCircles.Refused (t .number))
+    cond (t .refused) (ofCircles.Refused (faultOf t))
     (cond (eqb (t .number) 1)
     (two (λ a b. ofCircles.Met (circleCircleIs.TangentIntersect (point a b)))
     (ofCircles.Met circleCircleIs.NoIntersect) (t .values))
@@ -109,7 +123,7 @@ circle-circle-back t =
 
 circle-circle-again : (a : CircleCircleAnswer) → circle-circle-back (circles.numbersOf a) ≡ a
 unfolding circle-circle-back
-circle-circle-again (ofCircles.Refused n) = refl
+circle-circle-again (ofCircles.Refused f) = ap ofCircles.Refused (fault-again f)
 circle-circle-again (ofCircles.Met circleCircleIs.NoIntersect) = refl
 circle-circle-again (ofCircles.Met (circleCircleIs.TangentIntersect p)) = refl
 circle-circle-again (ofCircles.Met (circleCircleIs.TwoIntersects p q)) = refl
@@ -121,12 +135,12 @@ circle-circle = same-by circles.numbersOf circle-circle-back circle-circle-again
 -- ---- the pair call
 pline-seg-back : AnswerNumbers → PlineSegAnswer
 pline-seg-back t =
-    cond (t .refused) (ofPairs.Refused (t .number))
-    (four (λ a b c d. ofPairs.Met (answer (t .number) (point a b) (point c d))) (ofPairs.Refused 0) (t .values))
+    cond (t .refused) (ofPairs.Refused (faultOf t))
+    (four (λ a b c d. ofPairs.Met (answer (t .number) (point a b) (point c d))) (ofPairs.Met plineSegIs.NoIntersect) (t .values))
 
 pline-seg-again : (a : PlineSegAnswer) → pline-seg-back (pairs.numbersOf a) ≡ a
 unfolding pline-seg-back
-pline-seg-again (ofPairs.Refused n) = refl
+pline-seg-again (ofPairs.Refused f) = ap ofPairs.Refused (fault-again f)
 pline-seg-again (ofPairs.Met r) = ap ofPairs.Met (sym (again r))
 
 pub pline-seg : (a b : PlineSegAnswer) → pairs.numbersOf a ≡ pairs.numbersOf b → a ≡ b

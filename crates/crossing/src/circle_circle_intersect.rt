@@ -5,11 +5,12 @@ use super::circle_circle;
 use super::circle_circle_intr::CircleCircleIntr;
 use checks::calls::check_circle_circle;
 use checks::fault::Checked;
+use checks::fault::Fault;
 use plane::vector2::Vector2;
 
-// What the call answers: how they meet, or the number of the refusal.
+// What the call answers: how they meet, or the first fault.
 pub enum CircleCircleAnswer {
-    Refused(u64),
+    Refused(Fault),
     Met(CircleCircleIntr),
 }
 
@@ -32,6 +33,6 @@ pub fn circle_circle_intr(
             center2,
             epsilon,
         )),
-        Checked::Bad(fault) => CircleCircleAnswer::Refused(fault.number),
+        Checked::Bad(fault) => CircleCircleAnswer::Refused(fault),
     }
 }

@@ -5,11 +5,12 @@ use super::line_circle;
 use super::line_circle_intr::LineCircleIntr;
 use checks::calls::check_line_circle;
 use checks::fault::Checked;
+use checks::fault::Fault;
 use plane::vector2::Vector2;
 
-// What the call answers: how they meet, or the number of the refusal.
+// What the call answers: how they meet, or the first fault.
 pub enum LineCircleAnswer {
-    Refused(u64),
+    Refused(Fault),
     Met(LineCircleIntr),
 }
 
@@ -32,6 +33,6 @@ pub fn line_circle_intr(
             circle_center,
             epsilon,
         )),
-        Checked::Bad(fault) => LineCircleAnswer::Refused(fault.number),
+        Checked::Bad(fault) => LineCircleAnswer::Refused(fault),
     }
 }

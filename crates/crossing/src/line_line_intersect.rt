@@ -5,11 +5,12 @@ use super::line_line;
 use super::line_line_intr::LineLineIntr;
 use checks::calls::check_line_line;
 use checks::fault::Checked;
+use checks::fault::Fault;
 use plane::vector2::Vector2;
 
-// What the call answers: how they meet, or the number of the refusal.
+// What the call answers: how they meet, or the first fault.
 pub enum LineLineAnswer {
-    Refused(u64),
+    Refused(Fault),
     Met(LineLineIntr),
 }
 
@@ -26,6 +27,6 @@ pub fn line_line_intr(
     let checked = check_line_line(v1, v2, u1, u2, epsilon);
     match checked {
         Checked::Fine => LineLineAnswer::Met(line_line::line_line(v1, v2, u1, u2, epsilon)),
-        Checked::Bad(fault) => LineLineAnswer::Refused(fault.number),
+        Checked::Bad(fault) => LineLineAnswer::Refused(fault),
     }
 }

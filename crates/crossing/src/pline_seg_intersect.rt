@@ -10,9 +10,9 @@ use arcs::pline_seg_intr::PlineSegIntr;
 use plane::pline_seg::ArcRadiusCenter;
 use plane::pline_vertex::PlineVertex;
 
-// What the call answers: how they meet, or the number of the refusal.
+// What the call answers: how they meet, or the first fault.
 pub enum PlineSegAnswer {
-    Refused(u64),
+    Refused(Fault),
     Met(PlineSegIntr),
 }
 

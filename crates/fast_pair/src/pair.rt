@@ -131,7 +131,7 @@ fn pline_seg_by_numbers(
                 pos_equal_eps,
             ))
         }
-        Checked::Bad(fault) => PlineSegAnswer::Refused(fault.number),
+        Checked::Bad(fault) => PlineSegAnswer::Refused(fault),
     }
 }
 

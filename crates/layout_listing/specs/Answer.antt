@@ -39,7 +39,7 @@ listing first second = mutualListing first false second false epsilon noIndices 
 
 -- the text lines of an answer
 abbrev pub linesOf : ListingAnswer → List ℕ → List Float → List ℕ
-linesOf (Refused n) indices points = refusedText n
+linesOf (Refused f) indices points = refusedText (f .number)
 linesOf (Listed rows pairs) indices points = answerText pairs rows indices points
 
 unfoldable pub linesFor : List Float → List Float → List ℕ

@@ -39,7 +39,7 @@ fn list_paths(first: &[f64], second: &[f64], out: &mut [u8]) -> Written
         &mut points,
     );
     match listed {
-        ListingAnswer::Refused(n) => write_refusal(n, out),
+        ListingAnswer::Refused(fault) => write_refusal(fault.number, out),
         ListingAnswer::Listed { rows, pairs } => write_answer(pairs, rows, &indices, &points, out),
     }
 }

@@ -9,6 +9,7 @@ use native.Mathlib.Omega.{arith}
 use lib.Ieee.{Float}
 use lib.ListN.{length, take, drop}
 use lib.Seq.{take-at}
+use Rattle.checks.specs.declared.fault.Fault.{Fault}
 use Rattle.checks.specs.declared.fault.Checked.{Checked}
 use Rattle.checks.specs.declared.fault.Checked.the-variants.{Fine, Bad}
 use Rattle.checks.specs.First.{first as firstFault}
@@ -62,7 +63,7 @@ all-looked first second epsilon (p ∷ ps) =
     never-skipped (classOf m) (row (p .i) (p .j) m) (lookedAt (look first second epsilon) ps)
     ∙ ap suc (all-looked first second epsilon ps)
 
-listed-never : {n k m : ℕ} → Refused n ≡ Listed k m → ⊥
+listed-never : {f : Fault} {k m : ℕ} → Refused f ≡ Listed k m → ⊥
 listed-never e = let z : _≡_ {A = ℕ} 0 1 = cc in omega (arith, z)
 
 module _ (f : ℕ → ℕ → Look) (ps : List Pair) (seen : lookedAt f ps ≡ length ps) (checks : List Checked) (j : Joined)

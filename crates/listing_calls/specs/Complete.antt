@@ -7,6 +7,7 @@ use Prim.Native.Nat.{ℕ, zero, suc, _<_, zero-le}
 use native.Mathlib.Omega.{arith}
 use lib.Ieee.{Float}
 use lib.ListN.{length}
+use Rattle.checks.specs.declared.fault.Fault.{Fault}
 use Rattle.checks.specs.declared.fault.Checked.{Checked}
 use Rattle.checks.specs.declared.fault.Checked.the-variants.{Fine, Bad}
 use Rattle.checks.specs.First.{first as firstFault}
@@ -34,7 +35,7 @@ pairOf first second epsilon i j =
     let u = segmentFrom second j in
     plineSeg (v .v1) (v .v2) (u .v1) (u .v2) epsilon
 
-never : {n k : ℕ} {m : ℕ} → Refused n ≡ Listed k m → ⊥
+never : {f : Fault} {k m : ℕ} → Refused f ≡ Listed k m → ⊥
 never e = let z : _≡_ {A = ℕ} 0 1 = cc in omega (arith, z)
 
 -- a pair that meets makes a row

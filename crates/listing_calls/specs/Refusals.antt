@@ -1,5 +1,5 @@
--- When exactly the listings refuse: with number n if and only if the first fault of their checks in order, with 8 as the last,
--- has that number. They list if and only if every check passes. A refusal leaves both slices unchanged. RefusalTable.antt of the
+-- When exactly the listings refuse: with the fault f, number and place, if and only if f is the first fault of their checks in
+-- order, with 8 as the last. They list if and only if every check passes. A refusal leaves both slices unchanged. RefusalTable.antt of the
 -- crate `checks` and PathRefusals.antt of `paths` say of each check when it finds which fault; `too-many` below does so for 8.
 use mathlib.Core.Path.{_≡_, refl, sym, ap}
 use mathlib.Core.Bool.{Bool, true, false, cond, true≢false}
@@ -11,6 +11,7 @@ use lib.Dec.{ltb}
 use lib.Ieee.{Float}
 use lib.ListN.{length}
 use Rattle.checks.specs.declared.fault.Item.the-variants.{Rows}
+use Rattle.checks.specs.declared.fault.Fault.{Fault}
 use Rattle.checks.specs.declared.fault.Checked.{Checked}
 use Rattle.checks.specs.declared.fault.Checked.the-variants.{Fine, Bad}
 use Rattle.checks.specs.Fault.{at, bad, refuse}
@@ -55,10 +56,10 @@ counted c = Listed (c .rows) (c .pairs)
 
 -- what a refusal leaves
 pub record Untouched (o : Outcome ListingAnswer) (indices : List ℕ) (points : List Float) : Type 0 where
-  pub as-found : (n : ℕ) → o .answer ≡ Refused n → (o .indices ≡ indices) × (o .points ≡ points)
+  pub as-found : (f : Fault) → o .answer ≡ Refused f → (o .indices ≡ indices) × (o .points ≡ points)
 
 distinct : Distinct Refused counted
-distinct = record { numbers = λ n m e. cc; kinds = λ n i e. no-number cc }
+distinct = record { faults = λ f g e. cc; kinds = λ f i e. no-number cc }
 
 -- ---- any listing
 module _ (checks : List Checked) (f : ℕ → ℕ → Look) (ps : List Pair) (indices : List ℕ) (points : List Float) where
@@ -77,8 +78,8 @@ module _ (checks : List Checked) (f : ℕ → ℕ → Look) (ps : List Pair) (in
   outcome-when = rw (← same (firstFault all)) (exactly-when Refused counted distinct all counts)
 
   left-alone : (c : Checked) → Untouched (listedOf c (rowsOf f ps) (lookedAt f ps) indices points) indices points
-  left-alone Fine = record { as-found = λ n e. absurd (distinct .kinds n counts (sym e)) }
-  left-alone (Bad fault) = record { as-found = λ n e. (refl, refl) }
+  left-alone Fine = record { as-found = λ f e. absurd (distinct .kinds f counts (sym e)) }
+  left-alone (Bad fault) = record { as-found = λ f e. (refl, refl) }
 
   outcome-untouched : Untouched (outcome checks f ps indices points) indices points
   unfolding outcome

@@ -28,6 +28,6 @@ pub fn mutual_listing(
             let job = jobs::mutual_job(first, first_closed, second, second_closed, epsilon);
             buffer::list(first, second, job, indices, points)
         }
-        Checked::Bad(fault) => ListingAnswer::Refused(fault.number),
+        Checked::Bad(fault) => ListingAnswer::Refused(fault),
     }
 }

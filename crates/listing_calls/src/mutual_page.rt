@@ -30,6 +30,6 @@ pub fn mutual_page(
             let job = jobs::mutual_job(first, first_closed, second, second_closed, epsilon);
             page::page(first, second, job, position, budget, indices, points)
         }
-        Checked::Bad(fault) => PageAnswer::Refused(fault.number),
+        Checked::Bad(fault) => PageAnswer::Refused(fault),
     }
 }

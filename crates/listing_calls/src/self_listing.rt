@@ -24,6 +24,6 @@ pub fn self_listing(
             let job = jobs::self_job(path, closed, epsilon);
             buffer::list(path, path, job, indices, points)
         }
-        Checked::Bad(fault) => ListingAnswer::Refused(fault.number),
+        Checked::Bad(fault) => ListingAnswer::Refused(fault),
     }
 }

@@ -28,6 +28,6 @@ pub fn self_page(
             let job = jobs::self_job(path, closed, epsilon);
             page::page(path, path, job, position, budget, indices, points)
         }
-        Checked::Bad(fault) => PageAnswer::Refused(fault.number),
+        Checked::Bad(fault) => PageAnswer::Refused(fault),
     }
 }

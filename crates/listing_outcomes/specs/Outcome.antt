@@ -7,6 +7,7 @@ use lib.Dec.{ltb}
 use lib.ListN.{length, drop}
 use lib.Ieee.{Float}
 use Rattle.checks.specs.declared.fault.Item.the-variants.{Rows}
+use Rattle.checks.specs.declared.fault.Fault.{Fault}
 use Rattle.checks.specs.declared.fault.Checked.{Checked}
 use Rattle.checks.specs.declared.fault.Checked.the-variants.{Fine, Bad}
 use Rattle.checks.specs.Fault.{at, refuse}
@@ -43,11 +44,11 @@ rowRoom indices points = min (indices / indicesARow) (points / pointsARow)
 abbrev pub room : List ℕ → List Float → ℕ
 room indices points = rowRoom (length indices) (length points)
 
--- The outcome by the first fault, if there is one: a refusal, by its number, leaves both slices unchanged. Otherwise the call
+-- The outcome by the first fault, if there is one: a refusal leaves both slices unchanged. Otherwise the call
 -- has its answer, and its rows are written.
-abbrev pub outcomeOf : {A : Type 0} → (ℕ → A) → Checked → A → List Row → List ℕ → List Float → Outcome A
+abbrev pub outcomeOf : {A : Type 0} → (Fault → A) → Checked → A → List Row → List ℕ → List Float → Outcome A
 outcomeOf refused (Bad fault) answer rows indices points =
-    record { answer = refused (fault .number); indices = indices; points = points }
+    record { answer = refused fault; indices = indices; points = points }
 outcomeOf refused Fine answer rows indices points =
     record {
       answer = answer;

@@ -12,6 +12,8 @@ ghost use lib.ListN.{length};
 ghost use mathlib.Core.Path.{_≡_};
 use super::answer::ListingAnswer;
 use super::room::row_room;
+use checks::fault::Item;
+use checks::fault::whole;
 use checks::refusal;
 use listing_loop::fill::Filling;
 use listing_loop::fill::Part;
@@ -86,7 +88,7 @@ fn list_behind(
             pairs: held.looked + more.looked,
         };
     }
-    ListingAnswer::Refused(refusal::ROWS)
+    ListingAnswer::Refused(whole(refusal::ROWS, Item::Rows))
 }
 
 // The listing of a job. A buffer holds its rows back until it is known that all fit.
@@ -136,7 +138,7 @@ fn list_held_back(
         };
     }
     if room <= ROWS {
-        return ListingAnswer::Refused(refusal::ROWS);
+        return ListingAnswer::Refused(whole(refusal::ROWS, Item::Rows));
     }
     list_behind(
         first,

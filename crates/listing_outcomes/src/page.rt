@@ -13,6 +13,8 @@ ghost use Rattle.listing_outcomes.specs.Outcome;
 ghost use Rattle.listing_outcomes.specs.Workings.PageOutcome as outcome_of;
 use super::answer::PageAnswer;
 use super::room::row_room;
+use checks::fault::Item;
+use checks::fault::whole;
 use checks::refusal;
 use listing_loop::fill::Filling;
 use listing_loop::fill::Part;
@@ -76,14 +78,14 @@ pub fn page(
 {
     let all = order::count(job);
     if position > all {
-        return PageAnswer::Refused(refusal::POSITION);
+        return PageAnswer::Refused(whole(refusal::POSITION, Item::Position));
     }
     if budget == 0 {
-        return PageAnswer::Refused(refusal::BUDGET);
+        return PageAnswer::Refused(whole(refusal::BUDGET, Item::Budget));
     }
     let room = row_room(indices.len(), points.len());
     if room == 0 {
-        return PageAnswer::Refused(refusal::ROWS);
+        return PageAnswer::Refused(whole(refusal::ROWS, Item::Rows));
     }
     let spot = order::locate(job, position);
     let filled = fill_from(first, second, job, spot, room, budget, indices, points);

@@ -1,10 +1,9 @@
 -- Whether a text line's answers are what the definitions of `crossing` say for its operands: the number that a C call returns
--- (`numbersBelow` plus its number for a refusal), and the four values of an answer.
-use Prim.Native.Nat.{ℕ, _+_, _/_, _%_}
+-- (the word of the first fault for a refusal), and the four values of an answer.
+use Prim.Native.Nat.{ℕ, _+_}
 use mathlib.Core.Bool.{Bool, cond, _&&_}
 use mathlib.Core.List.{List}
 use lib.Dec.{eqb}
-use Rattle.checks.specs.Refusal.{numbersBelow}
 use Rattle.crossing.specs.LineLineIntersect.{lineLineIntr}
 use Rattle.crossing.specs.LineCircleIntersect.{lineCircleIntr}
 use Rattle.crossing.specs.CircleCircleIntersect.{circleCircleIntr}
@@ -17,7 +16,7 @@ use Rattle.records.specs.OnPlane.{same, pointAt, vertexAt}
 unfoldable pub isAnswer : PaddedAnswer → List ℕ → ℕ → Bool
 isAnswer f body i =
     let recorded = valueAt body i in
-    cond (f .refused) (eqb (recorded / numbersBelow) 1 && eqb (recorded % numbersBelow) (f .number))
+    cond (f .refused) (eqb recorded (f .number))
     ((((eqb recorded (f .number) && same (f .a) (numberAt body (i + 1)))
     && same (f .b) (numberAt body (i + 2)))
     && same (f .c) (numberAt body (i + 3)))

@@ -11,7 +11,6 @@ use super::text::number;
 use super::text::value;
 use answers::padded;
 use answers::padded::PaddedAnswer;
-use checks::refusal;
 use crossing::circle_circle_intersect;
 use crossing::line_circle_intersect;
 use crossing::line_line_intersect;
@@ -73,7 +72,7 @@ pub fn pline_seg(body: &[u8]) -> bool
     is_answer(padded::of_pline_seg(met), body, 13)
 }
 
-// Whether the answer is the one that the text line has from number i on. A refusal is `NUMBERS_BELOW` plus its number.
+// Whether the answer is the one that the text line has from number i on. A refusal is the word of its fault.
 fn is_answer(numbers: PaddedAnswer, body: &[u8], i: usize) -> bool
     requires { ⌜ i + 4 < mostNumbers ⌝ }
     ensures { λ r. ⌜ r ≡ OnCrossing.isAnswer numbers (now (body .entry)) i ⌝ }

@@ -3,6 +3,8 @@
 use mathlib.Core.Path.{_≡_, refl, sym, subst}
 use mathlib.Core.Logic.{_↔_, Iff·trans}
 use mathlib.Core.Bool.{Bool, true, false, not, _||_, true≢false}
+use mathlib.Core.List.{[], _∷_}
+use Prim.Native.Nat.{ℕ}
 use lib.Dec.{T}
 use lib.Ieee.{Float, nan, inf, fin, ofBits, isNan, lt, le}
 use lib.Ieee.Scale.{finite}
@@ -14,6 +16,7 @@ use Rattle.checks.specs.Number.{isInfinite}
 use Rattle.checks.specs.Each
 use Rattle.checks.specs.Limit
 use Rattle.checks.specs.RefusalTable
+use Rattle.checks.specs.Exactly.{AllNo, test}
 use Rattle.checks.specs.Laws.Order.{le-not-lt}
 
 -- x is a number, at most `most` in magnitude
@@ -68,6 +71,14 @@ pub neither : (a b : Bool) → ((a || b) ≡ false) ↔ ((a ≡ false) × (b ≡
 neither true b = (λ h. absurd (true≢false h), λ h. h .0)
 neither false b = (λ h. (refl, h), λ h. h .1)
 
+-- all of three tests say no, of which the first two are for NaN and infinity
+three-no : (a b c : Bool) (l m n : ℕ)
+    → AllNo (test l a ∷ test m b ∷ test n c ∷ []) ↔ (((a || b) ≡ false) × (c ≡ false))
+three-no a b c l m n = (
+  λ h. (neither a b .1 (h .0, h .1 .0), h .1 .1 .0),
+  λ h. let both = neither a b .0 (h .0) in (both .0, (both .1, (h .1, tt))),
+)
+
 within : (most x : Float) → isNan most ≡ false
     → (((isNan x || isInfinite x) ≡ false) × ((F64.abs x ≻ most) ≡ false)) ↔ Within most x
 within most x m = (
@@ -99,30 +110,34 @@ not-short least (inf s) l = (λ h r. not-below (inf s) least r l .0 h, λ h. not
 not-short least (fin s m e) l =
     (λ h r. not-below (fin s m e) least r l .0 h, λ h. not-below (fin s m e) least refl l .1 (h refl))
 
+one-no : (a : Bool) (n : ℕ) → AllNo (test n a ∷ []) ↔ (a ≡ false)
+one-no a n = (λ h. h .0, λ h. (h, tt))
+
 -- ---- the checks
 pub epsilon-fine : (x : Float) → (Each.epsilon x ≡ Fine) ↔ Between Limit.epsilonLeast Limit.epsilonMost x
 unfolding ofBits isNan
 epsilon-fine x =
     Iff·trans (RefusalTable.epsilon x .fine)
-    (Iff·trans (neither _ _) (between Limit.epsilonLeast Limit.epsilonMost x refl refl))
+    (Iff·trans (one-no _ 4) (Iff·trans (neither _ _) (between Limit.epsilonLeast Limit.epsilonMost x refl refl)))
 
 module _ (x : Float) (p : Place) where
   pub coordinate-fine : (Each.coordinate x p ≡ Fine) ↔ Within Limit.coordinate x
   unfolding ofBits isNan
-  coordinate-fine = Iff·trans (RefusalTable.coordinate x p .fine) (within Limit.coordinate x refl)
+  coordinate-fine = Iff·trans (RefusalTable.coordinate x p .fine) (Iff·trans (three-no _ _ _ 11 12 2) (within Limit.coordinate x refl))
 
   pub bulge-fine : (Each.bulge x p ≡ Fine) ↔ Within Limit.bulge x
   unfolding ofBits isNan
-  bulge-fine = Iff·trans (RefusalTable.bulge x p .fine) (within Limit.bulge x refl)
+  bulge-fine = Iff·trans (RefusalTable.bulge x p .fine) (Iff·trans (three-no _ _ _ 11 12 3) (within Limit.bulge x refl))
 
   pub radius-fine : (Each.radius x p ≡ Fine) ↔ Between Limit.radiusLeast Limit.radiusMost x
   unfolding ofBits isNan
-  radius-fine = Iff·trans (RefusalTable.radius x p .fine) (between Limit.radiusLeast Limit.radiusMost x refl refl)
+  radius-fine = Iff·trans (RefusalTable.radius x p .fine)
+      (Iff·trans (three-no _ _ _ 11 12 9) (between Limit.radiusLeast Limit.radiusMost x refl refl))
 
   pub center-fine : (Each.center x p ≡ Fine) ↔ Within Limit.center x
   unfolding ofBits isNan
-  center-fine = Iff·trans (RefusalTable.center x p .fine) (within Limit.center x refl)
+  center-fine = Iff·trans (RefusalTable.center x p .fine) (Iff·trans (three-no _ _ _ 11 12 9) (within Limit.center x refl))
 
   pub chord-fine : (Each.chord x p ≡ Fine) ↔ (isNan x ≡ false → T (Limit.chordLeast ≼ x))
   unfolding ofBits isNan
-  chord-fine = Iff·trans (RefusalTable.chord x p .fine) (not-short Limit.chordLeast x refl)
+  chord-fine = Iff·trans (RefusalTable.chord x p .fine) (Iff·trans (one-no _ 5) (not-short Limit.chordLeast x refl))

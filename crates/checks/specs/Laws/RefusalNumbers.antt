@@ -45,7 +45,7 @@ epsilon x = refused _ Refusal.epsilon _ (omega arith)
 module _ (x : Float) (p : Place) where
   finite : Small (Each.finite x p)
   unfolding Each.finite
-  finite = refused _ Refusal.notFinite p (omega arith)
+  finite = and (refused _ Refusal.nan p (omega arith)) (refused _ Refusal.infinite p (omega arith))
 
   pub coordinate : Small (Each.coordinate x p)
   unfolding Each.coordinate Each.finiteThen

@@ -51,7 +51,7 @@ module _ (first second : List Float) where
 
   of-answer : (a : ListingAnswer) → listing first second .answer ≡ a
       → length (linesOf a (listing first second .indices) (listing first second .points)) ≤ room
-  of-answer (Refused n) e = omega (arith, refusal-fits n (omega (arith, numbers .refusal n e)))
+  of-answer (Refused f) e = omega (arith, refusal-fits (f .number) (omega (arith, numbers .refusal f e)))
   of-answer (Listed rows pairs) e =
       let rows-few = few rows pairs e in
       omega (

@@ -26,6 +26,7 @@ use Rattle.answer_lines.specs.Lines.{refusedText, answerText}
 use Rattle.answer_lines.specs.Sizes.{line}
 use Rattle.answer_lines.specs.Written.{Lines, RefusalLine, AnswerLines}
 use Rattle.listing_pairs.specs.Row.{indicesARow, pointsARow}
+use Rattle.checks.specs.declared.fault.Fault.{Fault}
 use Rattle.listing_outcomes.specs.declared.answer.ListingAnswer.{ListingAnswer}
 use Rattle.listing_outcomes.specs.declared.answer.ListingAnswer.the-variants.{Refused, Listed}
 use Rattle.listing_outcomes.specs.Outcome.{Leaves}
@@ -73,9 +74,9 @@ module _ (first second : List Float) (old : List ℕ) (h : room ≤ length old) 
   unfolding linesFor listing
   lines = rw (leaves .answer, leaves .indices, leaves .points) refl
 
-  pub refused-lines : (n : ℕ) → a ≡ Refused n → RefusalLine n r old now → LinesFor first second r old now
-  refused-lines n e l =
-      rw (lines ∙ ap (λ (t : ListingAnswer). linesOf t i p) e) (refusal-line n old h r now l)
+  pub refused-lines : (f : Fault) → a ≡ Refused f → RefusalLine (f .number) r old now → LinesFor first second r old now
+  refused-lines f e l =
+      rw (lines ∙ ap (λ (t : ListingAnswer). linesOf t i p) e) (refusal-line (f .number) old h r now l)
 
   pub listed-lines : (rows pairs : ℕ) → a ≡ Listed rows pairs → AnswerLines pairs rows i p r old now
       → LinesFor first second r old now

@@ -9,6 +9,7 @@ use native.Mathlib.Omega.{arith}
 use lib.Ieee.{Float}
 use lib.ListN.{length, length-append, length-drop, take, drop}
 use lib.Seq.{take-all, take-at, drop-drop}
+use Rattle.checks.specs.declared.fault.Fault.{Fault}
 use Rattle.checks.specs.declared.fault.Checked.{Checked}
 use Rattle.checks.specs.declared.fault.Checked.the-variants.{Fine, Bad}
 use Rattle.checks.specs.Fault.{later}
@@ -32,7 +33,7 @@ use Rattle.listing_calls.specs.Chain.{Lent, Joined, joined, chain, befor
 use Rattle.listing_calls.specs.Laws.Complete.{rows-append}
 
 -- ---- one call that is not refused
-never : {n r p q a : ℕ} → Refused n ≡ Paged r p q a → ⊥
+never : {f : Fault} {r p q a : ℕ} → Refused f ≡ Paged r p q a → ⊥
 never e = let z : _≡_ {A = ℕ} 0 1 = cc in omega (arith, z)
 
 -- the position is within, there is a budget and room for a row, and the answer and the slices are those of the page

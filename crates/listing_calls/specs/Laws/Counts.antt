@@ -11,6 +11,7 @@ use lib.Dec.{ltb}
 use lib.Ieee.{Float}
 use lib.ListN.{length, length-append, length-drop, drop}
 use Rattle.checks.specs.declared.fault.Item.the-variants.{Rows}
+use Rattle.checks.specs.declared.fault.Fault.{Fault}
 use Rattle.checks.specs.declared.fault.Checked.{Checked}
 use Rattle.checks.specs.declared.fault.Checked.the-variants.{Fine, Bad}
 use Rattle.checks.specs.Fault.{at, refuse, bad}
@@ -36,7 +37,7 @@ pub record Fits (o : Outcome ListingAnswer) (most : ℕ) (i₀ : List ℕ) (p₀
   pub indices : length (o .indices) ≡ length i₀
   pub points : length (o .points) ≡ length p₀
 
-never : {n k m : ℕ} → Refused n ≡ Listed k m → ⊥
+never : {f : Fault} {k m : ℕ} → Refused f ≡ Listed k m → ⊥
 never e = let z : _≡_ {A = ℕ} 0 1 = cc in omega (arith, z)
 
 same-rows : {n k m l : ℕ} → Listed n k ≡ Listed m l → n ≡ m

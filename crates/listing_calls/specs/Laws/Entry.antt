@@ -40,7 +40,7 @@ use Rattle.listing_calls.specs.Workings.Jobs.{mutualJob, selfJob}
 use Rattle.listing_calls.specs.Listing.{mutualChecks, checkMutual, mutualListing, selfChecks, checkSelf, selfListing}
 
 -- ---- any call: its checks, then the last ones
-module _ {A : Type 0} (refused : ℕ → A) (checks more : List Checked) (answer : A) (rows : List Row)
+module _ {A : Type 0} (refused : Fault → A) (checks more : List Checked) (answer : A) (rows : List Row)
     (i₀ : List ℕ) (p₀ : List Float) where
   outcome-fine : firstFault checks ≡ Fine
       → outcomeOf refused (firstFault (checks ++ more)) answer rows i₀ p₀
@@ -50,7 +50,7 @@ module _ {A : Type 0} (refused : ℕ → A) (checks more : List Checked) (answer
       (first-append checks more ∙ ap (λ (t : Checked). later t (firstFault more)) e ∙ fine-left (firstFault more))
 
   outcome-bad : (x : Fault) → firstFault checks ≡ Bad x
-      → Leaves (outcomeOf refused (firstFault (checks ++ more)) answer rows i₀ p₀) (refused (x .number)) i₀ p₀
+      → Leaves (outcomeOf refused (firstFault (checks ++ more)) answer rows i₀ p₀) (refused x) i₀ p₀
   unfolding later
   outcome-bad x e =
       rw (first-append checks more ∙ ap (λ (t : Checked). later t (firstFault more)) e)
@@ -135,13 +135,13 @@ module _ (first : List Float) (firstClosed : Bool) (second : List Float) (second
 
   module _ (x : Fault) (i₀ : List ℕ) (p₀ : List Float)
       (e : checkMutual first firstClosed second secondClosed epsilon ≡ Bad x) where
-    pub mutual-refused : Leaves (mutualListing first firstClosed second secondClosed epsilon i₀ p₀) (Refused (x .number)) i₀ p₀
+    pub mutual-refused : Leaves (mutualListing first firstClosed second secondClosed epsilon i₀ p₀) (Refused x) i₀ p₀
     unfolding mutualListing outcome checkMutual
     mutual-refused = outcome-bad Refused these _ _ _ i₀ p₀ x e
 
     pub mutual-page-refused : (position budget : ℕ)
         → Leaves (mutualPage first firstClosed second secondClosed epsilon position budget i₀ p₀)
-        (pages.Refused (x .number)) i₀ p₀
+        (pages.Refused x) i₀ p₀
     unfolding mutualPage pageOutcome checkMutual
     mutual-page-refused position budget = outcome-bad pages.Refused these _ _ _ i₀ p₀ x e
 
@@ -198,11 +198,11 @@ module _ (path : List Float) (closed : Bool) (epsilon : Float) where
           rw (page-fine its g own position budget i₀ p₀ e) k
 
   module _ (x : Fault) (i₀ : List ℕ) (p₀ : List Float) (e : checkSelf path closed epsilon ≡ Bad x) where
-    pub self-refused : Leaves (selfListing path closed epsilon i₀ p₀) (Refused (x .number)) i₀ p₀
+    pub self-refused : Leaves (selfListing path closed epsilon i₀ p₀) (Refused x) i₀ p₀
     unfolding selfListing outcome checkSelf
     self-refused = outcome-bad Refused its _ _ _ i₀ p₀ x e
 
     pub self-page-refused : (position budget : ℕ)
-        → Leaves (selfPage path closed epsilon position budget i₀ p₀) (pages.Refused (x .number)) i₀ p₀
+        → Leaves (selfPage path closed epsilon position budget i₀ p₀) (pages.Refused x) i₀ p₀
     unfolding selfPage pageOutcome checkSelf
     self-page-refused position budget = outcome-bad pages.Refused its _ _ _ i₀ p₀ x e

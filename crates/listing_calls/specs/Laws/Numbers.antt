@@ -9,6 +9,7 @@ use native.Mathlib.Omega.{arith}
 use lib.Ieee.{Float}
 use lib.ListN.{length, getD, drop, replicate}
 use lib.Seq.{getD-drop}
+use Rattle.checks.specs.declared.fault.Fault.{Fault}
 use Rattle.checks.specs.declared.fault.Checked.{Checked}
 use Rattle.checks.specs.declared.fault.Checked.the-variants.{Fine, Bad}
 use Rattle.checks.specs.First.{first as firstFault}
@@ -42,7 +43,7 @@ Below b l = (k : ℕ) → getD l k 0 < b
 
 -- what a listing answers, with b for the numbers in its slice of indices
 pub record Numbers (b : ℕ) (o : Outcome ListingAnswer) : Type 0 where
-  pub refusal : (n : ℕ) → o .answer ≡ Refused n → n < numbersBelow
+  pub refusal : (f : Fault) → o .answer ≡ Refused f → f .number < numbersBelow
   pub pairs : (rows pairs : ℕ) → o .answer ≡ Listed rows pairs → pairs ≤ mostVertices * mostVertices
   pub indices : Below b (o .indices)
 
@@ -115,10 +116,10 @@ module _ (b : ℕ) (wide : mostVertices ≤ b) (first second : List Float) (epsi
       (pairs-below m hm (suc i) k (omega (arith, h)))
 
 -- ---- what a listing answers
-never : {n k m : ℕ} → Refused n ≡ Listed k m → ⊥
+never : {f : Fault} {k m : ℕ} → Refused f ≡ Listed k m → ⊥
 never e = let z : _≡_ {A = ℕ} 0 1 = cc in omega (arith, z)
 
-same-number : {n m : ℕ} → Refused n ≡ Refused m → n ≡ m
+same-number : {f g : Fault} → Refused f ≡ Refused g → f .number ≡ g .number
 same-number e = cc
 
 same-pairs : {n k m l : ℕ} → Listed n k ≡ Listed m l → k ≡ l
@@ -129,14 +130,14 @@ module _ (b : ℕ) (rows : List Row) (looked : ℕ) (i₀ : List ℕ) (p₀ : Li
   of-checked : (c : Checked) → Small c → Numbers b (listedOf c rows looked i₀ p₀)
   of-checked (Bad fault) small =
       record {
-        refusal = λ n e. omega (arith, small .below, same-number e);
+        refusal = λ f e. omega (arith, small .below, same-number e);
         pairs = λ n m e. absurd (never e);
         indices = held;
       }
   of-checked Fine small =
       let numbers = numbersOfRows indicesOf rows in
       record {
-        refusal = λ n e. absurd (never (sym e));
+        refusal = λ f e. absurd (never (sym e));
         pairs = λ n m e. omega (arith, few, same-pairs e);
         indices = below-append b numbers (drop (length numbers) i₀) written (below-drop b (length numbers) i₀ held);
       }

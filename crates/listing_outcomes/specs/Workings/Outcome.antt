@@ -10,7 +10,9 @@ use borrow.Author.Tests.{le-ltb, lt-ltb}
 use lib.Ieee.{Float}
 use lib.ListN.{length, length-append}
 use lib.Seq.{paste, sets}
-use Rattle.checks.specs.Fault.{refuse}
+use Rattle.checks.specs.declared.fault.Item.the-variants.{Rows}
+use Rattle.checks.specs.Fault.{whole, refuse}
+use Rattle.checks.specs.Refusal
 use Rattle.paths.specs.Path.{mostVertices}
 use Rattle.listing_pairs.specs.declared.row.Row.{Row}
 use Rattle.listing_pairs.specs.declared.row.Look.{Look}
@@ -56,7 +58,7 @@ module _ (look : ℕ → ℕ → Look) (ps : List Pair) (i₀ : List ℕ) (p₀ 
 
   -- ---- refused, and listed
   pub is-refused : room i₀ p₀ < length rows → (i : List ℕ) (p : List Float) → i ≡ i₀ → p ≡ p₀
-      → Leaves (listed look ps i₀ p₀) (Refused 8) i p
+      → Leaves (listed look ps i₀ p₀) (Refused (whole Refusal.rows Rows)) i p
   unfolding roomCheck refuse
   is-refused h i p a b = rw (lt-ltb _ _ h) (record { answer = refl; indices = a; points = b })
 
@@ -262,7 +264,7 @@ module _ {look : ℕ → ℕ → Look} {job : Job} {k : ℕ} {r : Filling} {a : 
 
     -- pairs remain after that page too
     pub behind-refused : empty (behind .rest) ≡ false → (x : List ℕ) (y : List Float) → x ≡ i₀ → y ≡ p₀
-        → Leaves (listed look ps i₀ p₀) (Refused 8) x y
+        → Leaves (listed look ps i₀ p₀) (Refused (whole Refusal.rows Rows)) x y
     behind-refused e =
         let n = too-many look (joins look after (room i₀ p₀ - k) most) (few-left job (r .i) (r .j)) e in
         let l = length-append (before .rows) (rowsOf look after) in

@@ -15,7 +15,7 @@ use Rattle.checks.specs.declared.fault.Place.{Place}
 use Rattle.checks.specs.declared.fault.Item.the-variants.{Rows, Position, Budget}
 use Rattle.checks.specs.declared.fault.Checked.{Checked}
 use Rattle.checks.specs.declared.fault.Checked.the-variants.{Fine}
-use Rattle.checks.specs.Fault.{at, bad, refuse, later}
+use Rattle.checks.specs.Fault.{at, bad, whole, refuse, later}
 use Rattle.checks.specs.First.{first as firstFault}
 use Rattle.checks.specs.Refusal
 use Rattle.listing_pairs.specs.declared.row.Row.{Row}
@@ -90,14 +90,14 @@ module _ (look : ℕ → ℕ → Look) (ps : List Pair) (position budget : ℕ) 
   is r i p = Leaves (paged look ps position budget i₀ p₀) r i p
 
   -- what the first fault of the three checks is
-  refused : (n : ℕ) (p : Place) → firstFault (limits position (length ps) budget i₀ p₀) ≡ bad n p → is (Refused n) i₀ p₀
+  refused : (n : ℕ) (p : Place) → firstFault (limits position (length ps) budget i₀ p₀) ≡ bad n p → is (Refused (record { number = n; place = p })) i₀ p₀
   refused n p e = rw e (record { answer = refl; indices = refl; points = refl })
 
   is-beyond : length ps < position → positionCheck position (length ps) ≡ bad Refusal.position (at 0 0 Position)
   unfolding positionCheck refuse
   is-beyond h = rw (lt-ltb _ _ h) refl
 
-  pub beyond : length ps < position → is (Refused Refusal.position) i₀ p₀
+  pub beyond : length ps < position → is (Refused (whole Refusal.position Position)) i₀ p₀
   beyond h =
       refused Refusal.position (at 0 0 Position)
       (in-first (positionCheck position (length ps)) (budgetCheck budget) (rowCheck i₀ p₀) _ _ (is-beyond h))
@@ -111,7 +111,7 @@ module _ (look : ℕ → ℕ → Look) (ps : List Pair) (position budget : ℕ) 
     unfolding budgetCheck refuse
     budget-none e = rw (eq-eqb budget 0 e) refl
 
-    pub no-budget : budget ≡ 0 → is (Refused Refusal.budget) i₀ p₀
+    pub no-budget : budget ≡ 0 → is (Refused (whole Refusal.budget Budget)) i₀ p₀
     no-budget e =
         refused Refusal.budget (at 0 0 Budget)
         (in-second (positionCheck position (length ps)) (budgetCheck budget) (rowCheck i₀ p₀) _ _ position-passes (budget-none e))
@@ -125,7 +125,7 @@ module _ (look : ℕ → ℕ → Look) (ps : List Pair) (position budget : ℕ) 
       unfolding rowCheck refuse
       row-none e = rw (eq-eqb (room i₀ p₀) 0 e) refl
 
-      pub no-row : room i₀ p₀ ≡ 0 → is (Refused Refusal.rows) i₀ p₀
+      pub no-row : room i₀ p₀ ≡ 0 → is (Refused (whole Refusal.rows Rows)) i₀ p₀
       no-row e =
           refused Refusal.rows (at 0 0 Rows)
           (in-third (positionCheck position (length ps)) (budgetCheck budget) (rowCheck i₀ p₀) _ _

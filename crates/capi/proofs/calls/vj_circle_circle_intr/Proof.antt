@@ -1,8 +1,7 @@
--- `capi::calls::vj_circle_circle_intr` meets its contract: it hands over what `circle_circle_intr` answers, numbers below 256.
+-- `capi::calls::vj_circle_circle_intr` meets its contract: it hands over what `circle_circle_intr` answers.
 use borrow.Author.Needs.{needs}
 use Rattle.answers.specs.Padded.{ofCircleCircle}
-use Rattle.capi.proofs.Ends.{handed, small}
-use Rattle.capi.proofs.Numbers.{circle-circle}
+use Rattle.capi.proofs.Ends.{handed}
 use Rattle.capi.proofs.calls.vj_circle_circle_intr.Statement.{statement}
 use Rattle.capi.proofs.calls.vj_circle_circle_intr.Tie as tie
 
@@ -11,6 +10,6 @@ vj-circle-circle-intr-spec =
     tie.close
     (tie.spec
     (λ c. search needs) (λ c. search needs)
-    (λ c κs. search (small ofCircleCircle, circle-circle))
+    (λ c. search needs)
     (λ c. search needs)
     (λ c. search (handed ofCircleCircle)))

@@ -1,8 +1,7 @@
--- `capi::calls::vj_line_line_intr` meets its contract: it hands over what `line_line_intr` answers, numbers below 256.
+-- `capi::calls::vj_line_line_intr` meets its contract: it hands over what `line_line_intr` answers.
 use borrow.Author.Needs.{needs}
 use Rattle.answers.specs.Padded.{ofLineLine}
-use Rattle.capi.proofs.Ends.{handed, small}
-use Rattle.capi.proofs.Numbers.{line-line}
+use Rattle.capi.proofs.Ends.{handed}
 use Rattle.capi.proofs.calls.vj_line_line_intr.Statement.{statement}
 use Rattle.capi.proofs.calls.vj_line_line_intr.Tie as tie
 
@@ -11,6 +10,6 @@ vj-line-line-intr-spec =
     tie.close
     (tie.spec
     (λ c. search needs) (λ c. search needs)
-    (λ c κs. search (small ofLineLine, line-line))
+    (λ c. search needs)
     (λ c. search needs)
     (λ c. search (handed ofLineLine)))

@@ -1,8 +1,7 @@
--- `capi::calls::vj_pair` meets its contract: it hands over what `pline_seg_intr` answers, numbers below 256.
+-- `capi::calls::vj_pair` meets its contract: it hands over what `pline_seg_intr` answers.
 use borrow.Author.Needs.{needs}
 use Rattle.answers.specs.Padded.{ofPlineSeg}
-use Rattle.capi.proofs.Ends.{handed, small}
-use Rattle.capi.proofs.Numbers.{pline-seg}
+use Rattle.capi.proofs.Ends.{handed}
 use Rattle.capi.proofs.calls.vj_pair.Statement.{statement}
 use Rattle.capi.proofs.calls.vj_pair.Tie as tie
 
@@ -11,6 +10,6 @@ vj-pair-spec =
     tie.close
     (tie.spec
     (λ c. search needs) (λ c. search needs)
-    (λ c κs. search (small ofPlineSeg, pline-seg))
+    (λ c. search needs)
     (λ c. search needs)
     (λ c. search (handed ofPlineSeg)))

@@ -1,7 +1,6 @@
 -- `capi::listing::vj_self` meets its contract: without room for the counts nothing is done; else the listing is handed over.
 use borrow.Author.Needs.{needs}
-use Rattle.capi.specs.HandedListing.{listing}
-use Rattle.capi.proofs.ListingNumbers.{self-small, small, no-room, handed}
+use Rattle.capi.proofs.ListingEnds.{no-room, handed}
 use Rattle.capi.proofs.listing.vj_self.Statement.{statement}
 use Rattle.capi.proofs.listing.vj_self.Tie as tie
 
@@ -11,6 +10,6 @@ vj-self-spec =
     (tie.spec
     (λ c. no-room _ _ _ _ (c .if1 .taken))
     (λ c. search needs)
-    (λ c κs. search (small listing, self-small))
+    (λ c. search needs)
     (λ c. search needs) (λ c. search needs) (λ c. search needs)
     (λ c. search handed))

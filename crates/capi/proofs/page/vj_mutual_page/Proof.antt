@@ -1,7 +1,6 @@
 -- `capi::page::vj_mutual_page` meets its contract: without room for the counts nothing is done; else the page is handed over.
 use borrow.Author.Needs.{needs}
-use Rattle.capi.specs.HandedListing.{ofPage}
-use Rattle.capi.proofs.ListingNumbers.{mutual-page-small, small, no-room, handed}
+use Rattle.capi.proofs.ListingEnds.{no-room, handed}
 use Rattle.capi.proofs.page.vj_mutual_page.Statement.{statement}
 use Rattle.capi.proofs.page.vj_mutual_page.Tie as tie
 
@@ -11,6 +10,6 @@ vj-mutual-page-spec =
     (tie.spec
     (λ c. no-room _ _ _ _ (c .if1 .taken))
     (λ c. search needs)
-    (λ c κs. search (small ofPage, mutual-page-small))
+    (λ c. search needs)
     (λ c. search needs) (λ c. search needs) (λ c. search needs)
     (λ c. search handed))

@@ -1,11 +1,19 @@
--- `finite` meets its contract: the test that it refuses by is the definition's.
+-- `finite` meets its contract: it makes the definition's two checks, in the definition's order.
 use borrow.Author.Needs.{needs}
 use Rattle.checks.specs.Each.{finite}
 use Rattle.checks.proofs.each.finite.Statement.{statement}
 use Rattle.checks.proofs.each.finite.Tie as tie
 
-pub finite-spec : {M : Type 1} → statement M
+returns : tie.Need-returns
 unfolding finite
+returns c =
+    let b = c .before in
+    let i = b .before in
+    let a = i .before in
+    simp (a .before .is-nan .ensures, a .refuse .ensures, i .is-infinite .ensures, b .refuse2 .ensures, c .later .ensures)
+
+pub finite-spec : {M : Type 1} → statement M
 finite-spec =
     tie.close
-    (tie.spec (λ c. search needs) (λ c. search needs) (λ c. simp (← c .before .not-finite .ensures, ← c .refuse .ensures)))
+    (tie.spec
+    (λ c. search needs) (λ c. search needs) (λ c. search needs) (λ c. search needs) (λ c. search needs) returns)
