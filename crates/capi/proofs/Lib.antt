@@ -1,3 +1,2 @@
 mod Ends
-mod Numbers
-mod ListingNumbers
+mod ListingEnds

@@ -1,5 +1,6 @@
--- How answers go to a caller in C: those of the four crossing calls (Handed) and of the listings (HandedListing); and that each
--- promise allows one result only (OneResult).
+-- How answers go to a caller in C: those of the four crossing calls (Handed), of the listings and of their pages (HandedListing);
+-- that each promise allows one result only (OneResult); and that a refusal's word gives the fault back (WordsOfCalls).
 pub mod Handed
 pub mod HandedListing
 pub mod OneResult
+pub mod WordsOfCalls

@@ -18,5 +18,6 @@ pub mod Answered
 pub mod ExactlyWhen
 pub mod FaultNumbers
 pub mod Word
+pub mod Words
 pub mod Workings
 pub mod Laws

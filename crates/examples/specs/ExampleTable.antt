@@ -6,7 +6,9 @@ use mathlib.Core.List.{List, [], _∷_}
 use lib.Ieee.{Float, binary64, ofBits}
 use Rattle.plane.specs.declared.vector2.Vector2.{Vector2}
 use Rattle.plane.specs.declared.pline_vertex.PlineVertex.{PlineVertex}
-use Rattle.crossing.specs.AnswerNumbers.{AnswerNumbers}
+use Rattle.crossing.specs.AnswerNumbers.{AnswerNumbers, ofFault, ofCase}
+use Rattle.checks.specs.declared.fault.Item.{Item}
+use Rattle.checks.specs.declared.fault.Item.the-variants.{X, Bulge, Chord}
 use Rattle.crossing.specs.LineLineIntersect as lines
 use Rattle.crossing.specs.LineCircleIntersect as lineCircle
 use Rattle.crossing.specs.CircleCircleIntersect as circles
@@ -78,10 +80,11 @@ pub record Entry : Type 0 where
   pub due : AnswerNumbers
 
 abbrev met : ℕ → List Float → AnswerNumbers
-met case values = record { refused = false; number = case; values = values }
+met case values = ofCase case values
 
-abbrev refused : ℕ → AnswerNumbers
-refused n = record { refused = true; number = n; values = [] }
+-- the refusal of a number, with its place: owner, index, item
+abbrev refused : ℕ → ℕ → ℕ → Item → AnswerNumbers
+refused n owner index item = ofFault (record { number = n; place = record { owner = owner; index = index; item = item } })
 
 -- a pair: v1, v2, u1, u2, epsilon, and the answer that it should give
 abbrev pair : PlineVertex → PlineVertex → PlineVertex → PlineVertex → Float → AnswerNumbers → Entry
@@ -135,9 +138,9 @@ table =
     ∷ pair (at n1 n0) (at n1 n0) (at n0 n0) (at n2 n0) eps (one 2 n1 n0)
     -- a coordinate of 1,048,576 passes; the next float gets refusal 2
     ∷ pair (at most n0) (at n0 n0) (at n0 n0) (at n0 n1) eps (one 2 n0 n0)
-    ∷ pair (at more n0) (at n0 n0) (at n0 n0) (at n0 n1) eps (refused 2)
+    ∷ pair (at more n0) (at n0 n0) (at n0 n0) (at n0 n1) eps (refused 2 0 0 X)
     -- a bulge of 1 passes (H); the next float gets refusal 3
-    ∷ pair (arcAt m1 n0 n1up) (at n1 n0) (arcAt n1 n0 n1) (at m1 n0) eps (refused 3)
+    ∷ pair (arcAt m1 n0 n1up) (at n1 n0) (arcAt n1 n0 n1) (at m1 n0) eps (refused 3 0 0 Bulge)
     -- equal ends with bulge 0.5 get refusal 5; with bulge 0 they are a point (L)
-    ∷ pair (arcAt n1 n0 half) (at n1 n0) (at n0 n0) (at n2 n0) eps (refused 5)
+    ∷ pair (arcAt n1 n0 half) (at n1 n0) (at n0 n0) (at n2 n0) eps (refused 5 0 0 Chord)
     ∷ []

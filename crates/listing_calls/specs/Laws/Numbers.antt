@@ -1,6 +1,6 @@
 -- How large the whole numbers of a listing of two paths can be: a refusal's, the count of pairs, and every number in the slice of
 -- indices, those behind the rows included.
-use mathlib.Core.Path.{_≡_, sym}
+use mathlib.Core.Path.{_≡_, refl, sym, subst}
 use mathlib.Core.Bool.{Bool}
 use mathlib.Core.List.{List, [], _∷_, _++_}
 use Prim.Native.Nat.{ℕ, zero, suc, _+_, _-_, _*_, _≤_, _<_}
@@ -14,6 +14,7 @@ use Rattle.checks.specs.declared.fault.Checked.{Checked}
 use Rattle.checks.specs.declared.fault.Checked.the-variants.{Fine, Bad}
 use Rattle.checks.specs.First.{first as firstFault}
 use Rattle.checks.specs.Refusal.{numbersBelow}
+use Rattle.checks.specs.Words.{Fits}
 use Rattle.checks.specs.Laws.RefusalNumbers.{Small}
 use Rattle.crossing.specs.PlineSeg.{plineSeg}
 use Rattle.crossing.specs.PlineSegIntr.{classOf}
@@ -119,8 +120,8 @@ module _ (b : ℕ) (wide : mostVertices ≤ b) (first second : List Float) (epsi
 never : {f : Fault} {k m : ℕ} → Refused f ≡ Listed k m → ⊥
 never e = let z : _≡_ {A = ℕ} 0 1 = cc in omega (arith, z)
 
-same-number : {f g : Fault} → Refused f ≡ Refused g → f .number ≡ g .number
-same-number e = cc
+same-fault : {f g : Fault} → Refused f ≡ Refused g → f ≡ g
+same-fault e = cc
 
 same-pairs : {n k m l : ℕ} → Listed n k ≡ Listed m l → k ≡ l
 same-pairs e = cc
@@ -130,7 +131,7 @@ module _ (b : ℕ) (rows : List Row) (looked : ℕ) (i₀ : List ℕ) (p₀ : Li
   of-checked : (c : Checked) → Small c → Numbers b (listedOf c rows looked i₀ p₀)
   of-checked (Bad fault) small =
       record {
-        refusal = λ f e. omega (arith, small .below, same-number e);
+        refusal = λ f e. subst Fits (same-fault e) (small .fits fault refl) .number;
         pairs = λ n m e. absurd (never e);
         indices = held;
       }
