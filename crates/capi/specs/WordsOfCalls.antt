@@ -41,7 +41,8 @@ use Rattle.listing_calls.specs.Laws.RefusalNumbers as laws
 module _ {I A : Type 0} (refused : Fault → A) (met : I → A) (distinct : Distinct refused met) where
   of-checked : (c : Checked) (i : I) → Small c → (f : Fault) → answered refused met c i ≡ refused f → Parts f (word f)
   of-checked Fine i small f e = absurd (distinct .kinds f i (sym e))
-  of-checked (Bad g) i small f e = parts f (subst (λ (h : Fault). Fits h) (distinct .faults g f e) (small .fits g refl))
+  of-checked (Bad g) i small f e =
+      parts f (subst (λ (h : Fault). Fits h) (distinct .faults g f e) (small .fits g refl))
 
 -- ---- the kernels and the pair call
 pub line-line : (v1 v2 u1 u2 : Vector2) (eps : Float) (f : Fault)
@@ -89,10 +90,10 @@ page-other f e = no-number (sym cc)
 
 module _ (first : List Float) (firstClosed : Bool) (second : List Float) (secondClosed : Bool) (eps : Float)
     (i : List ℕ) (p : List Float) where
-  pub mutual : (f : Fault) → mutualListing first firstClosed second secondClosed eps i p .answer ≡ listings.Refused f
+  pub mutual-listing : (f : Fault) → mutualListing first firstClosed second secondClosed eps i p .answer ≡ listings.Refused f
       → Parts f (word f)
   unfolding mutualListing outcome
-  mutual =
+  mutual-listing =
       of-outcome listings.Refused (λ e. cc) _ _ _ i p (laws.mutual-small _ i p first firstClosed second secondClosed eps)
       (λ f e. listing-other f e)
 
@@ -104,9 +105,9 @@ module _ (first : List Float) (firstClosed : Bool) (second : List Float) (second
       (laws.mutual-page-small position _ budget i p first firstClosed second secondClosed eps) (λ f e. page-other f e)
 
 module _ (path : List Float) (closed : Bool) (eps : Float) (i : List ℕ) (p : List Float) where
-  pub self : (f : Fault) → selfListing path closed eps i p .answer ≡ listings.Refused f → Parts f (word f)
+  pub self-listing : (f : Fault) → selfListing path closed eps i p .answer ≡ listings.Refused f → Parts f (word f)
   unfolding selfListing outcome
-  self = of-outcome listings.Refused (λ e. cc) _ _ _ i p (laws.self-small _ i p path closed eps) (λ f e. listing-other f e)
+  self-listing = of-outcome listings.Refused (λ e. cc) _ _ _ i p (laws.self-small _ i p path closed eps) (λ f e. listing-other f e)
 
   pub self-page : (position budget : ℕ) (f : Fault)
       → selfPage path closed eps position budget i p .answer ≡ pages.Refused f → Parts f (word f)

@@ -7,6 +7,7 @@ ghost use Rattle.checks.specs.Calls;
 ghost use Rattle.checks.specs.declared.fault.Checked.the-variants.{Fine};
 use super::pline_seg::pline_seg_on;
 use arcs::pline_seg_intr::PlineSegIntr;
+use checks::fault::Fault;
 use plane::pline_seg::ArcRadiusCenter;
 use plane::pline_vertex::PlineVertex;
 

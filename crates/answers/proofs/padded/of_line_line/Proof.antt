@@ -1,13 +1,14 @@
 -- `answers::padded::of_line_line` meets its contract: a refusal gives a refusal, and each case that case.
 use borrow.Author.Needs.{needs}
 use Rattle.crossing.specs.declared.line_line_intersect.LineLineAnswer.the-variants.{Met}
+use Rattle.checks.specs.Word.{word}
 use Rattle.answers.specs.Padded.{ofLineLine, refusal, case}
 use Rattle.answers.proofs.AsNumbers.{as-refused, as-met}
 use Rattle.answers.proofs.padded.of_line_line.Statement.{statement}
 use Rattle.answers.proofs.padded.of_line_line.Tie as tie
 
 pub of-line-line-spec : {M : Type 1} → statement M
-unfolding ofLineLine refusal case
+unfolding ofLineLine refusal word case
 of-line-line-spec =
     tie.close
     (tie.spec

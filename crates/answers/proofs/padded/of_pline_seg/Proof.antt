@@ -4,6 +4,7 @@ use borrow.Author.Needs.{needs}
 use Rattle.arcs.specs.declared.pline_seg_intr.PlineSegIntr.{PlineSegIntr}
 use Rattle.crossing.specs.declared.pline_seg_intersect.PlineSegAnswer.{PlineSegAnswer}
 use Rattle.crossing.specs.declared.pline_seg_intersect.PlineSegAnswer.the-variants.{Met}
+use Rattle.checks.specs.Word.{word}
 use Rattle.answers.specs.declared.class_and_points.ClassAndPoints.{ClassAndPoints}
 use Rattle.answers.specs.declared.padded.PaddedAnswer.{PaddedAnswer}
 use Rattle.answers.specs.Padded.{ofPlineSeg, refusal, case}
@@ -19,7 +20,7 @@ as-class answer found m padded e is same =
     rw e (same ∙ ap (λ (k : ClassAndPoints). case (k .class) (k .x1) (k .y1) (k .x2) (k .y2)) is)
 
 pub of-pline-seg-spec : {M : Type 1} → statement M
-unfolding ofPlineSeg refusal
+unfolding ofPlineSeg refusal word
 of-pline-seg-spec =
     tie.close
     (tie.spec
