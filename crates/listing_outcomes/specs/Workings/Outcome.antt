@@ -11,6 +11,7 @@ use lib.Ieee.{Float}
 use lib.ListN.{length, length-append}
 use lib.Seq.{paste, sets}
 use Rattle.checks.specs.declared.fault.Item.the-variants.{Rows}
+use Rattle.checks.specs.declared.fault.Fault.{Fault}
 use Rattle.checks.specs.Fault.{whole, refuse}
 use Rattle.checks.specs.Refusal
 use Rattle.paths.specs.Path.{mostVertices}
@@ -58,9 +59,9 @@ module _ (look : ℕ → ℕ → Look) (ps : List Pair) (i₀ : List ℕ) (p₀ 
 
   -- ---- refused, and listed
   pub is-refused : room i₀ p₀ < length rows → (i : List ℕ) (p : List Float) → i ≡ i₀ → p ≡ p₀
-      → Leaves (listed look ps i₀ p₀) (Refused (whole Refusal.rows Rows)) i p
+      → (f : Fault) → f ≡ whole Refusal.rows Rows → Leaves (listed look ps i₀ p₀) (Refused f) i p
   unfolding roomCheck refuse
-  is-refused h i p a b = rw (lt-ltb _ _ h) (record { answer = refl; indices = a; points = b })
+  is-refused h i p a b f e = rw (lt-ltb _ _ h) (record { answer = ap Refused e; indices = a; points = b })
 
   pub is-listed : length rows ≤ room i₀ p₀ → (n k : ℕ) (i : List ℕ) (p : List Float) → n ≡ length rows → k ≡ lookedAt look ps
       → i ≡ overwrite i₀ (numbersOfRows indicesOf rows) → p ≡ overwrite p₀ (numbersOfRows pointsOf rows)
@@ -264,7 +265,7 @@ module _ {look : ℕ → ℕ → Look} {job : Job} {k : ℕ} {r : Filling} {a : 
 
     -- pairs remain after that page too
     pub behind-refused : empty (behind .rest) ≡ false → (x : List ℕ) (y : List Float) → x ≡ i₀ → y ≡ p₀
-        → Leaves (listed look ps i₀ p₀) (Refused (whole Refusal.rows Rows)) x y
+        → (f : Fault) → f ≡ whole Refusal.rows Rows → Leaves (listed look ps i₀ p₀) (Refused f) x y
     behind-refused e =
         let n = too-many look (joins look after (room i₀ p₀ - k) most) (few-left job (r .i) (r .j)) e in
         let l = length-append (before .rows) (rowsOf look after) in

@@ -12,6 +12,7 @@ use lib.Ieee.{Float}
 use lib.ListN.{length, length-drop, drop}
 use lib.Seq.{sets}
 use Rattle.checks.specs.declared.fault.Place.{Place}
+use Rattle.checks.specs.declared.fault.Fault.{Fault}
 use Rattle.checks.specs.declared.fault.Item.the-variants.{Rows, Position, Budget}
 use Rattle.checks.specs.declared.fault.Checked.{Checked}
 use Rattle.checks.specs.declared.fault.Checked.the-variants.{Fine}
@@ -83,21 +84,22 @@ next-few look ps position m budget within =
     omega (arith, joins look (drop position ps) m budget .passed, length-drop position ps, within)
 
 module _ (look : ℕ → ℕ → Look) (ps : List Pair) (position budget : ℕ) (i₀ : List ℕ) (p₀ : List Float) where
-  abbrev whole : Page
-  whole = page look (drop position ps) (room i₀ p₀) budget
+  abbrev its : Page
+  its = page look (drop position ps) (room i₀ p₀) budget
 
   abbrev is : PageAnswer → List ℕ → List Float → Type 0
   is r i p = Leaves (paged look ps position budget i₀ p₀) r i p
 
   -- what the first fault of the three checks is
-  refused : (n : ℕ) (p : Place) → firstFault (limits position (length ps) budget i₀ p₀) ≡ bad n p → is (Refused (record { number = n; place = p })) i₀ p₀
-  refused n p e = rw e (record { answer = refl; indices = refl; points = refl })
+  refused : (n : ℕ) (p : Place) → firstFault (limits position (length ps) budget i₀ p₀) ≡ bad n p
+      → (f : Fault) → f ≡ record { number = n; place = p } → is (Refused f) i₀ p₀
+  refused n p e f same = rw e (record { answer = ap Refused same; indices = refl; points = refl })
 
   is-beyond : length ps < position → positionCheck position (length ps) ≡ bad Refusal.position (at 0 0 Position)
   unfolding positionCheck refuse
   is-beyond h = rw (lt-ltb _ _ h) refl
 
-  pub beyond : length ps < position → is (Refused (whole Refusal.position Position)) i₀ p₀
+  pub beyond : length ps < position → (f : Fault) → f ≡ whole Refusal.position Position → is (Refused f) i₀ p₀
   beyond h =
       refused Refusal.position (at 0 0 Position)
       (in-first (positionCheck position (length ps)) (budgetCheck budget) (rowCheck i₀ p₀) _ _ (is-beyond h))
@@ -111,7 +113,7 @@ module _ (look : ℕ → ℕ → Look) (ps : List Pair) (position budget : ℕ) 
     unfolding budgetCheck refuse
     budget-none e = rw (eq-eqb budget 0 e) refl
 
-    pub no-budget : budget ≡ 0 → is (Refused (whole Refusal.budget Budget)) i₀ p₀
+    pub no-budget : budget ≡ 0 → (f : Fault) → f ≡ whole Refusal.budget Budget → is (Refused f) i₀ p₀
     no-budget e =
         refused Refusal.budget (at 0 0 Budget)
         (in-second (positionCheck position (length ps)) (budgetCheck budget) (rowCheck i₀ p₀) _ _ position-passes (budget-none e))
@@ -125,7 +127,7 @@ module _ (look : ℕ → ℕ → Look) (ps : List Pair) (position budget : ℕ) 
       unfolding rowCheck refuse
       row-none e = rw (eq-eqb (room i₀ p₀) 0 e) refl
 
-      pub no-row : room i₀ p₀ ≡ 0 → is (Refused (whole Refusal.rows Rows)) i₀ p₀
+      pub no-row : room i₀ p₀ ≡ 0 → (f : Fault) → f ≡ whole Refusal.rows Rows → is (Refused f) i₀ p₀
       no-row e =
           refused Refusal.rows (at 0 0 Rows)
           (in-third (positionCheck position (length ps)) (budgetCheck budget) (rowCheck i₀ p₀) _ _
@@ -141,9 +143,9 @@ module _ (look : ℕ → ℕ → Look) (ps : List Pair) (position budget : ℕ) 
             in-none (positionCheck position (length ps)) (budgetCheck budget) (rowCheck i₀ p₀)
             position-passes budget-passes row-passes
 
-        is-paged : (i : List ℕ) (p : List Float) (n passed next all : ℕ) → n ≡ length (whole .rows) → passed ≡ whole .passed
-            → next ≡ position + whole .passed → all ≡ length ps
-            → i ≡ overwrite i₀ (numbersOfRows indicesOf (whole .rows)) → p ≡ overwrite p₀ (numbersOfRows pointsOf (whole .rows))
+        is-paged : (i : List ℕ) (p : List Float) (n passed next all : ℕ) → n ≡ length (its .rows) → passed ≡ its .passed
+            → next ≡ position + its .passed → all ≡ length ps
+            → i ≡ overwrite i₀ (numbersOfRows indicesOf (its .rows)) → p ≡ overwrite p₀ (numbersOfRows pointsOf (its .rows))
             → is (Paged n passed next all) i p
         is-paged i p n passed next all a b c d e f =
             rw all-pass (record { answer = rw (a, b, c, d) refl; indices = e; points = f })
@@ -151,15 +153,15 @@ module _ (look : ℕ → ℕ → Look) (ps : List Pair) (position budget : ℕ) 
         -- one kind of numbers, stored from the front on
         stored-front : {A : Type 0} (numbers : Row → List A) (width : ℕ) → ((r : Row) → length (numbers r) ≡ width)
             → (old : List A) → room i₀ p₀ * width ≤ length old
-            → sets old 0 (numbersOfRows numbers (whole .rows)) ≡ overwrite old (numbersOfRows numbers (whole .rows))
+            → sets old 0 (numbersOfRows numbers (its .rows)) ≡ overwrite old (numbersOfRows numbers (its .rows))
         stored-front numbers width each old long =
-            sets-over old (numbersOfRows numbers (whole .rows)) (fewer (joins look (drop position ps) (room i₀ p₀) budget .few))
+            sets-over old (numbersOfRows numbers (its .rows)) (fewer (joins look (drop position ps) (room i₀ p₀) budget .few))
           where
-            fewer : length (whole .rows) ≤ room i₀ p₀ → length (numbersOfRows numbers (whole .rows)) ≤ length old
+            fewer : length (its .rows) ≤ room i₀ p₀ → length (numbersOfRows numbers (its .rows)) ≤ length old
             fewer h =
                 omega (
                   arith,
-                  flat-length numbers width each (whole .rows),
+                  flat-length numbers width each (its .rows),
                   mul-le-mul h (le-refl width),
                   long,
                 )

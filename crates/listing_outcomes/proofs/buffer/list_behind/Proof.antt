@@ -124,17 +124,17 @@ returns c =
 
 returns-2 : tie.Need-returns-2
 returns-2 c =
-    let f = c .before .before .before .before .before in
+    let f = c .before .before .before .before .before .before in
     let a = start f .args in
     let h = start f .pre .1 in
     let counts = filled-behind (h .1 .1) (now (a .indices)) (now (a .points)) (omega (arith, h .0, h .1 .0)) _ _ _ _ _ _ _ _
     (h .0) (budget f .every-pair .ensures) (f .fill .ensures) in
     behind-refused (h .1 .1) (now (a .indices)) (now (a .points)) (omega (arith, h .0, h .1 .0))
-    (sym (counts .ended) ∙ c .if1 .left) _ _ (same-indices f) (same-points f)
+    (sym (counts .ended) ∙ c .before .if1 .left) _ _ (same-indices f) (same-points f) _ (c .whole .ensures)
 
 pub list-behind-spec : {M : Type 1} → statement M
 list-behind-spec =
     tie.close
     (tie.spec
     every-pair-requires fill-requires copy-rows-requires fill-requires-2 add-t30 (λ c. search needs) (λ c. search needs) returns
-    (λ c. search needs) (λ c. search needs) returns-2)
+    (λ c. search needs) (λ c. search needs) (λ c. search needs) returns-2)

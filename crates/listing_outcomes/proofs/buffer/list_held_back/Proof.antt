@@ -124,12 +124,13 @@ returns c =
 
 returns-2 : tie.Need-returns-2
 returns-2 c =
-    let f = c .before .before .before .before in
+    let t = c .before in
+    let f = t .before .before .before .before in
     let a = start f .args in
-    let more = too-many-every (looks f) (job f) (most f) (sym (done f .ended) ∙ c .before .if1 .left) in
+    let more = too-many-every (looks f) (job f) (most f) (sym (done f .ended) ∙ t .before .if1 .left) in
     let e = allowed f .before .lesser .ensures in
-    is-refused (looks f) (pairs f) (now (a .indices)) (now (a .points)) (omega (arith, more, e, start f .pre .1, c .if2 .taken))
-    _ _ refl refl
+    is-refused (looks f) (pairs f) (now (a .indices)) (now (a .points)) (omega (arith, more, e, start f .pre .1, t .if2 .taken))
+    _ _ refl refl _ (c .whole .ensures)
 
 list-behind-requires : tie.Need-list-behind-requires
 list-behind-requires c κs =
@@ -146,5 +147,5 @@ list-held-back-spec =
     (tie.spec
     (λ c. search needs) (λ c. search needs) every-pair-requires (λ c. search needs) (λ c. search needs) fill-requires
     (λ c. search needs) (λ c. search needs) copy-rows-requires (λ c. search needs) (λ c. search needs) returns
-    returns-2 (λ c. search needs) (λ c. search needs) list-behind-requires (λ c. search needs) (λ c. search needs)
+    (λ c. search needs) returns-2 (λ c. search needs) (λ c. search needs) list-behind-requires (λ c. search needs) (λ c. search needs)
     (λ c. search needs))

@@ -38,26 +38,28 @@ pairs c = job_of.every (start c .args .job)
 
 returns : tie.Need-returns
 returns c =
-    let n = c .before in
+    let n = c .before .before in
     let a = start n .args in
     beyond (looks n) (pairs n) (a .position) (a .budget) (now (a .indices)) (now (a .points))
-    (omega (arith, all-is n, c .if1 .taken))
+    (omega (arith, all-is n, c .before .if1 .taken)) _ (c .whole .ensures)
 
 returns-2 : tie.Need-returns-2
 returns-2 c =
-    let n = c .before .before in
+    let t = c .before in
+    let n = t .before .before in
     let a = start n .args in
-    no-budget (looks n) (pairs n) (a .position) (a .budget) (now (a .indices)) (now (a .points)) (within (c .before))
-    (c .if2 .taken)
+    no-budget (looks n) (pairs n) (a .position) (a .budget) (now (a .indices)) (now (a .points)) (within (t .before))
+    (t .if2 .taken) _ (c .whole2 .ensures)
 
 returns-3 : tie.Need-returns-3
 returns-3 c =
-    let r = c .before in
+    let t = c .before in
+    let r = t .before in
     let b = r .before in
     let n = b .before .before in
     let a = start n .args in
     no-row (looks n) (pairs n) (a .position) (a .budget) (now (a .indices)) (now (a .points)) (within (b .before))
-    (b .if2 .left) (sym (r .row-room .ensures) ∙ c .if3 .taken)
+    (b .if2 .left) (sym (r .row-room .ensures) ∙ t .if3 .taken) _ (c .whole3 .ensures)
 
 locate-requires : tie.Need-locate-requires
 locate-requires c κs =
@@ -79,8 +81,8 @@ fill-from-requires c κs =
 abbrev counted : tie.After-fill-from → tie.After-count
 counted c = c .before .before .before .before .before .before .before .before
 
-add-t14 : tie.Need-add-t14
-add-t14 c =
+add-t18 : tie.Need-add-t18
+add-t18 c =
     let f = c .before .before .before .before .before in
     let l = f .before .before .before in
     let r = l .before .before in
@@ -111,5 +113,6 @@ pub page-spec : {M : Type 1} → statement M
 page-spec =
     tie.close
     (tie.spec
-    count-requires returns returns-2 (λ c. search needs) returns-3 locate-requires fill-from-requires add-t14
+    count-requires (λ c. search needs) returns (λ c. search needs) returns-2 (λ c. search needs) (λ c. search needs) returns-3
+    locate-requires fill-from-requires add-t18
     (λ c. search needs) (λ c. search needs) returns-4)
