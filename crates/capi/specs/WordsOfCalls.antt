@@ -74,13 +74,13 @@ pline-seg v1 v2 u1 u2 eps =
     (calls.checkPlineSeg v1 v2 u1 u2 eps) (plineSeg v1 v2 u1 u2 eps) (search smalls depth 30)
 
 -- ---- listings and pages
-module _ {A : Type 0} (refused : Fault → A) (same : {f g : Fault} → refused f ≡ refused g → f ≡ g) where
+module _ {A : Type 0} (refused : Fault → A) (same : (f g : Fault) → refused f ≡ refused g → f ≡ g) where
   of-outcome : (c : Checked) (answer : A) (rows : List Row) (i : List ℕ) (p : List Float) → Small c
       → ((f : Fault) → answer ≡ refused f → ⊥)
       → (f : Fault) → outcomeOf refused c answer rows i p .answer ≡ refused f → Parts f (word f)
   of-outcome Fine answer rows i p small other f e = absurd (other f e)
   of-outcome (Bad g) answer rows i p small other f e =
-      parts f (subst (λ (h : Fault). Fits h) (same e) (small .fits g refl))
+      parts f (subst (λ (h : Fault). Fits h) (same g f e) (small .fits g refl))
 
 listing-other : {rows pairs : ℕ} (f : Fault) → listings.Listed rows pairs ≡ listings.Refused f → ⊥
 listing-other f e = no-number (sym cc)
@@ -94,24 +94,24 @@ module _ (first : List Float) (firstClosed : Bool) (second : List Float) (second
       → Parts f (word f)
   unfolding mutualListing outcome
   mutual-listing =
-      of-outcome listings.Refused (λ e. cc) _ _ _ i p (laws.mutual-small _ i p first firstClosed second secondClosed eps)
+      of-outcome listings.Refused (λ f g e. cc) _ _ _ i p (laws.mutual-small _ i p first firstClosed second secondClosed eps)
       (λ f e. listing-other f e)
 
   pub mutual-page : (position budget : ℕ) (f : Fault)
       → mutualPage first firstClosed second secondClosed eps position budget i p .answer ≡ pages.Refused f → Parts f (word f)
   unfolding mutualPage pageOutcome
   mutual-page position budget =
-      of-outcome pages.Refused (λ e. cc) _ _ _ i p
+      of-outcome pages.Refused (λ f g e. cc) _ _ _ i p
       (laws.mutual-page-small position _ budget i p first firstClosed second secondClosed eps) (λ f e. page-other f e)
 
 module _ (path : List Float) (closed : Bool) (eps : Float) (i : List ℕ) (p : List Float) where
   pub self-listing : (f : Fault) → selfListing path closed eps i p .answer ≡ listings.Refused f → Parts f (word f)
   unfolding selfListing outcome
-  self-listing = of-outcome listings.Refused (λ e. cc) _ _ _ i p (laws.self-small _ i p path closed eps) (λ f e. listing-other f e)
+  self-listing = of-outcome listings.Refused (λ f g e. cc) _ _ _ i p (laws.self-small _ i p path closed eps) (λ f e. listing-other f e)
 
   pub self-page : (position budget : ℕ) (f : Fault)
       → selfPage path closed eps position budget i p .answer ≡ pages.Refused f → Parts f (word f)
   unfolding selfPage pageOutcome
   self-page position budget =
-      of-outcome pages.Refused (λ e. cc) _ _ _ i p (laws.self-page-small position _ budget i p path closed eps)
+      of-outcome pages.Refused (λ f g e. cc) _ _ _ i p (laws.self-page-small position _ budget i p path closed eps)
       (λ f e. page-other f e)

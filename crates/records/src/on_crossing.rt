@@ -79,8 +79,7 @@ fn is_answer(numbers: PaddedAnswer, body: &[u8], i: usize) -> bool
 {
     let recorded = value(body, i);
     if numbers.refused {
-        return (recorded / refusal::NUMBERS_BELOW == 1)
-            & (recorded % refusal::NUMBERS_BELOW == numbers.number);
+        return recorded == numbers.number;
     }
     (recorded == numbers.number)
         & same(numbers.a, number(body, i + 1))

@@ -10,7 +10,7 @@ returns : tie.Need-returns
 returns c = no-room _ _ (omega arith)
 
 returns-2 : tie.Need-returns-2
-returns-2 c = refused _ _ (c .before .before .if1 .left) (c .before .if2 .taken)
+returns-2 c = refused _ _ (c .before .if1 .left) (c .if2 .taken)
 
 returns-3 : tie.Need-returns-3
 returns-3 c = written _ _ (c .before .if1 .left) (c .if2 .left)
@@ -19,6 +19,6 @@ pub hand-over-spec : {M : Type 1} → statement M
 hand-over-spec =
     tie.close
     (tie.spec
-    returns (λ c. search needs) returns-2 (λ c. search needs)
+    returns returns-2 (λ c. search needs)
     (λ c. simp length-set (omega arith)) (λ c. simp length-set (omega arith)) (λ c. search needs) (λ c. search needs)
     returns-3)

@@ -16,7 +16,7 @@ hand-page-spec =
     tie.close
     (tie.spec
     (λ c. search needs) (λ c. search needs) (λ c. search needs) (λ c. search needs)
-    (λ c. simp length-set (omega (arith, c .before .before .before .pre .0)))
-    (λ c. simp length-set (omega (arith, c .before .before .before .pre .0)))
-    (λ c. simp length-set (omega (arith, c .before .before .before .pre .0)))
+    (λ c. simp length-set (omega (arith, c .before .before .before .before .pre)))
+    (λ c. simp length-set (omega (arith, c .before .before .before .before .pre)))
+    (λ c. simp length-set (omega (arith, c .before .before .before .before .pre)))
     returns (λ c. search needs) returns-2)
