@@ -80,12 +80,11 @@ static void tell_owner(uint64_t word, const struct places *places)
 static void tell(const char *call, uint64_t word, const struct places *places)
 {
     printf("%s: ", call);
-    if (word == VJ_NO_ROOM) {
-        printf("no room for the answer\n");
-        return;
-    }
     if (!VJ_IS_REFUSED(word)) {
-        printf("not refused, %" PRIu64 "\n", word);
+        if (word == VJ_NO_ROOM)
+            printf("no room for the answer\n");
+        else
+            printf("not refused, %" PRIu64 "\n", word);
         return;
     }
     switch (VJ_ITEM(word)) {
