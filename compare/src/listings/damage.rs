@@ -44,7 +44,10 @@ impl Damage {
             Damage::TooMany { path } => {
                 let numbers = numbers(layout, path);
                 let more = numbers.len() % 3;
-                numbers.resize(3 * 4097 + more, 0.25);
+                // lines, so that no chord is at fault besides
+                let vertex = [0.25, 0.25, 0.0];
+                let new = numbers.len()..3 * 4097 + more;
+                numbers.extend(new.map(|at| vertex[at % 3]));
             }
             Damage::Number { path, at, number } => numbers(layout, path)[at] = number,
             Damage::Chord {
