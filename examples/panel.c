@@ -68,7 +68,7 @@ static void list(const double *second, size_t second_len)
             counts, COUNT(counts));
         /* nothing was written; VJ_NO_ROOM cannot be, counts has its places */
         if (answer != 0) {
-            printf("refused %" PRIu64 "\n", answer - VJ_REFUSED);
+            printf("refused %" PRIu64 "\n", VJ_NUMBER(answer));
             return;
         }
         cycle++;

@@ -76,25 +76,66 @@ uint64_t vj_sqrt_bits(uint64_t b);
  * `out` may not be null. The call returns
  *
  *   VJ_NO_ROOM         if room is below 4: nothing is written;
- *   VJ_REFUSED + N     else, if a number is refused: nothing is written. N is
- *                      the refusal of the first number at fault. The order is
- *                      epsilon, then as the call says;
+ *   a refusal's word   else, if a number is refused: nothing is written. The
+ *                      word tells the first number at fault, by which refusal
+ *                      and where. The order is epsilon, then as the call says;
  *   a case, from 0 on  else. Then out[0] to out[3] hold the values of the case,
  *                      +0 in the places that it does not need, and the places
  *                      after them are unchanged.
  *
- * Refusal 1: a coordinate, bulge or radius is NaN or infinite. If it is not,
- * refusal 2: a point's coordinate is above 1,048,576 in magnitude; refusal 3: a
- * bulge is above 1 in magnitude; refusal 9: a circle's radius is not in 2^-42 to
- * 2^47, or a coordinate of its centre is above 2^48 in magnitude. Refusal 4:
- * epsilon is NaN, infinite, or not in 2^-40 to 1/2. A number equal to its limit
- * passes.
+ * Refusal 11: a coordinate, bulge or radius is NaN, quiet or signalling, with
+ * either sign; 12: it is infinite. If it is neither, refusal 2: a point's
+ * coordinate is above 1,048,576 in magnitude; refusal 3: a bulge is above 1 in
+ * magnitude; refusal 9: a circle's radius is not in 2^-42 to 2^47, or a
+ * coordinate of its centre is above 2^48 in magnitude. Refusal 4: epsilon is
+ * NaN, infinite, or not in 2^-40 to 1/2. A number equal to its limit passes.
+ * Refusal 1, once for NaN and infinite alike, is not given any more.
  *
  * Every value is fixed, the sign of a zero too, even where the Rust leaves the
  * sign of a zero open. Only the bits of a NaN are left open.
  */
+
+/*
+ * The word of a refusal, from every call below:
+ *
+ *   bits 0 to 15    VJ_REFUSED + N, where N is the refusal's number
+ *   bits 16 to 23   the item: what is at fault, see below
+ *   bits 24 to 31   the owner: whose item it is, as each call says
+ *   bits 32 to 63   the index: which of the owner's, as each call says
+ *
+ * Owners and indices count from 0. What a place has none of is 0. Only the first
+ * fault is told.
+ *
+ * `answer - VJ_REFUSED` is not the number, since the place stands above it. Use
+ * VJ_NUMBER, and ask VJ_IS_REFUSED first: it is false for a case and for
+ * VJ_NO_ROOM. examples/refusal.c prints refusals in words.
+ */
 #define VJ_REFUSED 256
 #define VJ_NO_ROOM 512
+
+#define VJ_IS_REFUSED(word) (((uint64_t)(word) & 0xff00) == VJ_REFUSED)
+#define VJ_NUMBER(word) ((uint64_t)(word) & 0xff)
+#define VJ_ITEM(word) (((uint64_t)(word) >> 16) & 0xff)
+#define VJ_OWNER(word) (((uint64_t)(word) >> 24) & 0xff)
+#define VJ_INDEX(word) ((uint64_t)(word) >> 32)
+
+#define VJ_ITEM_EPSILON 0
+#define VJ_ITEM_X 1         /* of a point or a vertex */
+#define VJ_ITEM_Y 2
+#define VJ_ITEM_BULGE 3     /* of a vertex */
+#define VJ_ITEM_RADIUS 4    /* of a circle */
+#define VJ_ITEM_CENTRE_X 5
+#define VJ_ITEM_CENTRE_Y 6
+#define VJ_ITEM_CHORD 7     /* refusal 5: of a segment */
+#define VJ_ITEM_LENGTH 8    /* refusals 6 and 7: of a path */
+#define VJ_ITEM_ROWS 9      /* refusal 8 */
+#define VJ_ITEM_POSITION 10 /* refusal 13: of a page */
+#define VJ_ITEM_BUDGET 11   /* refusal 14: of a page */
+
+/*
+ * The owner and the index of epsilon, rows, position and budget are 0, in every
+ * call.
+ */
 
 /*
  * The lines v1 to v2 and u1 to u2. A parameter t stands for the point from + t *
@@ -104,6 +145,11 @@ uint64_t vj_sqrt_bits(uint64_t b);
  *   1  they meet in one point: its parameters on v and on u;
  *   2  they overlap: the start and the end of that, two parameters on u;
  *   3  the lines cross beyond an end: the parameters on v and on u.
+ *
+ * The place of a refusal:
+ *
+ *   item   owner                         index
+ *   x, y   0 v1, 1 v2, 2 u1, 3 u2        0
  */
 uint64_t vj_line_line_intr(double v1x, double v1y, double v2x, double v2y,
                            double u1x, double u1y, double u2x, double u2y,
@@ -117,6 +163,12 @@ uint64_t vj_line_line_intr(double v1x, double v1y, double v2x, double v2y,
  *   0  apart;
  *   1  they meet in one point: one parameter;
  *   2  two points: two parameters, the smaller one first if both are numbers.
+ *
+ * The place of a refusal:
+ *
+ *   item                           owner          index
+ *   x, y                           0 p0, 1 p1     0
+ *   radius, centre x, centre y     2              0
  */
 uint64_t vj_line_circle_intr(double p0x, double p0y, double p1x, double p1y,
                              double radius, double cx, double cy,
@@ -130,6 +182,11 @@ uint64_t vj_line_circle_intr(double p0x, double p0y, double p1x, double p1y,
  *   1  they meet in one point, x before y;
  *   2  two points, each x before y;
  *   3  they are the same circle.
+ *
+ * The place of a refusal:
+ *
+ *   item                           owner                              index
+ *   radius, centre x, centre y     0 the first circle, 1 the second   0
  */
 uint64_t vj_circle_circle_intr(double radius1, double c1x, double c1y,
                                double radius2, double c2x, double c2y,
@@ -152,6 +209,13 @@ uint64_t vj_circle_circle_intr(double radius1, double c1x, double c1y,
  *
  * The answer is the Rust's. Some pairs with an arc that share a point get 0:
  * docs/LIMITS.md says which, and what to do about it.
+ *
+ * The place of a refusal:
+ *
+ *   item    owner      index
+ *   x, y    0 v, 1 u   0 its first vertex (v1, u1), 1 its second (v2, u2)
+ *   bulge   0 v, 1 u   0
+ *   chord   0 v, 1 u   0
  */
 uint64_t vj_pair(double v1x, double v1y, double v1_bulge,
                            double v2x, double v2y, double v2_bulge,
@@ -177,19 +241,28 @@ uint64_t vj_pair(double v1x, double v1y, double v1_bulge,
  * while it runs: it overlaps no other lent memory, and no one else uses it. The
  * same path may be lent twice to vj_mutual. The call returns
  *
- *   VJ_NO_ROOM      if counts_room is below 2: nothing is written;
- *   VJ_REFUSED + N  else, if there is a fault: nothing is written. N is the
- *                   refusal of the first fault, in the order below;
- *   0               else. Then counts[0] is how many rows were written, and
- *                   counts[1] how many pairs were looked at. What follows the
- *                   last row, and what follows counts[1], is unchanged.
+ *   VJ_NO_ROOM        if counts_room is below 2: nothing is written;
+ *   a refusal's word  else, if there is a fault: nothing is written. The word
+ *                     tells the first fault, in the order below;
+ *   0                 else. Then counts[0] is how many rows were written, and
+ *                     counts[1] how many pairs were looked at. What follows the
+ *                     last row, and what follows counts[1], is unchanged.
  *
  * The order: epsilon, refusal 4; the first path's length, refusal 6 if it is no
  * multiple of 3, then 7 if it has more than 4,096 vertices; the second path's
  * length, the same; the first path's vertices in order, each x, y and bulge, also
- * the last bulge of an open path, refusals 1, 2 and 3; then its arcs in order,
- * refusal 5; the second path's vertices and arcs, the same; last, refusal 8 if
- * there are more rows than there is room for.
+ * the last bulge of an open path, refusals 11, 12, 2 and 3; then its arcs in
+ * order, refusal 5; the second path's vertices and arcs, the same; last, refusal
+ * 8 if there are more rows than there is room for.
+ *
+ * The place of a refusal:
+ *
+ *   item          owner                           index
+ *   x, y, bulge   0 the first path, 1 the second  the vertex
+ *   chord         the same                        the segment
+ *   length        the same                        0
+ *
+ * In vj_self the owner is 0. If one path is lent twice, the first is told.
  *
  * A listing needs some 212 KiB of stack: a buffer that holds rows back until it
  * is known that all fit, and three numbers for each segment of the second path.
@@ -218,18 +291,19 @@ uint64_t vj_self(const double *path, size_t len, bool closed, double epsilon,
  * row where no row is left. That pair is not passed: the next call starts with
  * it. The call returns
  *
- *   VJ_NO_ROOM      if counts_room is below 4: nothing is written;
- *   VJ_REFUSED + N  else, if there is a fault: nothing is written;
- *   0               else. Then counts[0] is how many rows were written,
- *                   counts[1] how many pairs were passed, counts[2] the next
- *                   position, which is position + counts[1], and counts[3] the
- *                   number of all pairs. What follows the last row, and what
- *                   follows counts[3], is unchanged.
+ *   VJ_NO_ROOM        if counts_room is below 4: nothing is written;
+ *   a refusal's word  else, if there is a fault: nothing is written;
+ *   0                 else. Then counts[0] is how many rows were written,
+ *                     counts[1] how many pairs were passed, counts[2] the next
+ *                     position, which is position + counts[1], and counts[3] the
+ *                     number of all pairs. What follows the last row, and what
+ *                     follows counts[3], is unchanged.
  *
  * The order of faults: as for a listing up to the last path's arcs; then
  * refusal 13 if the position is beyond the end; 14 if the budget is 0; last, 8
- * if not one whole row fits, also at the end. A position and a budget may be any
- * number, and their sum may be above 2^64.
+ * if not one whole row fits, also at the end. The places are a listing's; those
+ * of 13, 14 and 8 have the items position, budget and rows. A position and a
+ * budget may be any number, and their sum may be above 2^64.
  *
  * Start at position 0 and give each call the position that the last one
  * answered, until counts[2] equals counts[3]. If paths, flags and epsilon stay

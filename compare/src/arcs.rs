@@ -73,7 +73,7 @@ fn callers() -> Vec<Caller> {
     ]
 }
 
-/// The class, or a refusal's number beyond every class.
+/// The class, or a refusal's word, which is beyond every class.
 fn ours(pair: &Pair) -> u64 {
     capi::vj_pair(numbers(pair), &mut [0.0; 4])
 }

@@ -6,13 +6,18 @@ mod edges;
 pub mod faults;
 mod limits;
 mod score;
+mod sites;
+pub mod sorts;
+#[cfg(test)]
+mod tests;
 
 pub use bench::run as bench;
-pub use calls::{of_segments, Call, CALLS, REFUSED};
+pub use calls::{of_segments, Call, CALLS};
 pub use edges::check as check_edges;
 pub use limits::specials;
 use score::Score;
 pub use score::NO_ROOM;
+use sites::Sites;
 
 use crate::inputs::values::epsilon;
 use crate::inputs::{Kind, Pair};
@@ -27,12 +32,20 @@ const KINDS: [&str; 4] = [
     ", two arcs",
 ];
 
+/// One call in sixteen has no room, so that in one round not every fault is told.
+const LEAST_ROUNDS: u64 = 4;
+
 /// Compares every call until each has answered on `2 * count` inputs, the pair call on a quarter of that for each kind of pair.
-/// Then compares on `count / 4` inputs of all bit patterns, on as many beside a limit, and at every limit. Answers how many
-/// differences there were.
+/// Then compares on `count / 4` inputs of all bit patterns, on as many with some numbers of all bit patterns, on as many beside a
+/// limit, at every limit, and with every two faults. Answers how many differences there were, plus the places at which a refusal
+/// never came up.
 pub fn check(count: u64, seed: u64) -> u64 {
+    check_calls(&CALLS, count, seed)
+}
+
+fn check_calls(calls: &'static [Call; 4], count: u64, seed: u64) -> u64 {
     let mut rng = Rng::new(seed);
-    let mut scores = Scores::new();
+    let mut scores = Scores::new(calls);
     while scores.short_of(2 * count) {
         let pair = Pair::draw(Kind::Accepted, &mut rng);
         scores.compare(&pair, &mut rng, 2 * count);
@@ -47,8 +60,14 @@ pub fn check(count: u64, seed: u64) -> u64 {
             scores.compare(&pair, &mut rng, u64::MAX);
         }
     }
-    for _ in 0..count / 4096 {
+    for _ in 0..count / 4 {
+        scores.with_patterns(&mut rng);
+    }
+    for round in 0..(count / 4096).max(LEAST_ROUNDS) {
         scores.at_limits(&mut rng);
+        if round % 16 < LEAST_ROUNDS {
+            scores.two_faults(&mut rng);
+        }
     }
     scores.report()
 }
@@ -85,15 +104,15 @@ struct Scores {
 }
 
 impl Scores {
-    fn new() -> Scores {
+    fn new(calls: &'static [Call; 4]) -> Scores {
         Scores {
-            kernels: CALLS[..PAIRS]
+            kernels: calls[..PAIRS]
                 .iter()
                 .map(|call| Score::new(call, ""))
                 .collect(),
             pairs: KINDS
                 .iter()
-                .map(|kind| Score::new(&CALLS[PAIRS], kind))
+                .map(|kind| Score::new(&calls[PAIRS], kind))
                 .collect(),
         }
     }
@@ -117,6 +136,35 @@ impl Scores {
         }
     }
 
+    /// Accepted numbers, some of which are replaced by any bits: so faults come up at every place.
+    fn with_patterns(&mut self, rng: &mut Rng) {
+        let pair = Pair::draw(Kind::Accepted, rng);
+        let mixed = |mut numbers: Numbers, rng: &mut Rng| {
+            for place in 0..numbers.len() {
+                if rng.one_in(4) {
+                    numbers.put(place, f64::from_bits(rng.bits()));
+                }
+            }
+            numbers
+        };
+        for score in &mut self.kernels {
+            let numbers = (score.call.operands)(&pair, rng);
+            score.compare(&mixed(numbers, rng));
+        }
+        let numbers = mixed((CALLS[PAIRS].operands)(&pair, rng), rng);
+        self.pairs[kind(numbers[2], numbers[8])].compare(&numbers);
+    }
+
+    fn two_faults(&mut self, rng: &mut Rng) {
+        for score in &mut self.kernels {
+            let numbers = limits::accepted(score.call, rng);
+            limits::two_faults(score.call, &numbers, rng, |n| score.compare(n));
+        }
+        let call: &Call = &CALLS[PAIRS];
+        let mut compare = |n: &Numbers| self.pairs[kind(n[2], n[8])].compare(n);
+        limits::two_faults(call, &limits::accepted(call, rng), rng, &mut compare);
+    }
+
     fn at_limits(&mut self, rng: &mut Rng) {
         let specials = limits::specials();
         for score in &mut self.kernels {
@@ -136,7 +184,20 @@ impl Scores {
 
     fn report(&self) -> u64 {
         let scores = self.kernels.iter().chain(&self.pairs);
-        scores.map(Score::report).sum()
+        scores.map(Score::report).sum::<u64>() + self.unmet()
+    }
+
+    /// How many sites and pairs of faults never came up. Pairs of every kind count together.
+    fn unmet(&self) -> u64 {
+        let kernels = self
+            .kernels
+            .iter()
+            .map(|score| score.sites.report(score.call));
+        let mut of_pairs = Sites::default();
+        for score in &self.pairs {
+            of_pairs.add(&score.sites);
+        }
+        kernels.sum::<u64>() + of_pairs.report(&CALLS[PAIRS])
     }
 }
 

@@ -10,11 +10,12 @@ mod kinds;
 pub mod layout;
 pub mod lent;
 pub mod model;
+pub mod orders;
 mod rooms;
 pub mod score;
 pub mod shapes;
 pub mod sheets;
-mod sites;
+pub mod sites;
 
 use layout::{Call, Drawn, Layout, CALLS};
 use lent::{Old, Room};
@@ -44,6 +45,7 @@ pub fn check(count: u64, seed: u64) -> u64 {
     run.sizes();
     run.row_counts();
     run.long_paths();
+    run.far_faults();
     for _ in 0..2 + count / (4 * FULL) {
         run.damaged();
     }
@@ -207,6 +209,19 @@ impl Run {
             self.every_call(&layout(&faulty, &short));
             if vertices > 4096 {
                 self.every_call(&layout(&long, &short));
+            }
+        }
+    }
+
+    /// A fault in the last vertex or segment of a path that is as long as can be: of the first path, and of the second.
+    fn far_faults(&mut self) {
+        for flags in FLAGS {
+            for (first, second) in damage::far(flags, &mut self.rng) {
+                let exact = |rows: usize, _: &mut Rng| vec![Room::of(rows)];
+                for call in CALLS {
+                    self.in_rooms(&first, call, exact);
+                }
+                self.in_rooms(&second, Call::Mutual, exact);
             }
         }
     }

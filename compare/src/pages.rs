@@ -87,6 +87,7 @@ impl Run {
 
     fn all(&mut self, count: u64) {
         self.damaged();
+        self.far_faults();
         self.small();
         self.long_paths();
         while self.chained < count / 10 && self.goes_on() {
@@ -152,6 +153,38 @@ impl Run {
                 }
             }
         }
+    }
+
+    /// A fault in the last vertex or segment of a path that is as long as can be: of the first path, and of the second.
+    fn far_faults(&mut self) {
+        for flags in FLAGS {
+            for (first, second) in damage::far(flags, &mut self.rng) {
+                if !self.goes_on() {
+                    return;
+                }
+                for call in CALLS {
+                    self.from_front(&first, call);
+                }
+                self.from_front(&second, Call::Mutual);
+            }
+        }
+    }
+
+    /// A call of one pair, with room for a row.
+    fn from_front(&mut self, layout: &Layout, call: Call) {
+        let span = Span {
+            position: 0,
+            budget: 1,
+        };
+        let asked = Asked {
+            span,
+            room: room_of(1),
+            old: Old::draw(&mut self.rng),
+        };
+        let known = Known::new(layout, call);
+        let score = &mut self.scores[call as usize];
+        score.compare(&known, &asked);
+        score.done_with(&known);
     }
 
     fn anything(&mut self, layout: &Layout) {

@@ -101,7 +101,8 @@ fn text(_lines: &mut Vec<String>) {
     println!("rust text not compiled in: none of its answers were recorded");
 }
 
-/// The kernels and the pair call: operands, then the returned number, and the four values of an answer.
+/// The kernels and the pair call: operands, then the returned number, and the four values of an answer. A refusal's number is the
+/// whole word, with the place.
 #[cfg(feature = "rust-text")]
 fn crossing(lines: &mut Vec<String>) {
     use crate::crossing::{sample, CALLS};
@@ -110,7 +111,8 @@ fn crossing(lines: &mut Vec<String>) {
     const NAMES: [&str; 4] = ["lnln", "lncr", "crcr", "pair"];
     for (call, name) in CALLS.iter().zip(NAMES) {
         for operands in sample(call, SEED) {
-            let (number, values) = call.expected(&operands);
+            let expected = call.expected(&operands);
+            let (number, values) = expected.unwrap_or_else(|fault| (fault.word(), [].into()));
             let mut four = [0.0; 4];
             four[..values.len()].copy_from_slice(&values);
             lines.push(format!(

@@ -77,7 +77,7 @@ fn accepted(call: &Call, rng: &mut Rng, wanted: impl Fn(&[f64]) -> bool) -> Vec<
     while inputs.len() < INPUTS {
         let pair = Pair::draw(Kind::Accepted, rng);
         let numbers = (call.operands)(&pair, rng);
-        if (call.fault)(&numbers).is_none() && wanted(&numbers) {
+        if call.fault(&numbers).is_none() && wanted(&numbers) {
             inputs.push(numbers);
         }
     }

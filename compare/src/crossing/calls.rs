@@ -10,7 +10,7 @@ use cavalier_contours::polyline::{
     pline_seg_intr, seg_arc_radius_and_center, PlineSegIntr, PlineVertex,
 };
 
-use super::faults::{chord, first, two_to, Check, Order};
+use super::faults::{chord, two_to, Fault, Item, Order, Place};
 use crate::capi;
 use crate::inputs::values::power;
 use crate::inputs::{Pair, Segment, Vertex};
@@ -23,8 +23,10 @@ pub struct Call {
     pub classes: &'static [&'static str],
     /// The numbers of a pair that the call is made on.
     pub operands: fn(&Pair, &mut Rng) -> Numbers,
-    /// The refusal that is expected.
-    pub fault: fn(&[f64]) -> Option<u64>,
+    /// What is checked, in order.
+    pub order: Order,
+    /// Where a segment starts whose chord is checked, after all numbers; its owner is its place in this list.
+    pub chords: &'static [usize],
     /// What the Rust answers: the number of the case, and its values.
     pub text: fn(&[f64]) -> (u64, Numbers),
     /// Our answer, with its values in a lent slice.
@@ -33,65 +35,84 @@ pub struct Call {
     pub bare: fn(&[f64]),
 }
 
-/// What a call returns if a number is refused: this plus the refusal's number.
-pub const REFUSED: u64 = 256;
-
 impl Call {
-    /// What the call should return, and the values of an answer.
-    pub fn expected(&self, numbers: &[f64]) -> (u64, Numbers) {
-        match (self.fault)(numbers) {
-            Some(refusal) => (REFUSED + refusal, [].into()),
-            None => (self.text)(numbers),
+    /// What is at fault, in the order of the checks. The first one is told.
+    pub fn faults<'a>(&self, numbers: &'a [f64]) -> impl Iterator<Item = Fault> + 'a {
+        let of_number = move |(at, place): &(usize, Place)| Fault::of(*place, numbers[*at]);
+        let of_chord = move |(owner, at): (usize, &usize)| chord(&numbers[*at..], owner, 0);
+        let (order, chords) = (self.order, self.chords);
+        let of_numbers = order.iter().filter_map(of_number);
+        of_numbers.chain(chords.iter().enumerate().filter_map(of_chord))
+    }
+
+    pub fn fault(&self, numbers: &[f64]) -> Option<Fault> {
+        self.faults(numbers).next()
+    }
+
+    /// The case that the call should answer, and its values; or the fault that it should tell.
+    pub fn expected(&self, numbers: &[f64]) -> Result<(u64, Numbers), Fault> {
+        match self.fault(numbers) {
+            Some(fault) => Err(fault),
+            None => Ok((self.text)(numbers)),
         }
     }
 }
 
+const fn x(owner: usize, index: usize) -> Place {
+    Place::new(Item::X, owner, index)
+}
+
+const fn y(owner: usize, index: usize) -> Place {
+    Place::new(Item::Y, owner, index)
+}
+
+/// A kernel's point or circle is the owner, by its place among the arguments, and has one of each number.
 const LINES: Order = &[
-    (8, Check::Epsilon),
-    (0, Check::Coordinate),
-    (1, Check::Coordinate),
-    (2, Check::Coordinate),
-    (3, Check::Coordinate),
-    (4, Check::Coordinate),
-    (5, Check::Coordinate),
-    (6, Check::Coordinate),
-    (7, Check::Coordinate),
+    (8, Place::EPSILON),
+    (0, x(0, 0)),
+    (1, y(0, 0)),
+    (2, x(1, 0)),
+    (3, y(1, 0)),
+    (4, x(2, 0)),
+    (5, y(2, 0)),
+    (6, x(3, 0)),
+    (7, y(3, 0)),
 ];
 
 const LINE_AND_CIRCLE: Order = &[
-    (7, Check::Epsilon),
-    (0, Check::Coordinate),
-    (1, Check::Coordinate),
-    (2, Check::Coordinate),
-    (3, Check::Coordinate),
-    (4, Check::Radius),
-    (5, Check::Center),
-    (6, Check::Center),
+    (7, Place::EPSILON),
+    (0, x(0, 0)),
+    (1, y(0, 0)),
+    (2, x(1, 0)),
+    (3, y(1, 0)),
+    (4, Place::new(Item::Radius, 2, 0)),
+    (5, Place::new(Item::CenterX, 2, 0)),
+    (6, Place::new(Item::CenterY, 2, 0)),
 ];
 
 const CIRCLES: Order = &[
-    (6, Check::Epsilon),
-    (0, Check::Radius),
-    (1, Check::Center),
-    (2, Check::Center),
-    (3, Check::Radius),
-    (4, Check::Center),
-    (5, Check::Center),
+    (6, Place::EPSILON),
+    (0, Place::new(Item::Radius, 0, 0)),
+    (1, Place::new(Item::CenterX, 0, 0)),
+    (2, Place::new(Item::CenterY, 0, 0)),
+    (3, Place::new(Item::Radius, 1, 0)),
+    (4, Place::new(Item::CenterX, 1, 0)),
+    (5, Place::new(Item::CenterY, 1, 0)),
 ];
 
-/// Without the bulges of v2 and u2.
+/// A pair's segment is the owner, v or u, and the index says which end. Without the bulges of v2 and u2.
 const SEGMENTS: Order = &[
-    (12, Check::Epsilon),
-    (0, Check::Coordinate),
-    (1, Check::Coordinate),
-    (2, Check::Bulge),
-    (3, Check::Coordinate),
-    (4, Check::Coordinate),
-    (6, Check::Coordinate),
-    (7, Check::Coordinate),
-    (8, Check::Bulge),
-    (9, Check::Coordinate),
-    (10, Check::Coordinate),
+    (12, Place::EPSILON),
+    (0, x(0, 0)),
+    (1, y(0, 0)),
+    (2, Place::new(Item::Bulge, 0, 0)),
+    (3, x(0, 1)),
+    (4, y(0, 1)),
+    (6, x(1, 0)),
+    (7, y(1, 0)),
+    (8, Place::new(Item::Bulge, 1, 0)),
+    (9, x(1, 1)),
+    (10, y(1, 1)),
 ];
 
 pub static CALLS: [Call; 4] = [
@@ -102,7 +123,8 @@ pub static CALLS: [Call; 4] = [
             let [v1, v2, u1, u2] = [p.v.from, p.v.to, p.u.from, p.u.to].map(|v| v.at);
             [v1.x, v1.y, v2.x, v2.y, u1.x, u1.y, u2.x, u2.y, p.epsilon].into()
         },
-        fault: |n| first(LINES, n),
+        order: LINES,
+        chords: &[],
         text: |n| of_lines(line_line_intr(at(n, 0), at(n, 2), at(n, 4), at(n, 6), n[8])),
         ours: |n, out| capi::vj_line_line_intr(all(n), out),
         bare: |n| {
@@ -119,7 +141,8 @@ pub static CALLS: [Call; 4] = [
             let (from, to) = (line.from.at, line.to.at);
             [from.x, from.y, to.x, to.y, radius, x, y, p.epsilon].into()
         },
-        fault: |n| first(LINE_AND_CIRCLE, n),
+        order: LINE_AND_CIRCLE,
+        chords: &[],
         text: |n| of_line_and_circle(line_circle_intr(at(n, 0), at(n, 2), n[4], at(n, 5), n[7])),
         ours: |n, out| capi::vj_line_circle_intr(all(n), out),
         bare: |n| {
@@ -134,7 +157,8 @@ pub static CALLS: [Call; 4] = [
             let [radius2, x2, y2] = circle(p.u, rng);
             [radius1, x1, y1, radius2, x2, y2, p.epsilon].into()
         },
-        fault: |n| first(CIRCLES, n),
+        order: CIRCLES,
+        chords: &[],
         text: |n| of_circles(circle_circle_intr(n[0], at(n, 1), n[3], at(n, 4), n[6])),
         ours: |n, out| capi::vj_circle_circle_intr(all(n), out),
         bare: |n| {
@@ -149,11 +173,8 @@ pub static CALLS: [Call; 4] = [
             let [g, h, i, j, k, l] = both(p.u);
             [a, b, c, d, e, f, g, h, i, j, k, l, p.epsilon].into()
         },
-        fault: |n| {
-            first(SEGMENTS, n)
-                .or_else(|| chord(&n[..6]))
-                .or_else(|| chord(&n[6..12]))
-        },
+        order: SEGMENTS,
+        chords: &[0, 6],
         text: |n| of_segments(pair(n)),
         ours: |n, out| capi::vj_pair(all(n), out),
         bare: |n| {

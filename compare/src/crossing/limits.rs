@@ -1,7 +1,8 @@
 //! Inputs at the limits and beyond them: each number of a call by itself, two at once, and chords.
 
 use super::calls::Call;
-use super::faults::two_to;
+use super::faults::{two_to, Item};
+use super::sorts;
 use crate::inputs::{Kind, Pair, Point};
 use crate::numbers::Numbers;
 use crate::rng::Rng;
@@ -59,6 +60,40 @@ pub fn two_at_once(
     }
 }
 
+/// Every two faults of two places at once, each with every refusal that its place has, in either order. The first in the order of
+/// the checks must be the answer.
+pub fn two_faults(call: &Call, numbers: &Numbers, rng: &mut Rng, mut then: impl FnMut(&Numbers)) {
+    let all = changes(call, rng);
+    for (i, one) in all.iter().enumerate() {
+        for other in &all[..i] {
+            let changed = other.iter().chain(one);
+            then(&changed.fold(*numbers, |numbers, (at, x)| numbers.with(*at, *x)));
+        }
+    }
+}
+
+/// Numbers to put in, by their places.
+type Change = Vec<(usize, f64)>;
+
+/// What to change for each fault that a call can have. A chord's come first, so that a number of its segment can still be at
+/// fault.
+fn changes(call: &Call, rng: &mut Rng) -> Vec<Change> {
+    let of_chord = |at: &usize| -> Change { (*at..).zip([0.0, 0.0, 0.5, 0.0, 0.0]).collect() };
+    let mut all: Vec<Change> = call.chords.iter().map(of_chord).collect();
+    let [nans, infinities, finite] = sorts::by_refusal();
+    for (at, place) in call.order {
+        let every = [rng.pick(&nans), rng.pick(&infinities), rng.pick(&finite)];
+        let of_epsilon = [rng.pick(&every)];
+        let numbers = if place.item == Item::Epsilon {
+            &of_epsilon[..]
+        } else {
+            &every[..]
+        };
+        all.extend(numbers.iter().map(|x| vec![(*at, *x)]));
+    }
+    all
+}
+
 /// A pair with one or two chords as short as an arc's may be, or the next float, and a bulge that just makes an arc.
 pub fn short_chords(rng: &mut Rng) -> Pair {
     let mut pair = Pair::draw(Kind::Accepted, rng);
@@ -86,7 +121,7 @@ pub fn short_chords(rng: &mut Rng) -> Pair {
 pub fn accepted(call: &Call, rng: &mut Rng) -> Numbers {
     loop {
         let numbers = (call.operands)(&Pair::draw(Kind::Accepted, rng), rng);
-        if (call.fault)(&numbers).is_none() {
+        if call.fault(&numbers).is_none() {
             return numbers;
         }
     }

@@ -1,8 +1,9 @@
-//! Compares one call after the other, and counts what came up: answers by class, refusals by number, and differences.
+//! Compares one call after the other, and counts what came up: answers by class, refusals by number and place, and differences.
 
 use std::fmt::Display;
 
-use super::calls::{Call, REFUSED};
+use super::calls::Call;
+use super::sites::Sites;
 use crate::lent::Lent;
 use crate::numbers::{hex, same, Numbers};
 
@@ -16,7 +17,8 @@ pub struct Score {
     pub call: &'static Call,
     pub answered: u64,
     classes: [u64; 6],
-    refusals: [u64; 11],
+    refusals: [u64; 16],
+    pub sites: Sites,
     no_room: u64,
     differences: u64,
     turn: usize,
@@ -29,7 +31,8 @@ impl Score {
             call,
             answered: 0,
             classes: [0; 6],
-            refusals: [0; 11],
+            refusals: [0; 16],
+            sites: Sites::default(),
             no_room: 0,
             differences: 0,
             turn: 0,
@@ -56,25 +59,23 @@ impl Score {
             self.no_room += 1;
             given == NO_ROOM && lent.written(0).is_some()
         } else {
-            let (expected, values) = self.call.expected(numbers);
-            let answers = self.count(expected);
-            let written = lent.written(if answers { PLACES } else { 0 });
-            given == expected && written.is_some_and(|ours| !answers || filled(ours, &values))
+            match self.call.expected(numbers) {
+                Ok((case, values)) => {
+                    self.answered += 1;
+                    self.classes[case as usize] += 1;
+                    let written = lent.written(PLACES);
+                    given == case && written.is_some_and(|ours| filled(ours, &values))
+                }
+                Err(fault) => {
+                    self.refusals[fault.number as usize] += 1;
+                    self.sites.count(self.call, numbers, fault);
+                    given == fault.word() && lent.written(0).is_some()
+                }
+            }
         };
         if !right {
             self.differ(numbers, given, lent.slice());
         }
-    }
-
-    /// Counts what is expected, and says whether it is an answer.
-    fn count(&mut self, expected: u64) -> bool {
-        if expected >= REFUSED {
-            self.refusals[(expected - REFUSED) as usize] += 1;
-            return false;
-        }
-        self.answered += 1;
-        self.classes[expected as usize] += 1;
-        true
     }
 
     /// Four places or five; in one of sixteen calls fewer.
@@ -92,10 +93,13 @@ impl Score {
         if self.differences > SHOWN {
             return;
         }
-        let (expected, values) = self.call.expected(numbers);
-        let (on, ours, values, room) = (hex(numbers), hex(slice), hex(&values), slice.len());
+        let expected = match self.call.expected(numbers) {
+            Ok((case, values)) => format!("{case}, {}", hex(&values)),
+            Err(fault) => format!("{:#x}, {fault:?}", fault.word()),
+        };
+        let (on, ours, room) = (hex(numbers), hex(slice), slice.len());
         println!(
-            "{} of {on}: {given}, {ours} in a room of {room}, expected {expected}, {values}",
+            "{} of {on}: {given:#x}, {ours} in a room of {room}, expected {expected}",
             self.name
         );
     }

@@ -6,12 +6,11 @@ use std::hint::black_box;
 use cavalier_contours::polyline::{pline_seg_intr, PlineSegIntr, PlineVertex};
 
 use super::layout::{ours, Call, Drawn, Layout};
-use super::model::{Listed, Path, Row};
+use super::model::{no_row_left, Listed, Path, Row};
 use super::shapes::{coil, on_grid, placed, pocket};
 use super::sheets::{Sheet, EPSILONS, SHEETS};
 use crate::bench::{self, head};
 use crate::capi::Rows;
-use crate::crossing::REFUSED;
 use crate::inputs::{Point, Vertex};
 use crate::numbers::same;
 use crate::rng::Rng;
@@ -183,7 +182,7 @@ fn timed(name: &str, layout: &Layout, epsilon: f64, call: Call) {
 #[inline(never)]
 fn plain(listed: Listed, epsilon: f64, lent: Rows) -> u64 {
     if let Some(fault) = listed.faults(epsilon).next() {
-        return REFUSED + fault.number;
+        return fault.word();
     }
     let mut writer = Writer {
         lent,
@@ -209,7 +208,7 @@ fn plain(listed: Listed, epsilon: f64, lent: Rows) -> u64 {
         }
     };
     if done.is_none() {
-        return REFUSED + 8;
+        return no_row_left().word();
     }
     writer.lent.counts[0] = writer.rows as u64;
     writer.lent.counts[1] = writer.pairs;

@@ -2,9 +2,10 @@
 //! epsilon; one at a time, and every two at once.
 
 use super::layout::{Drawn, Layout};
-use super::shapes::{straightened, on_grid};
+use super::model::MOST_VERTICES;
+use super::shapes::{on_grid, straightened};
 use crate::crossing::faults::two_to;
-use crate::crossing::specials;
+use crate::crossing::{sorts, specials};
 use crate::inputs::values::epsilon;
 use crate::rng::Rng;
 
@@ -43,7 +44,10 @@ impl Damage {
             Damage::TooMany { path } => {
                 let numbers = numbers(layout, path);
                 let more = numbers.len() % 3;
-                numbers.resize(3 * 4097 + more, 0.25);
+                // lines, so that no chord is at fault besides
+                let vertex = [0.25, 0.25, 0.0];
+                let new = numbers.len()..3 * 4097 + more;
+                numbers.extend(new.map(|at| vertex[at % 3]));
             }
             Damage::Number { path, at, number } => numbers(layout, path)[at] = number,
             Damage::Chord {
@@ -131,13 +135,48 @@ pub fn two_at_once(layout: &Layout, rng: &mut Rng) -> Vec<Layout> {
         .collect()
 }
 
+/// A path of 4,096 vertices before a short one, and behind it, with one fault: each number of the last vertex for each reason, and
+/// the last chord.
+pub fn far(closed: [bool; 2], rng: &mut Rng) -> Vec<(Layout, Layout)> {
+    let mut layout = accepted([MOST_VERTICES, 3], closed, rng);
+    // lines only, so that the last chord is the first at fault
+    for bulge in layout.first.numbers.iter_mut().skip(2).step_by(3) {
+        *bulge = 0.0;
+    }
+    let turned = Layout {
+        first: layout.second.clone(),
+        second: layout.first.clone(),
+        epsilon: layout.epsilon,
+    };
+    let last = MOST_VERTICES - 1;
+    let segment = layout.first.path().segments() - 1;
+    let [nans, infinities, beyond] = sorts::by_refusal();
+    let numbers = [rng.pick(&nans), rng.pick(&infinities), rng.pick(&beyond)];
+    let both = |damage: fn(usize, usize, f64) -> Damage, at: usize, number: f64| {
+        let [first, second] = [0, 1].map(|path| damage(path, at, number));
+        (layout.damaged(&[first]), turned.damaged(&[second]))
+    };
+    let number = |path, at, number| Damage::Number { path, at, number };
+    let chord = |path, segment, bulge| Damage::Chord {
+        path,
+        segment,
+        long: 0.0,
+        bulge,
+    };
+    let mut all = vec![both(chord, segment, 0.5)];
+    for at in 3 * last..3 * last + 3 {
+        all.extend(numbers.map(|x| both(number, at, x)));
+    }
+    all
+}
+
 fn faults(layout: &Layout, rng: &mut Rng) -> Vec<Damage> {
-    let no_number = [f64::NAN, f64::INFINITY, f64::NEG_INFINITY];
+    let [nans, infinities, _] = sorts::by_refusal();
     let mut all = vec![Damage::Epsilon(rng.pick(&[0.0, f64::NAN, 0.75]))];
     for (path, at) in places(layout) {
         let limit: f64 = if at % 3 == 2 { 1.0 } else { 1_048_576.0 };
         let beyond = rng.sign() * f64::from_bits(limit.to_bits() + 1);
-        let numbers = [rng.pick(&no_number), beyond];
+        let numbers = [rng.pick(&nans), rng.pick(&infinities), beyond];
         all.extend(numbers.map(|number| Damage::Number { path, at, number }));
     }
     all.extend(segments(layout).map(|(path, segment)| Damage::Chord {

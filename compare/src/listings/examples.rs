@@ -1,8 +1,9 @@
 //! The model on what the scope states, and on listings that one can compute by hand.
 
 use super::layout::Drawn;
-use super::model::{row_room, Fault, Listed, Listing, Place, Rows};
+use super::model::{row_room, Listed, Listing, Rows};
 use super::shapes::{crossed, crossed_by_itself};
+use crate::crossing::faults::{Fault, Item, Place};
 
 const EPSILON: f64 = 1e-5;
 const NEXT_ABOVE_LIMIT: f64 = 1_048_576.0 + 1.0 / (1u64 << 32) as f64;
@@ -233,9 +234,9 @@ fn limits() {
 #[test]
 fn numbers_of_no_segment() {
     assert_eq!(refusal(own(&path(&[[0.0, 0.0, 2.0]], false), 0)), 3);
-    assert_eq!(refusal(own(&path(&[[0.0, f64::NAN, 0.0]], true), 0)), 1);
+    assert_eq!(refusal(own(&path(&[[0.0, f64::NAN, 0.0]], true), 0)), 11);
     let last = path(&[[0.0, 0.0, 0.0], [1.0, 0.0, f64::INFINITY]], false);
-    assert_eq!(refusal(own(&last, 0)), 1);
+    assert_eq!(refusal(own(&last, 0)), 12);
     // a closing arc from a point to itself, and the same one open
     let ends = [[1.0, 1.0, 0.0], [1.0, 1.0, 1.0]];
     assert_eq!(refusal(own(&path(&ends, true), 0)), 5);
@@ -279,42 +280,40 @@ fn order_of_refusals() {
     second.numbers[6] = 2.0;
     show(&first, &second, epsilon);
 
-    let number = |number: u64, path: usize, which: usize| Fault {
-        number,
-        place: Place::Number {
-            path,
-            vertex: 0,
-            which,
-        },
-    };
-    let other = |number: u64, place: Place| Fault { number, place };
+    let fault = |number, item, owner, index| Fault::new(number, Place::new(item, owner, index));
     let expected = [
-        other(4, Place::Epsilon),
-        other(6, Place::Length { path: 0 }),
-        other(7, Place::Length { path: 1 }),
-        number(1, 0, 0),
-        number(2, 0, 1),
-        number(3, 0, 2),
-        other(
-            5,
-            Place::Chord {
-                path: 0,
-                segment: 1,
-            },
-        ),
-        number(1, 1, 0),
-        number(2, 1, 1),
-        number(3, 1, 2),
-        other(
-            5,
-            Place::Chord {
-                path: 1,
-                segment: 1,
-            },
-        ),
-        other(8, Place::Room),
+        fault(4, Item::Epsilon, 0, 0),
+        fault(6, Item::Length, 0, 0),
+        fault(7, Item::Length, 1, 0),
+        fault(11, Item::X, 0, 0),
+        fault(2, Item::Y, 0, 0),
+        fault(3, Item::Bulge, 0, 0),
+        fault(5, Item::Chord, 0, 1),
+        fault(11, Item::X, 1, 0),
+        fault(2, Item::Y, 1, 0),
+        fault(3, Item::Bulge, 1, 0),
+        fault(5, Item::Chord, 1, 1),
+        fault(8, Item::Rows, 0, 0),
     ];
     assert_eq!(shown, expected.map(Some));
+}
+
+/// Places by hand: the closing segment of a path, a path that is lent twice, a path by itself.
+#[test]
+fn places() {
+    let told = |result: Result<Rows, Fault>| result.err().map_or(0, Fault::word);
+    let line = line([0.0, 0.0], [4.0, 0.0]);
+    let mut bad = path(&vec![[1.0, 2.0, 0.0]; 18], false);
+    bad.numbers[3 * 17 + 1] = f64::NAN;
+    assert_eq!(told(mutual(&bad, &line, EPSILON, 0)), 0x11_0002_010b);
+    assert_eq!(told(mutual(&line, &bad, EPSILON, 0)), 0x11_0102_010b);
+    assert_eq!(told(mutual(&bad, &bad, EPSILON, 0)), 0x11_0002_010b);
+    assert_eq!(told(own(&bad, 0)), 0x11_0002_010b);
+    let closing = [[1.0, 1.0, 0.0], [3.0, 1.0, 0.0], [1.0, 1.0, -1.0]];
+    let (open, closed) = (path(&closing, false), path(&closing, true));
+    assert_eq!(told(mutual(&open, &closed, EPSILON, 9)), 0x2_0107_0105);
+    assert_eq!(told(own(&closed, 9)), 0x2_0007_0105);
+    assert_eq!(told(mutual(&line, &line, EPSILON, 0)), 0x9_0108);
 }
 
 /// The smaller of the whole rows in the two slices.

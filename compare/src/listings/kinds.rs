@@ -2,7 +2,8 @@
 
 use super::layout::Call;
 use super::lent::{Old, Room};
-use super::model::{row_room, Fault, Path, Place};
+use super::model::{row_room, Path};
+use crate::crossing::faults::{Fault, Item};
 
 /// A call as it was made.
 pub struct Case<'a> {
@@ -41,6 +42,10 @@ struct Kind {
 }
 
 pub struct Kinds(Vec<Kind>);
+
+fn is_number(item: Item) -> bool {
+    matches!(item, Item::X | Item::Y | Item::Bulge)
+}
 
 /// The row counts around which the code takes another way.
 const TURNS: [usize; 3] = [2047, 2048, 2049];
@@ -165,9 +170,8 @@ impl Kinds {
             for n in [1, 2] {
                 let name = format!("path {at}, {n} vertices, a number refused");
                 self.add(name, move |c| {
-                    let is =
-                        |place: Place| matches!(place, Place::Number { path, .. } if path == at);
-                    c.paths[at].vertices() == n && c.fault.is_some_and(|fault| is(fault.place))
+                    let is = |fault: Fault| fault.place.owner == at && is_number(fault.place.item);
+                    c.paths[at].vertices() == n && c.fault.is_some_and(is)
                 });
             }
         }

@@ -4,7 +4,8 @@
 use super::layout::Drawn;
 use super::model::{Path, Row};
 use crate::capi;
-use crate::crossing::{NO_ROOM, REFUSED};
+use crate::crossing::faults::Fault;
+use crate::crossing::NO_ROOM;
 use crate::numbers::{hex, same};
 use crate::rng::Rng;
 
@@ -74,7 +75,8 @@ impl Old {
 pub enum Expected<'a> {
     /// The counts have no room: this comes before everything else.
     NoRoom,
-    Refused(u64),
+    /// The whole word is compared, with the place.
+    Refused(Fault),
     Answered {
         rows: &'a [Row],
         counts: Vec<u64>,
@@ -113,11 +115,11 @@ impl Lent {
     pub fn wrong(&self, answer: u64, expected: &Expected) -> Option<String> {
         let (returned, rows, counts): (u64, &[Row], &[u64]) = match expected {
             Expected::NoRoom => (NO_ROOM, &[], &[]),
-            Expected::Refused(number) => (REFUSED + number, &[], &[]),
+            Expected::Refused(fault) => (fault.word(), &[], &[]),
             Expected::Answered { rows, counts } => (0, rows, counts),
         };
         if answer != returned {
-            return Some(format!("returned {answer}, expected {returned}"));
+            return Some(format!("returned {answer:#x}, expected {returned:#x}"));
         }
         let written = rows.len();
         self.wrong_counts(counts)
@@ -178,6 +180,7 @@ pub fn is_row(row: &Row, indices: &[u64], points: &[f64]) -> bool {
 #[cfg(test)]
 mod tests {
     use super::*;
+    use crate::listings::model::no_row_left;
 
     const ROOM: Room = Room {
         indices: 7,
@@ -205,11 +208,17 @@ mod tests {
         lent.wrong(0, &Expected::Answered { rows, counts })
     }
 
+    /// Too many rows: the word, and what it stands for.
+    fn refused() -> (u64, Expected<'static>) {
+        (0x9_0108, Expected::Refused(no_row_left()))
+    }
+
     #[test]
     fn right_answer_passes() {
         assert_eq!(answered(|_| {}), None);
         let lent = Lent::new(ROOM, Old::Bits(7));
-        assert_eq!(lent.wrong(REFUSED + 8, &Expected::Refused(8)), None);
+        let (word, expected) = refused();
+        assert_eq!(lent.wrong(word, &expected), None);
         assert_eq!(lent.wrong(NO_ROOM, &Expected::NoRoom), None);
     }
 
@@ -233,7 +242,10 @@ mod tests {
     #[test]
     fn places_beside_the_slices_are_looked_at() {
         let untouched = || Lent::new(ROOM, Old::Nans);
-        let refused = |lent: Lent| lent.wrong(REFUSED + 8, &Expected::Refused(8));
+        let refused = |lent: Lent| {
+            let (word, expected) = refused();
+            lent.wrong(word, &expected)
+        };
         assert_eq!(refused(untouched()), None);
         for beside in [0, GUARD - 1] {
             for behind in [false, true] {
@@ -248,13 +260,16 @@ mod tests {
     }
 
     #[test]
-    fn refusals_write_nothing_and_tell_their_number() {
+    fn refusals_write_nothing_and_tell_their_number_and_place() {
         let mut lent = Lent::new(ROOM, Old::Zeros);
-        assert!(lent.wrong(REFUSED + 4, &Expected::Refused(8)).is_some());
-        assert!(lent.wrong(0, &Expected::Refused(8)).is_some());
-        assert!(lent.wrong(REFUSED + 8, &Expected::NoRoom).is_some());
+        let (word, expected) = refused();
+        for bit in 0..64 {
+            assert!(lent.wrong(word ^ 1 << bit, &expected).is_some());
+        }
+        assert!(lent.wrong(0, &expected).is_some());
+        assert!(lent.wrong(word, &Expected::NoRoom).is_some());
         lent.slices().counts[0] = 1;
-        assert!(lent.wrong(REFUSED + 8, &Expected::Refused(8)).is_some());
+        assert!(lent.wrong(word, &expected).is_some());
         assert!(lent.wrong(NO_ROOM, &Expected::NoRoom).is_some());
     }
 

@@ -1,9 +1,10 @@
 //! Whole-path listings as in the scope's prose: which pairs are looked at, which make a row, what is refused and in which order.
-//! How a pair meets is the Rust's own answer; why a number is refused comes from the table, as for the pair call.
+//! How a pair meets is the Rust's own answer; why a number is refused comes from the table, as for the pair call. A fault's owner
+//! is the path; its index is the vertex, or the segment if the chord is at fault.
 
 use cavalier_contours::polyline::{pline_seg_intr, PlineSegIntr, PlineVertex};
 
-use crate::crossing::faults::{chord, fault, Check};
+use crate::crossing::faults::{chord, Fault, Item, Place};
 use crate::crossing::of_segments;
 
 /// A path as it is lent: x, y and bulge of one vertex after the other.
@@ -67,33 +68,7 @@ pub struct Listing {
     pub rows: Rows,
 }
 
-/// A refusal's number, and the reason. Only the number is answered.
-#[derive(Clone, Copy, Debug, PartialEq)]
-pub struct Fault {
-    pub number: u64,
-    pub place: Place,
-}
-
-/// Paths, vertices, their numbers (x, y, bulge) and segments count from 0.
-#[derive(Clone, Copy, Debug, PartialEq)]
-pub enum Place {
-    Epsilon,
-    Length {
-        path: usize,
-    },
-    Number {
-        path: usize,
-        vertex: usize,
-        which: usize,
-    },
-    Chord {
-        path: usize,
-        segment: usize,
-    },
-    Room,
-}
-
-const MOST_VERTICES: usize = 4096;
+pub const MOST_VERTICES: usize = 4096;
 
 impl<'a> Listed<'a> {
     pub fn paths(self) -> Vec<Path<'a>> {
@@ -109,7 +84,7 @@ impl<'a> Listed<'a> {
         let each = move || self.paths().into_iter().enumerate();
         let shapes = each().filter_map(|(at, path)| shape(path, at));
         let insides = each().flat_map(|(at, path)| numbers(path, at).chain(chords(path, at)));
-        epsilon_fault(epsilon)
+        Fault::of(Place::EPSILON, epsilon)
             .into_iter()
             .chain(shapes)
             .chain(insides)
@@ -182,11 +157,9 @@ impl Listing {
 
     /// The fault that is answered if there is room for this many rows. Too many rows are the last in order.
     pub fn fault(&self, room: usize) -> Option<Fault> {
-        let number = 8;
-        let place = Place::Room;
         let too_many = self.rows.rows.len() > room;
         let first = self.faults.first().copied();
-        first.or(too_many.then_some(Fault { number, place }))
+        first.or(too_many.then_some(no_row_left()))
     }
 }
 
@@ -195,10 +168,9 @@ pub fn row_room(indices: usize, points: usize) -> usize {
     (indices / 3).min(points / 4)
 }
 
-fn epsilon_fault(epsilon: f64) -> Option<Fault> {
-    let number = fault(Check::Epsilon, epsilon)?;
-    let place = Place::Epsilon;
-    Some(Fault { number, place })
+/// Rows have no owner: too little room is the call's.
+pub fn no_row_left() -> Fault {
+    Fault::new(8, Place::alone(Item::Rows))
 }
 
 /// A length that is no multiple of 3, or else too many vertices.
@@ -210,31 +182,22 @@ fn shape(path: Path, at: usize) -> Option<Fault> {
     } else {
         return None;
     };
-    let place = Place::Length { path: at };
-    Some(Fault { number, place })
+    Some(Fault::new(number, Place::new(Item::Length, at, 0)))
 }
 
 /// Every vertex in order, each x, y, bulge: also the last bulge of an open path, though it belongs to no segment.
 fn numbers(path: Path<'_>, at: usize) -> impl Iterator<Item = Fault> + '_ {
-    const CHECKS: [Check; 3] = [Check::Coordinate, Check::Coordinate, Check::Bulge];
-    path.numbers.iter().enumerate().filter_map(move |(i, x)| {
-        let (vertex, which) = (i / 3, i % 3);
-        let number = fault(CHECKS[which], *x)?;
-        let place = Place::Number {
-            path: at,
-            vertex,
-            which,
-        };
-        Some(Fault { number, place })
-    })
+    const ITEMS: [Item; 3] = [Item::X, Item::Y, Item::Bulge];
+    path.numbers
+        .iter()
+        .enumerate()
+        .filter_map(move |(i, x)| Fault::of(Place::new(ITEMS[i % 3], at, i / 3), *x))
 }
 
 /// Every segment in order.
 fn chords(path: Path<'_>, at: usize) -> impl Iterator<Item = Fault> + '_ {
     (0..path.segments()).filter_map(move |segment| {
         let (v1, v2) = path.segment(segment);
-        let number = chord(&[v1.x, v1.y, v1.bulge, v2.x, v2.y, v2.bulge])?;
-        let place = Place::Chord { path: at, segment };
-        Some(Fault { number, place })
+        chord(&[v1.x, v1.y, v1.bulge, v2.x, v2.y], at, segment)
     })
 }

@@ -4,8 +4,10 @@
 use super::kinds::{Case, Kinds};
 use super::layout::{ours, Call, Layout};
 use super::lent::{Expected, Lent, LentPath, Old, Room};
-use super::model::{row_room, Fault, Listing};
-use super::sites::Sites;
+use super::model::{row_room, Listing};
+use super::orders::Orders;
+use super::sites::{Short, Sites};
+use crate::crossing::faults::Fault;
 
 const SHOWN: u64 = 5;
 pub const CLASSES: [&str; 6] = ["none", "tangent", "one", "two", "lines", "arcs"];
@@ -15,9 +17,10 @@ pub struct Score {
     answered: u64,
     pub pairs: u64,
     classes: [u64; 6],
-    refusals: [u64; 11],
+    refusals: [u64; 16],
     no_room: u64,
     sites: Sites,
+    orders: Orders,
     kinds: Kinds,
     differences: u64,
 }
@@ -53,7 +56,7 @@ impl<'a> Known<'a> {
         let fault = self.listing.fault(row_room(room.indices, room.points));
         let expected = match fault {
             _ if room.counts < 2 => Expected::NoRoom,
-            Some(fault) => Expected::Refused(fault.number),
+            Some(fault) => Expected::Refused(fault),
             None => Expected::Answered {
                 rows: &self.listing.rows.rows,
                 counts: vec![self.rows() as u64, self.pairs()],
@@ -83,9 +86,10 @@ impl Score {
             answered: 0,
             pairs: 0,
             classes: [0; 6],
-            refusals: [0; 11],
+            refusals: [0; 16],
             no_room: 0,
-            sites: Sites::of(call),
+            sites: Sites::of_listings(call),
+            orders: Orders::of(call),
             kinds: Kinds::of(call, full),
             differences: 0,
         }
@@ -106,14 +110,19 @@ impl Score {
             room,
             old,
         };
-        self.sites.count(&case);
+        if let Expected::Refused(fault) = expected {
+            let short = Short::of(room, case.rows);
+            let epsilon = known.layout.epsilon;
+            self.sites.count(case.paths, epsilon, fault, short);
+            self.orders.count(&known.listing.faults);
+        }
         self.kinds.count(&case);
     }
 
     fn count(&mut self, expected: &Expected) {
         match expected {
             Expected::NoRoom => self.no_room += 1,
-            Expected::Refused(number) => self.refusals[*number as usize] += 1,
+            Expected::Refused(fault) => self.refusals[fault.number as usize] += 1,
             Expected::Answered { rows, counts } => {
                 self.answered += 1;
                 self.pairs += counts[1];
@@ -173,6 +182,7 @@ impl Score {
         let unmet: Vec<String> = unmet
             .map(|(class, _)| format!("rows of class {class}"))
             .chain(self.sites.report(name))
+            .chain(self.orders.report(name))
             .chain(self.kinds.report(name))
             .collect();
         for what in &unmet {

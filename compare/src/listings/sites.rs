@@ -1,30 +1,43 @@
-//! Where refusals came up: with which number, for which number of which vertex, for which segment, of which path.
+//! Where refusals came up: with which number, for which sort of number of which vertex, for which segment, of which path.
 
-use std::collections::BTreeMap;
+use std::collections::{BTreeMap, BTreeSet};
 
-use super::kinds::Case;
 use super::layout::Call;
-use super::model::Place;
+use super::lent::Room;
+use super::model::{Path, MOST_VERTICES};
+use crate::crossing::faults::{Fault, Item, Place};
+use crate::crossing::sorts::{faults_of, Sort};
+
+/// The numbers of a vertex.
+pub const OF_A_VERTEX: [Item; 3] = [Item::X, Item::Y, Item::Bulge];
 
 #[derive(Clone, Copy, Debug, PartialEq, Eq, PartialOrd, Ord)]
 enum Site {
-    Epsilon,
+    Epsilon(Sort),
     Length {
         path: usize,
     },
-    /// Of which vertex, and which number: 0 x, 1 y, 2 bulge.
     Number {
         path: usize,
         closed: bool,
         at: At,
-        which: usize,
+        item: Item,
+        sort: Sort,
     },
     Chord {
         path: usize,
         closed: bool,
         at: At,
     },
-    Room(Short),
+    /// At the last vertex or segment of a path of 4,096 vertices.
+    Far {
+        path: usize,
+        closed: bool,
+        item: Item,
+    },
+    Rows(Short),
+    /// A page's position or budget.
+    OfPage(Item),
 }
 
 #[derive(Clone, Copy, Debug, PartialEq, Eq, PartialOrd, Ord)]
@@ -34,9 +47,9 @@ enum At {
     Last,
 }
 
-/// Which slice has fewer whole rows than there are.
+/// Which slice has room for too few whole rows.
 #[derive(Clone, Copy, Debug, PartialEq, Eq, PartialOrd, Ord)]
-enum Short {
+pub enum Short {
     Indices,
     Points,
     Both,
@@ -54,81 +67,87 @@ impl At {
     }
 }
 
+impl Short {
+    /// If there is room for fewer rows than this.
+    pub fn of(room: Room, rows: usize) -> Short {
+        match (room.indices / 3 < rows, room.points / 4 < rows) {
+            (true, false) => Short::Indices,
+            (false, true) => Short::Points,
+            _ => Short::Both,
+        }
+    }
+}
+
 /// How often each refusal came up at each site. All possible sites are there from the start.
 pub struct Sites(BTreeMap<(u64, Site), u64>);
 
 impl Sites {
-    pub fn of(call: Call) -> Sites {
-        let paths = if call == Call::Mutual { 2 } else { 1 };
-        let mut all = vec![(4, Site::Epsilon)];
+    pub fn of_listings(call: Call) -> Sites {
+        let mut all = Vec::new();
+        let of_epsilon = |(fault, sort): (Fault, Sort)| (fault.number, Site::Epsilon(sort));
+        all.extend(faults_of(Place::EPSILON).map(of_epsilon));
         if call == Call::Twice {
             // the only fault that the first path does not have: it is open there and closed here
             let (path, closed, at) = (1, true, At::Last);
             all.push((5, Site::Chord { path, closed, at }));
         }
+        let paths = if call == Call::Mutual { 2 } else { 1 };
         for path in 0..paths {
             all.extend([6, 7].map(|number| (number, Site::Length { path })));
             for closed in [false, true] {
-                for at in [At::First, At::Inner, At::Last] {
-                    for (which, beyond) in [(0, 2), (1, 2), (2, 3)] {
-                        let site = Site::Number {
-                            path,
-                            closed,
-                            at,
-                            which,
-                        };
-                        all.extend([(1, site), (beyond, site)]);
-                    }
-                    all.push((5, Site::Chord { path, closed, at }));
-                }
+                all.extend(in_path(path, closed));
             }
         }
-        all.extend([Short::Indices, Short::Points, Short::Both].map(|by| (8, Site::Room(by))));
+        let shorts = [Short::Indices, Short::Points, Short::Both];
+        all.extend(shorts.map(|short| (8, Site::Rows(short))));
         Sites(all.into_iter().map(|site| (site, 0)).collect())
     }
 
-    pub fn count(&mut self, case: &Case) {
-        if case.room.counts < 2 {
-            return;
+    pub fn of_pages(call: Call) -> Sites {
+        let mut sites = Sites::of_listings(call);
+        for (number, item) in [(13, Item::Position), (14, Item::Budget)] {
+            sites.0.insert((number, Site::OfPage(item)), 0);
         }
-        let Some(fault) = case.fault else { return };
-        let path = |at: usize| case.paths[at];
-        let site = match fault.place {
-            Place::Epsilon => Site::Epsilon,
-            Place::Length { path } => Site::Length { path },
-            Place::Number {
-                path: at,
-                vertex,
-                which,
-            } => Site::Number {
-                path: at,
-                closed: path(at).closed,
-                at: At::of(vertex, path(at).vertices()),
-                which,
+        sites
+    }
+
+    /// Counts a refused call. `short` is which slice is too short, if one is.
+    pub fn count(&mut self, paths: &[Path], epsilon: f64, fault: Fault, short: Short) {
+        let Place { item, owner, index } = fault.place;
+        let site = match item {
+            Item::Epsilon => Site::Epsilon(Sort::of(epsilon)),
+            Item::Length => Site::Length { path: owner },
+            Item::Chord => Site::Chord {
+                path: owner,
+                closed: paths[owner].closed,
+                at: At::of(index, paths[owner].segments()),
             },
-            Place::Chord { path: at, segment } => Site::Chord {
-                path: at,
-                closed: path(at).closed,
-                at: At::of(segment, path(at).segments()),
+            Item::Rows => Site::Rows(short),
+            Item::Position | Item::Budget => Site::OfPage(item),
+            _ => Site::Number {
+                path: owner,
+                closed: paths[owner].closed,
+                at: At::of(index, paths[owner].vertices()),
+                item,
+                sort: Sort::of(paths[owner].numbers[3 * index + (item as usize - 1)]),
             },
-            Place::Room => {
-                let few = |room: usize| room < case.rows;
-                let (indices, points) = (few(case.room.indices / 3), few(case.room.points / 4));
-                Site::Room(match (indices, points) {
-                    (true, false) => Short::Indices,
-                    (false, true) => Short::Points,
-                    _ => Short::Both,
-                })
-            }
         };
-        *self.0.entry((fault.number, site)).or_insert(0) += 1;
+        self.add(fault.number, site);
+        if is_far(paths, fault.place) {
+            let (path, closed) = (owner, paths[owner].closed);
+            self.add(fault.number, Site::Far { path, closed, item });
+        }
+    }
+
+    fn add(&mut self, number: u64, site: Site) {
+        *self.0.entry((number, site)).or_insert(0) += 1;
     }
 
     /// Prints how many there are, and answers those that never occurred.
     pub fn report(&self, name: &str) -> Vec<String> {
         let least = self.0.values().min().copied().unwrap_or(0);
         println!(
-            "{name}: refusals at {} sites (number, path, vertex, place), at least {least} at each",
+            "{name}: refusals at {} sites (number, path, vertex, place, sort of number), at least {least} at each",
             self.0.len()
         );
         let unmet = self.0.iter().filter(|(_, count)| **count == 0);
@@ -136,4 +155,38 @@ impl Sites {
             .map(|((number, site), _)| format!("refusal {number} at {site:?}"))
             .collect()
     }
+}
+
+/// Every site within a path.
+fn in_path(path: usize, closed: bool) -> BTreeSet<(u64, Site)> {
+    let mut all = BTreeSet::new();
+    for at in [At::First, At::Inner, At::Last] {
+        for item in OF_A_VERTEX {
+            for (fault, sort) in faults_of(Place::new(item, path, 0)) {
+                let site = Site::Number {
+                    path,
+                    closed,
+                    at,
+                    item,
+                    sort,
+                };
+                all.insert((fault.number, site));
+                all.insert((fault.number, Site::Far { path, closed, item }));
+            }
+        }
+        all.insert((5, Site::Chord { path, closed, at }));
+    }
+    let item = Item::Chord;
+    all.insert((5, Site::Far { path, closed, item }));
+    all
+}
+
+/// Whether it is the last vertex or segment of a path that is as long as can be.
+fn is_far(paths: &[Path], Place { item, owner, index }: Place) -> bool {
+    let last = match item {
+        Item::Chord => paths[owner].segments(),
+        Item::X | Item::Y | Item::Bulge => paths[owner].vertices(),
+        _ => return false,
+    };
+    paths[owner].numbers.len() == 3 * MOST_VERTICES && index + 1 == last
 }

@@ -3,11 +3,10 @@
 
 use std::hint::black_box;
 
-use super::model::NO_BUDGET;
+use super::model::{of_page, NO_BUDGET};
 use super::ours;
 use crate::bench::{head, Row};
 use crate::capi::{Rows, Span};
-use crate::crossing::REFUSED;
 use crate::listings::bench::of_sheet;
 use crate::listings::layout::{self, Call};
 use crate::listings::model::Listed;
@@ -98,6 +97,6 @@ fn one_pair(name: &str, listed: Listed, position: u64) {
     row.timed(
         A_ROUND,
         || call(1, 0, &mut lent),
-        || call(0, REFUSED + NO_BUDGET, &mut lent_too),
+        || call(0, of_page(NO_BUDGET).word(), &mut lent_too),
     );
 }

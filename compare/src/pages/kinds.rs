@@ -3,6 +3,7 @@
 use super::ask::{Asked, BEYOND_ALL, COUNTS};
 use super::met::Met;
 use super::model::{Page, Pages, BEYOND, NO_BUDGET, NO_ROW_FITS};
+use crate::crossing::faults::{Fault, INFINITE, NOT_A_NUMBER};
 use crate::listings::lent::Old;
 use crate::listings::model::Path;
 
@@ -11,9 +12,9 @@ pub struct Case {
     /// Vertices of each path, and whether it is closed.
     paths: Vec<(usize, bool)>,
     asked: Asked,
-    /// The first fault of the checks of numbers.
+    /// The number of the first fault of the checks of numbers.
     fault: Option<u64>,
-    /// The refusal that is answered, if the counts have room.
+    /// The number of the refusal that is answered, if the counts have room.
     refusal: Option<u64>,
     page: Option<Seen>,
     all: u64,
@@ -53,15 +54,15 @@ impl Seen {
 }
 
 impl Case {
-    pub fn new(paths: &[Path], pages: &Pages, asked: &Asked, page: &Result<Page, u64>) -> Case {
+    pub fn new(paths: &[Path], pages: &Pages, asked: &Asked, page: &Result<Page, Fault>) -> Case {
         let seen = |page: &Page| Seen::new(page, pages, asked);
         let counted = asked.room.counts >= COUNTS;
         let form = |path: &Path| (path.vertices(), path.closed);
         Case {
             paths: paths.iter().map(form).collect(),
             asked: *asked,
-            fault: pages.fault(),
-            refusal: page.as_ref().err().copied(),
+            fault: pages.fault().map(|fault| fault.number),
+            refusal: page.as_ref().err().map(|fault| fault.number),
             page: page.as_ref().ok().filter(|_| counted).map(seen),
             all: pages.all(),
         }
@@ -247,7 +248,7 @@ fn of_refusals(kinds: &mut Met<Case>) {
     let each = (0..8).map(|n| [n & 1 != 0, n & 2 != 0, n & 4 != 0]);
     for wrongs in each {
         let also = also(wrongs);
-        for number in 1..8 {
+        for number in (2..8).chain([NOT_A_NUMBER, INFINITE]) {
             kinds.add(format!("refusal {number}, also [{also}]"), move |c| {
                 c.is_refused(number) && c.wrongs() == wrongs
             });

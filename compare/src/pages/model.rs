@@ -2,12 +2,22 @@
 //! rows, and the faults of paths and epsilon, are those of the model of listings.
 
 use crate::capi::Span;
-use crate::listings::model::{Listed, Listing, Row};
+use crate::crossing::faults::{Fault, Item, Place};
+use crate::listings::model::{no_row_left, Listed, Listing, Row};
 
 /// The refusals of a page, after all checks of numbers.
 pub const BEYOND: u64 = 13;
 pub const NO_BUDGET: u64 = 14;
 pub const NO_ROW_FITS: u64 = 8;
+
+/// The fault of a page's position, of its budget, or of its room, which have no owner.
+pub fn of_page(number: u64) -> Fault {
+    match number {
+        BEYOND => Fault::new(BEYOND, Place::alone(Item::Position)),
+        NO_BUDGET => Fault::new(NO_BUDGET, Place::alone(Item::Budget)),
+        _ => no_row_left(),
+    }
+}
 
 /// A listing to be handed out in pages.
 pub struct Pages {
@@ -82,8 +92,13 @@ impl Pages {
     }
 
     /// The first fault of the checks of numbers.
-    pub fn fault(&self) -> Option<u64> {
-        self.listing.faults.first().map(|fault| fault.number)
+    pub fn fault(&self) -> Option<Fault> {
+        self.listing.faults.first().copied()
+    }
+
+    /// The first two of them.
+    pub fn faults(&self) -> &[Fault] {
+        &self.listing.faults
     }
 
     pub fn makes_row(&self, position: u64) -> bool {
@@ -96,15 +111,15 @@ impl Pages {
     }
 
     /// The refusal, or the page, of a call with room for so many whole rows.
-    pub fn page(&self, span: Span, room: usize) -> Result<Page<'_>, u64> {
-        if let Some(number) = self.fault() {
-            Err(number)
+    pub fn page(&self, span: Span, room: usize) -> Result<Page<'_>, Fault> {
+        if let Some(fault) = self.fault() {
+            Err(fault)
         } else if span.position > self.all {
-            Err(BEYOND)
+            Err(of_page(BEYOND))
         } else if span.budget == 0 {
-            Err(NO_BUDGET)
+            Err(of_page(NO_BUDGET))
         } else if room == 0 {
-            Err(NO_ROW_FITS)
+            Err(of_page(NO_ROW_FITS))
         } else {
             Ok(self.answered(span, room))
         }

@@ -7,10 +7,13 @@ use super::kinds::{kinds, Case};
 use super::met::Met;
 use super::model::{Page, Pages};
 use super::Ours;
+use crate::crossing::faults::Fault;
 use crate::listings::layout::{Call, Layout};
 use crate::listings::lent::{Expected, Lent, LentPath};
 use crate::listings::model::{Listed, Path};
+use crate::listings::orders::Orders;
 use crate::listings::score::CLASSES;
+use crate::listings::sites::{Short, Sites};
 
 const SHOWN: u64 = 5;
 
@@ -57,6 +60,8 @@ pub struct Score {
     classes: [u64; 6],
     refusals: [u64; 16],
     no_room: u64,
+    sites: Sites,
+    orders: Orders,
     kinds: Met<Case>,
     chains: Met<Chained>,
     pub differences: u64,
@@ -73,6 +78,8 @@ impl Score {
             classes: [0; 6],
             refusals: [0; 16],
             no_room: 0,
+            sites: Sites::of_pages(call),
+            orders: Orders::of(call),
             kinds: kinds(paths),
             chains: chain::kinds(call),
             differences: 0,
@@ -86,7 +93,7 @@ impl Score {
         let page = known.pages.page(asked.span, asked.rows());
         let expected = match &page {
             _ if asked.room.counts < COUNTS => Expected::NoRoom,
-            Err(number) => Expected::Refused(*number),
+            Err(fault) => Expected::Refused(*fault),
             Ok(page) => Expected::Answered {
                 rows: page.rows,
                 counts: page.counts(),
@@ -96,15 +103,20 @@ impl Score {
             self.differ(known, &format!("{what}, {asked:?}"));
         }
         self.count(&expected, &page);
+        if let Expected::Refused(fault) = expected {
+            let (paths, short) = (known.paths(), Short::of(asked.room, 1));
+            self.sites.count(&paths, known.epsilon(), fault, short);
+            self.orders.count(known.pages.faults());
+        }
         let case = Case::new(&known.paths(), &known.pages, asked, &page);
         self.kinds.count(&case);
         (answer, lent)
     }
 
-    fn count(&mut self, expected: &Expected, page: &Result<Page, u64>) {
+    fn count(&mut self, expected: &Expected, page: &Result<Page, Fault>) {
         match (expected, page) {
             (Expected::NoRoom, _) => self.no_room += 1,
-            (Expected::Refused(number), _) => self.refusals[*number as usize] += 1,
+            (Expected::Refused(fault), _) => self.refusals[fault.number as usize] += 1,
             (_, Ok(page)) => {
                 self.answered += 1;
                 self.pairs += page.passed;
@@ -179,6 +191,8 @@ impl Score {
         let unmet: Vec<String> = classes
             .filter(|(_, count)| **count == 0)
             .map(|(class, _)| format!("rows of class {class}"))
+            .chain(self.sites.report(name))
+            .chain(self.orders.report(name))
             .chain(self.kinds.report(name, "call"))
             .chain(self.chains.report(name, "chain"))
             .collect();

@@ -4,11 +4,12 @@ use std::cell::{Cell, RefCell};
 use std::collections::HashMap;
 
 use super::ask::BEYOND_ALL;
-use super::model::{BEYOND, NO_BUDGET, NO_ROW_FITS};
+use super::model::{of_page, BEYOND, NO_BUDGET, NO_ROW_FITS};
 use super::Ours;
 use crate::capi::{Rows, Span};
-use crate::crossing::{NO_ROOM, REFUSED};
-use crate::listings::model::{row_room, Listed, Listing, Path};
+use crate::crossing::faults::{Fault, Item};
+use crate::crossing::NO_ROOM;
+use crate::listings::model::{no_row_left, row_room, Listed, Listing, Path};
 
 pub const STAND_IN: Ours = Ours { page, full };
 
@@ -92,7 +93,7 @@ fn page(listed: Listed, epsilon: f64, span: Span, lent: Rows) -> u64 {
     })
 }
 
-fn refusal(given: &Given, span: Span, lent: &Rows) -> Option<u64> {
+fn refusal(given: &Given, span: Span, lent: &Rows) -> Option<Fault> {
     let (indices, points) = (lent.indices.len(), lent.points.len());
     let all = given.pairs.len() as u64;
     let position = if is("a position of 32 bits") {
@@ -120,7 +121,7 @@ fn refusal(given: &Given, span: Span, lent: &Rows) -> Option<u64> {
         0 if is("8 for a row only") => position < all && row(position as usize),
         room => room == 0,
     };
-    let fault = given.listing.faults.first().map(|fault| fault.number);
+    let fault = told(&given.listing.faults);
     let far = span.position >= BEYOND_ALL;
     let last = [
         (beyond, BEYOND),
@@ -134,17 +135,58 @@ fn refusal(given: &Given, span: Span, lent: &Rows) -> Option<u64> {
         _ => [0, 1, 2],
     };
     match fault {
-        Some(_) if is("13 before faults") && far => Some(BEYOND),
-        Some(_) if is("14 before faults") && no_budget => Some(NO_BUDGET),
-        Some(_) if is("8 before faults") && no_row => Some(NO_ROW_FITS),
-        Some(5) if is("13 before 5") && far => Some(BEYOND),
-        Some(number) => Some(number),
+        Some(_) if is("13 before faults") && far => Some(of_page(BEYOND)),
+        Some(_) if is("14 before faults") && no_budget => Some(of_page(NO_BUDGET)),
+        Some(_) if is("8 before faults") && no_row => Some(of_page(NO_ROW_FITS)),
+        Some(fault) if is("13 before 5") && far && fault.number == 5 => Some(of_page(BEYOND)),
+        Some(fault) => Some(fault),
         None => order
             .into_iter()
             .map(|at| last[at])
             .find(|one| one.0)
-            .map(|one| one.1),
+            .map(|one| of_page(one.1)),
     }
+}
+
+/// Which of the faults is told.
+fn told(faults: &[Fault]) -> Option<Fault> {
+    let (first, last) = (*faults.first()?, *faults.last()?);
+    let again = first.place.item == last.place.item && first.place.owner < last.place.owner;
+    Some(match () {
+        _ if is("the last fault") => last,
+        _ if is("the last path's fault") && again => last,
+        _ => first,
+    })
+}
+
+/// The returned word, right or with a defect in its parts.
+fn word(fault: Fault) -> u64 {
+    let Fault { number, mut place } = fault;
+    let of_path = matches!(place.item, Item::X | Item::Y | Item::Bulge | Item::Chord);
+    match place.item {
+        _ if is("no place") => return 256 + number,
+        _ if is("no index") => place.index = 0,
+        _ if is("no owner") => place.owner = 0,
+        _ if is("the owner from 1") && of_path => place.owner += 1,
+        _ if is("the index from 1") && of_path => place.index += 1,
+        _ if is("an index of 11 bits") => place.index &= 0x7ff,
+        Item::X if is("y for x") => place.item = Item::Y,
+        Item::Y if is("the bulge's item for y") => place.item = Item::Bulge,
+        Item::Chord if is("a chord's second vertex") => place.index += 1,
+        Item::X | Item::Y | Item::Bulge if is("the number's place in the path") => {
+            place.index = 3 * place.index + place.item as usize - 1;
+        }
+        Item::Position if is("13 with the epsilon's item") => place.item = Item::Epsilon,
+        Item::Budget if is("14 with the position") => place.item = Item::Position,
+        Item::Rows if is("8 with an owner") => place.owner = 1,
+        Item::Length if is("7 with an index") && number == 7 => place.index = 4096,
+        _ => {}
+    }
+    let number = match number {
+        11 | 12 if is("one for every NaN and infinity") => 1,
+        _ => number,
+    };
+    Fault { number, place }.word()
 }
 
 fn answer(given: &Given, span: Span, lent: Rows) -> u64 {
@@ -152,14 +194,14 @@ fn answer(given: &Given, span: Span, lent: Rows) -> u64 {
     if lent.counts.len() < counts && !is("room for counts last") {
         return NO_ROOM;
     }
-    if let Some(number) = refusal(given, span, &lent) {
+    if let Some(fault) = refusal(given, span, &lent) {
         if is("a refusal clears the counts") {
             lent.counts.fill(0);
         }
         if is("a refusal clears a number") && !lent.points.is_empty() {
             lent.points[0] = 0.0;
         }
-        return REFUSED + number;
+        return word(fault);
     }
     if lent.counts.len() < counts {
         return NO_ROOM;
@@ -263,7 +305,7 @@ fn full(listed: Listed, epsilon: f64, lent: Rows) -> u64 {
     let listing = Listing::new(listed, epsilon);
     let rows = &listing.rows.rows;
     if row_room(lent.indices.len(), lent.points.len()) < rows.len() {
-        return REFUSED + 8;
+        return no_row_left().word();
     }
     for (k, row) in rows.iter().enumerate() {
         let indices = [row.indices[0], row.indices[1], row.class];

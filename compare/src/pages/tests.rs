@@ -4,6 +4,7 @@
 use super::model::Pages;
 use super::stand_in::{self, STAND_IN};
 use super::*;
+use crate::crossing::faults::Fault;
 
 const INPUTS: u64 = 1 << 17;
 
@@ -21,8 +22,10 @@ fn layout() -> Layout {
     }
 }
 
+/// The counts and the rows' indices, or the word that tells a fault.
 fn page(pages: &Pages, position: u64, budget: u64, room: usize) -> Result<Vec<u64>, u64> {
-    let page = pages.page(Span { position, budget }, room)?;
+    let page = pages.page(Span { position, budget }, room);
+    let page = page.map_err(Fault::word)?;
     let indices = page.rows.iter().flat_map(|row| row.indices);
     Ok(page.counts().into_iter().chain(indices).collect())
 }
@@ -40,9 +43,9 @@ fn pages_by_hand() {
     assert_eq!(page(2, u64::MAX, 1), Ok(vec![1, 4, 6, 6, 0, 2]));
     assert_eq!(page(1, 1, 1), Ok(vec![0, 1, 2, 6]));
     assert_eq!(page(6, 1, 1), Ok(vec![0, 0, 6, 6]));
-    assert_eq!(page(7, 0, 0), Err(13));
-    assert_eq!(page(6, 0, 0), Err(14));
-    assert_eq!(page(6, 1, 0), Err(8));
+    assert_eq!(page(7, 0, 0), Err(0xa_010d));
+    assert_eq!(page(6, 0, 0), Err(0xb_010e));
+    assert_eq!(page(6, 1, 0), Err(0x9_0108));
 }
 
 #[test]
@@ -62,9 +65,9 @@ fn pages_of_one_path_by_hand() {
     let nothing = Drawn::default();
     let pages = Pages::new(Call::Own.of(nothing.path(), nothing.path()), 1e-5);
     assert_eq!(page(&pages, 0, 1, 1), Ok(vec![0, 0, 0, 0]));
-    assert_eq!(page(&pages, 1, 1, 1), Err(13));
+    assert_eq!(page(&pages, 1, 1, 1), Err(0xa_010d));
     let faulty = Pages::new(layout.listed(Call::Own), f64::NAN);
-    assert_eq!(page(&faulty, 7, 0, 0), Err(4));
+    assert_eq!(page(&faulty, 7, 0, 0), Err(0x104));
 }
 
 /// Compares until the first difference.
@@ -132,6 +135,23 @@ fn wrong_stand_ins_are_found() {
         "never at the end",
         "a fifth count",
         "the full listing has other points",
+        "no place",
+        "no index",
+        "no owner",
+        "one for every NaN and infinity",
+        "the owner from 1",
+        "the index from 1",
+        "the last path's fault",
+        "the last fault",
+        "y for x",
+        "the bulge's item for y",
+        "an index of 11 bits",
+        "a chord's second vertex",
+        "the number's place in the path",
+        "13 with the epsilon's item",
+        "14 with the position",
+        "8 with an owner",
+        "7 with an index",
     ] {
         assert!(!run(defect).goes_on(), "not found: {defect}");
     }

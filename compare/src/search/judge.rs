@@ -17,7 +17,7 @@ pub struct Epsilon {
     pub down: u32,
 }
 
-/// What the pair call answered: its class and its values, or a refusal's number, which is beyond every class.
+/// What the pair call answered: its class and its values, or a refusal's word, which is beyond every class.
 #[derive(Clone, Copy, Debug, PartialEq)]
 pub struct Answer {
     pub class: u64,

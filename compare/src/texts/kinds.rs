@@ -1,8 +1,8 @@
 //! Kinds of text that a run must have met. They are read from the text and its answer, not from how it was drawn.
 
 use super::model::{paths, Answer, BULGE, CLASSES, COORDINATE, MOST_BYTES, MOST_ROWS};
+use crate::crossing::faults::{Fault, Item};
 use crate::listings::layout::Drawn;
-use crate::listings::model::Place;
 
 pub struct Case<'a> {
     pub text: &'a [u8],
@@ -43,8 +43,8 @@ impl Seen<'_> {
         let Answer::Made(listing) = self.case.answer else {
             return false;
         };
-        let place = listing.faults.first().map(|fault| fault.place);
-        matches!(place, Some(Place::Chord { path, .. }) if path == which)
+        let is = |fault: &Fault| fault.place.item == Item::Chord && fault.place.owner == which;
+        listing.faults.first().is_some_and(is)
     }
 
     /// Whether a path ends with the same vertex twice, with a bulge only at the last one: it belongs to no segment.
