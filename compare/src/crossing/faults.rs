@@ -23,8 +23,8 @@ pub enum Item {
     Budget = 11,
 }
 
-/// Whose item it is: a path, a segment, a point or a circle of the call, and there which vertex, segment or end. All count from 0,
-/// and what a place has none of is 0.
+/// Whose item it is: a path, a segment, a point or a circle of the call, and there which vertex, segment or end. All count from
+/// 0, and what a place has none of is 0.
 #[derive(Clone, Copy, Debug, PartialEq, Eq, PartialOrd, Ord)]
 pub struct Place {
     pub item: Item,

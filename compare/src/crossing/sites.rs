@@ -85,8 +85,8 @@ fn chords(call: &Call) -> impl Iterator<Item = Fault> {
     (0..call.chords.len()).map(move |owner| Fault::new(5, place(owner)))
 }
 
-/// The faults of two places that must have come up at once, the one that is told first. A chord may be at fault behind numbers that
-/// are not its own, and both chords may be.
+/// The faults of two places that must have come up at once, the one that is told first. A chord may be at fault behind numbers
+/// that are not its own, and both chords may be.
 fn both(call: &Call) -> Vec<[Fault; 2]> {
     let mut all = Vec::new();
     for (i, (_, place)) in call.order.iter().enumerate() {

@@ -135,8 +135,8 @@ pub fn two_at_once(layout: &Layout, rng: &mut Rng) -> Vec<Layout> {
         .collect()
 }
 
-/// A path of 4,096 vertices before a short one, and behind it, with one fault: each number of the last vertex for each reason, and
-/// the last chord.
+/// A path of 4,096 vertices before a short one, and behind it, with one fault: each number of the last vertex for each reason,
+/// and the last chord.
 pub fn far(closed: [bool; 2], rng: &mut Rng) -> Vec<(Layout, Layout)> {
     let mut layout = accepted([MOST_VERTICES, 3], closed, rng);
     // lines only, so that the last chord is the first at fault

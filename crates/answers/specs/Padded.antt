@@ -1,5 +1,5 @@
--- A call's answer as plain numbers: whether it is a refusal, its number (the refusal's word or the case's number), and four values. Values
--- that the case lacks are +0.
+-- A call's answer as plain numbers: whether it is a refusal, its number (the refusal's word or the case's number), and four
+-- values. Values that the case lacks are +0.
 use Prim.Native.Nat.{ℕ}
 use mathlib.Core.Bool.{true, false, cond}
 use mathlib.Core.List.{List, [], _∷_}

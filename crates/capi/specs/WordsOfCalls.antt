@@ -1,5 +1,6 @@
--- The word that a call returns for a refusal gives the fault back: for each call for C, if its definition refuses with the fault f, the
--- word has f's number, item, owner and index in its parts (`Parts`), and is neither a case's number nor the code of no room.
+-- The word that a call returns for a refusal gives the fault back: for each call for C, if its definition refuses with the
+-- fault f, the word has f's number, item, owner and index in its parts (`Parts`), and is neither a case's number nor the code
+-- of no room.
 use mathlib.Core.Path.{_≡_, refl, sym, subst}
 use mathlib.Core.Bool.{Bool}
 use mathlib.Core.List.{List, [], _∷_, _++_}

@@ -8,8 +8,8 @@ pub const PLACES: usize = 4;
 // what is returned if a slice has too few places
 pub const NO_ROOM: u64 = 512;
 
-// Writes an answer's four values to the front of `out` and returns its number, or a refusal's word. Nothing is written if `out` has no room for four,
-// or if the answer is a refusal.
+// Writes an answer's four values to the front of `out` and returns its number, or a refusal's word. Nothing is written if `out`
+// has no room for four, or if the answer is a refusal.
 pub fn hand_over(padded: PaddedAnswer, out: &mut [f64]) -> u64
     ensures { λ r. ⌜ Handed.Handed padded r (now (out .entry)) (now (out .exit)) ⌝ }
 {

@@ -1,5 +1,5 @@
--- What it means that a check refuses exactly when its tests say so. The tests stand in a list, each with the number of its refusal;
--- the first that says yes decides. Checks made by `refuse` and `later` do so.
+-- What it means that a check refuses exactly when its tests say so. The tests stand in a list, each with the number of its
+-- refusal; the first that says yes decides. Checks made by `refuse` and `later` do so.
 use mathlib.Core.Path.{_≡_, refl, sym, ap, _∙_}
 use mathlib.Core.Logic.{_↔_, _⊎_, inl, inr, Iff·trans}
 use mathlib.Core.Bool.{Bool, true, false, true≢false}
@@ -29,8 +29,8 @@ abbrev pub AllNo : List Test → Type 0
 AllNo [] = Unit {0}
 AllNo (t ∷ ts) = (t .says ≡ false) × AllNo ts
 
--- The check c refuses with number n and place p if and only if n is that of the first test that says yes. It is fine if and only if
--- all say no. A fault of it has the place p.
+-- The check c refuses with number n and place p if and only if n is that of the first test that says yes. It is fine if and
+-- only if all say no. A fault of it has the place p.
 pub record Gives (c : Checked) (p : Place) (tests : List Test) : Type 0 where
   pub refused : (n : ℕ) → (c ≡ bad n p) ↔ FirstYes n tests
   pub fine : (c ≡ Fine) ↔ AllNo tests

@@ -1,5 +1,5 @@
--- The scope's "exactly when", for every call and every type of answer: what `answered` gives is the refusal of f, number and place,
--- if and only if f is the first fault.
+-- The scope's "exactly when", for every call and every type of answer: what `answered` gives is the refusal of f, number and
+-- place, if and only if f is the first fault.
 use mathlib.Core.Path.{_≡_, refl, sym, ap, _∙_}
 use mathlib.Core.Logic.{_↔_}
 use mathlib.Core.List.{List}

@@ -1,5 +1,5 @@
--- The word that a call in C returns for a refusal, as the header lays it out: bits 0 to 15 are 256 plus the refusal's number, bits 16
--- to 23 the item, 24 to 31 the owner, 32 to 63 the index.
+-- The word that a call in C returns for a refusal, as the header lays it out: bits 0 to 15 are 256 plus the refusal's number,
+-- bits 16 to 23 the item, 24 to 31 the owner, 32 to 63 the index.
 use Prim.Native.Nat.{ℕ, _+_, _*_, _%_}
 use Rattle.checks.specs.declared.fault.Fault.{Fault}
 use Rattle.checks.specs.FaultNumbers.{item}

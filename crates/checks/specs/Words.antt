@@ -1,5 +1,5 @@
--- What a word gives back. The header's macros take it apart; for a fault whose parts fit, they give its number, item, owner and index.
--- So two such faults that differ have different words; and no word is a case's number or the code of no room.
+-- What a word gives back. The header's macros take it apart; for a fault whose parts fit, they give its number, item, owner and
+-- index. So two such faults that differ have different words; and no word is a case's number or the code of no room.
 use mathlib.Core.Path.{_≡_, refl, sym, ap, _∙_}
 use Prim.Native.Nat.{ℕ, _+_, _-_, _*_, _/_, _%_, _<_, _≤_}
 use native.Mathlib.Omega.{arith}

@@ -37,7 +37,8 @@ pub fn epsilon(eps: f64) -> Checked
     )
 }
 
-// A coordinate of a point or vertex: refusal 11 if it is a NaN, 12 if it is infinite, then 2 if it exceeds 1,048,576 in magnitude.
+// A coordinate of a point or vertex: refusal 11 if it is a NaN, 12 if it is infinite, then 2 if it exceeds 1,048,576 in
+// magnitude.
 pub fn coordinate(x: f64, place: Place) -> Checked
     ensures { λ r. ⌜ r ≡ Each.coordinate x place ⌝ }
 {
@@ -56,7 +57,8 @@ pub fn bulge(b: f64, place: Place) -> Checked
     finite_then(b, number::beyond(limit::BULGE, b), refusal::BULGE, place)
 }
 
-// A circle's radius: refusal 11 if it is a NaN, 12 if it is infinite, then 9 if it is below 2^-42, as zero and negative ones are, or above 2^47.
+// A circle's radius: refusal 11 if it is a NaN, 12 if it is infinite, then 9 if it is below 2^-42, as zero and negative ones
+// are, or above 2^47.
 pub fn radius(r: f64, place: Place) -> Checked
     ensures { λ a. ⌜ a ≡ Each.radius r place ⌝ }
 {

@@ -1,6 +1,6 @@
--- An answer in numbers: whether it is a refusal; then the refusal's number and its place (owner, index, item), or which case it is,
--- counted in the order of the enum; and the values of the case, a point as x and y. SameAnswer.antt proves that two answers with
--- the same numbers are the same.
+-- An answer in numbers: whether it is a refusal; then the refusal's number and its place (owner, index, item), or which case it
+-- is, counted in the order of the enum; and the values of the case, a point as x and y. SameAnswer.antt proves that two answers
+-- with the same numbers are the same.
 use mathlib.Core.Bool.{Bool, true, false}
 use mathlib.Core.List.{List, []}
 use Prim.Native.Nat.{ℕ}

@@ -1,6 +1,6 @@
--- When exactly the kernels and the pair call refuse: with the fault f, number and place, if and only if f is the first fault among
--- their numbers, in the order of the call's list of checks. They answer how the two meet if and only if every number passes.
--- RefusalTable.antt of the crate `checks` says of each check when it finds which fault.
+-- When exactly the kernels and the pair call refuse: with the fault f, number and place, if and only if f is the first fault
+-- among their numbers, in the order of the call's list of checks. They answer how the two meet if and only if every number
+-- passes. RefusalTable.antt of the crate `checks` says of each check when it finds which fault.
 use lib.Ieee.{Float}
 use Rattle.plane.specs.declared.vector2.Vector2.{Vector2}
 use Rattle.plane.specs.declared.pline_vertex.PlineVertex.{PlineVertex}

@@ -1,6 +1,7 @@
 -- When exactly the listings refuse: with the fault f, number and place, if and only if f is the first fault of their checks in
--- order, with 8 as the last. They list if and only if every check passes. A refusal leaves both slices unchanged. RefusalTable.antt of the
--- crate `checks` and PathRefusals.antt of `paths` say of each check when it finds which fault; `too-many` below does so for 8.
+-- order, with 8 as the last. They list if and only if every check passes. A refusal leaves both slices unchanged.
+-- RefusalTable.antt of the crate `checks` and PathRefusals.antt of `paths` say of each check when it finds which fault;
+-- `too-many` below does so for 8.
 use mathlib.Core.Path.{_≡_, refl, sym, ap}
 use mathlib.Core.Bool.{Bool, true, false, cond, true≢false}
 use mathlib.Core.Logic.{_↔_}

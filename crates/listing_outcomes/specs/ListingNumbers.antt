@@ -1,6 +1,6 @@
--- A listing's answer in whole numbers: 1 and the fault's numbers (the refusal's number, owner, index, item); or 0, the rows written and
--- the pairs looked at. A page's answer: 1 and the fault's numbers; or 0, the rows written, the pairs passed, the next position and all
--- pairs. Two answers with the same numbers are the same.
+-- A listing's answer in whole numbers: 1 and the fault's numbers (the refusal's number, owner, index, item); or 0, the rows
+-- written and the pairs looked at. A page's answer: 1 and the fault's numbers; or 0, the rows written, the pairs passed, the
+-- next position and all pairs. Two answers with the same numbers are the same.
 use mathlib.Core.Path.{_≡_, refl, sym, ap, _∙_}
 use mathlib.Core.List.{List, [], _∷_}
 use Prim.Native.Nat.{ℕ, zero, suc}

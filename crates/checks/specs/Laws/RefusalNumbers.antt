@@ -1,5 +1,5 @@
--- A fault that a check finds fits into a word: its number, its owner and its index are small. So does the first fault of a list of
--- checks, if later checks are asked only where the earlier ones are fine.
+-- A fault that a check finds fits into a word: its number, its owner and its index are small. So does the first fault of a list
+-- of checks, if later checks are asked only where the earlier ones are fine.
 use mathlib.Core.Path.{_≡_, refl, sym, ap, subst}
 use mathlib.Core.Bool.{Bool, true, false, cond, true≢false}
 use mathlib.Core.List.{List, _++_}

@@ -1,5 +1,5 @@
--- A fault that a path's checks find fits into a word: the path's owner is small, and so is each index, since a path with more vertices
--- is refused before its vertices are checked.
+-- A fault that a path's checks find fits into a word: the path's owner is small, and so is each index, since a path with more
+-- vertices is refused before its vertices are checked.
 use mathlib.Core.Path.{_≡_}
 use mathlib.Core.Bool.{Bool}
 use mathlib.Core.List.{List}
