@@ -108,7 +108,8 @@ module _ (first : List Float) (firstClosed : Bool) (second : List Float) (second
 module _ (path : List Float) (closed : Bool) (eps : Float) (i : List ℕ) (p : List Float) where
   pub self-listing : (f : Fault) → selfListing path closed eps i p .answer ≡ listings.Refused f → Parts f (word f)
   unfolding selfListing outcome
-  self-listing = of-outcome listings.Refused (λ f g e. cc) _ _ _ i p (laws.self-small _ i p path closed eps) (λ f e. listing-other f e)
+  self-listing =
+      of-outcome listings.Refused (λ f g e. cc) _ _ _ i p (laws.self-small _ i p path closed eps) (λ f e. listing-other f e)
 
   pub self-page : (position budget : ℕ) (f : Fault)
       → selfPage path closed eps position budget i p .answer ≡ pages.Refused f → Parts f (word f)

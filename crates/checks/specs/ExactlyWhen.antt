@@ -25,7 +25,8 @@ pub record Distinct {I A : Type 0} (refused : Fault → A) (met : I → A) : Typ
   pub faults : (f g : Fault) → refused f ≡ refused g → f ≡ g
   pub kinds : (f : Fault) (i : I) → refused f ≡ met i → ⊥
 
-module _ {I A : Type 0} (refused : Fault → A) (met : I → A) (distinct : Distinct refused met) (checks : List Checked) (intr : I) where
+module _ {I A : Type 0} (refused : Fault → A) (met : I → A) (distinct : Distinct refused met)
+    (checks : List Checked) (intr : I) where
   abbrev answer : Checked → A
   answer c = answered refused met c intr
 

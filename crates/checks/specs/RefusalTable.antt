@@ -34,7 +34,8 @@ module _ (x : Float) (p : Place) where
   finite = gives (Each.finite x p) p (test 11 (isNan x) ∷ test 12 (isInfinite x) ∷ []) (simp fine-right)
 
   -- 11, 12, and then n
-  then : (n : ℕ) (says : Bool) → Gives (Each.finiteThen x says n p) p (test 11 (isNan x) ∷ test 12 (isInfinite x) ∷ test n says ∷ [])
+  then : (n : ℕ) (says : Bool)
+      → Gives (Each.finiteThen x says n p) p (test 11 (isNan x) ∷ test 12 (isInfinite x) ∷ test n says ∷ [])
   unfolding Each.finiteThen Each.finite
   then n says =
       gives (Each.finiteThen x says n p) p (test 11 (isNan x) ∷ test 12 (isInfinite x) ∷ test n says ∷ [])

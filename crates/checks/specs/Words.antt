@@ -92,7 +92,8 @@ one-word-one-fault f g hf hg e =
   where
     back : (f : Fault) → fault-back (f .number) (f .place .owner) (f .place .index) (item (f .place .item)) ≡ f
     back f =
-        ap (λ (i : Item). record { number = f .number; place = at (f .place .owner) (f .place .index) i }) (item-same (f .place .item))
+        ap (λ (i : Item). record { number = f .number; place = at (f .place .owner) (f .place .index) i })
+        (item-same (f .place .item))
 
     same : {n m o p x y i j : ℕ} → n ≡ m → o ≡ p → x ≡ y → i ≡ j → fault-back n o x i ≡ fault-back m p y j
     same a b c d = rw (a, b, c, d) refl

@@ -36,7 +36,8 @@ fault-back (n ∷ owner ∷ index ∷ i ∷ rest) = record { number = n; place =
 fault-same : (f : Fault) → fault-back (numbersOfFault f) ≡ f
 unfolding fault-back
 fault-same f =
-    ap (λ (i : Item). record { number = f .number; place = at (f .place .owner) (f .place .index) i }) (item-same (f .place .item))
+    ap (λ (i : Item). record { number = f .number; place = at (f .place .owner) (f .place .index) i })
+    (item-same (f .place .item))
 
 listed-back : List ℕ → ListingAnswer
 listed-back [] = Listed 0 0

@@ -123,7 +123,8 @@ epsilon-fine x =
 module _ (x : Float) (p : Place) where
   pub coordinate-fine : (Each.coordinate x p ≡ Fine) ↔ Within Limit.coordinate x
   unfolding ofBits isNan
-  coordinate-fine = Iff·trans (RefusalTable.coordinate x p .fine) (Iff·trans (three-no _ _ _ 11 12 2) (within Limit.coordinate x refl))
+  coordinate-fine =
+      Iff·trans (RefusalTable.coordinate x p .fine) (Iff·trans (three-no _ _ _ 11 12 2) (within Limit.coordinate x refl))
 
   pub bulge-fine : (Each.bulge x p ≡ Fine) ↔ Within Limit.bulge x
   unfolding ofBits isNan

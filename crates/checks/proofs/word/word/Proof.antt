@@ -9,7 +9,8 @@ use Rattle.checks.proofs.word.word.Tie as tie
 
 few : (c : tie.After-struct-known3) → c .before .before .item-number .result < items
 few c =
-    let n = c .before .before in omega (arith, n .item-number .ensures, item-below (n .before .before .before .args .fault .place .item))
+    let n = c .before .before in
+    omega (arith, n .item-number .ensures, item-below (n .before .before .before .args .fault .place .item))
 
 returns : tie.Need-returns
 unfolding word

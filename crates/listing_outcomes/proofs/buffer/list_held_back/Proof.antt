@@ -147,5 +147,6 @@ list-held-back-spec =
     (tie.spec
     (λ c. search needs) (λ c. search needs) every-pair-requires (λ c. search needs) (λ c. search needs) fill-requires
     (λ c. search needs) (λ c. search needs) copy-rows-requires (λ c. search needs) (λ c. search needs) returns
-    (λ c. search needs) returns-2 (λ c. search needs) (λ c. search needs) list-behind-requires (λ c. search needs) (λ c. search needs)
+    (λ c. search needs) returns-2 (λ c. search needs) (λ c. search needs) list-behind-requires (λ c. search needs)
+    (λ c. search needs)
     (λ c. search needs))
