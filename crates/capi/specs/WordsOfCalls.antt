@@ -2,7 +2,7 @@
 -- fault f, the word has f's number, item, owner and index in its parts (`Parts`), and is neither a case's number nor the code
 -- of no room.
 use mathlib.Core.Path.{_≡_, refl, sym, subst}
-use mathlib.Core.Bool.{Bool}
+use mathlib.Core.Bool.{Bool, false}
 use mathlib.Core.List.{List, [], _∷_, _++_}
 use Prim.Native.Nat.{ℕ}
 use lib.Ieee.{Float}
@@ -15,7 +15,7 @@ use Rattle.checks.specs.Calls as calls
 use Rattle.checks.specs.Answered.{answered}
 use Rattle.checks.specs.ExactlyWhen.{Distinct, no-number}
 use Rattle.checks.specs.Word.{word}
-use Rattle.checks.specs.Words.{Fits, Parts, parts}
+use Rattle.checks.specs.Words.{Fits, refusedIn, Parts, parts}
 use Rattle.checks.specs.Laws.RefusalNumbers.{Small, smalls}
 use Rattle.crossing.specs.LineLine.{lineLine}
 use Rattle.crossing.specs.LineCircle.{lineCircle}
@@ -37,38 +37,47 @@ use Rattle.listing_outcomes.specs.PageOutcome.{pageOutcome}
 use Rattle.listing_calls.specs.Listing.{mutualListing, selfListing}
 use Rattle.listing_calls.specs.Pages.{mutualPage, selfPage}
 use Rattle.listing_calls.specs.Laws.RefusalNumbers as laws
+use Rattle.capi.specs.Handed.{noRoomCode}
+
+-- the fault fits into a word, and its number is not 1; and its word gives it back
+pub record Shown (f : Fault) : Type 0 where
+  pub fits : Fits f
+  pub parts-are : Parts f (word f)
+
+shown : {g f : Fault} → g ≡ f → Fits g → Shown f
+shown {g} {f} e h = let k = subst Fits e h in record { fits = k; parts-are = parts f k }
 
 -- ---- from a check that found the fault
 module _ {I A : Type 0} (refused : Fault → A) (met : I → A) (distinct : Distinct refused met) where
-  of-checked : (c : Checked) (i : I) → Small c → (f : Fault) → answered refused met c i ≡ refused f → Parts f (word f)
+  of-checked : (c : Checked) (i : I) → Small c → (f : Fault) → answered refused met c i ≡ refused f → Shown f
   of-checked Fine i small f e = absurd (distinct .kinds f i (sym e))
   of-checked (Bad g) i small f e =
-      parts f (subst (λ (h : Fault). Fits h) (distinct .faults g f e) (small .fits g refl))
+      shown (distinct .faults g f e) (small .fits g refl)
 
 -- ---- the kernels and the pair call
 pub line-line : (v1 v2 u1 u2 : Vector2) (eps : Float) (f : Fault)
-    → lines.lineLineIntr v1 v2 u1 u2 eps ≡ ofLines.Refused f → Parts f (word f)
+    → lines.lineLineIntr v1 v2 u1 u2 eps ≡ ofLines.Refused f → Shown f
 unfolding lines.lineLineIntr calls.checkLineLine
 line-line v1 v2 u1 u2 eps =
     of-checked ofLines.Refused ofLines.Met (record { faults = λ f g e. cc; kinds = λ f i e. no-number cc })
     (calls.checkLineLine v1 v2 u1 u2 eps) (lineLine v1 v2 u1 u2 eps) (search smalls depth 30)
 
 pub line-circle : (p0 p1 : Vector2) (r : Float) (c : Vector2) (eps : Float) (f : Fault)
-    → lineAndCircle.lineCircleIntr p0 p1 r c eps ≡ ofLineAndCircle.Refused f → Parts f (word f)
+    → lineAndCircle.lineCircleIntr p0 p1 r c eps ≡ ofLineAndCircle.Refused f → Shown f
 unfolding lineAndCircle.lineCircleIntr calls.checkLineCircle
 line-circle p0 p1 r c eps =
     of-checked ofLineAndCircle.Refused ofLineAndCircle.Met (record { faults = λ f g e. cc; kinds = λ f i e. no-number cc })
     (calls.checkLineCircle p0 p1 r c eps) (lineCircle p0 p1 r c eps) (search smalls depth 30)
 
 pub circle-circle : (r1 : Float) (c1 : Vector2) (r2 : Float) (c2 : Vector2) (eps : Float) (f : Fault)
-    → circles.circleCircleIntr r1 c1 r2 c2 eps ≡ ofCircles.Refused f → Parts f (word f)
+    → circles.circleCircleIntr r1 c1 r2 c2 eps ≡ ofCircles.Refused f → Shown f
 unfolding circles.circleCircleIntr calls.checkCircleCircle
 circle-circle r1 c1 r2 c2 eps =
     of-checked ofCircles.Refused ofCircles.Met (record { faults = λ f g e. cc; kinds = λ f i e. no-number cc })
     (calls.checkCircleCircle r1 c1 r2 c2 eps) (circleCircle r1 c1 r2 c2 eps) (search smalls depth 30)
 
 pub pline-seg : (v1 v2 u1 u2 : PlineVertex) (eps : Float) (f : Fault)
-    → pairs.plineSegIntr v1 v2 u1 u2 eps ≡ ofPairs.Refused f → Parts f (word f)
+    → pairs.plineSegIntr v1 v2 u1 u2 eps ≡ ofPairs.Refused f → Shown f
 unfolding pairs.plineSegIntr calls.checkPlineSeg
 pline-seg v1 v2 u1 u2 eps =
     of-checked ofPairs.Refused ofPairs.Met (record { faults = λ f g e. cc; kinds = λ f i e. no-number cc })
@@ -78,10 +87,10 @@ pline-seg v1 v2 u1 u2 eps =
 module _ {A : Type 0} (refused : Fault → A) (same : (f g : Fault) → refused f ≡ refused g → f ≡ g) where
   of-outcome : (c : Checked) (answer : A) (rows : List Row) (i : List ℕ) (p : List Float) → Small c
       → ((f : Fault) → answer ≡ refused f → ⊥)
-      → (f : Fault) → outcomeOf refused c answer rows i p .answer ≡ refused f → Parts f (word f)
+      → (f : Fault) → outcomeOf refused c answer rows i p .answer ≡ refused f → Shown f
   of-outcome Fine answer rows i p small other f e = absurd (other f e)
   of-outcome (Bad g) answer rows i p small other f e =
-      parts f (subst (λ (h : Fault). Fits h) (same g f e) (small .fits g refl))
+      shown (same g f e) (small .fits g refl)
 
 listing-other : {rows pairs : ℕ} (f : Fault) → listings.Listed rows pairs ≡ listings.Refused f → ⊥
 listing-other f e = no-number (sym cc)
@@ -92,28 +101,32 @@ page-other f e = no-number (sym cc)
 module _ (first : List Float) (firstClosed : Bool) (second : List Float) (secondClosed : Bool) (eps : Float)
     (i : List ℕ) (p : List Float) where
   pub mutual-listing : (f : Fault) → mutualListing first firstClosed second secondClosed eps i p .answer ≡ listings.Refused f
-      → Parts f (word f)
+      → Shown f
   unfolding mutualListing outcome
   mutual-listing =
       of-outcome listings.Refused (λ f g e. cc) _ _ _ i p (laws.mutual-small _ i p first firstClosed second secondClosed eps)
       (λ f e. listing-other f e)
 
   pub mutual-page : (position budget : ℕ) (f : Fault)
-      → mutualPage first firstClosed second secondClosed eps position budget i p .answer ≡ pages.Refused f → Parts f (word f)
+      → mutualPage first firstClosed second secondClosed eps position budget i p .answer ≡ pages.Refused f → Shown f
   unfolding mutualPage pageOutcome
   mutual-page position budget =
       of-outcome pages.Refused (λ f g e. cc) _ _ _ i p
       (laws.mutual-page-small position _ budget i p first firstClosed second secondClosed eps) (λ f e. page-other f e)
 
 module _ (path : List Float) (closed : Bool) (eps : Float) (i : List ℕ) (p : List Float) where
-  pub self-listing : (f : Fault) → selfListing path closed eps i p .answer ≡ listings.Refused f → Parts f (word f)
+  pub self-listing : (f : Fault) → selfListing path closed eps i p .answer ≡ listings.Refused f → Shown f
   unfolding selfListing outcome
   self-listing =
       of-outcome listings.Refused (λ f g e. cc) _ _ _ i p (laws.self-small _ i p path closed eps) (λ f e. listing-other f e)
 
   pub self-page : (position budget : ℕ) (f : Fault)
-      → selfPage path closed eps position budget i p .answer ≡ pages.Refused f → Parts f (word f)
+      → selfPage path closed eps position budget i p .answer ≡ pages.Refused f → Shown f
   unfolding selfPage pageOutcome
   self-page position budget =
       of-outcome pages.Refused (λ f g e. cc) _ _ _ i p (laws.self-page-small position _ budget i p path closed eps)
       (λ f e. page-other f e)
+
+-- ---- the code of no room is no word
+pub no-room-not-refused : refusedIn noRoomCode ≡ false
+no-room-not-refused = refl

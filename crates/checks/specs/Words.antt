@@ -1,7 +1,10 @@
 -- What a word gives back. The header's macros take it apart; for a fault whose parts fit, they give its number, item, owner and
--- index. So two such faults that differ have different words; and no word is a case's number or the code of no room.
+-- index. So two such faults that differ have different words. A case's number is no word.
 use mathlib.Core.Path.{_≡_, refl, sym, ap, _∙_}
-use Prim.Native.Nat.{ℕ, _+_, _-_, _*_, _/_, _%_, _<_, _≤_}
+use mathlib.Core.Bool.{Bool, true, false}
+use Prim.Native.Nat.{ℕ, _+_, _*_, _/_, _%_, _<_}
+use borrow.Author.Tests.{eq-eqb, ne-eqb}
+use lib.Dec.{eqb}
 use native.Mathlib.Omega.{arith}
 use Rattle.checks.specs.declared.fault.Item.{Item}
 use Rattle.checks.specs.declared.fault.Place.{Place}
@@ -11,9 +14,12 @@ use Rattle.checks.specs.FaultNumbers.{items, item, item-below, item-back
 use Rattle.checks.specs.Refusal.{numbersBelow}
 use Rattle.checks.specs.Word.{itemUnit, ownerUnit, indexUnit, owners, indices, word}
 
--- ---- the macros
+-- ---- the macros: VJ_IS_REFUSED, VJ_NUMBER, VJ_ITEM, VJ_OWNER, VJ_INDEX
+abbrev pub refusedIn : ℕ → Bool
+refusedIn w = eqb (w / 256 % 256) 1
+
 abbrev pub numberIn : ℕ → ℕ
-numberIn w = w % itemUnit - numbersBelow
+numberIn w = w % 256
 
 abbrev pub itemIn : ℕ → ℕ
 itemIn w = w / itemUnit % 256
@@ -30,26 +36,29 @@ pub record FitsPlace (p : Place) : Type 0 where
   pub index : p .index < indices
 
 pub record Fits (f : Fault) : Type 0 where
+  -- 1 is not given any more
+  pub known : 1 < f .number
   pub number : f .number < numbersBelow
   pub place : FitsPlace (f .place)
 
 -- ---- its parts come back
 pub record Parts (f : Fault) (w : ℕ) : Type 0 where
+  pub refused : refusedIn w ≡ true
   pub number : numberIn w ≡ f .number
   pub item-is : itemIn w ≡ item (f .place .item)
   pub owner : ownerIn w ≡ f .place .owner
   pub index : indexIn w ≡ f .place .index
-  -- it is neither a case's number nor the code of no room
-  pub above : numbersBelow ≤ w % itemUnit
-  pub below : w % itemUnit < 2 * numbersBelow
 
 -- the arithmetic: n, i, o and x in their places
 module _ (n i o x : ℕ) (hn : n < numbersBelow) (hi : i < items) (ho : o < owners) (hx : x < indices) where
   abbrev w : ℕ
   w = numbersBelow + n % numbersBelow + i * itemUnit + (o % owners) * ownerUnit + (x % indices) * indexUnit
 
-  low : w % itemUnit ≡ numbersBelow + n
-  low = omega (arith, hn, hi, ho, hx)
+  one : w / 256 % 256 ≡ 1
+  one = omega (arith, hn, hi, ho, hx)
+
+  first : w % 256 ≡ n
+  first = omega (arith, hn, hi, ho, hx)
 
   second : w / itemUnit % 256 ≡ i
   second = omega (arith, hn, hi, ho, hx)
@@ -68,15 +77,17 @@ parts f h =
     let o = f .place .owner in
     let x = f .place .index in
     let hi = item-below (f .place .item) in
-    let l = low n i o x (h .number) hi (h .place .owner) (h .place .index) in
     record {
-      number = omega (arith, l);
+      refused = eq-eqb _ 1 (one n i o x (h .number) hi (h .place .owner) (h .place .index));
+      number = first n i o x (h .number) hi (h .place .owner) (h .place .index);
       item-is = second n i o x (h .number) hi (h .place .owner) (h .place .index);
       owner = third n i o x (h .number) hi (h .place .owner) (h .place .index);
       index = fourth n i o x (h .number) hi (h .place .owner) (h .place .index);
-      above = omega (arith, l);
-      below = omega (arith, l, h .number);
     }
+
+-- a case's number is no word
+pub case-not-refused : (n : ℕ) → n < numbersBelow → refusedIn n ≡ false
+case-not-refused n h = ne-eqb (n / 256 % 256) 1 (λ e. omega (arith, h, e))
 
 -- ---- so faults that differ have different words
 fault-back : (n o x i : ℕ) → Fault

@@ -37,13 +37,13 @@ fine = record { fits = λ f e. absurd (never e) }
     never : {f : Fault} → Fine ≡ Bad f → ⊥
     never {f} e = true≢false (sym (ap is-bad e))
 
-pub refused : (test : Bool) (n : ℕ) (p : Place) → n < Refusal.numbersBelow → FitsPlace p → Small (refuse test n p)
+pub refused : (test : Bool) (n : ℕ) (p : Place) → 1 < n → n < Refusal.numbersBelow → FitsPlace p → Small (refuse test n p)
 unfolding refuse
-refused true n p h l = record { fits = λ f e. subst Fits (same e) (record { number = h; place = l }) }
+refused true n p k h l = record { fits = λ f e. subst Fits (same e) (record { known = k; number = h; place = l }) }
   where
     same : {f g : Fault} → Bad f ≡ Bad g → f ≡ g
     same e = cc
-refused false n p h l = fine
+refused false n p k h l = fine
 
 both : (a b : Checked) → Small a → (a ≡ Fine → Small b) → Small (later a b)
 unfolding later
@@ -83,33 +83,33 @@ module _ (item : Item) where
 -- ---- each number's check
 pub epsilon : (x : Float) → Small (Each.epsilon x)
 unfolding Each.epsilon
-epsilon x = refused _ Refusal.epsilon _ (omega arith) (at-0-0 _)
+epsilon x = refused _ Refusal.epsilon _ (omega arith) (omega arith) (at-0-0 _)
 
 module _ (x : Float) (p : Place) (l : FitsPlace p) where
   finite : Small (Each.finite x p)
   unfolding Each.finite
-  finite = and (refused _ Refusal.nan p (omega arith) l) (refused _ Refusal.infinite p (omega arith) l)
+  finite = and (refused _ Refusal.nan p (omega arith) (omega arith) l) (refused _ Refusal.infinite p (omega arith) (omega arith) l)
 
   pub coordinate : Small (Each.coordinate x p)
   unfolding Each.coordinate Each.finiteThen
-  coordinate = and finite (refused _ Refusal.coordinate p (omega arith) l)
+  coordinate = and finite (refused _ Refusal.coordinate p (omega arith) (omega arith) l)
 
   pub bulge : Small (Each.bulge x p)
   unfolding Each.bulge Each.finiteThen
-  bulge = and finite (refused _ Refusal.bulge p (omega arith) l)
+  bulge = and finite (refused _ Refusal.bulge p (omega arith) (omega arith) l)
 
   pub radius : Small (Each.radius x p)
   unfolding Each.radius Each.finiteThen
-  radius = and finite (refused _ Refusal.circle p (omega arith) l)
+  radius = and finite (refused _ Refusal.circle p (omega arith) (omega arith) l)
 
   pub center : Small (Each.center x p)
   unfolding Each.center Each.finiteThen
-  center = and finite (refused _ Refusal.circle p (omega arith) l)
+  center = and finite (refused _ Refusal.circle p (omega arith) (omega arith) l)
 
   chord : (is-line : Bool) → Small (cond is-line Fine (Each.chord x p))
   unfolding Each.chord
   chord true = fine
-  chord false = refused _ Refusal.chord p (omega arith) l
+  chord false = refused _ Refusal.chord p (omega arith) (omega arith) l
 
 pub arc-chord : (a b : PlineVertex) (owner index : ℕ) → FitsPlace (at owner index Chord) → Small (arcChord a b owner index)
 unfolding arcChord

@@ -68,7 +68,7 @@ module _ (path : List Float) (closed : Bool) (eps : Float) where
 module _ (rows : List Row) (i : List ℕ) (p : List Float) where
   room-small : Small (roomCheck rows i p)
   unfolding roomCheck
-  room-small = refused _ Refusal.rows _ (omega arith) (at-0-0 _)
+  room-small = refused _ Refusal.rows _ (omega arith) (omega arith) (at-0-0 _)
 
   pub mutual-small : (first : List Float) (firstClosed : Bool) (second : List Float) (secondClosed : Bool) (eps : Float)
       → Small (firstFault (mutualChecks first firstClosed second secondClosed eps ++ (roomCheck rows i p ∷ [])))
@@ -85,9 +85,9 @@ module _ (position all budget : ℕ) (i : List ℕ) (p : List Float) where
   limits-small : Small (firstFault (limits position all budget i p))
   unfolding positionCheck budgetCheck rowCheck
   limits-small =
-      and (refused _ Refusal.position _ (omega arith) (at-0-0 _))
-      (and (refused _ Refusal.budget _ (omega arith) (at-0-0 _))
-      (and (refused _ Refusal.rows _ (omega arith) (at-0-0 _)) fine))
+      and (refused _ Refusal.position _ (omega arith) (omega arith) (at-0-0 _))
+      (and (refused _ Refusal.budget _ (omega arith) (omega arith) (at-0-0 _))
+      (and (refused _ Refusal.rows _ (omega arith) (omega arith) (at-0-0 _)) fine))
 
   pub mutual-page-small : (first : List Float) (firstClosed : Bool) (second : List Float) (secondClosed : Bool) (eps : Float)
       → Small (firstFault (mutualChecks first firstClosed second secondClosed eps ++ limits position all budget i p))
