@@ -88,7 +88,9 @@ epsilon x = refused _ Refusal.epsilon _ (omega arith) (omega arith) (at-0-0 _)
 module _ (x : Float) (p : Place) (l : FitsPlace p) where
   finite : Small (Each.finite x p)
   unfolding Each.finite
-  finite = and (refused _ Refusal.nan p (omega arith) (omega arith) l) (refused _ Refusal.infinite p (omega arith) (omega arith) l)
+  finite =
+      and (refused _ Refusal.nan p (omega arith) (omega arith) l)
+      (refused _ Refusal.infinite p (omega arith) (omega arith) l)
 
   pub coordinate : Small (Each.coordinate x p)
   unfolding Each.coordinate Each.finiteThen

@@ -26,7 +26,8 @@ pub shape-small : (path : List Float) (owner : ℕ) → owner < owners → Small
 unfolding shape
 shape-small path owner h =
     let l = place owner 0 Length h (omega arith) in
-    and (refused _ Refusal.pathLength _ (omega arith) (omega arith) l) (refused _ Refusal.vertices _ (omega arith) (omega arith) l)
+    and (refused _ Refusal.pathLength _ (omega arith) (omega arith) l)
+    (refused _ Refusal.vertices _ (omega arith) (omega arith) l)
 
 pub shape-few : (path : List Float) (owner : ℕ) → shape path owner ≡ Fine → vertexCount path ≤ mostVertices
 shape-few path owner e = ltb-false mostVertices (vertexCount path) (table.shape path owner .fine .0 e .1 .0)
