@@ -12,28 +12,46 @@ use super::fault::Item;
 use super::fault::at;
 use super::fault::later;
 use super::limit;
+use super::number::between;
 use super::number::inside;
 
-// A point: x, then y.
-pub fn point_after(f: Checked, x: f64, y: f64, owner: u64, index: u64) -> Checked
+// Whether a point's numbers are both fine, by comparisons alone.
+fn point_inside(x: f64, y: f64) -> bool
+    ensures { λ r. ⌜ r ≡ Inside.pointInside x y ⌝ }
+{
+    inside(limit::COORDINATE, x) & inside(limit::COORDINATE, y)
+}
+
+// A point, number by number: x, then y.
+fn point_by_numbers(f: Checked, x: f64, y: f64, owner: u64, index: u64) -> Checked
     ensures { λ r. ⌜ r ≡ first (f ∷ Lists.pointChecks x y owner index) ⌝ }
 {
     let a = later(f, each::coordinate(x, at(owner, index, Item::X)));
     later(a, each::coordinate(y, at(owner, index, Item::Y)))
 }
 
+// A point: x, then y. Most often both are fine, and then it answers f.
+pub fn point_after(f: Checked, x: f64, y: f64, owner: u64, index: u64) -> Checked
+    ensures { λ r. ⌜ r ≡ first (f ∷ Lists.pointChecks x y owner index) ⌝ }
+{
+    if point_inside(x, y) {
+        return f;
+    }
+    point_by_numbers(f, x, y, owner, index)
+}
+
 // Whether a vertex's numbers are all fine, by comparisons alone.
 pub fn vertex_inside(x: f64, y: f64, bulge: f64) -> bool
     ensures { λ r. ⌜ r ≡ Inside.vertexInside x y bulge ⌝ }
 {
-    (inside(limit::COORDINATE, x) & inside(limit::COORDINATE, y)) & inside(limit::BULGE, bulge)
+    point_inside(x, y) & inside(limit::BULGE, bulge)
 }
 
 // A vertex of a path, number by number: x, y, then its bulge.
 fn vertex_by_numbers(f: Checked, x: f64, y: f64, bulge: f64, owner: u64, index: u64) -> Checked
     ensures { λ r. ⌜ r ≡ first (f ∷ Lists.vertexChecks x y bulge owner index) ⌝ }
 {
-    let a = point_after(f, x, y, owner, index);
+    let a = point_by_numbers(f, x, y, owner, index);
     later(a, each::bulge(bulge, at(owner, index, Item::Bulge)))
 }
 
@@ -47,11 +65,29 @@ pub fn vertex_after(f: Checked, x: f64, y: f64, bulge: f64, owner: u64, index: u
     vertex_by_numbers(f, x, y, bulge, owner, index)
 }
 
-// A kernel's circle: its radius, then its centre, x before y.
-pub fn circle_after(f: Checked, radius: f64, cx: f64, cy: f64, owner: u64) -> Checked
+// Whether a circle's numbers are all fine, by comparisons alone.
+fn circle_inside(radius: f64, cx: f64, cy: f64) -> bool
+    ensures { λ r. ⌜ r ≡ Inside.circleInside radius cx cy ⌝ }
+{
+    between(limit::RADIUS_LEAST, limit::RADIUS_MOST, radius)
+        & (inside(limit::CENTER, cx) & inside(limit::CENTER, cy))
+}
+
+// A kernel's circle, number by number: its radius, then its centre, x before y.
+fn circle_by_numbers(f: Checked, radius: f64, cx: f64, cy: f64, owner: u64) -> Checked
     ensures { λ r. ⌜ r ≡ first (f ∷ Lists.circleChecks radius cx cy owner) ⌝ }
 {
     let a = later(f, each::radius(radius, at(owner, 0, Item::Radius)));
     let b = later(a, each::center(cx, at(owner, 0, Item::CenterX)));
     later(b, each::center(cy, at(owner, 0, Item::CenterY)))
+}
+
+// A kernel's circle: its radius, then its centre, x before y. Most often all three are fine, and then it answers f.
+pub fn circle_after(f: Checked, radius: f64, cx: f64, cy: f64, owner: u64) -> Checked
+    ensures { λ r. ⌜ r ≡ first (f ∷ Lists.circleChecks radius cx cy owner) ⌝ }
+{
+    if circle_inside(radius, cx, cy) {
+        return f;
+    }
+    circle_by_numbers(f, radius, cx, cy, owner)
 }

@@ -46,3 +46,10 @@ pub fn inside(most: f64, x: f64) -> bool
 {
     (x <= most) & (-most <= x)
 }
+
+// Whether x is a number from `least` to `most`, by comparisons alone.
+pub(crate) fn between(least: f64, most: f64, x: f64) -> bool
+    ensures { λ r. ⌜ r ≡ Inside.between least most x ⌝ }
+{
+    (least <= x) & (x <= most)
+}

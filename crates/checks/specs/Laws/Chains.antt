@@ -56,7 +56,7 @@ module _ (x y : Float) (owner : ℕ) where
       (append-fine (pointChecks x y owner index) last (point-listed index) last-fine)
       (λ h. record { point = h .0; bulge = h .1 }, λ v. (v .point, v .bulge))
 
-  circle-listed : (r : Float) → (first (circleChecks r x y owner) ≡ Fine) ↔ CircleFine r x y
+  pub circle-listed : (r : Float) → (first (circleChecks r x y owner) ≡ Fine) ↔ CircleFine r x y
   circle-listed r =
       let center = then-fine (center-fine x (at owner 0 CenterX)) (alone-fine (center-fine y (at owner 0 CenterY))) in
       Iff·trans

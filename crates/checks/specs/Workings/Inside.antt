@@ -1,5 +1,5 @@
 -- Quick tests of numbers, by comparisons alone: |x| is at most the limit if x and -x are, for all floats; a NaN is at most
--- nothing. So a vertex whose three numbers are inside adds no fault to a chain of checks.
+-- nothing. So a point, a vertex or a circle whose numbers are all inside adds no fault to a chain of checks.
 use mathlib.Core.Path.{_≡_, sym, ap, _∙_}
 use mathlib.Core.Bool.{Bool, true, false, not, _&&_}
 use mathlib.Core.List.{_∷_}
@@ -19,16 +19,25 @@ use Rattle.checks.specs.declared.fault.Checked.the-variants.{Fine}
 use Rattle.checks.specs.Fault.{later}
 use Rattle.checks.specs.First.{first}
 use Rattle.checks.specs.Limit
-use Rattle.checks.specs.Lists.{vertexChecks}
-use Rattle.checks.specs.Laws.Chains.{VertexFine, vertex-listed}
-use Rattle.checks.specs.Laws.Fine.{Within}
+use Rattle.checks.specs.Lists.{pointChecks, vertexChecks, circleChecks}
+use Rattle.checks.specs.Laws.Chains.{PointFine, VertexFine, CircleFine, point-listed, vertex-listed, circle-listed}
+use Rattle.checks.specs.Laws.Fine.{Within, Between}
 use Rattle.checks.specs.Laws.Later.{fine-right}
 
 abbrev pub inside : Float → Float → Bool
 inside most x = (x ≼ most) && (neg most ≼ x)
 
+abbrev pub between : Float → Float → Float → Bool
+between least most x = (least ≼ x) && (x ≼ most)
+
+abbrev pub pointInside : Float → Float → Bool
+pointInside x y = inside Limit.coordinate x && inside Limit.coordinate y
+
 abbrev pub vertexInside : Float → Float → Float → Bool
-vertexInside x y bulge = (inside Limit.coordinate x && inside Limit.coordinate y) && inside Limit.bulge bulge
+vertexInside x y bulge = pointInside x y && inside Limit.bulge bulge
+
+abbrev pub circleInside : Float → Float → Float → Bool
+circleInside r x y = between Limit.radiusLeast Limit.radiusMost r && (inside Limit.center x && inside Limit.center y)
 
 -- |x| <= most, if x <= most and -most <= x
 small : (x most : Float) → T (finite x) → T (finite most) → T (x ≼ most) → T (neg most ≼ x) → T (F64.abs x ≼ most)
@@ -69,22 +78,55 @@ pub of-bulge : (x : Float) → T (inside Limit.bulge x) → Within Limit.bulge x
 unfolding ofBits neg
 of-bulge x h = inside-within Limit.bulge x tt tt h
 
+of-center : (x : Float) → T (inside Limit.center x) → Within Limit.center x
+unfolding ofBits neg
+of-center x h = inside-within Limit.center x tt tt h
+
+of-radius : (r : Float) → T (between Limit.radiusLeast Limit.radiusMost r) → Between Limit.radiusLeast Limit.radiusMost r
+unfolding ofBits
+of-radius r h =
+    let above = and-l (Limit.radiusLeast ≼ r) (r ≼ Limit.radiusMost) h in
+    let below = and-r (Limit.radiusLeast ≼ r) (r ≼ Limit.radiusMost) h in
+    record { number = between-finite Limit.radiusLeast r Limit.radiusMost tt tt above below; above = above; below = below }
+
+-- ---- a point
+point-fine : (x y : Float) → T (pointInside x y) → PointFine x y
+point-fine x y h = record {
+  at-x = of-coordinate x (and-l (inside Limit.coordinate x) (inside Limit.coordinate y) h);
+  at-y = of-coordinate y (and-r (inside Limit.coordinate x) (inside Limit.coordinate y) h);
+}
+
+pub point-passed : (f : Checked) (x y : Float) (owner index : ℕ) → T (pointInside x y)
+    → f ≡ first (f ∷ pointChecks x y owner index)
+point-passed f x y owner index h =
+    sym (fine-right f) ∙ ap (later f) (sym (point-listed x y owner index .1 (point-fine x y h)))
+
 -- ---- a vertex
 pub all-passed : (x y bulge : Float) (owner index : ℕ) → T (vertexInside x y bulge)
     → first (vertexChecks x y bulge owner index) ≡ Fine
 all-passed x y bulge owner index h =
-    let point = inside Limit.coordinate x && inside Limit.coordinate y in
-    let at = and-l point (inside Limit.bulge bulge) h in
     let fine : VertexFine x y bulge =
     record {
-      point = record {
-        at-x = of-coordinate x (and-l (inside Limit.coordinate x) (inside Limit.coordinate y) at);
-        at-y = of-coordinate y (and-r (inside Limit.coordinate x) (inside Limit.coordinate y) at);
-      };
-      bulge = of-bulge bulge (and-r point (inside Limit.bulge bulge) h);
+      point = point-fine x y (and-l (pointInside x y) (inside Limit.bulge bulge) h);
+      bulge = of-bulge bulge (and-r (pointInside x y) (inside Limit.bulge bulge) h);
     } in
     vertex-listed x y owner bulge index .1 fine
 
 pub vertex-passed : (f : Checked) (x y bulge : Float) (owner index : ℕ) → T (vertexInside x y bulge)
     → f ≡ first (f ∷ vertexChecks x y bulge owner index)
 vertex-passed f x y bulge owner index h = sym (fine-right f) ∙ ap (later f) (sym (all-passed x y bulge owner index h))
+
+-- ---- a circle
+circle-fine : (r x y : Float) → T (circleInside r x y) → CircleFine r x y
+circle-fine r x y h =
+    let center = inside Limit.center x && inside Limit.center y in
+    let at = and-r (between Limit.radiusLeast Limit.radiusMost r) center h in
+    record {
+      radius = of-radius r (and-l (between Limit.radiusLeast Limit.radiusMost r) center h);
+      at-x = of-center x (and-l (inside Limit.center x) (inside Limit.center y) at);
+      at-y = of-center y (and-r (inside Limit.center x) (inside Limit.center y) at);
+    }
+
+pub circle-passed : (f : Checked) (r x y : Float) (owner : ℕ) → T (circleInside r x y)
+    → f ≡ first (f ∷ circleChecks r x y owner)
+circle-passed f r x y owner h = sym (fine-right f) ∙ ap (later f) (sym (circle-listed x y owner r .1 (circle-fine r x y h)))

@@ -1,29 +1,11 @@
--- `circle_after` meets its contract: its checks are the list's, one by one.
+-- `circle_after` meets its contract: if the numbers are inside, f stays (Workings/Inside); else each is checked.
 use borrow.Author.Needs.{needs}
-use Rattle.checks.specs.Laws.Later.{later-assoc, fine-right}
+use Rattle.checks.specs.Workings.Inside.{circle-passed}
 use Rattle.checks.proofs.chain.circle_after.Statement.{statement}
 use Rattle.checks.proofs.chain.circle_after.Tie as tie
 
 returns : tie.Need-returns
-returns c =
-    simp (
-      c .later3 .ensures,
-      c .before .center2 .ensures,
-      c .before .before .at3 .ensures,
-      c .before .before .before .later2 .ensures,
-      c .before .before .before .before .center .ensures,
-      c .before .before .before .before .before .at2 .ensures,
-      c .before .before .before .before .before .before .later .ensures,
-      c .before .before .before .before .before .before .before .radius .ensures,
-      c .before .before .before .before .before .before .before .before .at .ensures,
-      later-assoc,
-      fine-right,
-    )
+returns c = circle-passed _ _ _ _ _ (simp (← c .before .circle-inside .ensures, c .if1 .taken) tt)
 
 pub circle-after-spec : {M : Type 1} → statement M
-circle-after-spec =
-    tie.close
-    (tie.spec
-    (λ c. search needs) (λ c. search needs) (λ c. search needs) (λ c. search needs) (λ c. search needs) (λ c. search needs)
-    (λ c. search needs) (λ c. search needs) (λ c. search needs)
-    returns)
+circle-after-spec = tie.close (tie.spec (search needs) returns (search needs) (λ c. c .circle-by-numbers .ensures))

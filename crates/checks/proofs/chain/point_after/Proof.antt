@@ -1,25 +1,11 @@
--- `point_after` meets its contract: its checks are the list's, one by one.
+-- `point_after` meets its contract: if the numbers are inside, f stays (Workings/Inside); else each is checked.
 use borrow.Author.Needs.{needs}
-use Rattle.checks.specs.Laws.Later.{later-assoc, fine-right}
+use Rattle.checks.specs.Workings.Inside.{point-passed}
 use Rattle.checks.proofs.chain.point_after.Statement.{statement}
 use Rattle.checks.proofs.chain.point_after.Tie as tie
 
 returns : tie.Need-returns
-returns c =
-    simp (
-      c .later2 .ensures,
-      c .before .coordinate2 .ensures,
-      c .before .before .at2 .ensures,
-      c .before .before .before .later .ensures,
-      c .before .before .before .before .coordinate .ensures,
-      c .before .before .before .before .before .at .ensures,
-      later-assoc,
-      fine-right,
-    )
+returns c = point-passed _ _ _ _ _ (simp (← c .before .point-inside .ensures, c .if1 .taken) tt)
 
 pub point-after-spec : {M : Type 1} → statement M
-point-after-spec =
-    tie.close
-    (tie.spec
-    (λ c. search needs) (λ c. search needs) (λ c. search needs) (λ c. search needs) (λ c. search needs) (λ c. search needs)
-    returns)
+point-after-spec = tie.close (tie.spec (search needs) returns (search needs) (λ c. c .point-by-numbers .ensures))

@@ -10,7 +10,7 @@ returns c =
       c .later .ensures,
       c .before .bulge .ensures,
       c .before .before .at .ensures,
-      c .before .before .before .point-after .ensures,
+      c .before .before .before .point-by-numbers .ensures,
       later-assoc,
       fine-right,
     )

@@ -7,5 +7,5 @@ pub vertex-inside-spec : {M : Type 1} → statement M
 vertex-inside-spec =
     tie.close
     (tie.spec
-    (λ c. search needs) (λ c. search needs) (λ c. search needs)
-    (λ c. simp (← c .before .before .inside .ensures, ← c .before .inside2 .ensures, ← c .inside3 .ensures)))
+    (λ c. search needs) (λ c. search needs)
+    (λ c. simp (← c .before .point-inside .ensures, ← c .inside .ensures)))
