@@ -1,0 +1,4 @@
+-- Boxes of segments and of groups, and the index of a path. A reader need not believe Workings and Laws.
+pub mod Box
+pub mod Groups
+pub mod Index
