@@ -2,6 +2,7 @@
 use mathlib.Core.List.{List, [], _∷_, _++_}
 use Prim.Native.Nat.{ℕ, zero, suc, _+_, _*_}
 use lib.Ieee.{Float}
+use Rattle.float_laws.specs.Flat.{flat}
 use Rattle.boxes.specs.declared.bounds.Box.{Box}
 use Rattle.boxes.specs.Groups.{segmentBox, groupCount, groupBox}
 
@@ -15,8 +16,7 @@ floatsOf b = b .«least_x» ∷ b .«least_y» ∷ b .«greatest_x» ∷ b .«gr
 
 -- the floats of boxes, box after box
 abbrev pub floatsOfBoxes : List Box → List Float
-floatsOfBoxes [] = []
-floatsOfBoxes (b ∷ bs) = floatsOf b ++ floatsOfBoxes bs
+floatsOfBoxes bs = flat floatsOf bs
 
 -- the boxes of i, i + 1, .., `count` of them
 abbrev pub boxesFrom : (ℕ → Box) → ℕ → ℕ → List Box

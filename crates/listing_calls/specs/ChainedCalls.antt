@@ -22,7 +22,7 @@ use Rattle.listing_pairs.specs.Order.{Pair, mutualPairs, selfPairs}
 use Rattle.listing_pairs.specs.Row.{indicesARow, pointsARow, indicesOf, pointsOf, numbersOfRows, row, unlessApart, lookOf}
 use Rattle.listing_pairs.specs.Rows.{rowsOf, count, lookedAt}
 use Rattle.listing_pairs.specs.Look.{look}
-use Rattle.listing_pairs.specs.Laws.Stores.{flat-length}
+use Rattle.float_laws.specs.Stores.{flat-length}
 use Rattle.listing_outcomes.specs.declared.answer.ListingAnswer.{ListingAnswer}
 use Rattle.listing_outcomes.specs.declared.answer.ListingAnswer.the-variants.{Refused, Listed}
 use Rattle.listing_outcomes.specs.declared.answer.PageAnswer.{PageAnswer}

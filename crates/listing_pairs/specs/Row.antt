@@ -1,7 +1,8 @@
 -- A row of a listing, its numbers in the two lent slices, and the row that a pair of segments makes, by the scope's row rule.
-use mathlib.Core.List.{List, [], _∷_, _++_}
+use mathlib.Core.List.{List, [], _∷_}
 use Prim.Native.Nat.{ℕ, zero, suc}
 use lib.Ieee.{Float}
+use Rattle.float_laws.specs.Flat.{flat}
 use Rattle.arcs.specs.declared.pline_seg_intr.PlineSegIntr.{PlineSegIntr}
 use Rattle.crossing.specs.PlineSegIntr.{classOf, point1Of, point2Of}
 use Rattle.listing_pairs.specs.declared.row.Row.{Row}
@@ -24,8 +25,7 @@ pointsOf r = r .x1 ∷ r .y1 ∷ r .x2 ∷ r .y2 ∷ []
 
 -- the numbers of rows, row after row
 abbrev pub numbersOfRows : {A : Type 0} → (Row → List A) → List Row → List A
-numbersOfRows numbers [] = []
-numbersOfRows numbers (r ∷ rows) = numbers r ++ numbersOfRows numbers rows
+numbersOfRows numbers rows = flat numbers rows
 
 -- the row of segments i and j if they meet like this
 abbrev pub row : ℕ → ℕ → PlineSegIntr → Row

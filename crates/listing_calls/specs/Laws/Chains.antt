@@ -22,7 +22,7 @@ use Rattle.listing_pairs.specs.Order.{Pair}
 use Rattle.listing_pairs.specs.Row.{indicesARow, pointsARow, indicesOf, pointsOf, numbersOfRows}
 use Rattle.listing_pairs.specs.Rows.{rowsOf}
 use Rattle.listing_pairs.specs.Page.{Page, page}
-use Rattle.listing_pairs.specs.Laws.Stores.{flat-append, flat-length}
+use Rattle.float_laws.specs.Stores.{flat-append, flat-length}
 use Rattle.listing_loop.specs.Laws.Pages.{joins, taken, passes-one}
 use Rattle.listing_outcomes.specs.declared.answer.PageAnswer.{PageAnswer}
 use Rattle.listing_outcomes.specs.declared.answer.PageAnswer.the-variants.{Refused, Paged}

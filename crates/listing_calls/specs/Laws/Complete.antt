@@ -13,7 +13,7 @@ use Rattle.listing_pairs.specs.declared.row.Look.the-variants.{Skipped, Nothing
 use Rattle.listing_pairs.specs.Row.{indicesARow, indicesOf, numbersOfRows}
 use Rattle.listing_pairs.specs.Order.{Pair, along, pairsFrom}
 use Rattle.listing_pairs.specs.Rows.{onto, rowsOf}
-use Rattle.listing_pairs.specs.Laws.Stores.{flat-append, flat-length}
+use Rattle.float_laws.specs.Stores.{flat-append, flat-length}
 use Rattle.listing_outcomes.specs.Outcome.{overwrite}
 use Rattle.listing_calls.specs.HasRow.{RowAt}
 

@@ -25,7 +25,7 @@ use Rattle.listing_pairs.specs.Row.{indicesARow, pointsARow, indicesOf, pointsO
 use Rattle.listing_pairs.specs.Order.{Pair, mutualPairs}
 use Rattle.listing_pairs.specs.Rows.{rowsOf, lookedAt}
 use Rattle.listing_pairs.specs.Look.{look}
-use Rattle.listing_pairs.specs.Laws.Stores.{flat-length}
+use Rattle.float_laws.specs.Stores.{flat-length}
 use Rattle.listing_outcomes.specs.declared.answer.ListingAnswer.{ListingAnswer}
 use Rattle.listing_outcomes.specs.declared.answer.ListingAnswer.the-variants.{Refused, Listed}
 use Rattle.listing_outcomes.specs.Outcome.{Outcome, overwrite, room, roomCheck, listedOf, outcome}

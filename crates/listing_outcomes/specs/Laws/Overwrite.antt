@@ -6,7 +6,7 @@ use native.Mathlib.Nat.{zero-add}
 use native.Mathlib.Omega.{arith}
 use lib.ListN.{length, length-append, take, drop}
 use lib.Seq.{paste, sets, sets-eq, take-at, take-length, drop-length}
-use Rattle.listing_pairs.specs.Laws.Stores.{sets-append}
+use Rattle.float_laws.specs.Stores.{sets-append}
 use Rattle.listing_outcomes.specs.Outcome.{overwrite}
 
 module _ {A : Type 0} where

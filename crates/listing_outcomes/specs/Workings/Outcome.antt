@@ -22,7 +22,7 @@ use Rattle.listing_pairs.specs.Row.{indicesARow, pointsARow, indicesOf, pointsO
 use Rattle.listing_pairs.specs.Order.{Pair, pairsFrom}
 use Rattle.listing_pairs.specs.Rows.{rowsOf, lookedAt}
 use Rattle.listing_pairs.specs.Workings.Job as job_of
-use Rattle.listing_pairs.specs.Laws.Stores.{flat-append, flat-length}
+use Rattle.float_laws.specs.Stores.{flat-append, flat-length}
 use Rattle.listing_pairs.specs.Page.{Page, page}
 use Rattle.listing_loop.specs.declared.fill.Part.{Part}
 use Rattle.listing_loop.specs.declared.fill.Filling.{Filling}

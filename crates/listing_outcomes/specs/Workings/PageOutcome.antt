@@ -27,7 +27,7 @@ use Rattle.listing_pairs.specs.Row.{indicesARow, pointsARow, indicesOf, pointsO
 use Rattle.listing_pairs.specs.Order.{Pair}
 use Rattle.listing_pairs.specs.Page.{Page, page}
 use Rattle.listing_pairs.specs.Workings.Job as job_of
-use Rattle.listing_pairs.specs.Laws.Stores.{flat-length}
+use Rattle.float_laws.specs.Stores.{flat-length}
 use Rattle.listing_loop.specs.declared.fill.Part.{Part}
 use Rattle.listing_loop.specs.declared.fill.Filling.{Filling}
 use Rattle.listing_loop.specs.Laws.Pages.{joins}

@@ -11,7 +11,7 @@ use lib.ListN.{length, set}
 use lib.Seq.{sets}
 use Rattle.listing_pairs.specs.declared.row.Row.{Row}
 use Rattle.listing_pairs.specs.Row.{indicesARow, pointsARow, indicesOf, pointsOf, numbersOfRows}
-use Rattle.listing_pairs.specs.Laws.Stores.{sets-append, three-set, four-set}
+use Rattle.float_laws.specs.Stores.{sets-append, three-set, four-set}
 
 -- the rows that are written: all of them, or none if rows are only counted
 abbrev pub written : Bool → List Row → List Row

@@ -1,7 +1,7 @@
 -- `listing_pairs::rows::copy_indices` meets its contract: after k turns the first k are copied.
 use Prim.Native.Nat.{_-_}
 use borrow.Author.Needs.{needs}
-use Rattle.listing_pairs.specs.Laws.Stores.{Copied, copy-starts, copy-turn, copy-ends}
+use Rattle.float_laws.specs.Stores.{Copied, copy-starts, copy-turn, copy-ends}
 use Rattle.listing_pairs.proofs.rows.copy_indices.Statement.{statement}
 use Rattle.listing_pairs.proofs.rows.copy_indices.Tie as tie
 

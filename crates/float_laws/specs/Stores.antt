@@ -1,14 +1,14 @@
--- Values at the front of a list: copied there one after the other, and stored behind others; and the numbers of rows.
+-- Values in a list: copied to its front one after the other, stored from a place on, and read back; and the numbers of things,
+-- one thing after the other.
 use mathlib.Core.Path.{_≡_, refl, sym, ap, _∙_}
 use mathlib.Core.List.{List, [], _∷_, _++_, append-assoc}
 use Prim.Native.Nat.{ℕ, suc, _+_, _*_, _<_, _≤_, zero-le}
 use native.Mathlib.Nat.{zero-add, add-zero, add-mul}
 use native.Mathlib.Numerals.{add-one}
 use native.Mathlib.Omega.{arith}
-use lib.ListN.{length, length-append, length-set, set, getD}
-use lib.Seq.{paste, paste-zero, paste-suc, sets}
-use Rattle.listing_pairs.specs.declared.row.Row.{Row}
-use Rattle.listing_pairs.specs.Row.{numbersOfRows}
+use lib.ListN.{length, length-append, length-set, set, getD, take, drop, List·getD-append}
+use lib.Seq.{paste, paste-zero, paste-suc, sets, sets-eq, length-take-le, getD-append-add}
+use Rattle.float_laws.specs.Flat.{flat}
 
 -- ---- a loop that copies to the front: after k turns the first k of n are copied
 pub record Copied {A : Type 0} (from : List A) (n : ℕ) (before now : List A) (k : ℕ) : Type 0 where
@@ -58,23 +58,35 @@ module _ {A : Type 0} where
       let e : i + suc (length vs) ≡ suc i + length vs = omega arith in
       ap (λ (k : ℕ). sets (sets (set l i v) (suc i) vs) k ws) e ∙ sets-append (set l i v) (suc i) vs ws
 
-  -- ---- the numbers of rows
-  pub flat-append : (numbers : Row → List A) (rows more : List Row)
-      → numbersOfRows numbers (rows ++ more) ≡ numbersOfRows numbers rows ++ numbersOfRows numbers more
-  flat-append numbers [] more = refl
-  flat-append numbers (r ∷ rows) more =
-      ap (λ (l : List A). numbers r ++ l) (flat-append numbers rows more)
-      ∙ sym (append-assoc (numbers r) (numbersOfRows numbers rows) (numbersOfRows numbers more))
+  -- read back
+  pub sets-read : (l vs : List A) (i n : ℕ) (d : A) → i + length vs ≤ length l → n < length vs
+      → getD (sets l i vs) (i + n) d ≡ getD vs n d
+  sets-read l vs i n d room inside =
+      let front : length (take i l) ≡ i = length-take-le i l (omega (arith, room)) in
+      let short : i + n < length (take i l ++ vs) = omega (arith, length-append (take i l) vs, front, inside) in
+      ap (λ (k : List A). getD k (i + n) d) (sets-eq vs l i room)
+      ∙ List·getD-append (take i l ++ vs) (drop (i + length vs) l) d (i + n) short
+      ∙ ap (λ (k : ℕ). getD (take i l ++ vs) (k + n) d) (sym front)
+      ∙ getD-append-add (take i l) vs n d
 
-  pub flat-length : (numbers : Row → List A) (width : ℕ) → ((r : Row) → length (numbers r) ≡ width)
-      → (rows : List Row) → length (numbersOfRows numbers rows) ≡ length rows * width
+-- ---- the numbers of things, one thing after the other
+module _ {A : Type 0} {B : Type 0} where
+  pub flat-append : (numbers : B → List A) (bs more : List B)
+      → flat numbers (bs ++ more) ≡ flat numbers bs ++ flat numbers more
+  flat-append numbers [] more = refl
+  flat-append numbers (b ∷ bs) more =
+      ap (λ (l : List A). numbers b ++ l) (flat-append numbers bs more)
+      ∙ sym (append-assoc (numbers b) (flat numbers bs) (flat numbers more))
+
+  pub flat-length : (numbers : B → List A) (width : ℕ) → ((b : B) → length (numbers b) ≡ width)
+      → (bs : List B) → length (flat numbers bs) ≡ length bs * width
   flat-length numbers width each [] = omega arith
-  flat-length numbers width each (r ∷ rows) =
-      let n = length rows in
+  flat-length numbers width each (b ∷ bs) =
+      let n = length bs in
       omega (
         arith,
-        length-append (numbers r) (numbersOfRows numbers rows),
-        each r,
-        flat-length numbers width each rows,
+        length-append (numbers b) (flat numbers bs),
+        each b,
+        flat-length numbers width each bs,
         add-mul n 1 width,
       )
