@@ -1,12 +1,13 @@
 -- Chains of comparisons, for all floats: with a NaN no comparison says yes, and an infinity lies beyond every finite float.
-use mathlib.Core.Path.{refl}
+use mathlib.Core.Path.{_≡_, refl, sym, subst}
 use Prim.Native.Nat.{ℕ, _+_, _*_, _≤_, _<_}
 use native.Mathlib.Nat.{mul-le-mul-right, mul-lt-mul-of-pos-right, lt-of-mul-lt-mul-right}
 use native.Mathlib.Omega.{arith}
-use mathlib.Core.Bool.{Bool, true, false, not}
-use lib.Dec.{T, not-T}
+use mathlib.Core.Bool.{Bool, true, false, not, true≢false}
+use borrow.Author.Tests.{ltb-true, ltb-false}
+use lib.Dec.{T, not-T, ltb}
 use lib.IntN.{ℤ}
-use lib.Ieee.{Float, nan, inf, fin, up, down, neg, lt, le}
+use lib.Ieee.{Float, nan, inf, fin, up, down, neg, isNan, lt, le}
 use lib.Ieee.Fits.{down-pos}
 use lib.Ieee.Scale.{finite}
 use Rattle.float_laws.specs.Signed.{Diff, ups, downs, own-diff, neg-diff}
@@ -116,6 +117,51 @@ lt-le (fin s m e) (fin t n d) (fin u l f) h g =
     let b = le-diff y z _ _ _ _ _ _ (down-pos d) (down-pos f) (written-diff t n d) (written-diff u l f) .0 g in
     lt-diff x z _ _ _ _ _ _ (down-pos e) (down-pos f) (written-diff s m e) (written-diff u l f) .1
     (through _ _ _ _ _ _ _ _ _ (down-pos d) (down-pos f) a b)
+
+-- ---- of two numbers, one is at most the other
+pub not-below : (x y : Float) → isNan x ≡ false → isNan y ≡ false → lt y x ≡ false → T (le x y)
+unfolding le isNan
+not-below nan y a b e = absurd (true≢false a)
+not-below (inf s) nan a b e = absurd (true≢false b)
+not-below (inf true) (inf true) a b e = tt
+not-below (inf true) (inf false) a b e = tt
+not-below (inf false) (inf true) a b e = absurd (true≢false e)
+not-below (inf false) (inf false) a b e = tt
+not-below (inf true) (fin t n d) a b e = tt
+not-below (inf false) (fin t n d) a b e = absurd (true≢false e)
+not-below (fin s m e) nan a b f = absurd (true≢false b)
+not-below (fin s m e) (inf true) a b f = absurd (true≢false f)
+not-below (fin s m e) (inf false) a b f = tt
+not-below (fin s m e) (fin t n d) a b f =
+    let x = fin s m e in
+    let y = fin t n d in
+    le-diff x y _ _ _ _ _ _ (down-pos e) (down-pos d) (written-diff s m e) (written-diff t n d) .1
+    (go _ _ (λ h. lt-diff y x _ _ _ _ _ _ (down-pos d) (down-pos e) (written-diff t n d) (written-diff s m e) .1 h))
+  where
+    go : (p q : ℕ) → (q < p → T (lt (fin t n d) (fin s m e))) → p ≤ q
+    go p q below = pick (ltb q p) refl
+      where
+        pick : (b : Bool) → ltb q p ≡ b → p ≤ q
+        pick true h = absurd (subst T f (below (ltb-true q p h)))
+        pick false h = ltb-false q p h
+
+-- what is compared with a yes is a number
+pub le-numbers : (x y : Float) → T (le x y) → (isNan x ≡ false) × (isNan y ≡ false)
+unfolding le isNan
+le-numbers nan y h = absurd h
+le-numbers (inf s) nan h = absurd h
+le-numbers (inf s) (inf t) h = (refl, refl)
+le-numbers (inf s) (fin t n d) h = (refl, refl)
+le-numbers (fin s m e) nan h = absurd h
+le-numbers (fin s m e) (inf t) h = (refl, refl)
+le-numbers (fin s m e) (fin t n d) h = (refl, refl)
+
+pub le-trans : (x y z : Float) → T (le x y) → T (le y z) → T (le x z)
+le-trans x y z h g = not-below x z (le-numbers x y h .0) (le-numbers y z g .1) (go (lt z x) refl)
+  where
+    go : (b : Bool) → lt z x ≡ b → lt z x ≡ false
+    go false e = e
+    go true e = absurd (not-both y z g (lt-le z x y (subst T (sym e) tt) h))
 
 -- ---- between two finite floats lie finite ones
 pub between-finite : (x y z : Float) → T (finite x) → T (finite z) → T (le x y) → T (le y z) → T (finite y)

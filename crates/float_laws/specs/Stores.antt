@@ -7,7 +7,7 @@ use native.Mathlib.Nat.{zero-add, add-zero, add-mul}
 use native.Mathlib.Numerals.{add-one}
 use native.Mathlib.Omega.{arith}
 use lib.ListN.{length, length-append, length-set, set, getD, take, drop, List·getD-append}
-use lib.Seq.{paste, paste-zero, paste-suc, sets, sets-eq, length-take-le, getD-append-add}
+use lib.Seq.{paste, paste-zero, paste-suc, sets, sets-eq, length-take-le, getD-append-add, getD-set-other}
 use Rattle.float_laws.specs.Flat.{flat}
 
 -- ---- a loop that copies to the front: after k turns the first k of n are copied
@@ -57,6 +57,13 @@ module _ {A : Type 0} where
   sets-append l i (v ∷ vs) ws =
       let e : i + suc (length vs) ≡ suc i + length vs = omega arith in
       ap (λ (k : ℕ). sets (sets (set l i v) (suc i) vs) k ws) e ∙ sets-append (set l i v) (suc i) vs ws
+
+  -- what stands before them
+  pub sets-before : (l vs : List A) (i n : ℕ) (d : A) → n < i → getD (sets l i vs) n d ≡ getD l n d
+  sets-before l [] i n d h = refl
+  sets-before l (v ∷ vs) i n d h =
+      sets-before (set l i v) vs (suc i) n d (omega (arith, h))
+      ∙ getD-set-other l i n v d (λ (e : n ≡ i). omega (arith, h, e))
 
   -- read back
   pub sets-read : (l vs : List A) (i n : ℕ) (d : A) → i + length vs ≤ length l → n < length vs

@@ -1,0 +1,62 @@
+// Which boxes of an index meet a given one, in order: groups that do not meet it are passed whole.
+ghost use mathlib.Core.Path.{_≡_};
+ghost use Prim.Native.Nat.{_≤_, _*_};
+ghost use lib.ListN.{length};
+ghost use Rattle.paths.specs.Path;
+ghost use Rattle.boxes.specs.Index as index_of;
+ghost use Rattle.boxes.specs.Workings.Next as next_of;
+use super::bounds::Box;
+use super::bounds::meet;
+use super::index;
+use super::index::box_at;
+
+// The first segment from j on and before `end` whose box meets b; `end` if there is none. It looks at each.
+fn next_of_each(boxes: &[f64], b: Box, j: usize, end: usize) -> usize
+    requires { ⌜ (j ≤ end) × (end * index_of.floatsABox ≤ length (now boxes)) ⌝ }
+    ensures { λ r. ⌜ r ≡ next_of.first (next_of.meets (now (boxes .entry)) b) j end ⌝ }
+{
+    let mut k = j;
+    while k < end {
+        if meet(b, box_at(boxes, k)) {
+            return k;
+        }
+        k += 1;
+    }
+    end
+}
+
+// The same, if the slice has the index of n segments: it passes a group whole if the group's box does not meet b.
+pub fn next_meeting(boxes: &[f64], n: usize, b: Box, j: usize, end: usize) -> usize
+    requires { ⌜ next_of.Grouped (now boxes) n ⌝ }
+    requires { ⌜ (j ≤ end) × (end ≤ n) × (n ≤ Path.mostVertices) ⌝ }
+    ensures { λ r. ⌜ r ≡ next_of.first (next_of.meets (now (boxes .entry)) b) j end ⌝ }
+{
+    let mut k = j;
+    while k < end {
+        let g = k / index::GROUP;
+        let stop = index::group_end(g, end);
+        if meet(b, box_at(boxes, n + g)) {
+            let found = next_of_each(boxes, b, k, stop);
+            if found < stop {
+                return found;
+            }
+        }
+        k = stop;
+    }
+    end
+}
+
+// The first segment from j on and before `end` whose box does not meet b; `end` if there is none.
+pub fn next_apart(boxes: &[f64], b: Box, j: usize, end: usize) -> usize
+    requires { ⌜ (j ≤ end) × (end * index_of.floatsABox ≤ length (now boxes)) ⌝ }
+    ensures { λ r. ⌜ r ≡ next_of.first (next_of.apart (now (boxes .entry)) b) j end ⌝ }
+{
+    let mut k = j;
+    while k < end {
+        if !meet(b, box_at(boxes, k)) {
+            return k;
+        }
+        k += 1;
+    }
+    end
+}
