@@ -39,9 +39,6 @@ boxes-length box i (suc count) = ap suc (boxes-length box (suc i) count)
 pub floats-length : (bs : List Box) → length (floatsOfBoxes bs) ≡ length bs * floatsABox
 floats-length bs = flat-length floatsOf floatsABox (λ b. refl) bs
 
-pub stays-long : (l m : List Float) (i : ℕ) (vs : List Float) → m ≡ sets l i vs → length m ≡ length l
-stays-long l m i vs e = ap length e ∙ length-sets l i vs
-
 -- ---- one box more
 boxes-more : (box : ℕ → Box) (i count : ℕ) → boxesFrom box i (suc count) ≡ boxesFrom box i count ++ (box (i + count) ∷ [])
 boxes-more box i zero = let e : i ≡ i + 0 = omega arith in ap (λ (k : ℕ). box k ∷ []) e

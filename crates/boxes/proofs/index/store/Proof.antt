@@ -1,7 +1,7 @@
 -- `boxes::index::store` meets its contract: the boxes of the segments, then those of their groups.
 use native.Mathlib.Omega.{arith}
 use borrow.Author.Needs.{needs}
-use Rattle.boxes.specs.Workings.Stored.{stays-long, stores-index}
+use Rattle.boxes.specs.Workings.Stored.{stores-index}
 use Rattle.boxes.proofs.index.store.Statement.{statement}
 use Rattle.boxes.proofs.index.store.Tie as tie
 
@@ -12,8 +12,7 @@ store-spec =
     (λ c κs. search needs)
     (λ c κs. let g = c .before .before .before in
     let p = g .before .before .before .before .pre in
-    let long = stays-long _ _ _ _ (g .store-segments .ensures) in
-    (p .0 .1, omega (arith, long, p .1)))
+    (p .0 .1, omega (arith, g .store-segments .kept .1 .1 .1 .1 .0, p .1)))
     (λ c. search needs)
     (λ c. let r = c .before .before in
     let g = r .before .before .before .before in
