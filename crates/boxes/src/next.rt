@@ -1,6 +1,7 @@
-// Which boxes of an index meet a given one, in order: groups that do not meet it are passed whole.
+// Which boxes of an index meet a given one, in order: groups that do not meet it are passed whole. The index of n segments stands
+// in the slice from box `from` on.
 ghost use mathlib.Core.Path.{_≡_};
-ghost use Prim.Native.Nat.{_≤_, _*_};
+ghost use Prim.Native.Nat.{_≤_, _+_, _*_};
 ghost use lib.ListN.{length};
 ghost use Rattle.paths.specs.Path;
 ghost use Rattle.boxes.specs.Index as index_of;
@@ -11,13 +12,13 @@ use super::index;
 use super::index::box_at;
 
 // The first segment from j on and before `end` whose box meets b; `end` if there is none. It looks at each.
-fn next_of_each(boxes: &[f64], b: Box, j: usize, end: usize) -> usize
-    requires { ⌜ (j ≤ end) × (end * index_of.floatsABox ≤ length (now boxes)) ⌝ }
-    ensures { λ r. ⌜ r ≡ next_of.first (next_of.meets (now (boxes .entry)) b) j end ⌝ }
+fn next_of_each(boxes: &[f64], from: usize, b: Box, j: usize, end: usize) -> usize
+    requires { ⌜ (j ≤ end) × ((from + end) * index_of.floatsABox ≤ length (now boxes)) ⌝ }
+    ensures { λ r. ⌜ r ≡ next_of.first (next_of.meets (now (boxes .entry)) from b) j end ⌝ }
 {
     let mut k = j;
     while k < end {
-        if meet(b, box_at(boxes, k)) {
+        if meet(b, box_at(boxes, from + k)) {
             return k;
         }
         k += 1;
@@ -25,18 +26,19 @@ fn next_of_each(boxes: &[f64], b: Box, j: usize, end: usize) -> usize
     end
 }
 
-// The same, if the slice has the index of n segments: it passes a group whole if the group's box does not meet b.
-pub fn next_meeting(boxes: &[f64], n: usize, b: Box, j: usize, end: usize) -> usize
-    requires { ⌜ next_of.Grouped (now boxes) n ⌝ }
+// The same, with a group passed whole if its box does not meet b.
+pub fn next_meeting(boxes: &[f64], from: usize, n: usize, b: Box, j: usize, end: usize) -> usize
+    requires { ⌜ next_of.Grouped (now boxes) from n ⌝ }
     requires { ⌜ (j ≤ end) × (end ≤ n) × (n ≤ Path.mostVertices) ⌝ }
-    ensures { λ r. ⌜ r ≡ next_of.first (next_of.meets (now (boxes .entry)) b) j end ⌝ }
+    ensures { λ r. ⌜ r ≡ next_of.first (next_of.meets (now (boxes .entry)) from b) j end ⌝ }
 {
+    let groups = from + n;
     let mut k = j;
     while k < end {
         let g = k / index::GROUP;
         let stop = index::group_end(g, end);
-        if meet(b, box_at(boxes, n + g)) {
-            let found = next_of_each(boxes, b, k, stop);
+        if meet(b, box_at(boxes, groups + g)) {
+            let found = next_of_each(boxes, from, b, k, stop);
             if found < stop {
                 return found;
             }
@@ -47,13 +49,13 @@ pub fn next_meeting(boxes: &[f64], n: usize, b: Box, j: usize, end: usize) -> us
 }
 
 // The first segment from j on and before `end` whose box does not meet b; `end` if there is none.
-pub fn next_apart(boxes: &[f64], b: Box, j: usize, end: usize) -> usize
-    requires { ⌜ (j ≤ end) × (end * index_of.floatsABox ≤ length (now boxes)) ⌝ }
-    ensures { λ r. ⌜ r ≡ next_of.first (next_of.apart (now (boxes .entry)) b) j end ⌝ }
+pub fn next_apart(boxes: &[f64], from: usize, b: Box, j: usize, end: usize) -> usize
+    requires { ⌜ (j ≤ end) × ((from + end) * index_of.floatsABox ≤ length (now boxes)) ⌝ }
+    ensures { λ r. ⌜ r ≡ next_of.first (next_of.apart (now (boxes .entry)) from b) j end ⌝ }
 {
     let mut k = j;
     while k < end {
-        if !meet(b, box_at(boxes, k)) {
+        if !meet(b, box_at(boxes, from + k)) {
             return k;
         }
         k += 1;

@@ -1,5 +1,5 @@
 // What a listing keeps of the second path's segments while it walks the pairs: a few numbers of each segment, one segment after
-// the other, so that no pair computes them again.
+// the other, so that no pair computes them again. A boxed listing keeps the path's index of boxes behind these.
 ghost use mathlib.Core.Path.{_≡_};
 ghost use Prim.Native.Nat.{_≤_, _<_, _+_, _*_};
 ghost use lib.ListN.{length};
@@ -11,12 +11,17 @@ use super::order::Job;
 use super::sizes::greater;
 use super::sizes::less;
 use super::sizes::lesser;
+use boxes::index;
 use fast_pair::kept::Kept;
 use fast_pair::kept::kept_of;
+use paths::path;
 use paths::segments;
 
 // how many numbers are kept of a segment
 pub const NUMBERS: usize = 3;
+
+// the box from which on the index stands: behind the numbers of as many segments as a path may have
+pub const BOXES: usize = path::VERTICES * NUMBERS / index::FLOATS;
 
 // Stores what is kept of the path's segments from `from` up to, but not including, `to`.
 pub fn keep(path: &[f64], from: usize, to: usize, epsilon: f64, kept: &mut [f64])

@@ -1,5 +1,5 @@
--- The first number from j on for which a test says yes; and which boxes of a slice meet a given one, where the slice has the
--- boxes of n segments and, behind them, those of their groups.
+-- The first number from j on for which a test says yes; and which boxes of a slice meet a given one, where the boxes of n
+-- segments stand from box `from` on and, behind them, those of their groups.
 use mathlib.Core.Path.{_≡_, refl, sym, ap, _∙_}
 use mathlib.Core.Bool.{Bool, true, false, cond, not, true≢false}
 use mathlib.Core.Logic.{_⊎_, inl, inr}
@@ -10,12 +10,13 @@ use native.Mathlib.Numerals.{add-one}
 use native.Mathlib.Omega.{arith}
 use lib.Ieee.{Float}
 use lib.ListN.{length}
+use lib.Seq.{sets, length-sets}
 use Rattle.boxes.specs.declared.bounds.Box.{Box}
 use Rattle.boxes.specs.Box.{meet}
-use Rattle.boxes.specs.Groups.{groupSize, groupCount, groupBox}
-use Rattle.boxes.specs.Index.{floatsNeeded}
+use Rattle.boxes.specs.Groups.{segmentBox, groupSize, groupCount, groupBox}
+use Rattle.boxes.specs.Index.{floatsABox, index, floatsNeeded}
 use Rattle.boxes.specs.Laws.Joined.{group-apart}
-use Rattle.boxes.specs.Workings.Stored.{boxAt}
+use Rattle.boxes.specs.Workings.Stored.{boxAt, boxesOn, group-same, index-segment, index-group}
 
 -- the first of j, j + 1, .., `count` of them, for which the test says yes; the number after them if there is none
 unfoldable pub firstOf : (ℕ → Bool) → ℕ → ℕ → ℕ
@@ -142,24 +143,44 @@ module _ {test : ℕ → Bool} {j end k : ℕ} (so-far : Finding test j end k) w
       let all : end ≡ k = omega (arith, done, so-far .within) in
       all ∙ sym (first-none test k end done) ∙ so-far .same
 
--- ---- boxes of a slice that meet b, and that do not
-abbrev pub meets : List Float → Box → ℕ → Bool
-meets boxes b k = meet b (boxAt boxes k)
+-- ---- boxes of a slice, from box `from` on, that meet b, and that do not
+abbrev pub meets : List Float → ℕ → Box → ℕ → Bool
+meets boxes from b k = meet b (boxesOn boxes from k)
 
-abbrev pub apart : List Float → Box → ℕ → Bool
-apart boxes b k = not (meets boxes b k)
+abbrev pub apart : List Float → ℕ → Box → ℕ → Bool
+apart boxes from b k = not (meets boxes from b k)
 
 -- behind the boxes of n segments stand those of their groups
-pub record Grouped (boxes : List Float) (n : ℕ) : Type 0 where
-  pub room : floatsNeeded n ≤ length boxes
-  pub groups : (g : ℕ) → g < groupCount n → boxAt boxes (n + g) ≡ groupBox (boxAt boxes) n g
+pub record Grouped (boxes : List Float) (from n : ℕ) : Type 0 where
+  pub room : from * floatsABox + floatsNeeded n ≤ length boxes
+  pub groups : (g : ℕ) → g < groupCount n → boxAt boxes (from + n + g) ≡ groupBox (boxesOn boxes from) n g
 
 -- if the group of k does not meet b, no segment from k up to the end of its group does
-pub none-in-group : (boxes : List Float) (n : ℕ) (b : Box) (k stop : ℕ) → Grouped boxes n
-    → meet b (boxAt boxes (n + k / groupSize)) ≡ false → k < n → stop ≤ n → stop ≤ (k / groupSize + 1) * groupSize
-    → (i : ℕ) → k ≤ i → i < stop → meets boxes b i ≡ false
-none-in-group boxes n b k stop has e inside within ends i low high =
+pub none-in-group : (boxes : List Float) (from n : ℕ) (b : Box) (k stop : ℕ) → Grouped boxes from n
+    → meet b (boxAt boxes (from + n + k / groupSize)) ≡ false → k < n → stop ≤ n → stop ≤ (k / groupSize + 1) * groupSize
+    → (i : ℕ) → k ≤ i → i < stop → meets boxes from b i ≡ false
+none-in-group boxes from n b k stop has e inside within ends i low high =
     let g = k / groupSize in
     let is = has .groups g (omega (arith, inside)) in
-    group-apart (boxAt boxes) b n g i (sym (ap (meet b) is) ∙ e)
+    group-apart (boxesOn boxes from) b n g i (sym (ap (meet b) is) ∙ e)
     (omega (arith, low)) (omega (arith, high, ends)) (omega (arith, high, within))
+
+-- ---- an index that is stored from box `from` on
+module _ (l path : List Float) (epsilon : Float) (from n : ℕ) (room : from * floatsABox + floatsNeeded n ≤ length l) where
+  abbrev after : List Float
+  after = sets l (from * floatsABox) (index path epsilon n)
+
+  pub index-segments : (k : ℕ) → k < n → boxesOn after from k ≡ segmentBox path epsilon k
+  unfolding index
+  index-segments k inside = index-segment l (segmentBox path epsilon) from n room k inside
+
+  pub index-grouped : Grouped after from n
+  unfolding index
+  index-grouped =
+      let box = segmentBox path epsilon in
+      record {
+        room = omega (arith, room, length-sets l (from * floatsABox) (index path epsilon n));
+        groups = λ g some.
+            index-group l box from n room g some
+            ∙ sym (group-same (boxesOn after from) box n g some (index-segment l box from n room));
+      }

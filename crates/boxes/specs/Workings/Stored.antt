@@ -5,8 +5,8 @@ use Prim.Native.Nat.{ℕ, zero, suc, _+_, _-_, _*_, _≤_, _<_, min as lesser}
 use native.Mathlib.Numerals.{add-one}
 use native.Mathlib.Omega.{arith}
 use lib.Ieee.{Float, nan}
-use lib.ListN.{length, length-append, getD}
-use lib.Seq.{sets, length-sets}
+use lib.ListN.{length, length-append, getD, List·getD-append}
+use lib.Seq.{sets, length-sets, getD-append-add}
 use Rattle.float_laws.specs.Flat.{flat}
 use Rattle.float_laws.specs.Stores.{sets-append, sets-before, sets-read, flat-append, flat-length}
 use Rattle.paths.specs.declared.path.Segment.{Segment}
@@ -270,3 +270,50 @@ module _ {box : ℕ → Box} {n g end : ℕ} where
     joining-ends done =
         let none : end - i ≡ 0 = omega (arith, done) in
         sym (ap (joinFrom box b i) none) ∙ so-far .same
+
+-- ---- an index, stored from box `from` on and read back
+pub index-length : (box : ℕ → Box) (n : ℕ) → length (floatsOfBoxes (boxesOf box n)) ≡ floatsNeeded n
+index-length box n =
+    let bs = boxesFrom box 0 n in
+    let gs = boxesFrom (groupBox box n) 0 (groupCount n) in
+    omega (
+      arith,
+      floats-length (bs ++ gs),
+      length-append bs gs,
+      boxes-length box 0 n,
+      boxes-length (groupBox box n) 0 (groupCount n),
+    )
+
+module _ (l : List Float) (box : ℕ → Box) (from n : ℕ) (room : from * floatsABox + floatsNeeded n ≤ length l) where
+  abbrev bs : List Box
+  bs = boxesFrom box 0 n
+
+  abbrev gs : List Box
+  gs = boxesFrom (groupBox box n) 0 (groupCount n)
+
+  -- box k of them
+  nth : (k : ℕ) → k < n + groupCount n
+      → boxAt (sets l (from * floatsABox) (floatsOfBoxes (boxesOf box n))) (from + k) ≡ getD (bs ++ gs) k (box 0)
+  nth k inside =
+      stored-list l (bs ++ gs) from k (box 0) (omega (arith, index-length box n, room))
+      (omega (arith, length-append bs gs, boxes-length box 0 n, boxes-length (groupBox box n) 0 (groupCount n), inside))
+
+  pub index-segment : (k : ℕ) → k < n
+      → boxAt (sets l (from * floatsABox) (floatsOfBoxes (boxesOf box n))) (from + k) ≡ box k
+  index-segment k inside =
+      let zero-k : 0 + k ≡ k = omega arith in
+      nth k (omega (arith, inside))
+      ∙ List·getD-append bs gs (box 0) k (omega (arith, boxes-length box 0 n, inside))
+      ∙ boxes-from box 0 n k (box 0) inside ∙ ap box zero-k
+
+  pub index-group : (g : ℕ) → g < groupCount n
+      → boxAt (sets l (from * floatsABox) (floatsOfBoxes (boxesOf box n))) (from + n + g) ≡ groupBox box n g
+  index-group g some =
+      let behind : from + n + g ≡ from + (n + g) = omega arith in
+      let long : n + g ≡ length bs + g = omega (arith, boxes-length box 0 n) in
+      let zero-g : 0 + g ≡ g = omega arith in
+      ap (boxAt (sets l (from * floatsABox) (floatsOfBoxes (boxesOf box n)))) behind
+      ∙ nth (n + g) (omega (arith, some))
+      ∙ ap (λ (k : ℕ). getD (bs ++ gs) k (box 0)) long
+      ∙ getD-append-add bs gs g (box 0)
+      ∙ boxes-from (groupBox box n) 0 (groupCount n) g (box 0) some ∙ ap (groupBox box n) zero-g

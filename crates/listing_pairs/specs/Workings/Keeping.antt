@@ -1,17 +1,24 @@
 -- What is kept of the second path's segments: three numbers of each in a list, stored one segment after the other, and read back.
 use mathlib.Core.Path.{_≡_, refl, sym, ap, _∙_}
+use mathlib.Core.Bool.{true, false, true≢false}
 use mathlib.Core.List.{List, [], _∷_}
 use mathlib.Core.Logic.{_⊎_, inl, inr, _≢_}
-use Prim.Native.Nat.{ℕ, zero, suc, _+_, _-_, _*_, _≤_, _<_}
+use Prim.Native.Nat.{ℕ, zero, suc, _+_, _-_, _*_, _/_, _≤_, _<_}
 use native.Mathlib.Nat.{eq-or-lt-of-le}
 use native.Mathlib.Omega.{arith}
 use lib.Ieee.{Float, nan}
 use lib.ListN.{length, length-set, getD, set, take}
-use lib.Seq.{getD-set-same, getD-set-other}
+use lib.Seq.{getD-set-same, getD-set-other, sets, length-sets}
+use Rattle.float_laws.specs.Stores.{sets-before}
 use Rattle.fast_pair.specs.declared.kept.Kept.{Kept}
 use Rattle.fast_pair.specs.Workings.Kept.{keptOf}
 use Rattle.paths.specs.declared.path.Segment.{Segment}
+use Rattle.paths.specs.Path.{mostVertices}
 use Rattle.paths.specs.Segments.{segmentFrom}
+use Rattle.boxes.specs.Groups.{segmentBox}
+use Rattle.boxes.specs.Index.{floatsABox}
+use Rattle.boxes.specs.Workings.Stored.{boxesOn}
+use Rattle.boxes.specs.Workings.Next.{Grouped}
 use Rattle.listing_pairs.specs.declared.order.Job.{Job}
 use Rattle.listing_pairs.specs.Order.{Pair}
 use Rattle.listing_pairs.specs.Laws.Order.{lt-or-le}
@@ -238,15 +245,29 @@ unfoldable pub KeptFor : List Float → List Float → Float → List Pair → T
 KeptFor second kept epsilon [] = Unit {0}
 KeptFor second kept epsilon (p ∷ ps) = KeptOf second kept epsilon (p .j) × KeptFor second kept epsilon ps
 
+-- the index of the second path's boxes stands behind the numbers of as many segments as a path may have
+abbrev pub boxesKept : ℕ
+boxesKept = mostVertices * numbersKept / floatsABox
+
+pub record BoxesKept (second kept : List Float) (job : Job) : Type 0 where
+  pub grouped : Grouped kept boxesKept (job .m)
+  pub is : (j : ℕ) → j < job .m → boxesOn kept boxesKept j ≡ segmentBox second (job .epsilon) j
+
 -- the first `budget` pairs from (i, j) on can be looked at
 pub record Ready (first second kept : List Float) (job : Job) (i j budget : ℕ) : Type 0 where
   pub pairs : paths.Ready first second job
   pub keeps : KeptFor second kept (job .epsilon) (take budget (job_of.left job i j))
+  pub boxes : job .boxed ≡ true → BoxesKept second kept job
 
 -- every pair can be looked at
 pub record AllReady (first second kept : List Float) (job : Job) : Type 0 where
   pub pairs : paths.Ready first second job
   pub keeps : (j : ℕ) → j < job .m → KeptOf second kept (job .epsilon) j
+  pub boxes : job .boxed ≡ true → BoxesKept second kept job
+
+-- a listing that is not boxed needs no boxes
+pub no-boxes : {second kept : List Float} {job : Job} → job .boxed ≡ false → job .boxed ≡ true → BoxesKept second kept job
+no-boxes f e = absurd (true≢false (sym e ∙ f))
 
 -- ---- after a call of `keep`
 -- what is kept of each of its segments stands in its place
@@ -279,3 +300,19 @@ kept-still path l from to epsilon room j was = at (lt-or-le j from)
     at : (j < from) ⊎ (from ≤ j) → KeptOf path (keep path from to epsilon l) epsilon j
     at (inl h) = unchanged (inl h)
     at (inr h) = from-on h (lt-or-le j to)
+
+-- and if boxes are stored behind the numbers, it still does
+pub kept-before : (path l vs : List Float) (epsilon : Float) (j : ℕ) → j < mostVertices → KeptOf path l epsilon j
+    → KeptOf path (sets l (boxesKept * floatsABox) vs) epsilon j
+unfolding keptAt
+kept-before path l vs epsilon j few was =
+    let place = j * numbersKept in
+    let at = boxesKept * floatsABox in
+    record {
+      room = omega (arith, was .room, length-sets l at vs);
+      is =
+          three _ _
+          (sets-before l vs at place nan (omega (arith, few))) (sets-before l vs at (place + 1) nan (omega (arith, few)))
+          (sets-before l vs at (place + 2) nan (omega (arith, few)))
+          ∙ was .is;
+    }

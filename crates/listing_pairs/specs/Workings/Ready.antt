@@ -1,7 +1,7 @@
 -- What a listing's loop needs of its paths: the pair call's check finds no fault in any pair. It follows from the checks of both
 -- paths.
 use mathlib.Core.Path.{_≡_, ap, _∙_}
-use mathlib.Core.Bool.{Bool}
+use mathlib.Core.Bool.{Bool, cond}
 use mathlib.Core.List.{List}
 use Prim.Native.Nat.{ℕ, _<_, _≤_}
 use native.Mathlib.Omega.{arith}
@@ -19,7 +19,12 @@ use Rattle.paths.specs.Laws.Fine.{SegmentFine, PathFine, arc-fine, segment-fine
 use Rattle.listing_pairs.specs.declared.row.Look.{Look}
 use Rattle.listing_pairs.specs.declared.order.Job.{Job}
 use Rattle.listing_pairs.specs.Row.{lookOf}
-use Rattle.listing_pairs.specs.Look.{look}
+use Rattle.listing_pairs.specs.Look.{look, boxedLook}
+
+-- what a pair gives in the listing of a job
+abbrev pub lookBy : List Float → List Float → Job → ℕ → ℕ → Look
+lookBy first second job =
+    cond (job .boxed) (boxedLook first second (job .epsilon)) (look first second (job .epsilon))
 
 -- the pair of v, which is segment i, and segment j of the second path
 unfoldable pub lookOn : Segment → List Float → Float → ℕ → ℕ → Look

@@ -13,9 +13,10 @@ pub next-apart-spec : {M : Type 1} → statement M
 next-apart-spec =
     tie.close
     (tie.spec
-    (λ boxes b j end k₀ k. Finding (apart boxes b) j end k)
-    (λ boxes b j end k₀ k. end - k)
+    (λ boxes from b j end k₀ k. Finding (apart boxes from b) j end k)
+    (λ boxes from b j end k₀ k. end - k)
     (λ c. finding-starts _ _ _ (c .before .pre .0))
+    (λ c. omega (arith, c .loop-test .taken, c .before .before .before .pre))
     (λ c κs. omega (arith, c .loop-test .taken, c .before .before .before .pre))
     (λ c κs. search needs)
     (λ c. let m = c .before in

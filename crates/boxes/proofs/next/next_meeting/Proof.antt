@@ -14,8 +14,9 @@ pub next-meeting-spec : {M : Type 1} → statement M
 next-meeting-spec =
     tie.close
     (tie.spec
-    (λ boxes n b j end k₀ k. Finding (meets boxes b) j end k)
-    (λ boxes n b j end k₀ k. end - k)
+    (λ boxes from n b j end groups k₀ k. Finding (meets boxes from b) j end k)
+    (λ boxes from n b j end groups k₀ k. end - k)
+    (λ c. omega (arith, c .before .pre .0 .room))
     (λ c. finding-starts _ _ _ (c .before .pre .1 .0))
     (λ c κs. omega (arith, c .loop-test .taken, c .before .before .before .pre .1))
     (λ c. let l = c .before in omega (arith, l .loop-test .taken, l .before .before .before .pre .1))
@@ -47,6 +48,6 @@ next-meeting-spec =
     let apart = sym (m .meet .ensures ∙ ap (meet _) (m .before .box-at .ensures)) ∙ c .if1 .left in
     finding-over (l .before .loop .inv) _ (omega (arith, l .loop-test .taken, e .group-end .ensures))
     (omega (arith, e .group-end .ensures))
-    (none-in-group _ _ _ _ _ (p .0) apart (omega (arith, l .loop-test .taken, p .1))
+    (none-in-group _ _ _ _ _ _ (p .0) apart (omega (arith, l .loop-test .taken, p .1))
     (omega (arith, e .group-end .ensures, p .1)) (omega (arith, e .group-end .ensures))))
     (λ c. finding-ends (c .before .loop .inv) (c .loop-test .left)))

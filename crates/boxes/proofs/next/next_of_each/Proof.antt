@@ -12,9 +12,10 @@ pub next-of-each-spec : {M : Type 1} → statement M
 next-of-each-spec =
     tie.close
     (tie.spec
-    (λ boxes b j end k₀ k. Finding (meets boxes b) j end k)
-    (λ boxes b j end k₀ k. end - k)
+    (λ boxes from b j end k₀ k. Finding (meets boxes from b) j end k)
+    (λ boxes from b j end k₀ k. end - k)
     (λ c. finding-starts _ _ _ (c .before .pre .0))
+    (λ c. omega (arith, c .loop-test .taken, c .before .before .before .pre))
     (λ c κs. omega (arith, c .loop-test .taken, c .before .before .before .pre))
     (λ c κs. search needs)
     (λ c. let m = c .before in
