@@ -5,10 +5,12 @@ ghost use Prim.Native.Nat.{_≤_, _<_, _-_, _*_};
 ghost use lib.ListN.{length};
 ghost use Rattle.listing_pairs.specs.Row as row_of;
 ghost use Rattle.listing_pairs.specs.Page;
-ghost use Rattle.listing_pairs.specs.Look;
 ghost use Rattle.listing_pairs.specs.Workings.Job as job_of;
 ghost use Rattle.listing_pairs.specs.Workings.Keeping;
+ghost use Rattle.listing_pairs.specs.Workings.Ready;
 ghost use Rattle.listing_loop.specs.Workings.Filling as filling;
+use super::run::box_for;
+use super::run::next_run;
 use fast_pair::kept::kept_of;
 use listing_pairs::look;
 use listing_pairs::order;
@@ -52,7 +54,7 @@ fn end_within(j: usize, to: usize, budget: usize) -> usize
 }
 
 // Walks the pairs of a part. It stops at the end, when the budget is spent, or before a pair whose row has no room. `kept` is
-// kept of the second path's segments that it can reach.
+// kept of the second path's segments that it can reach, with the boxes of a boxed listing behind it.
 pub fn fill(
     first: &[f64],
     second: &[f64],
@@ -69,7 +71,7 @@ pub fn fill(
         (part .room * row_of.indicesARow ≤ length (now indices)) × (part .room * row_of.pointsARow ≤ length (now points)) ⌝ }
     ensures { λ r. ⌜
         filling.Filled job part
-        (Page.page (Look.look (now (first .entry)) (now (second .entry)) (job .epsilon)) (job_of.left job (part .i) (part .j))
+        (Page.page (Ready.lookBy (now (first .entry)) (now (second .entry)) job) (job_of.left job (part .i) (part .j))
         (part .room - part .rows) (part .budget))
         r (now (indices .entry)) (now (indices .exit)) (now (points .entry)) (now (points .exit)) ⌝ }
 {
@@ -81,34 +83,40 @@ pub fn fill(
     while i < job.n {
         let v = segments::segment_from(first, i);
         let v_kept = kept_of(v.v1, v.v2, job.epsilon);
+        let v_box = box_for(v, job);
         let to = order::to(job, i);
         let start = j;
         let end = end_within(start, to, budget);
         while j < end {
-            let seen = look::look(v, v_kept, second, kept, job, i, j);
-            match seen {
-                row::Look::Skipped => {
-                    j += 1;
-                }
-                row::Look::Nothing => {
-                    looked += 1;
-                    j += 1;
-                }
-                row::Look::Made(r) => {
-                    if rows >= part.room {
-                        return Filling {
-                            rows: rows,
-                            passed: part.budget - (budget - (j - start)),
-                            looked: looked,
-                            i: i,
-                            j: j,
-                            ended: false,
-                        };
+            let run = next_run(kept, v_box, job, j, end);
+            let stop = run.to;
+            j = run.from;
+            while j < stop {
+                let seen = look::look(v, v_kept, second, kept, job, i, j);
+                match seen {
+                    row::Look::Skipped => {
+                        j += 1;
                     }
-                    rows::put_row(part.write, indices, points, rows, r);
-                    rows += 1;
-                    looked += 1;
-                    j += 1;
+                    row::Look::Nothing => {
+                        looked += 1;
+                        j += 1;
+                    }
+                    row::Look::Made(r) => {
+                        if rows >= part.room {
+                            return Filling {
+                                rows: rows,
+                                passed: part.budget - (budget - (j - start)),
+                                looked: looked,
+                                i: i,
+                                j: j,
+                                ended: false,
+                            };
+                        }
+                        rows::put_row(part.write, indices, points, rows, r);
+                        rows += 1;
+                        looked += 1;
+                        j += 1;
+                    }
                 }
             }
         }

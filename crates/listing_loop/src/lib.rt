@@ -1,2 +1,3 @@
 // The loop of every listing: it makes rows from a given pair on, as many as fit into lent slices.
 pub mod fill;
+pub mod run;

@@ -2,7 +2,7 @@
 use mathlib.Core.Path.{_≡_, refl, sym, ap, _∙_}
 use mathlib.Core.Bool.{false, true}
 use mathlib.Core.List.{List, [], _∷_}
-use Prim.Native.Nat.{ℕ, suc, _+_, _-_, _*_, _≤_, _<_}
+use Prim.Native.Nat.{ℕ, zero, suc, _+_, _-_, _*_, _≤_, _<_}
 use native.Mathlib.Nat.{mul-le-mul}
 use native.Mathlib.Omega.{arith}
 use lib.Ieee.{Float}
@@ -15,7 +15,7 @@ use Rattle.listing_pairs.specs.declared.row.Look.the-variants.{Skipped, Nothing
 use Rattle.listing_pairs.specs.declared.order.Job.{Job}
 use Rattle.listing_pairs.specs.Order.{Pair}
 use Rattle.listing_pairs.specs.Page.{Page, page}
-use Rattle.listing_pairs.specs.Look.{look}
+use Rattle.listing_pairs.specs.Workings.Ready.{lookBy}
 use Rattle.listing_pairs.specs.Row.{indicesARow, pointsARow, indicesOf, pointsOf, numbersOfRows}
 use Rattle.listing_pairs.specs.Workings.Job as job_of
 use Rattle.listing_pairs.specs.Workings.Keeping.{KeptOf, KeptFor}
@@ -52,8 +52,8 @@ whole look job part = page look (job_of.left job (part .i) (part .j)) (part .roo
 pub record State (first second kept : List Float) (job : Job) (part : Part) (i₀ : List ℕ) (p₀ : List Float)
     (i j rows budget looked : ℕ) (l : List ℕ) (p : List Float) : Type 0 where
   pub left :
-      Left part (whole (look first second (job .epsilon)) job part)
-      (page (look first second (job .epsilon)) (job_of.left job i j) (part .room - rows) budget)
+      Left part (whole (lookBy first second job) job part)
+      (page (lookBy first second job) (job_of.left job i j) (part .room - rows) budget)
       rows (part .budget - budget) looked i₀ l p₀ p
   pub keeps : KeptFor second kept (job .epsilon) (take budget (job_of.left job i j))
   pub allowed : budget ≤ part .budget
@@ -69,7 +69,7 @@ pub starts : (first second kept : List Float) (job : Job) (part : Part) (i₀ : 
 starts first second kept job part i₀ p₀ k h w =
     let none : part .budget - part .budget ≡ 0 = omega arith in
     record {
-      left = rw none (filling.left-start part (whole (look first second (job .epsilon)) job part) i₀ p₀);
+      left = rw none (filling.left-start part (whole (lookBy first second job) job part) i₀ p₀);
       keeps = k;
       allowed = omega arith;
       fits = h;
@@ -82,7 +82,7 @@ module _ {first second kept : List Float} {job : Job} {part : Part} {i₀ : List
     {i j rows budget looked : ℕ} {l : List ℕ} {p : List Float}
     (s : State first second kept job part i₀ p₀ i j rows budget looked l p) where
   abbrev f : ℕ → ℕ → Look
-  f = look first second (job .epsilon)
+  f = lookBy first second job
 
   abbrev all : Page
   all = whole f job part
@@ -176,3 +176,32 @@ module _ {first second kept : List Float} {job : Job} {part : Part} {i₀ : List
           pub stops : part .room ≤ rows → Stops f job part all i₀ p₀ i j false rows (part .budget - budget) looked l p
           stops full =
               filling.stops f job part all i₀ p₀ i j rows budget _ looked l p inside below less one (s .left) r e full
+
+-- ---- over pairs that are skipped: from j up to k
+module _ {first second kept : List Float} {job : Job} {part : Part} {i₀ : List ℕ} {p₀ : List Float} {i rows looked : ℕ}
+    {l : List ℕ} {p : List Float} (inside : i < job .n) where
+  over : (count j budget : ℕ) → State first second kept job part i₀ p₀ i j rows budget looked l p
+      → j + count ≤ job_of.to job i → count ≤ budget
+      → ((h : ℕ) → j ≤ h → h < j + count → lookBy first second job i h ≡ Skipped)
+      → State first second kept job part i₀ p₀ i (j + count) rows (budget - count) looked l p
+  over zero j budget s high allowed none =
+      let here : j + 0 ≡ j = omega arith in
+      let all : budget - 0 ≡ budget = omega arith in
+      rw (here, all) s
+  over (suc count) j budget s high allowed none =
+      let one : budget ≡ suc (budget - 1) = omega (arith, allowed) in
+      let next = skips s inside (omega (arith, high)) (budget - 1) one (none j (omega arith) (omega arith)) in
+      let rest = over count (j + 1) (budget - 1) next (omega (arith, high)) (omega (arith, allowed))
+      (λ h a b. none h (omega (arith, a)) (omega (arith, b))) in
+      let here : j + suc count ≡ j + 1 + count = omega arith in
+      let left : budget - suc count ≡ budget - 1 - count = omega arith in
+      rw (here, left) rest
+
+  pub skips-over : (j k budget : ℕ) → State first second kept job part i₀ p₀ i j rows budget looked l p
+      → j ≤ k → k ≤ job_of.to job i → k - j ≤ budget
+      → ((h : ℕ) → j ≤ h → h < k → lookBy first second job i h ≡ Skipped)
+      → State first second kept job part i₀ p₀ i k rows (budget - (k - j)) looked l p
+  skips-over j k budget s on high allowed none =
+      let there : j + (k - j) ≡ k = omega (arith, on) in
+      let r = over (k - j) j budget s (omega (arith, high, there)) allowed (λ h a b. none h a (omega (arith, b, there))) in
+      rw there at r

@@ -10,8 +10,10 @@ use borrow.Author.Tests.{le-leb, lt-leb, leb-false}
 use lib.Dec.{leb}
 use lib.Ieee.{Float}
 use lib.ListN.{length, take}
-use lib.Seq.{take-append-le, take-append-add}
+use lib.Seq.{take-append-le, take-append-add, sets}
 use Rattle.paths.specs.Path.{mostVertices}
+use Rattle.boxes.specs.Index.{floatsABox, index, floatsNeeded}
+use Rattle.boxes.specs.Workings.Next.{index-segments, index-grouped}
 use Rattle.listing_pairs.specs.declared.order.Job.{Job}
 use Rattle.listing_pairs.specs.Order.{Pair, along, pairsFrom}
 use Rattle.listing_pairs.specs.Laws.Order.{lt-or-le, along-length, left-end}
@@ -25,8 +27,11 @@ use Rattle.listing_pairs.specs.Workings.Keeping.{
   KeptFor,
   Ready,
   AllReady,
+  boxesKept,
+  no-boxes,
   kept-inside,
   kept-still,
+  kept-before,
 }
 
 module _ (second kept : List Float) (epsilon : Float) where
@@ -80,13 +85,41 @@ module _ (second kept : List Float) (epsilon : Float) where
 pub all-ready : {first second kept : List Float} {job : Job} → AllReady first second kept job → (i j budget : ℕ)
     → Ready first second kept job i j budget
 all-ready {first} {second} {kept} {job} h i j budget =
-    record { pairs = h .pairs; keeps = all-kept second kept (job .epsilon) job (h .keeps) i j budget }
+    record {
+      pairs = h .pairs;
+      keeps = all-kept second kept (job .epsilon) job (h .keeps) i j budget;
+      boxes = h .boxes;
+    }
 
 -- so after all of them were stored
-pub kept-ready : (first second l kept : List Float) (job : Job) → paths.Ready first second job → job .m * numbersKept ≤ length l
-    → kept ≡ keep second 0 (job .m) (job .epsilon) l → AllReady first second kept job
-kept-ready first second l kept job ready room e =
-    record { pairs = ready; keeps = λ j b. rw e (kept-inside second l 0 (job .m) (job .epsilon) room j (omega arith) b) }
+pub kept-ready : (first second l kept : List Float) (job : Job) → paths.Ready first second job → job .boxed ≡ false
+    → job .m * numbersKept ≤ length l → kept ≡ keep second 0 (job .m) (job .epsilon) l → AllReady first second kept job
+kept-ready first second l kept job ready plain room e =
+    record {
+      pairs = ready;
+      keeps = λ j b. rw e (kept-inside second l 0 (job .m) (job .epsilon) room j (omega arith) b);
+      boxes = no-boxes plain;
+    }
+
+-- and after the boxes were stored behind them
+pub boxes-ready : (first second l front kept : List Float) (job : Job) → paths.Ready first second job
+    → boxesKept * floatsABox + floatsNeeded (job .m) ≤ length l
+    → front ≡ keep second 0 (job .m) (job .epsilon) l
+    → kept ≡ sets front (boxesKept * floatsABox) (index second (job .epsilon) (job .m)) → AllReady first second kept job
+boxes-ready first second l front kept job ready room e f =
+    let few = ready .few-second in
+    let long = ap length e ∙ keep-length second 0 (job .m - 0) (job .epsilon) l in
+    let behind : boxesKept * floatsABox + floatsNeeded (job .m) ≤ length front = omega (arith, room, long) in
+    record {
+      pairs = ready;
+      keeps = λ j b. rw f
+          (kept-before second front (index second (job .epsilon) (job .m)) (job .epsilon) j (omega (arith, few, b))
+          (rw e (kept-inside second l 0 (job .m) (job .epsilon) (omega (arith, few, room)) j (omega arith) b)));
+      boxes = λ t. rw f (record {
+        grouped = index-grouped front second (job .epsilon) boxesKept (job .m) behind;
+        is = λ j b. index-segments front second (job .epsilon) boxesKept (job .m) behind j b;
+      });
+    }
 
 -- ---- of the segments that the first `budget` pairs from (i, j) on can reach
 -- the larger of two
@@ -353,6 +386,7 @@ module _ (second : List Float) (job : Job) (i j budget : ℕ) (l : List Float) {
       (sym (ap (λ (n : ℕ). isHere job i n budget) counted) ∙ test))
 
 pub reached-ready : (first second l kept : List Float) (job : Job) (i j budget : ℕ) → paths.Ready first second job
-    → job .m * numbersKept ≤ length l → kept ≡ keepReached second job i j budget l → Ready first second kept job i j budget
-reached-ready first second l kept job i j budget ready room e =
-    record { pairs = ready; keeps = rw e (reached-kept second l job room i j budget) }
+    → job .boxed ≡ false → job .m * numbersKept ≤ length l → kept ≡ keepReached second job i j budget l
+    → Ready first second kept job i j budget
+reached-ready first second l kept job i j budget ready plain room e =
+    record { pairs = ready; keeps = rw e (reached-kept second l job room i j budget); boxes = no-boxes plain }
