@@ -2,3 +2,5 @@
 pub mod Box
 pub mod Groups
 pub mod Index
+pub mod BoxNumbers
+pub mod Laws

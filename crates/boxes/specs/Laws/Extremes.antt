@@ -1,0 +1,77 @@
+-- Minimum, maximum and order of floats that are no NaN, infinities included: the minimum and the maximum are one of the two, the
+-- minimum is at most each of them and the maximum at least each, and the order can be chained. Two f64 that are no -0 and are
+-- each at most the other are the same.
+use mathlib.Core.Path.{_≡_, refl, sym, ap, _∙_, subst}
+use mathlib.Core.Bool.{Bool, true, false, not, cond}
+use lib.Dec.{T}
+use lib.Ieee.{Float, isNan, lt}
+use Rattle.float_laws.specs.Chains.{not-both, lt-le}
+use Rattle.floats.specs.Ops.{_≼_}
+use Rattle.floats.specs.F64.{choose, min, max}
+use Rattle.floats.specs.Laws.Picked.{lt-once}
+use Rattle.checks.specs.Laws.Order.{le-not-lt}
+
+-- ---- what both have, the minimum and the maximum have
+chosen-has : (P : Float → Type 0) (first : Bool) (x y : Float) → P x → P y → P (choose first x y)
+chosen-has P first x y a b = go (isNan x) (isNan y) first
+  where
+    go : (p q f : Bool) → P (cond p y (cond q x (cond f x y)))
+    go true q f = b
+    go false true f = a
+    go false false true = a
+    go false false false = b
+
+module _ (P : Float → Type 0) (x y : Float) (a : P x) (b : P y) where
+  pub min-has : P (min x y)
+  unfolding min
+  min-has = chosen-has P (lt x y) x y a b
+
+  pub max-has : P (max x y)
+  unfolding max
+  max-has = chosen-has P (lt y x) x y a b
+
+-- ---- the order of floats that are no NaN
+not-once : (b : Bool) → (b ≡ true → b ≡ false) → b ≡ false
+not-once true h = h refl
+not-once false h = refl
+
+pub le-refl : (x : Float) → isNan x ≡ false → (x ≼ x) ≡ true
+le-refl x a = le-not-lt x x a a ∙ ap not (not-once (lt x x) (lt-once x x))
+
+pub le-trans : (x y z : Float) → isNan x ≡ false → isNan z ≡ false → (x ≼ y) ≡ true → (y ≼ z) ≡ true → (x ≼ z) ≡ true
+le-trans x y z a c h k =
+    le-not-lt x z a c
+    ∙ ap not
+    (never (lt z x) (λ l. not-both y z (subst T (sym k) tt) (lt-le z x y l (subst T (sym h) tt))))
+  where
+    never : (b : Bool) → (T b → ⊥) → b ≡ false
+    never true h = absurd (h tt)
+    never false h = refl
+
+-- ---- the minimum and the maximum of two numbers
+module _ (x y : Float) (a : isNan x ≡ false) (b : isNan y ≡ false) where
+  -- the one that the test picks has what the test says
+  chosen : (P : Float → Type 0) (first : Bool) → (first ≡ true → P x) → (first ≡ false → P y) → P (choose first x y)
+  chosen P first f g = rw (a, b) (go first f g)
+    where
+      go : (z : Bool) → (z ≡ true → P x) → (z ≡ false → P y) → P (cond z x y)
+      go true f g = f refl
+      go false f g = g refl
+
+  pub min-first : (min x y ≼ x) ≡ true
+  unfolding min
+  min-first = chosen (λ (z : Float). (z ≼ x) ≡ true) (lt x y) (λ t. le-refl x a) (λ f. le-not-lt y x b a ∙ ap not f)
+
+  pub min-second : (min x y ≼ y) ≡ true
+  unfolding min
+  min-second =
+      chosen (λ (z : Float). (z ≼ y) ≡ true) (lt x y) (λ t. le-not-lt x y a b ∙ ap not (lt-once x y t)) (λ f. le-refl y b)
+
+  pub max-first : (x ≼ max x y) ≡ true
+  unfolding max
+  max-first = chosen (λ (z : Float). (x ≼ z) ≡ true) (lt y x) (λ t. le-refl x a) (λ f. le-not-lt x y a b ∙ ap not f)
+
+  pub max-second : (y ≼ max x y) ≡ true
+  unfolding max
+  max-second =
+      chosen (λ (z : Float). (y ≼ z) ≡ true) (lt y x) (λ t. le-not-lt y x b a ∙ ap not (lt-once y x t)) (λ f. le-refl y b)
