@@ -1,3 +1,4 @@
 -- Laws that only proofs need. A reader need not believe them: they are proved.
 pub mod Numbers
 pub mod Extremes
+pub mod Moved

@@ -2,9 +2,9 @@
 -- minimum is at most each of them and the maximum at least each, and the order can be chained. Two f64 that are no -0 and are
 -- each at most the other are the same.
 use mathlib.Core.Path.{_≡_, refl, sym, ap, _∙_, subst}
-use mathlib.Core.Bool.{Bool, true, false, not, cond}
+use mathlib.Core.Bool.{Bool, true, false, not, cond, false≢true}
 use lib.Dec.{T}
-use lib.Ieee.{Float, isNan, lt}
+use lib.Ieee.{Float, nan, inf, fin, isNan, lt, le}
 use Rattle.float_laws.specs.Chains.{not-both, lt-le}
 use Rattle.floats.specs.Ops.{_≼_}
 use Rattle.floats.specs.F64.{choose, min, max}
@@ -38,11 +38,21 @@ not-once false h = refl
 pub le-refl : (x : Float) → isNan x ≡ false → (x ≼ x) ≡ true
 le-refl x a = le-not-lt x x a a ∙ ap not (not-once (lt x x) (lt-once x x))
 
-pub le-trans : (x y z : Float) → isNan x ≡ false → isNan z ≡ false → (x ≼ y) ≡ true → (y ≼ z) ≡ true → (x ≼ z) ≡ true
-le-trans x y z a c h k =
-    le-not-lt x z a c
-    ∙ ap not
-    (never (lt z x) (λ l. not-both y z (subst T (sym k) tt) (lt-le z x y l (subst T (sym h) tt))))
+-- a comparison that says yes is one of two numbers
+le-numbers : (x y : Float) → (x ≼ y) ≡ true → (isNan x ≡ false) × (isNan y ≡ false)
+unfolding le isNan
+le-numbers nan y h = absurd (false≢true h)
+le-numbers (inf s) nan h = absurd (false≢true h)
+le-numbers (fin s m e) nan h = absurd (false≢true h)
+le-numbers (inf s) (inf t) h = (refl, refl)
+le-numbers (inf s) (fin t n d) h = (refl, refl)
+le-numbers (fin s m e) (inf t) h = (refl, refl)
+le-numbers (fin s m e) (fin t n d) h = (refl, refl)
+
+pub le-trans : (x y z : Float) → (x ≼ y) ≡ true → (y ≼ z) ≡ true → (x ≼ z) ≡ true
+le-trans x y z h k =
+    le-not-lt x z (le-numbers x y h .0) (le-numbers y z k .1)
+    ∙ ap not (never (lt z x) (λ l. not-both y z (subst T (sym k) tt) (lt-le z x y l (subst T (sym h) tt))))
   where
     never : (b : Bool) → (T b → ⊥) → b ≡ false
     never true h = absurd (h tt)

@@ -178,7 +178,7 @@ half-is : Diff Limit.epsilonMost 1 0 2
 unfolding ofBits
 half-is = omega arith
 
-zero-is : Diff f0 0 0 1
+pub zero-is : Diff f0 0 0 1
 unfolding ofBits
 zero-is = omega arith
 
@@ -201,14 +201,14 @@ outward m fit least over =
     plain X L h = omega arith
 
 -- a finite float as some fraction
-record Fraction (x : Float) : Type 0 where
+pub record Fraction (x : Float) : Type 0 where
   pub p : ℕ
   pub n : ℕ
   pub over : ℕ
   pub positive : 0 < over
   pub is : Diff x p n over
 
-fraction : (x : Float) → T (finite x) → Fraction x
+pub fraction : (x : Float) → T (finite x) → Fraction x
 fraction nan t = absurd t
 fraction (inf s) t = absurd t
 fraction (fin s m e) t =
