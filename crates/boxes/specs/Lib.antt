@@ -3,4 +3,6 @@ pub mod Box
 pub mod Groups
 pub mod Index
 pub mod BoxNumbers
+pub mod GroupExact
+pub mod GroupsMeet
 pub mod Laws

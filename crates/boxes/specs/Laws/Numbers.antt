@@ -20,20 +20,20 @@ use native.Mathlib.Omega.{arith}
 use lib.Dec.{T, ltb, ltb→lt, lit≤}
 use lib.IntN.{ℤ}
 use lib.Pow.{pow-add, pow-pos, pow-lt}
-use lib.Ieee.{Float, nan, inf, fin, Format, binary64, emax, low, up, down, round, sum, add, sub, neg, fits, ofBits}
+use lib.Ieee.{Float, nan, inf, fin, Format, binary64, emax, low, up, down, round, sum, add, sub, neg, fits, isNan, ofBits}
 use lib.Ieee.Bits.{ofBits-fits}
 use lib.Ieee.Exact.{HasValue}
 use lib.Ieee.Fits.{add-fits, down-pos}
 use lib.Ieee.Scale.{grid, finite}
 use Rattle.float_laws.specs.Best.{held-pow, grid-le, grid-ge}
-use Rattle.float_laws.specs.Count.{counted, round-count}
+use Rattle.float_laws.specs.Count.{counted, round-count, round-real}
 use Rattle.float_laws.specs.Signed.{Diff, ups, downs, own-diff, diff-finite, neg-value}
 use Rattle.float_laws.specs.Order.{le-diff}
 use Rattle.float_laws.specs.Chains.{written-diff, between-finite}
-use Rattle.float_laws.specs.Rounded.{Rounded, add-count, add-rounded}
+use Rattle.float_laws.specs.Rounded.{Rounded, add-count, add-rounded, sub-rounded}
 use Rattle.float_laws.specs.Roundings.{Within, rounded-le, rounded-ge}
 use Rattle.float_laws.specs.Binary64.{unit, unit-is, between64}
-use Rattle.floats.specs.Ops.{_⊕_, _≼_, f0}
+use Rattle.floats.specs.Ops.{_⊕_, _⊖_, _≼_, f0}
 use Rattle.checks.specs.Limit
 use Rattle.checks.specs.Chord.{Length, chordMost}
 use Rattle.checks.specs.Laws.Fine as fine
@@ -155,6 +155,9 @@ pub record Outward (f : Format) (m : Float) : Type 0 where
   pub some : 0 < count
   pub le : count ≤ 2 ^ (23 + low f)
 
+pub outward-finite : (m : Float) → Outward binary64 m → T (finite m)
+outward-finite m h = diff-finite m _ _ (2 ^ low binary64) (own-diff m false (h .count) (2 ^ low binary64) (h .value))
+
 one : 0 < 1
 one = zero-lt-suc 0
 
@@ -214,6 +217,28 @@ fraction (inf s) t = absurd t
 fraction (fin s m e) t =
     record { p = ups s (m * up e); n = downs s (m * up e); over = down e; positive = down-pos e; is = written-diff s m e }
 
+-- ---- the sum and the difference of finite floats are no NaN
+module _ (x y : Float) (A : T (finite x)) (B : T (finite y)) where
+  a : Fraction x
+  a = fraction x A
+
+  b : Fraction y
+  b = fraction y B
+
+  rounded-real : (r : Float) (P N c : ℕ) → Rounded binary64 r P N c → isNan r ≡ false
+  rounded-real r P N c h = ap isNan (h .is) ∙ round-real binary64 (h .s) (h .size) c
+
+  pub add-real : isNan (x ⊕ y) ≡ false
+  add-real =
+      rounded-real (x ⊕ y) _ _ _
+      (add-rounded binary64 x y (a .p) (a .n) (b .p) (b .n) (a .over) (b .over) (a .positive) (b .positive) (a .is) (b .is))
+
+  pub sub-real : isNan (x ⊖ y) ≡ false
+  sub-real =
+      rounded-real (x ⊖ y) _ _ _
+      (sub-rounded binary64 x y (a .p) (a .n) (b .p) (b .n) (a .over) (b .over) (a .positive) (b .positive) (a .is) (b .is))
+
+-- ---- the margin of a line, and of an arc
 pub epsilon-outward : (e : Float) → T (fits binary64 e) → fine.Between Limit.epsilonLeast Limit.epsilonMost e → Outward binary64 e
 epsilon-outward e fit b =
     let x = fraction e (b .number) in
