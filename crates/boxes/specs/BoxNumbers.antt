@@ -39,7 +39,8 @@ use Rattle.boxes.specs.Index.{floatsOfBoxes, boxesFrom, boxesOf, index}
 use Rattle.boxes.specs.Laws.Numbers.{Number, Outward, add-number, sub-number, small-within, epsilon-outward, arc-outward}
 use Rattle.boxes.specs.Laws.Extremes.{min-has, max-has}
 
--- x is an f64, written as every f64 is: the kit's `fits`
+-- x is an f64, written as every f64 is: the kit's `fits`. The logic has more floats than a program, some with more digits or
+-- smaller ones, and a difference of such floats could round to -0.
 abbrev pub IsF64 : Float → Type 0
 IsF64 x = T (fits binary64 x)
 

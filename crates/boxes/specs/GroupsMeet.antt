@@ -1,7 +1,7 @@
 -- If the boxes of two segments meet, so do the boxes of their groups, and the box of one with that of the other's group: nothing
 -- is lost if two groups whose boxes do not meet are passed over.
-use mathlib.Core.Path.{_≡_, refl}
-use mathlib.Core.Bool.{Bool, true, false, _&&_, false≢true}
+use mathlib.Core.Path.{_≡_}
+use mathlib.Core.Bool.{true}
 use Prim.Native.Nat.{ℕ, _<_}
 use lib.Ieee.{Float}
 use Rattle.floats.specs.Ops.{_≼_}
@@ -10,6 +10,7 @@ use Rattle.boxes.specs.Box.{meet}
 use Rattle.boxes.specs.Groups.{groupCount, groupBox}
 use Rattle.boxes.specs.GroupExact.{Member, Exact, NoNan, group-exact}
 use Rattle.boxes.specs.Laws.Extremes.{le-refl, le-trans}
+use Rattle.boxes.specs.Laws.Meets.{meets, meet-says}
 
 -- ---- the box a is inside the box A
 pub record Inside (a A : Box) : Type 0 where
@@ -39,24 +40,18 @@ self-inside a real =
 
 -- if the boxes inside meet, so do those around them
 pub inside-meet : (a A b B : Box) → Inside a A → Inside b B → meet a b ≡ true → meet A B ≡ true
-unfolding meet
 inside-meet a A b B h k e =
-    let s = four _ _ _ _ e in
-    all-four _ _ _ _ (around _ _ _ _ (h .least-x) (s .0) (k .greatest-x)) (around _ _ _ _ (k .least-x) (s .1) (h .greatest-x))
-    (around _ _ _ _ (h .least-y) (s .2) (k .greatest-y)) (around _ _ _ _ (k .least-y) (s .3) (h .greatest-y))
+    let s = meet-says a b e in
+    meets A B
+    (record {
+      x = around _ _ _ _ (h .least-x) (s .x) (k .greatest-x);
+      x-back = around _ _ _ _ (k .least-x) (s .x-back) (h .greatest-x);
+      y = around _ _ _ _ (h .least-y) (s .y) (k .greatest-y);
+      y-back = around _ _ _ _ (k .least-y) (s .y-back) (h .greatest-y);
+    })
   where
     around : (x y z w : Float) → (x ≼ y) ≡ true → (y ≼ z) ≡ true → (z ≼ w) ≡ true → (x ≼ w) ≡ true
     around x y z w i j l = le-trans x y w i (le-trans y z w j l)
-
-    four : (p q r s : Bool) → ((p && q) && (r && s)) ≡ true → (p ≡ true) × (q ≡ true) × (r ≡ true) × (s ≡ true)
-    four true true true true e = (refl, refl, refl, refl)
-    four true true true false e = absurd (false≢true e)
-    four true true false s e = absurd (false≢true e)
-    four true false r s e = absurd (false≢true e)
-    four false q r s e = absurd (false≢true e)
-
-    all-four : (p q r s : Bool) → p ≡ true → q ≡ true → r ≡ true → s ≡ true → ((p && q) && (r && s)) ≡ true
-    all-four p q r s i j k l = rw (i, j, k, l) refl
 
 -- ---- groups of segments whose boxes have no NaN
 module _ (box : ℕ → Box) (n g : ℕ) (in-range : g < groupCount n) (real : (i : ℕ) → Member n g i → NoNan (box i))

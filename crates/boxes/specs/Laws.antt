@@ -2,3 +2,4 @@
 pub mod Numbers
 pub mod Extremes
 pub mod Moved
+pub mod Meets

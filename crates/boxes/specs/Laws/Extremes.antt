@@ -21,6 +21,7 @@ use Rattle.float_laws.specs.Chains.{not-both, lt-le}
 use Rattle.floats.specs.Ops.{_≼_}
 use Rattle.floats.specs.F64.{choose, min, max}
 use Rattle.floats.specs.Laws.Picked.{lt-once}
+use Rattle.checks.specs.Laws.Fine.{of-number, neither}
 use Rattle.checks.specs.Laws.Order.{le-not-lt}
 
 -- ---- what both have, the minimum and the maximum have
@@ -43,6 +44,9 @@ module _ (P : Float → Type 0) (x y : Float) (a : P x) (b : P y) where
   max-has = chosen-has P (lt y x) x y a b
 
 -- ---- the order of floats that are no NaN
+pub finite-real : (x : Float) → T (finite x) → isNan x ≡ false
+finite-real x t = neither _ _ .0 (of-number x t) .0
+
 not-once : (b : Bool) → (b ≡ true → b ≡ false) → b ≡ false
 not-once true h = h refl
 not-once false h = refl

@@ -1,20 +1,19 @@
 -- A number that is moved outward stays on its side of every f64: if a is at most the f64 z, so is a - e, for an e that is not
 -- below zero; if it is at least z, so is a + e. The exact value says so, and rounding does not cross an f64.
 use mathlib.Core.Path.{_≡_, sym, subst}
-use mathlib.Core.Bool.{true, false}
+use mathlib.Core.Bool.{true}
 use Prim.Native.Nat.{ℕ, _+_, _*_, _≤_}
 use native.Mathlib.Nat.{mul-pos, mul-le-mul-right, zero-lt-suc}
 use native.Mathlib.Omega.{arith}
 use lib.Dec.{T}
-use lib.Ieee.{Float, binary64, fits, isNan}
+use lib.Ieee.{Float, binary64, fits}
 use lib.Ieee.Bits.{is-true}
 use lib.Ieee.Scale.{finite}
 use Rattle.float_laws.specs.Order.{le-diff}
 use Rattle.float_laws.specs.Rounded.{add-rounded, sub-rounded}
 use Rattle.float_laws.specs.Roundings.{rounded-le, rounded-ge}
 use Rattle.floats.specs.Ops.{_⊕_, _⊖_, _≼_, f0}
-use Rattle.checks.specs.Laws.Fine.{of-number, neither}
-use Rattle.boxes.specs.Laws.Extremes.{le-refl}
+use Rattle.boxes.specs.Laws.Extremes.{finite-real, le-refl}
 use Rattle.boxes.specs.Laws.Numbers.{Fraction, fraction, zero-is}
 
 module _ (a e z : Float) (A : T (finite a)) (E : T (finite e)) (Z : T (finite z)) (fit : T (fits binary64 z))
@@ -64,11 +63,8 @@ module _ (a e z : Float) (A : T (finite a)) (E : T (finite e)) (Z : T (finite z)
 
 -- and so an f64 a is between a - e and a + e
 module _ (a e : Float) (A : T (finite a)) (E : T (finite e)) (fit : T (fits binary64 a)) (least : (f0 ≼ e) ≡ true) where
-  real : isNan a ≡ false
-  real = neither _ _ .0 (of-number a A) .0
-
   pub down-moves : ((a ⊖ e) ≼ a) ≡ true
-  down-moves = down-below a e a A E A fit least (le-refl a real)
+  down-moves = down-below a e a A E A fit least (le-refl a (finite-real a A))
 
   pub up-moves : (a ≼ (a ⊕ e)) ≡ true
-  up-moves = up-above a e a A E A fit least (le-refl a real)
+  up-moves = up-above a e a A E A fit least (le-refl a (finite-real a A))
