@@ -2,4 +2,3 @@
 pub mod Numbers
 pub mod Extremes
 pub mod Moved
-pub mod Meets

@@ -4,5 +4,4 @@ pub mod Groups
 pub mod Index
 pub mod BoxNumbers
 pub mod GroupExact
-pub mod GroupsMeet
 pub mod Laws

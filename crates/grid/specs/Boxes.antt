@@ -3,7 +3,7 @@
 -- (Plane/Ends), and a box holds the ends of its line, since what is moved outward by epsilon does not cross a whole number.
 use mathlib.Core.Path.{_≡_, refl, sym, subst}
 use mathlib.Core.Logic.{_⊎_, inl, inr}
-use mathlib.Core.Bool.{Bool, true, false, cond}
+use mathlib.Core.Bool.{Bool, true, false, cond, _&&_}
 use mathlib.Core.List.{List}
 use Prim.Native.Nat.{ℕ, _+_, _≤_}
 use native.Mathlib.Nat.{zero-lt-suc}
@@ -25,7 +25,6 @@ use Rattle.boxes.specs.Box.{margin, boxOf, meet}
 use Rattle.boxes.specs.Groups.{segmentBox}
 use Rattle.boxes.specs.Laws.Numbers.{zero-is}
 use Rattle.boxes.specs.Laws.Extremes.{finite-real, le-trans, min-has, max-has, min-first, min-second, max-first, max-second}
-use Rattle.boxes.specs.Laws.Meets.{meets}
 use Rattle.boxes.specs.Laws.Moved.{down-below, up-above}
 use Rattle.grid.specs.Promise.{Is, Epsilon, Spot, On, Share, GridLine}
 use Rattle.grid.specs.Plane.Whole.{diff, whole, gain, loss, le-diff}
@@ -114,6 +113,9 @@ module _ (e : Float) (number : T (finite e)) (least : (f0 ≼ e) ≡ true) (x1 x
       go (inr (inr l)) = through x2 y2 (p2 .x) (q2 .x) A2 B2 low2 high2 l
 
 -- ---- the proof: along x and y, each line's least against the other's greatest
+all-four : (a b c d : Bool) → a ≡ true → b ≡ true → c ≡ true → d ≡ true → ((a && b) && (c && d)) ≡ true
+all-four a b c d i j k l = rw (i, j, k, l) refl
+
 line-margin : (v1 v2 : PlineVertex) (e : Float) → T (bulgeIsZero v1) → margin v1 v2 e ≡ e
 unfolding margin
 line-margin v1 v2 e t = go (bulgeIsZero v1) _ t
@@ -129,27 +131,22 @@ at-y : (v : PlineVertex) (p : Spot) → On v p → Whole (v .y) (flip p .x)
 at-y v p h = (h .2, h .3)
 
 pub boxes-meet : BoxesMeet
-unfolding boxOf
+unfolding boxOf meet
 boxes-meet v1 v2 u1 u2 p1 p2 q1 q2 e num den a1 a2 b1 b2 line-v line-u small share =
     let E : Eps e num den = eps e num den small in
     let number = diff-finite e num 0 den (E .is) in
     let least = is-true _ (order.le-diff f0 e 0 0 1 num 0 den (zero-lt-suc 0) (E .some) zero-is (E .is) .1 (omega arith)) in
     let back = share-swapped p1 p2 q1 q2 .0 share in
-    meets (boxOf v1 v2 e) (boxOf u1 u2 e)
-    (record {
-      x = rw (line-margin v1 v2 e line-v, line-margin u1 u2 e line-u)
-          (axis-meets e number least (v1 .x) (v2 .x) (u1 .x) (u2 .x) p1 p2 q1 q2 (at-x v1 p1 a1) (at-x v2 p2 a2) (at-x u1 q1 b1)
-          (at-x u2 q2 b2) share);
-      x-back = rw (line-margin v1 v2 e line-v, line-margin u1 u2 e line-u)
-          (axis-meets e number least (u1 .x) (u2 .x) (v1 .x) (v2 .x) q1 q2 p1 p2 (at-x u1 q1 b1) (at-x u2 q2 b2) (at-x v1 p1 a1)
-          (at-x v2 p2 a2) back);
-      y = rw (line-margin v1 v2 e line-v, line-margin u1 u2 e line-u)
-          (axis-meets e number least (v1 .y) (v2 .y) (u1 .y) (u2 .y) (flip p1) (flip p2) (flip q1) (flip q2) (at-y v1 p1 a1)
-          (at-y v2 p2 a2) (at-y u1 q1 b1) (at-y u2 q2 b2) (share-flipped p1 p2 q1 q2 .0 share));
-      y-back = rw (line-margin v1 v2 e line-v, line-margin u1 u2 e line-u)
-          (axis-meets e number least (u1 .y) (u2 .y) (v1 .y) (v2 .y) (flip q1) (flip q2) (flip p1) (flip p2) (at-y u1 q1 b1)
-          (at-y u2 q2 b2) (at-y v1 p1 a1) (at-y v2 p2 a2) (share-flipped q1 q2 p1 p2 .0 back));
-    })
+    rw (line-margin v1 v2 e line-v, line-margin u1 u2 e line-u)
+    (all-four _ _ _ _
+    (axis-meets e number least (v1 .x) (v2 .x) (u1 .x) (u2 .x) p1 p2 q1 q2 (at-x v1 p1 a1) (at-x v2 p2 a2) (at-x u1 q1 b1)
+    (at-x u2 q2 b2) share)
+    (axis-meets e number least (u1 .x) (u2 .x) (v1 .x) (v2 .x) q1 q2 p1 p2 (at-x u1 q1 b1) (at-x u2 q2 b2) (at-x v1 p1 a1)
+    (at-x v2 p2 a2) back)
+    (axis-meets e number least (v1 .y) (v2 .y) (u1 .y) (u2 .y) (flip p1) (flip p2) (flip q1) (flip q2) (at-y v1 p1 a1)
+    (at-y v2 p2 a2) (at-y u1 q1 b1) (at-y u2 q2 b2) (share-flipped p1 p2 q1 q2 .0 share))
+    (axis-meets e number least (u1 .y) (u2 .y) (v1 .y) (v2 .y) (flip q1) (flip q2) (flip p1) (flip p2) (at-y u1 q1 b1)
+    (at-y u2 q2 b2) (at-y v1 p1 a1) (at-y v2 p2 a2) (share-flipped q1 q2 p1 p2 .0 back)))
 
 pub segment-boxes-meet : SegmentBoxesMeet
 unfolding segmentBox
