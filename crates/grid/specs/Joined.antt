@@ -30,7 +30,7 @@ is-diff (inf s) p n c = (λ h. h, λ h. h)
 is-diff (fin false m e) p n c = is-plus m p n c e
 is-diff (fin true m e) p n c = is-minus m p n c e
 
-whole-diff : (x : Float) (z : ℤ) (c : ℕ) → Is x z c → Diff x (gain z) (loss z) c
+pub whole-diff : (x : Float) (z : ℤ) (c : ℕ) → Is x z c → Diff x (gain z) (loss z) c
 whole-diff x z c h = is-diff x (gain z) (loss z) c .0 (subst (λ (w : ℤ). Is x w c) (sym (whole z)) h)
 
 small : (x : Float) (z : ℤ) → Is x z 1 → natAbs z ≤ 1048576 → Small 20 x

@@ -9,3 +9,4 @@ pub mod Crossed
 pub mod Level
 pub mod Kernel
 pub mod Proved
+pub mod Boxes

@@ -11,3 +11,4 @@ pub mod Points
 pub mod Overlap
 pub mod Parts
 pub mod Suffices
+pub mod Ends
