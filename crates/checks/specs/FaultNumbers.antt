@@ -20,6 +20,7 @@ use Rattle.checks.specs.declared.fault.Item.the-variants.{
   Rows,
   Position,
   Budget,
+  Boxes,
 }
 use Rattle.checks.specs.declared.fault.Checked.{Checked}
 use Rattle.checks.specs.declared.fault.Checked.the-variants.{Fine, Bad}
@@ -38,10 +39,11 @@ item Length = 8
 item Rows = 9
 item Position = 10
 item Budget = 11
+item Boxes = 12
 
 -- how many items there are
 abbrev pub items : ℕ
-items = 12
+items = 13
 
 pub item-below : (i : Item) → item i < items
 item-below Epsilon = omega arith
@@ -56,6 +58,7 @@ item-below Length = omega arith
 item-below Rows = omega arith
 item-below Position = omega arith
 item-below Budget = omega arith
+item-below Boxes = omega arith
 
 abbrev pub faultNumbers : Checked → List ℕ
 faultNumbers Fine = 0 ∷ []
@@ -75,7 +78,8 @@ item-back n =
     (cond (eqb n 8) Length
     (cond (eqb n 9) Rows
     (cond (eqb n 10) Position
-    Budget))))))))))
+    (cond (eqb n 11) Budget
+    Boxes)))))))))))
 
 pub item-same : (i : Item) → item-back (item i) ≡ i
 unfolding item-back
@@ -91,6 +95,7 @@ item-same Length = refl
 item-same Rows = refl
 item-same Position = refl
 item-same Budget = refl
+item-same Boxes = refl
 
 back : List ℕ → Checked
 back [] = Fine

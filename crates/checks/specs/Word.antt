@@ -15,13 +15,16 @@ ownerUnit = 16_777_216
 abbrev pub indexUnit : ℕ
 indexUnit = 4_294_967_296
 
+abbrev pub itemWidth : ℕ
+itemWidth = 256
+
 abbrev pub owners : ℕ
 owners = 256
 
 abbrev pub indices : ℕ
 indices = 4_294_967_296
 
--- from the parts; each is small enough for its bits in every call (Laws/Small.antt), and is cut to them elsewhere
+-- from the parts; each is small enough for its bits in every call (Laws/RefusalNumbers.antt), and is cut to them elsewhere
 abbrev pub wordOf : ℕ → ℕ → ℕ → ℕ → ℕ
 wordOf number owner index item =
     numbersBelow + number % numbersBelow + item * itemUnit + (owner % owners) * ownerUnit + (index % indices) * indexUnit

@@ -12,17 +12,17 @@ use Rattle.checks.specs.declared.fault.Fault.{Fault}
 use Rattle.checks.specs.Fault.{at}
 use Rattle.checks.specs.FaultNumbers.{items, item, item-below, item-back, item-same}
 use Rattle.checks.specs.Refusal.{numbersBelow}
-use Rattle.checks.specs.Word.{itemUnit, ownerUnit, indexUnit, owners, indices, word}
+use Rattle.checks.specs.Word.{itemUnit, ownerUnit, indexUnit, itemWidth, owners, indices, wordOf, word}
 
 -- ---- the macros: VJ_IS_REFUSED, VJ_NUMBER, VJ_ITEM, VJ_OWNER, VJ_INDEX
 abbrev pub refusedIn : ℕ → Bool
-refusedIn w = eqb (w / 256 % 256) 1
+refusedIn w = eqb (w / numbersBelow % numbersBelow) 1
 
 abbrev pub numberIn : ℕ → ℕ
-numberIn w = w % 256
+numberIn w = w % numbersBelow
 
 abbrev pub itemIn : ℕ → ℕ
-itemIn w = w / itemUnit % 256
+itemIn w = w / itemUnit % itemWidth
 
 abbrev pub ownerIn : ℕ → ℕ
 ownerIn w = w / ownerUnit % owners
@@ -52,15 +52,15 @@ pub record Parts (f : Fault) (w : ℕ) : Type 0 where
 -- the arithmetic: n, i, o and x in their places
 module _ (n i o x : ℕ) (hn : n < numbersBelow) (hi : i < items) (ho : o < owners) (hx : x < indices) where
   abbrev w : ℕ
-  w = numbersBelow + n % numbersBelow + i * itemUnit + (o % owners) * ownerUnit + (x % indices) * indexUnit
+  w = wordOf n o x i
 
-  one : w / 256 % 256 ≡ 1
+  one : w / numbersBelow % numbersBelow ≡ 1
   one = omega (arith, hn, hi, ho, hx)
 
-  first : w % 256 ≡ n
+  first : w % numbersBelow ≡ n
   first = omega (arith, hn, hi, ho, hx)
 
-  second : w / itemUnit % 256 ≡ i
+  second : w / itemUnit % itemWidth ≡ i
   second = omega (arith, hn, hi, ho, hx)
 
   third : w / ownerUnit % owners ≡ o
@@ -87,7 +87,7 @@ parts f h =
 
 -- a case's number is no word
 pub case-not-refused : (n : ℕ) → n < numbersBelow → refusedIn n ≡ false
-case-not-refused n h = ne-eqb (n / 256 % 256) 1 (λ e. omega (arith, h, e))
+case-not-refused n h = ne-eqb (n / numbersBelow % numbersBelow) 1 (λ e. omega (arith, h, e))
 
 -- ---- so faults that differ have different words
 fault-back : (n o x i : ℕ) → Fault

@@ -3,7 +3,7 @@ ghost use mathlib.Core.Path.{_≡_};
 ghost use Rattle.checks.specs.Fault as fault;
 
 // Which of the owner's numbers. `Length` is how many numbers a path has, `Rows` how many rows a listing has or has room for;
-// `Position` and `Budget` are a page's.
+// `Position` and `Budget` are a page's, and `Boxes` is a boxed listing's index.
 pub enum Item {
     Epsilon,
     X,
@@ -17,6 +17,7 @@ pub enum Item {
     Rows,
     Position,
     Budget,
+    Boxes,
 }
 
 // Where a number stands in a call.

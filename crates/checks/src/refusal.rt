@@ -1,6 +1,5 @@
-// The scope's numbers of the refusals that the checks of numbers, of a path's length, of a listing's rows, and of a page's
-// position and budget can give.
-// specs/Refusal.antt has the same numbers.
+// The scope's numbers of the refusals that the checks of numbers, of a path's length, of a listing's rows and index of boxes, and
+// of a page's position and budget can give. specs/Refusal.antt has the same numbers.
 
 // a coordinate of a point or vertex is too large
 pub const COORDINATE: u64 = 2;
@@ -36,6 +35,9 @@ pub const POSITION: u64 = 13;
 
 // a page's budget is 0
 pub const BUDGET: u64 = 14;
+
+// a boxed listing's index of boxes does not fit
+pub const BOXES: u64 = 17;
 
 // every refusal's number is below this, so that a code in C can be this plus the number
 pub const NUMBERS_BELOW: u64 = 256;

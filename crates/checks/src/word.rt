@@ -34,6 +34,7 @@ pub fn item_number(item: Item) -> u64
         Item::Rows => 9,
         Item::Position => 10,
         Item::Budget => 11,
+        Item::Boxes => 12,
     }
 }
 

@@ -1,7 +1,8 @@
--- The outcome of a listing of any sequence of pairs (Outcome) and of a page of one (PageOutcome), and what is proved of them
--- (ListingNumbers, OneResult). A reader need not believe Workings and Laws.
+-- The outcome of a listing of any sequence of pairs (Outcome), of a page of one (PageOutcome) and of a boxed listing
+-- (BoxedOutcome), and what is proved of them (ListingNumbers, OneResult). A reader need not believe Workings and Laws.
 pub mod Outcome
 pub mod PageOutcome
+pub mod BoxedOutcome
 pub mod ListingNumbers
 pub mod OneResult
 pub mod Workings

@@ -1,6 +1,5 @@
 // A listing of two checked paths into the caller's slices, if all rows fit. Only here is a listing's refusal 8 decided: it is
 // the answer if there are more rows than both slices have room for, and then nothing is written.
-ghost use Rattle.listing_pairs.specs.Look;
 ghost use Rattle.listing_pairs.specs.Workings.Job as job_of;
 ghost use Rattle.listing_pairs.specs.Workings.Keeping;
 ghost use Rattle.listing_pairs.specs.Workings.Ready;
@@ -10,6 +9,7 @@ ghost use Rattle.listing_outcomes.specs.Workings.Outcome as outcome_of;
 ghost use Prim.Native.Nat.{_≤_, _<_, _*_};
 ghost use lib.ListN.{length};
 ghost use mathlib.Core.Path.{_≡_};
+ghost use mathlib.Core.Bool.{false};
 use super::answer::ListingAnswer;
 use super::room::row_room;
 use checks::fault::Item;
@@ -55,10 +55,10 @@ fn list_behind(
     requires { ⌜ room ≡ Outcome.room (now indices) (now points) ⌝ }
     requires { ⌜ outcome_of.heldRows ≤ room ⌝ }
     requires { ⌜
-        outcome_of.Held (Look.look (now first) (now second) (job .epsilon)) job outcome_of.heldRows held
+        outcome_of.Held (Ready.lookBy (now first) (now second) job) job outcome_of.heldRows held
         (now «held_indices») (now «held_points») ⌝ }
     ensures { λ r. ⌜
-        Outcome.Leaves (outcome_of.listed (Look.look (now (first .entry)) (now (second .entry)) (job .epsilon)) (job_of.every job)
+        Outcome.Leaves (outcome_of.listed (Ready.lookBy (now (first .entry)) (now (second .entry)) job) (job_of.every job)
         (now (indices .entry)) (now (points .entry)))
         r (now (indices .exit)) (now (points .exit)) ⌝ }
 {
@@ -104,7 +104,7 @@ fn list_held_back(
     requires { ⌜ Keeping.AllReady (now first) (now second) (now kept) job ⌝ }
     requires { ⌜ room ≡ Outcome.room (now indices) (now points) ⌝ }
     ensures { λ r. ⌜
-        Outcome.Leaves (outcome_of.listed (Look.look (now (first .entry)) (now (second .entry)) (job .epsilon)) (job_of.every job)
+        Outcome.Leaves (outcome_of.listed (Ready.lookBy (now (first .entry)) (now (second .entry)) job) (job_of.every job)
         (now (indices .entry)) (now (points .entry)))
         r (now (indices .exit)) (now (points .exit)) ⌝ }
 {
@@ -154,8 +154,8 @@ fn list_held_back(
     )
 }
 
-// The listing of a job; `kept` is kept of the second path's segments.
-fn list_kept(
+// The listing of a job; `kept` is kept of the second path's segments, with the boxes of a boxed listing behind it.
+pub(crate) fn list_kept(
     first: &[f64],
     second: &[f64],
     kept: &[f64],
@@ -165,7 +165,7 @@ fn list_kept(
 ) -> ListingAnswer
     requires { ⌜ Keeping.AllReady (now first) (now second) (now kept) job ⌝ }
     ensures { λ r. ⌜
-        Outcome.Leaves (outcome_of.listed (Look.look (now (first .entry)) (now (second .entry)) (job .epsilon)) (job_of.every job)
+        Outcome.Leaves (outcome_of.listed (Ready.lookBy (now (first .entry)) (now (second .entry)) job) (job_of.every job)
         (now (indices .entry)) (now (points .entry)))
         r (now (indices .exit)) (now (points .exit)) ⌝ }
 {
@@ -191,7 +191,7 @@ fn list_kept(
     list_held_back(first, second, kept, job, room, indices, points)
 }
 
-// The listing of a job. If it has more rows than fit, the answer is refusal 8, and nothing is written.
+// The listing of a job that is not boxed. If it has more rows than fit, the answer is refusal 8, and nothing is written.
 pub fn list(
     first: &[f64],
     second: &[f64],
@@ -200,8 +200,9 @@ pub fn list(
     points: &mut [f64],
 ) -> ListingAnswer
     requires { ⌜ Ready.Ready (now first) (now second) job ⌝ }
+    requires { ⌜ job .boxed ≡ false ⌝ }
     ensures { λ r. ⌜
-        Outcome.Leaves (outcome_of.listed (Look.look (now (first .entry)) (now (second .entry)) (job .epsilon)) (job_of.every job)
+        Outcome.Leaves (outcome_of.listed (Ready.lookBy (now (first .entry)) (now (second .entry)) job) (job_of.every job)
         (now (indices .entry)) (now (points .entry)))
         r (now (indices .exit)) (now (points .exit)) ⌝ }
 {

@@ -1,9 +1,9 @@
 // A page of a listing of two checked paths: from a position on, as far as the budget and the caller's slices allow. Refusals 13
 // and 14 are decided here, and a page's refusal 8.
 ghost use mathlib.Core.Path.{_≡_};
+ghost use mathlib.Core.Bool.{false};
 ghost use Prim.Native.Nat.{_≤_, _*_};
 ghost use lib.ListN.{length};
-ghost use Rattle.listing_pairs.specs.Look;
 ghost use Rattle.listing_pairs.specs.Page as page_of;
 ghost use Rattle.listing_pairs.specs.Row as row_of;
 ghost use Rattle.listing_pairs.specs.Workings.Job as job_of;
@@ -37,11 +37,12 @@ fn fill_from(
     points: &mut [f64],
 ) -> Filling
     requires { ⌜ Ready.Ready (now first) (now second) job ⌝ }
+    requires { ⌜ job .boxed ≡ false ⌝ }
     requires { ⌜ spot .i ≤ job .n ⌝ }
     requires { ⌜ (room * row_of.indicesARow ≤ length (now indices)) × (room * row_of.pointsARow ≤ length (now points)) ⌝ }
     ensures { λ r. ⌜
         filling.Filled job (outcome_of.starting (spot .i) (spot .j) room budget)
-        (page_of.page (Look.look (now (first .entry)) (now (second .entry)) (job .epsilon)) (job_of.left job (spot .i) (spot .j))
+        (page_of.page (Ready.lookBy (now (first .entry)) (now (second .entry)) job) (job_of.left job (spot .i) (spot .j))
         room budget)
         r (now (indices .entry)) (now (indices .exit)) (now (points .entry)) (now (points .exit)) ⌝ }
 {
@@ -71,8 +72,9 @@ pub fn page(
     points: &mut [f64],
 ) -> PageAnswer
     requires { ⌜ Ready.Ready (now first) (now second) job ⌝ }
+    requires { ⌜ job .boxed ≡ false ⌝ }
     ensures { λ r. ⌜
-        Outcome.Leaves (outcome_of.paged (Look.look (now (first .entry)) (now (second .entry)) (job .epsilon)) (job_of.every job)
+        Outcome.Leaves (outcome_of.paged (Ready.lookBy (now (first .entry)) (now (second .entry)) job) (job_of.every job)
         position budget (now (indices .entry)) (now (points .entry)))
         r (now (indices .exit)) (now (points .exit)) ⌝ }
 {

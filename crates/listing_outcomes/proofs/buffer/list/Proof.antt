@@ -21,14 +21,14 @@ long = let z : Float = ofBits binary64 0 in length-replicate all z
 
 keep-requires : tie.Need-keep-requires
 keep-requires c κs =
-    let ready = c .before .before .before .before .before .pre in
+    let ready = c .before .before .before .before .before .pre .0 in
     (ready .m-within, (ready .few-second, omega (arith, long, ready .few-second)))
 
 list-kept-requires : tie.Need-list-kept-requires
 list-kept-requires c κs =
     let k = c .before .before .before .before in
     let s = k .before .before .before .before .before .before in
-    kept-ready _ _ _ _ _ (s .pre) (omega (arith, long, s .pre .few-second)) (k .keep .ensures)
+    kept-ready _ _ _ _ _ (s .pre .0) (s .pre .1) (omega (arith, long, s .pre .0 .few-second)) (k .keep .ensures)
 
 returns : tie.Need-returns
 returns c = search needs

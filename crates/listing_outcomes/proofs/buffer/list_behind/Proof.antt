@@ -8,7 +8,7 @@ use denote.Ref.{now}
 use lib.ListN.{length}
 use lib.Seq.{paste}
 use Rattle.listing_pairs.specs.Row.{indicesARow, pointsARow}
-use Rattle.listing_pairs.specs.Look.{look}
+use Rattle.listing_pairs.specs.Workings.Ready.{lookBy}
 use Rattle.listing_pairs.specs.Workings.Reached.{all-ready}
 use Rattle.listing_loop.specs.Laws.Loop.{few-on-page}
 use Rattle.listing_outcomes.specs.Outcome.{room}
@@ -94,7 +94,7 @@ add-t30 c =
     let f = counted (copied g) in
     let s = start f in
     let a = s .args in
-    let F = look (now (a .first)) (now (a .second)) (a .job .epsilon) in
+    let F = lookBy (now (a .first)) (now (a .second)) (a .job) in
     let ready = s .pre .0 .pairs in
     let held = s .pre .1 .1 .1 in
     let few = few-on-every F (a .job) heldRows (ready .few) (ready .few-second) in

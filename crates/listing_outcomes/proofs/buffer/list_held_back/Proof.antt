@@ -13,7 +13,7 @@ use Rattle.listing_pairs.specs.declared.row.Look.{Look}
 use Rattle.listing_pairs.specs.declared.order.Job.{Job}
 use Rattle.listing_pairs.specs.Order.{Pair}
 use Rattle.listing_pairs.specs.Row.{indicesARow, pointsARow, indicesOf, pointsOf, numbersOfRows}
-use Rattle.listing_pairs.specs.Look.{look}
+use Rattle.listing_pairs.specs.Workings.Ready.{lookBy}
 use Rattle.listing_pairs.specs.Workings.Job as job_of
 use Rattle.listing_pairs.specs.Workings.Reached.{all-ready}
 use Rattle.listing_pairs.specs.Page.{Page, page}
@@ -53,7 +53,7 @@ long-no-points = let z : Float = ofBits binary64 0 in length-replicate (heldRows
 
 -- the pairs, and the page of them that the buffer is
 abbrev looks : tie.After-fill → ℕ → ℕ → Look
-looks c = let a = start c .args in look (now (a .first)) (now (a .second)) (a .job .epsilon)
+looks c = let a = start c .args in lookBy (now (a .first)) (now (a .second)) (a .job)
 
 abbrev pairs : tie.After-fill → List Pair
 pairs c = job_of.every (start c .args .job)

@@ -9,7 +9,7 @@ use denote.Ref.{now}
 use lib.ListN.{length}
 use Rattle.listing_pairs.specs.declared.row.Look.{Look}
 use Rattle.listing_pairs.specs.Order.{Pair}
-use Rattle.listing_pairs.specs.Look.{look}
+use Rattle.listing_pairs.specs.Workings.Ready.{lookBy}
 use Rattle.listing_pairs.specs.Page.{page}
 use Rattle.listing_pairs.specs.Workings.Job as job_of
 use Rattle.listing_pairs.specs.Workings.Position.{count, every-length, located, located-within}
@@ -21,7 +21,7 @@ abbrev start : tie.After-count → tie.Start
 start c = c .before .before .before .before .before
 
 count-requires : tie.Need-count-requires
-count-requires c κs = let ready = c .before .before .before .before .pre in (ready .few, ready .few-second)
+count-requires c κs = let ready = c .before .before .before .before .pre .0 in (ready .few, ready .few-second)
 
 -- how many pairs there are
 all-is : (c : tie.After-count) → c .count .result ≡ length (job_of.every (start c .args .job))
@@ -31,7 +31,7 @@ within : (c : tie.Else1) → start (c .before) .args .position ≤ length (job_o
 within c = omega (arith, all-is (c .before), c .if1 .left)
 
 abbrev looks : tie.After-count → ℕ → ℕ → Look
-looks c = let a = start c .args in look (now (a .first)) (now (a .second)) (a .job .epsilon)
+looks c = let a = start c .args in lookBy (now (a .first)) (now (a .second)) (a .job)
 
 abbrev pairs : tie.After-count → List Pair
 pairs c = job_of.every (start c .args .job)
@@ -63,17 +63,20 @@ returns-3 c =
 
 locate-requires : tie.Need-locate-requires
 locate-requires c κs =
-    let ready = start (c .before .before .before .before) .pre in (ready .few, ready .few-second)
+    let ready = start (c .before .before .before .before) .pre .0 in (ready .few, ready .few-second)
 
 fill-from-requires : tie.Need-fill-from-requires
 fill-from-requires c κs =
     let l = c .before .before in
     let r = l .before .before in
     let s = start (r .before .before .before) in (
-      s .pre,
+      s .pre .0,
       (
-        omega (arith, ap (λ p. p .i) (l .locate .ensures), located-within (s .args .job) (s .args .position)),
-        (omega (arith, r .row-room .ensures), omega (arith, r .row-room .ensures)),
+        s .pre .1,
+        (
+          omega (arith, ap (λ p. p .i) (l .locate .ensures), located-within (s .args .job) (s .args .position)),
+          (omega (arith, r .row-room .ensures), omega (arith, r .row-room .ensures)),
+        ),
       ),
     )
 
@@ -93,7 +96,7 @@ add-t18 c =
     ∙ ap (λ qs. page (looks (counted f)) qs (r .row-room .result) (a .budget) .passed) there in
     let few = next-few (looks (counted f)) (pairs (counted f)) (a .position) (r .row-room .result) (a .budget)
     (within (r .before .before)) in
-    omega (arith, passed, few, every-few (a .job) (s .pre .few) (s .pre .few-second))
+    omega (arith, passed, few, every-few (a .job) (s .pre .0 .few) (s .pre .0 .few-second))
 
 returns-4 : tie.Need-returns-4
 returns-4 c =

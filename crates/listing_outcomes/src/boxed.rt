@@ -1,0 +1,107 @@
+// A boxed listing of two checked paths: it goes by boxes of its own, and the caller's index is written once it is known that all
+// rows fit. Only here is refusal 17 decided.
+ghost use mathlib.Core.Path.{_≡_};
+ghost use mathlib.Core.Bool.{true};
+ghost use Prim.Native.Nat.{_≤_};
+ghost use lib.ListN.{length};
+ghost use Rattle.paths.specs.Path;
+ghost use Rattle.listing_pairs.specs.Workings.Job as job_of;
+ghost use Rattle.listing_pairs.specs.Workings.Ready;
+ghost use Rattle.listing_outcomes.specs.Outcome;
+ghost use Rattle.listing_outcomes.specs.BoxedOutcome;
+ghost use Rattle.listing_outcomes.specs.Workings.Outcome as outcome_of;
+ghost use Rattle.listing_outcomes.specs.Workings.BoxedOutcome as boxed_of;
+use super::answer::ListingAnswer;
+use super::buffer::list_kept;
+use boxes::index;
+use checks::fault::Item;
+use checks::fault::whole;
+use checks::refusal;
+use listing_pairs::keeping;
+use listing_pairs::order::Job;
+use paths::path;
+
+// the most groups that a path may have
+const GROUPS: usize = path::VERTICES / index::GROUP;
+
+// How many floats the index of a job needs.
+fn floats_for(job: Job) -> usize
+    requires { ⌜ (job .n ≤ Path.mostVertices) × (job .m ≤ Path.mostVertices) ⌝ }
+    ensures { λ r. ⌜ r ≡ boxed_of.floatsFor job ⌝ }
+{
+    let first = index::floats_needed(job.n);
+    if job.own {
+        return first;
+    }
+    first + index::floats_needed(job.m)
+}
+
+// Stores the index of a job from the front: the first path's and, if there is a second path, that one's behind it.
+fn store_index(first: &[f64], second: &[f64], job: Job, boxes: &mut [f64])
+    requires { ⌜ Ready.Ready (now first) (now second) job ⌝ }
+    requires { ⌜ boxed_of.floatsFor job ≤ length (now boxes) ⌝ }
+    ensures { λ _. ⌜
+        now (boxes .exit)
+        ≡ Outcome.overwrite (now (boxes .entry)) (boxed_of.indexFor (now (first .entry)) (now (second .entry)) job) ⌝ }
+{
+    index::store(first, job.n, job.epsilon, 0, boxes);
+    if job.own {
+        return;
+    }
+    let behind = job.n + index::group_count(job.n);
+    index::store(second, job.m, job.epsilon, behind, boxes);
+}
+
+// The listing of a boxed job, by boxes of its own.
+fn list_by_boxes(
+    first: &[f64],
+    second: &[f64],
+    job: Job,
+    indices: &mut [u64],
+    points: &mut [f64],
+) -> ListingAnswer
+    requires { ⌜ Ready.Ready (now first) (now second) job ⌝ }
+    ensures { λ r. ⌜
+        Outcome.Leaves (outcome_of.listed (Ready.lookBy (now (first .entry)) (now (second .entry)) job) (job_of.every job)
+        (now (indices .entry)) (now (points .entry)))
+        r (now (indices .exit)) (now (points .exit)) ⌝ }
+{
+    // for each segment and each group that a path may have: 232 KiB
+    let mut kept = [0.0f64; path::VERTICES * keeping::NUMBERS + index::FLOATS * (path::VERTICES + GROUPS)];
+    keeping::keep(second, 0, job.m, job.epsilon, &mut kept);
+    index::store(second, job.m, job.epsilon, keeping::BOXES, &mut kept);
+    list_kept(first, second, &kept, job, indices, points)
+}
+
+// The listing of a boxed job, and its index. If the index does not fit, the answer is refusal 17; if it has more rows than fit,
+// refusal 8. Then nothing is written.
+pub fn list_boxed(
+    first: &[f64],
+    second: &[f64],
+    job: Job,
+    boxes: &mut [f64],
+    indices: &mut [u64],
+    points: &mut [f64],
+) -> ListingAnswer
+    requires { ⌜ Ready.Ready (now first) (now second) job ⌝ }
+    ensures { λ r. ⌜
+        BoxedOutcome.LeavesBoxed (boxed_of.boxed (Ready.lookBy (now (first .entry)) (now (second .entry)) job) (job_of.every job)
+        (boxed_of.indexFor (now (first .entry)) (now (second .entry)) job)
+        (now (boxes .entry)) (now (indices .entry)) (now (points .entry)))
+        r (now (boxes .exit)) (now (indices .exit)) (now (points .exit)) ⌝ }
+{
+    if boxes.len() < floats_for(job) {
+        return ListingAnswer::Refused(whole(refusal::BOXES, Item::Boxes));
+    }
+    let answer = list_by_boxes(first, second, job, indices, points);
+    match answer {
+        ListingAnswer::Refused(fault) => ListingAnswer::Refused(fault),
+        ListingAnswer::Listed { rows, pairs } => {
+            store_index(first, second, job, boxes);
+            ListingAnswer::Listed {
+                rows: rows,
+                pairs: pairs,
+            }
+        }
+    }
+}
