@@ -39,6 +39,19 @@ indexFor first second job =
 abbrev pub floatsFor : Job → ℕ
 floatsFor job = cond (job .own) (floatsNeeded (job .n)) (floatsNeeded (job .n) + floatsNeeded (job .m))
 
+-- if they fit, so do those of one path
+pub first-fits : (job : Job) (room : ℕ) → floatsFor job ≤ room → floatsNeeded (job .n) ≤ room
+first-fits job room = go (job .own)
+  where
+    go : (own : Bool) → cond own (floatsNeeded (job .n)) (floatsNeeded (job .n) + floatsNeeded (job .m)) ≤ room
+        → floatsNeeded (job .n) ≤ room
+    go true h = h
+    go false h = omega (arith, h)
+
+pub both-fit : (job : Job) (room : ℕ) → job .own ≡ false → floatsFor job ≤ room
+    → floatsNeeded (job .n) + floatsNeeded (job .m) ≤ room
+both-fit job room own h = rw own at h
+
 long : (path : List Float) (epsilon : Float) (n : ℕ) → length (index path epsilon n) ≡ floatsNeeded n
 unfolding index
 long path epsilon n = index-length (segmentBox path epsilon) n
@@ -58,6 +71,15 @@ index-for-length first second job = go (job .own)
           long first (job .epsilon) (job .n),
           long second (job .epsilon) (job .m),
         )
+
+-- whether it fits, by a count of its floats
+pub fits-index : (first second : List Float) (job : Job) (room needed : ℕ) → needed ≡ floatsFor job → needed ≤ room
+    → length (indexFor first second job) ≤ room
+fits-index first second job room needed is h = omega (arith, index-for-length first second job, is, h)
+
+pub short-index : (first second : List Float) (job : Job) (room needed : ℕ) → needed ≡ floatsFor job → room < needed
+    → room < length (indexFor first second job)
+short-index first second job room needed is h = omega (arith, index-for-length first second job, is, h)
 
 -- ---- the index, stored from the front
 module _ (first second : List Float) (job : Job) (old : List Float) where
@@ -128,19 +150,19 @@ module _ (look : ℕ → ℕ → Look) (ps : List Pair) (index boxes : List Floa
     index-fits =
         ap (λ (c : Checked). boxedOf c rows (lookedAt look ps) index boxes i₀ p₀) (left (roomCheck rows i₀ p₀))
 
-    pub boxed-refused : (f : Fault) (i : List ℕ) (p : List Float) → Leaves (listed look ps i₀ p₀) (Refused f) i p
-        → LeavesBoxed (boxed look ps index boxes i₀ p₀) (Refused f) boxes i p
-    boxed-refused f i p h = rw index-fits (go (roomCheck rows i₀ p₀) h)
+    pub boxed-refused : (f : Fault) (r : ListingAnswer) (i : List ℕ) (p : List Float) → r ≡ Refused f
+        → Leaves (listed look ps i₀ p₀) r i p → LeavesBoxed (boxed look ps index boxes i₀ p₀) (Refused f) boxes i p
+    boxed-refused f r i p is h = rw index-fits (go (roomCheck rows i₀ p₀) (rw is at h))
       where
         go : (c : Checked) → Leaves (listedOf c rows (lookedAt look ps) i₀ p₀) (Refused f) i p
             → LeavesBoxed (boxedOf c rows (lookedAt look ps) index boxes i₀ p₀) (Refused f) boxes i p
         go (Bad g) l = record { listing = l; boxes = refl }
         go Fine l = absurd (apart (l .answer))
 
-    pub boxed-listed : (n k : ℕ) (b : List Float) (i : List ℕ) (p : List Float)
-        → Leaves (listed look ps i₀ p₀) (Listed n k) i p → b ≡ overwrite boxes index
+    pub boxed-listed : (n k : ℕ) (r : ListingAnswer) (b : List Float) (i : List ℕ) (p : List Float) → r ≡ Listed n k
+        → Leaves (listed look ps i₀ p₀) r i p → b ≡ overwrite boxes index
         → LeavesBoxed (boxed look ps index boxes i₀ p₀) (Listed n k) b i p
-    boxed-listed n k b i p h e = rw index-fits (go (roomCheck rows i₀ p₀) h)
+    boxed-listed n k r b i p is h e = rw index-fits (go (roomCheck rows i₀ p₀) (rw is at h))
       where
         go : (c : Checked) → Leaves (listedOf c rows (lookedAt look ps) i₀ p₀) (Listed n k) i p
             → LeavesBoxed (boxedOf c rows (lookedAt look ps) index boxes i₀ p₀) (Listed n k) b i p
