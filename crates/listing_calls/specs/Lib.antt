@@ -1,7 +1,8 @@
--- The listings of two paths and of one, with their refusals (Listing), their pages (Pages), and the rows handed back (Filled);
--- then what is proved of them. A reader need not believe Workings and Laws.
+-- The listings of two paths and of one, with their refusals (Listing), their pages (Pages), the boxed listings (Boxed), and the
+-- rows handed back (Filled); then what is proved of them. A reader need not believe Workings and Laws.
 pub mod Listing
 pub mod Pages
+pub mod Boxed
 pub mod Filled
 pub mod Refusals
 pub mod PageRefusals

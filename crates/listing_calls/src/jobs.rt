@@ -36,15 +36,17 @@ pub(crate) fn check_self(path: &[f64], closed: bool, epsilon: f64) -> Checked
     check::check_path(a1, path, closed, 0)
 }
 
-// Every segment of the first path with every segment of the second.
+// Every segment of the first path with every segment of the second; in a boxed listing those whose boxes meet.
 pub(crate) fn mutual_job(
     first: &[f64],
     first_closed: bool,
     second: &[f64],
     second_closed: bool,
+    boxed: bool,
     epsilon: f64,
 ) -> Job
-    ensures { λ r. ⌜ r ≡ Jobs.mutualJob (now (first .entry)) «first_closed» (now (second .entry)) «second_closed» epsilon ⌝ }
+    ensures { λ r. ⌜
+        r ≡ Jobs.mutualJob (now (first .entry)) «first_closed» (now (second .entry)) «second_closed» boxed epsilon ⌝ }
 {
     let n = segments::segment_count(first, first_closed);
     let m = segments::segment_count(second, second_closed);
@@ -53,13 +55,14 @@ pub(crate) fn mutual_job(
         m: m,
         own: false,
         closed: false,
+        boxed: boxed,
         epsilon: epsilon,
     }
 }
 
-// The segments of one path with each other.
-pub(crate) fn self_job(path: &[f64], closed: bool, epsilon: f64) -> Job
-    ensures { λ r. ⌜ r ≡ Jobs.selfJob (now (path .entry)) closed epsilon ⌝ }
+// The segments of one path with each other; in a boxed listing those whose boxes meet.
+pub(crate) fn self_job(path: &[f64], closed: bool, boxed: bool, epsilon: f64) -> Job
+    ensures { λ r. ⌜ r ≡ Jobs.selfJob (now (path .entry)) closed boxed epsilon ⌝ }
 {
     let n = segments::segment_count(path, closed);
     Job {
@@ -67,6 +70,7 @@ pub(crate) fn self_job(path: &[f64], closed: bool, epsilon: f64) -> Job
         m: n,
         own: true,
         closed: closed,
+        boxed: boxed,
         epsilon: epsilon,
     }
 }

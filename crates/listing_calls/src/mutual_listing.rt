@@ -25,7 +25,7 @@ pub fn mutual_listing(
     let checked = jobs::check_mutual(first, first_closed, second, second_closed, epsilon);
     match checked {
         Checked::Fine => {
-            let job = jobs::mutual_job(first, first_closed, second, second_closed, epsilon);
+            let job = jobs::mutual_job(first, first_closed, second, second_closed, false, epsilon);
             buffer::list(first, second, job, indices, points)
         }
         Checked::Bad(fault) => ListingAnswer::Refused(fault),

@@ -27,7 +27,7 @@ pub fn mutual_page(
     let checked = jobs::check_mutual(first, first_closed, second, second_closed, epsilon);
     match checked {
         Checked::Fine => {
-            let job = jobs::mutual_job(first, first_closed, second, second_closed, epsilon);
+            let job = jobs::mutual_job(first, first_closed, second, second_closed, false, epsilon);
             page::page(first, second, job, position, budget, indices, points)
         }
         Checked::Bad(fault) => PageAnswer::Refused(fault),

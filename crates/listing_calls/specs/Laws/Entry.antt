@@ -1,7 +1,7 @@
 -- From the checks of a listing or a page to its outcome: the chain of calls is the list of checks; if they are fine, every pair
 -- of the job is fine for the pair call; and the outcome is that of checked paths, or the refusal of the first fault.
 use mathlib.Core.Path.{_≡_, refl, sym, ap, _∙_}
-use mathlib.Core.Bool.{Bool}
+use mathlib.Core.Bool.{Bool, false}
 use mathlib.Core.List.{List, [], _∷_, _++_}
 use Prim.Native.Nat.{ℕ}
 use lib.Ieee.{Float}
@@ -26,7 +26,7 @@ use Rattle.listing_pairs.specs.Rows.{rowsOf, lookedAt}
 use Rattle.listing_pairs.specs.Look.{look}
 use Rattle.listing_pairs.specs.Workings.Job.{every}
 use Rattle.listing_pairs.specs.Laws.Sequence.{mutual-every, self-every}
-use Rattle.listing_pairs.specs.Workings.Ready.{Ready, paths-ready}
+use Rattle.listing_pairs.specs.Workings.Ready.{lookBy, Ready, paths-ready}
 use Rattle.listing_outcomes.specs.declared.answer.ListingAnswer.{ListingAnswer}
 use Rattle.listing_outcomes.specs.declared.answer.ListingAnswer.the-variants.{Refused, Listed}
 use Rattle.listing_outcomes.specs.declared.answer.PageAnswer.{PageAnswer}
@@ -40,21 +40,24 @@ use Rattle.listing_calls.specs.Workings.Jobs.{mutualJob, selfJob}
 use Rattle.listing_calls.specs.Listing.{mutualChecks, checkMutual, mutualListing, selfChecks, checkSelf, selfListing}
 
 -- ---- any call: its checks, then the last ones
+pub after-fine : (checks more : List Checked) → firstFault checks ≡ Fine → firstFault (checks ++ more) ≡ firstFault more
+after-fine checks more e =
+    first-append checks more ∙ ap (λ (t : Checked). later t (firstFault more)) e ∙ fine-left (firstFault more)
+
+pub after-bad : (checks more : List Checked) (x : Fault) → firstFault checks ≡ Bad x → firstFault (checks ++ more) ≡ Bad x
+unfolding later
+after-bad checks more x e = first-append checks more ∙ ap (λ (t : Checked). later t (firstFault more)) e
+
 module _ {A : Type 0} (refused : Fault → A) (checks more : List Checked) (answer : A) (rows : List Row)
     (i₀ : List ℕ) (p₀ : List Float) where
   outcome-fine : firstFault checks ≡ Fine
       → outcomeOf refused (firstFault (checks ++ more)) answer rows i₀ p₀
       ≡ outcomeOf refused (firstFault more) answer rows i₀ p₀
-  outcome-fine e =
-      ap (λ (t : Checked). outcomeOf refused t answer rows i₀ p₀)
-      (first-append checks more ∙ ap (λ (t : Checked). later t (firstFault more)) e ∙ fine-left (firstFault more))
+  outcome-fine e = ap (λ (t : Checked). outcomeOf refused t answer rows i₀ p₀) (after-fine checks more e)
 
   outcome-bad : (x : Fault) → firstFault checks ≡ Bad x
       → Leaves (outcomeOf refused (firstFault (checks ++ more)) answer rows i₀ p₀) (refused x) i₀ p₀
-  unfolding later
-  outcome-bad x e =
-      rw (first-append checks more ∙ ap (λ (t : Checked). later t (firstFault more)) e)
-      (record { answer = refl; indices = refl; points = refl })
+  outcome-bad x e = rw (after-bad checks more x e) (record { answer = refl; indices = refl; points = refl })
 
 -- a listing: if the checks are fine, it is that of checked paths
 listing-fine : (checks : List Checked) (f : ℕ → ℕ → Look) (ps : List Pair) (i₀ : List ℕ) (p₀ : List Float)
@@ -80,8 +83,8 @@ module _ (first : List Float) (firstClosed : Bool) (second : List Float) (second
   abbrev these : List Checked
   these = mutualChecks first firstClosed second secondClosed epsilon
 
-  abbrev job : Job
-  job = mutualJob first firstClosed second secondClosed epsilon
+  abbrev pub job : Bool → Job
+  job boxed = mutualJob first firstClosed second secondClosed boxed epsilon
 
   abbrev f : ℕ → ℕ → Look
   f = look first second epsilon
@@ -114,23 +117,27 @@ module _ (first : List Float) (firstClosed : Bool) (second : List Float) (second
         let a = Each.epsilon epsilon in
         later-fine a (shape first 0) .0 (later-fine (later a (shape first 0)) (shape second 1) .0 (inner .0) .0) .0
 
-    pub mutual-ready : (j : Job) → j ≡ job → Ready first second j
-    mutual-ready j is = rw is (paths-ready first second firstClosed secondClosed job eps (inner .1) (outer .1) refl refl)
+    pub mutual-ready : {boxed : Bool} (j : Job) → j ≡ job boxed → Ready first second j
+    mutual-ready {boxed} j is =
+        rw is (paths-ready first second firstClosed secondClosed (job boxed) eps (inner .1) (outer .1) refl refl)
 
-    module _ (j : Job) (is : j ≡ job) (i₀ i : List ℕ) (p₀ p : List Float) where
-      pub mutual-listed : (r : ListingAnswer) → Leaves (listed (look first second (j .epsilon)) (every j) i₀ p₀) r i p
+    pub mutual-plain : (j : Job) → j ≡ job false → j .boxed ≡ false
+    mutual-plain j is = ap (λ (k : Job). k .boxed) is
+
+    module _ (j : Job) (is : j ≡ job false) (i₀ i : List ℕ) (p₀ p : List Float) where
+      pub mutual-listed : (r : ListingAnswer) → Leaves (listed (lookBy first second j) (every j) i₀ p₀) r i p
           → Leaves (mutualListing first firstClosed second secondClosed epsilon i₀ p₀) r i p
       unfolding mutualListing checkMutual
       mutual-listed r h =
-          let g : Leaves (listed f between i₀ p₀) r i p = rw (is, mutual-every job refl) at h in
+          let g : Leaves (listed f between i₀ p₀) r i p = rw (is, mutual-every (job false) refl) at h in
           rw (listing-fine these f between i₀ p₀ e) g
 
       pub mutual-paged : (r : PageAnswer) (position budget : ℕ)
-          → Leaves (paged (look first second (j .epsilon)) (every j) position budget i₀ p₀) r i p
+          → Leaves (paged (lookBy first second j) (every j) position budget i₀ p₀) r i p
           → Leaves (mutualPage first firstClosed second secondClosed epsilon position budget i₀ p₀) r i p
       unfolding mutualPage checkMutual
       mutual-paged r position budget h =
-          let g : Leaves (paged f between position budget i₀ p₀) r i p = rw (is, mutual-every job refl) at h in
+          let g : Leaves (paged f between position budget i₀ p₀) r i p = rw (is, mutual-every (job false) refl) at h in
           rw (page-fine these f between position budget i₀ p₀ e) g
 
   module _ (x : Fault) (i₀ : List ℕ) (p₀ : List Float)
@@ -153,8 +160,8 @@ module _ (path : List Float) (closed : Bool) (epsilon : Float) where
   abbrev its : List Checked
   its = selfChecks path closed epsilon
 
-  abbrev own-job : Job
-  own-job = selfJob path closed epsilon
+  abbrev pub own-job : Bool → Job
+  own-job boxed = selfJob path closed boxed epsilon
 
   abbrev g : ℕ → ℕ → Look
   g = look path path epsilon
@@ -178,23 +185,27 @@ module _ (path : List Float) (closed : Bool) (epsilon : Float) where
     self-eps : Each.epsilon epsilon ≡ Fine
     self-eps = later-fine (Each.epsilon epsilon) (shape path 0) .0 (whole .0) .0
 
-    pub self-ready : (j : Job) → j ≡ own-job → Ready path path j
-    self-ready j is = rw is (paths-ready path path closed closed own-job self-eps (whole .1) (whole .1) refl refl)
+    pub self-ready : {boxed : Bool} (j : Job) → j ≡ own-job boxed → Ready path path j
+    self-ready {boxed} j is =
+        rw is (paths-ready path path closed closed (own-job boxed) self-eps (whole .1) (whole .1) refl refl)
 
-    module _ (j : Job) (is : j ≡ own-job) (i₀ i : List ℕ) (p₀ p : List Float) where
-      pub self-listed : (r : ListingAnswer) → Leaves (listed (look path path (j .epsilon)) (every j) i₀ p₀) r i p
+    pub self-plain : (j : Job) → j ≡ own-job false → j .boxed ≡ false
+    self-plain j is = ap (λ (k : Job). k .boxed) is
+
+    module _ (j : Job) (is : j ≡ own-job false) (i₀ i : List ℕ) (p₀ p : List Float) where
+      pub self-listed : (r : ListingAnswer) → Leaves (listed (lookBy path path j) (every j) i₀ p₀) r i p
           → Leaves (selfListing path closed epsilon i₀ p₀) r i p
       unfolding selfListing checkSelf
       self-listed r h =
-          let k : Leaves (listed g own i₀ p₀) r i p = rw (is, self-every own-job refl refl) at h in
+          let k : Leaves (listed g own i₀ p₀) r i p = rw (is, self-every (own-job false) refl refl) at h in
           rw (listing-fine its g own i₀ p₀ e) k
 
       pub self-paged : (r : PageAnswer) (position budget : ℕ)
-          → Leaves (paged (look path path (j .epsilon)) (every j) position budget i₀ p₀) r i p
+          → Leaves (paged (lookBy path path j) (every j) position budget i₀ p₀) r i p
           → Leaves (selfPage path closed epsilon position budget i₀ p₀) r i p
       unfolding selfPage checkSelf
       self-paged r position budget h =
-          let k : Leaves (paged g own position budget i₀ p₀) r i p = rw (is, self-every own-job refl refl) at h in
+          let k : Leaves (paged g own position budget i₀ p₀) r i p = rw (is, self-every (own-job false) refl refl) at h in
           rw (page-fine its g own position budget i₀ p₀ e) k
 
   module _ (x : Fault) (i₀ : List ℕ) (p₀ : List Float) (e : checkSelf path closed epsilon ≡ Bad x) where

@@ -5,22 +5,24 @@ use lib.Ieee.{Float}
 use Rattle.paths.specs.Segments.{segmentCount}
 use Rattle.listing_pairs.specs.declared.order.Job.{Job}
 
-abbrev pub mutualJob : List Float → Bool → List Float → Bool → Float → Job
-mutualJob first firstClosed second secondClosed epsilon =
+abbrev pub mutualJob : List Float → Bool → List Float → Bool → Bool → Float → Job
+mutualJob first firstClosed second secondClosed boxed epsilon =
     record {
       n = segmentCount first firstClosed;
       m = segmentCount second secondClosed;
       own = false;
       closed = false;
+      boxed = boxed;
       epsilon = epsilon;
     }
 
-abbrev pub selfJob : List Float → Bool → Float → Job
-selfJob path closed epsilon =
+abbrev pub selfJob : List Float → Bool → Bool → Float → Job
+selfJob path closed boxed epsilon =
     record {
       n = segmentCount path closed;
       m = segmentCount path closed;
       own = true;
       closed = closed;
+      boxed = boxed;
       epsilon = epsilon;
     }

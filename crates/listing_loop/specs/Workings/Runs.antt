@@ -18,9 +18,10 @@ use Rattle.boxes.specs.Workings.Next.{first, First, first-is, meets, apart}
 use Rattle.listing_pairs.specs.declared.row.Look.{Look}
 use Rattle.listing_pairs.specs.declared.row.Look.the-variants.{Skipped}
 use Rattle.listing_pairs.specs.declared.order.Job.{Job}
-use Rattle.listing_pairs.specs.Look.{look, boxedLook}
+use Rattle.listing_pairs.specs.Look.{look}
+use Rattle.listing_pairs.specs.Boxed.{boxesMeet}
 use Rattle.listing_pairs.specs.Laws.Order.{lt-or-le}
-use Rattle.listing_pairs.specs.Workings.Ready.{lookBy}
+use Rattle.listing_pairs.specs.Workings.Ready.{boxedLook, lookBy}
 use Rattle.listing_pairs.specs.Workings.Keeping.{boxesKept, BoxesKept}
 use Rattle.listing_loop.specs.declared.run.Run.{Run}
 
@@ -88,7 +89,7 @@ module _ (first′ second kept : List Float) (job : Job) (i j end : ℕ) (b : Bo
 
     gives : (k : ℕ) → k < end → (t : Bool) → these k ≡ t
         → lookBy first′ second job i k ≡ cond t (look first′ second (job .epsilon) i k) Skipped
-    unfolding boxedLook
+    unfolding boxedLook boxesMeet
     gives k h t e =
         ap (λ (c : Bool). cond c (boxedLook first′ second (job .epsilon)) (look first′ second (job .epsilon)) i k) boxed
         ∙ ap (λ (c : Bool). cond c (look first′ second (job .epsilon) i k) Skipped) (sym (same k h) ∙ e)

@@ -17,9 +17,16 @@ use Rattle.paths.specs.Segments.{segmentFrom, segmentCount}
 use Rattle.paths.specs.Laws.Segments.{count-within, few-segments}
 use Rattle.paths.specs.Laws.Fine.{SegmentFine, PathFine, arc-fine, segment-fine}
 use Rattle.listing_pairs.specs.declared.row.Look.{Look}
+use Rattle.listing_pairs.specs.declared.row.Look.the-variants.{Skipped}
 use Rattle.listing_pairs.specs.declared.order.Job.{Job}
 use Rattle.listing_pairs.specs.Row.{lookOf}
-use Rattle.listing_pairs.specs.Look.{look, boxedLook}
+use Rattle.listing_pairs.specs.Look.{look}
+use Rattle.listing_pairs.specs.Boxed.{boxesMeet}
+
+-- in a boxed listing a pair whose boxes do not meet is skipped
+unfoldable pub boxedLook : List Float → List Float → Float → ℕ → ℕ → Look
+boxedLook first second epsilon i j =
+    cond (boxesMeet first second epsilon (record { i = i; j = j })) (look first second epsilon i j) Skipped
 
 -- what a pair gives in the listing of a job
 abbrev pub lookBy : List Float → List Float → Job → ℕ → ℕ → Look

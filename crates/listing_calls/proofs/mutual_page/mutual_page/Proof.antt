@@ -5,7 +5,7 @@ use borrow.Author.Needs.{needs}
 use denote.Ref.{now}
 use Rattle.checks.specs.declared.fault.Checked.the-variants.{Fine}
 use Rattle.listing_calls.specs.Listing.{checkMutual}
-use Rattle.listing_calls.specs.Laws.Entry.{mutual-ready, mutual-paged, mutual-page-refused}
+use Rattle.listing_calls.specs.Laws.Entry.{mutual-ready, mutual-plain, mutual-paged, mutual-page-refused}
 use Rattle.listing_calls.proofs.mutual_page.mutual_page.Statement.{statement}
 use Rattle.listing_calls.proofs.mutual_page.mutual_page.Tie as tie
 
@@ -20,7 +20,9 @@ fine c = sym (c .before .before .check-mutual .ensures) ∙ c .enum-told .given 
 
 page-requires : tie.Need-page-requires
 page-requires c κs =
-    let j = c .before .before in mutual-ready _ _ _ _ _ (fine (j .before)) _ (j .mutual-job .ensures)
+    let j = c .before .before in
+    let done = fine (j .before) in
+    (mutual-ready _ _ _ _ _ done _ (j .mutual-job .ensures), mutual-plain _ _ _ _ _ done _ (j .mutual-job .ensures))
 
 returns : tie.Need-returns
 returns c =

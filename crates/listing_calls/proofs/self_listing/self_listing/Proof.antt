@@ -5,7 +5,7 @@ use borrow.Author.Needs.{needs}
 use denote.Ref.{now}
 use Rattle.checks.specs.declared.fault.Checked.the-variants.{Fine}
 use Rattle.listing_calls.specs.Listing.{checkSelf}
-use Rattle.listing_calls.specs.Laws.Entry.{self-ready, self-listed, self-refused}
+use Rattle.listing_calls.specs.Laws.Entry.{self-ready, self-plain, self-listed, self-refused}
 use Rattle.listing_calls.proofs.self_listing.self_listing.Statement.{statement}
 use Rattle.listing_calls.proofs.self_listing.self_listing.Tie as tie
 
@@ -20,7 +20,9 @@ fine c = sym (c .before .before .check-self .ensures) ∙ c .enum-told .given .1
 
 list-requires : tie.Need-list-requires
 list-requires c κs =
-    let j = c .before .before in self-ready _ _ _ (fine (j .before)) _ (j .self-job .ensures)
+    let j = c .before .before in
+    let done = fine (j .before) in
+    (self-ready _ _ _ done _ (j .self-job .ensures), self-plain _ _ _ done _ (j .self-job .ensures))
 
 returns : tie.Need-returns
 returns c =
