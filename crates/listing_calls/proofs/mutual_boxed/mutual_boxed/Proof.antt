@@ -1,63 +1,42 @@
+-- `listing_calls::mutual_boxed::mutual_boxed` meets its contract: a fault is answered as it is; if there is none, every pair is
+-- fine for the pair call, and the job's boxed listing is the two paths'.
+use mathlib.Core.Path.{_≡_, sym, _∙_}
 use borrow.Author.Needs.{needs}
+use denote.Ref.{now}
+use Rattle.checks.specs.declared.fault.Checked.the-variants.{Fine}
+use Rattle.listing_calls.specs.Listing.{checkMutual}
+use Rattle.listing_calls.specs.Laws.Entry.{mutual-ready}
+use Rattle.listing_calls.specs.Laws.BoxedEntry as entry
 use Rattle.listing_calls.proofs.mutual_boxed.mutual_boxed.Statement.{statement}
 use Rattle.listing_calls.proofs.mutual_boxed.mutual_boxed.Tie as tie
-use Rattle.listing_calls.proofs.mutual_boxed.mutual_boxed.Reads as reads
-use Rattle.listing_calls.proofs.mutual_boxed.mutual_boxed.Lts as lts
-use Rattle.listing_calls.proofs.jobs.check_mutual.Reads as check-mutual-reads
-use Rattle.listing_calls.proofs.jobs.mutual_job.Reads as mutual-job-reads
-use Rattle.listing_outcomes.proofs.boxed.list_boxed.Reads as list-boxed-reads
 
--- src/mutual_boxed.rt:26:9
-check-mutual-requires : tie.Need-check-mutual-requires
-check-mutual-requires c κs = search needs
+abbrev start : tie.After-check-mutual → tie.Start
+start c = c .before .before .before .before .before .before
 
--- src/mutual_boxed.rt:29:17
-enum-told : tie.Need-enum-told
-enum-told c = search needs
+-- no fault was found
+fine : (c : tie.After-enum-told)
+    → let a = start (c .before .before) .args in
+    checkMutual (now (a .first)) (a .first-closed) (now (a .second)) (a .second-closed) (a .epsilon) ≡ Fine
+fine c = sym (c .before .before .check-mutual .ensures) ∙ c .enum-told .given .1
 
--- src/mutual_boxed.rt:29:17
-mutual-job-requires : tie.Need-mutual-job-requires
-mutual-job-requires c κs = search needs
-
--- src/mutual_boxed.rt:30:13
 list-boxed-requires : tie.Need-list-boxed-requires
-list-boxed-requires c κs = ?
+list-boxed-requires c κs =
+    let j = c .before .before .before in mutual-ready _ _ _ _ _ (fine (j .before)) _ (j .mutual-job .ensures)
 
--- src/mutual_boxed.rt:32:22
-enum-known-checked : tie.Need-enum-known-checked
-enum-known-checked c = search needs
-
--- src/mutual_boxed.rt:10:1
-same-length : tie.Need-same-length
-same-length c = search needs
-
--- src/mutual_boxed.rt:10:1
-same-length-2 : tie.Need-same-length-2
-same-length-2 c = search needs
-
--- src/mutual_boxed.rt:10:1
-same-length-3 : tie.Need-same-length-3
-same-length-3 c = search needs
-
--- src/mutual_boxed.rt:10:1
 returns : tie.Need-returns
-returns c = ?
+returns c =
+    let l = c .before .before .before .before .before .before in
+    let j = l .before .before .before .before in
+    entry.mutual-boxed _ _ _ _ _ _ _ _ _ _ _ _ (fine (j .before)) _ (j .mutual-job .ensures) (l .list-boxed .ensures)
 
--- src/mutual_boxed.rt:10:1
 returns-2 : tie.Need-returns-2
-returns-2 c = ?
+returns-2 c =
+    entry.mutual-boxed-refused _ _ _ _ _ _ _ _ _
+    (sym (c .before .before .before .check-mutual .ensures) ∙ c .before .checked .given .1)
 
 pub mutual-boxed-spec : {M : Type 1} → statement M
 mutual-boxed-spec =
     tie.close
     (tie.spec
-    check-mutual-requires
-    enum-told
-    mutual-job-requires
-    list-boxed-requires
-    enum-known-checked
-    same-length
-    same-length-2
-    same-length-3
-    returns
-    returns-2)
+    (λ c. search needs) (λ c. search needs) (λ c. search needs) list-boxed-requires
+    (λ c. search needs) (λ c. search needs) (λ c. search needs) (λ c. search needs) returns returns-2)

@@ -1,63 +1,42 @@
+-- `listing_calls::self_boxed::self_boxed` meets its contract: a fault is answered as it is; if there is none, every pair is
+-- fine for the pair call, and the job's boxed listing is the path's.
+use mathlib.Core.Path.{_≡_, sym, _∙_}
 use borrow.Author.Needs.{needs}
+use denote.Ref.{now}
+use Rattle.checks.specs.declared.fault.Checked.the-variants.{Fine}
+use Rattle.listing_calls.specs.Listing.{checkSelf}
+use Rattle.listing_calls.specs.Laws.Entry.{self-ready}
+use Rattle.listing_calls.specs.Laws.BoxedEntry as entry
 use Rattle.listing_calls.proofs.self_boxed.self_boxed.Statement.{statement}
 use Rattle.listing_calls.proofs.self_boxed.self_boxed.Tie as tie
-use Rattle.listing_calls.proofs.self_boxed.self_boxed.Reads as reads
-use Rattle.listing_calls.proofs.self_boxed.self_boxed.Lts as lts
-use Rattle.listing_calls.proofs.jobs.check_self.Reads as check-self-reads
-use Rattle.listing_calls.proofs.jobs.self_job.Reads as self-job-reads
-use Rattle.listing_outcomes.proofs.boxed.list_boxed.Reads as list-boxed-reads
 
--- src/self_boxed.rt:23:9
-check-self-requires : tie.Need-check-self-requires
-check-self-requires c κs = search needs
+abbrev start : tie.After-check-self → tie.Start
+start c = c .before .before .before .before .before
 
--- src/self_boxed.rt:26:17
-enum-told : tie.Need-enum-told
-enum-told c = search needs
+-- no fault was found
+fine : (c : tie.After-enum-told)
+    → let a = start (c .before .before) .args in
+    checkSelf (now (a .path)) (a .closed) (a .epsilon) ≡ Fine
+fine c = sym (c .before .before .check-self .ensures) ∙ c .enum-told .given .1
 
--- src/self_boxed.rt:26:17
-self-job-requires : tie.Need-self-job-requires
-self-job-requires c κs = search needs
-
--- src/self_boxed.rt:27:13
 list-boxed-requires : tie.Need-list-boxed-requires
-list-boxed-requires c κs = ?
+list-boxed-requires c κs =
+    let j = c .before .before .before in self-ready _ _ _ (fine (j .before)) _ (j .self-job .ensures)
 
--- src/self_boxed.rt:29:22
-enum-known-checked : tie.Need-enum-known-checked
-enum-known-checked c = search needs
-
--- src/self_boxed.rt:10:1
-same-length : tie.Need-same-length
-same-length c = search needs
-
--- src/self_boxed.rt:10:1
-same-length-2 : tie.Need-same-length-2
-same-length-2 c = search needs
-
--- src/self_boxed.rt:10:1
-same-length-3 : tie.Need-same-length-3
-same-length-3 c = search needs
-
--- src/self_boxed.rt:10:1
 returns : tie.Need-returns
-returns c = ?
+returns c =
+    let l = c .before .before .before .before .before .before in
+    let j = l .before .before .before .before in
+    entry.self-boxed _ _ _ _ _ _ _ _ _ _ (fine (j .before)) _ (j .self-job .ensures) (l .list-boxed .ensures)
 
--- src/self_boxed.rt:10:1
 returns-2 : tie.Need-returns-2
-returns-2 c = ?
+returns-2 c =
+    entry.self-boxed-refused _ _ _ _ _ _ _
+    (sym (c .before .before .before .check-self .ensures) ∙ c .before .checked .given .1)
 
 pub self-boxed-spec : {M : Type 1} → statement M
 self-boxed-spec =
     tie.close
     (tie.spec
-    check-self-requires
-    enum-told
-    self-job-requires
-    list-boxed-requires
-    enum-known-checked
-    same-length
-    same-length-2
-    same-length-3
-    returns
-    returns-2)
+    (λ c. search needs) (λ c. search needs) (λ c. search needs) list-boxed-requires
+    (λ c. search needs) (λ c. search needs) (λ c. search needs) (λ c. search needs) returns returns-2)
