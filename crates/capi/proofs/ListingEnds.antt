@@ -8,7 +8,9 @@ use lib.ListN.{length}
 use lib.Seq.{sets}
 use Rattle.listing_outcomes.specs.Outcome.{Outcome, Leaves}
 use Rattle.capi.specs.Handed.{noRoomCode}
-use Rattle.capi.specs.HandedListing.{Counted, HandedOver}
+use Rattle.listing_outcomes.specs.BoxedOutcome.{BoxedOutcome, LeavesBoxed}
+use Rattle.listing_outcomes.specs.declared.answer.ListingAnswer.{ListingAnswer}
+use Rattle.capi.specs.HandedListing.{Counted, HandedOver, HandedBoxed, countPlaces, listing}
 
 module _ {A : Type 0} {count : A → Counted} where
   module _ {places : ℕ} (o : Outcome A) (c₀ i₀ : List ℕ) (p₀ : List Float) where
@@ -27,3 +29,19 @@ module _ {A : Type 0} {count : A → Counted} where
           indices = simp e (leaves .indices);
           points = simp e (leaves .points);
         }
+
+-- a boxed listing
+module _ (o : BoxedOutcome) (c₀ : List ℕ) (b₀ : List Float) (i₀ : List ℕ) (p₀ : List Float) where
+  pub no-room-boxed : length c₀ < countPlaces → HandedBoxed o noRoomCode c₀ c₀ b₀ b₀ i₀ i₀ p₀ p₀
+  no-room-boxed h =
+      let e = lt-ltb (length c₀) countPlaces h in record { rows = no-room (o .listing) c₀ i₀ p₀ h; boxes = simp e }
+
+  pub handed-boxed : countPlaces ≤ length c₀
+      → (a : ListingAnswer) (n : ℕ) (c : List ℕ) (b : List Float) (i : List ℕ) (p : List Float) → LeavesBoxed o a b i p
+      → n ≡ listing a .code → c ≡ sets c₀ 0 (listing a .counts) → HandedBoxed o n c₀ c b₀ b i₀ i p₀ p
+  handed-boxed h a n c b i p leaves code-is counts =
+      let e = le-ltb (length c₀) countPlaces h in
+      record {
+        rows = handed (o .listing) c₀ i₀ p₀ h a n c i p (leaves .listing) code-is counts;
+        boxes = simp e (leaves .boxes);
+      }

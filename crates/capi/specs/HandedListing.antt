@@ -1,5 +1,5 @@
--- How a listing and a page go to a caller in C, as decided here: a number is returned, the counts go into a third lent slice,
--- and the rows into the two slices that the call is lent.
+-- How a listing, boxed or not, and a page go to a caller in C, as decided here: a number is returned, the counts go into a lent
+-- slice of their own, and the rows and the index of boxes into the slices that the call is lent.
 use Prim.Native.Nat.{ℕ}
 use mathlib.Core.Path.{_≡_}
 use mathlib.Core.Bool.{Bool, cond}
@@ -15,6 +15,7 @@ use Rattle.listing_outcomes.specs.declared.answer.ListingAnswer.the-variants.{R
 use Rattle.listing_outcomes.specs.declared.answer.PageAnswer.{PageAnswer}
 use Rattle.listing_outcomes.specs.declared.answer.PageAnswer.the-variants as page
 use Rattle.listing_outcomes.specs.Outcome.{Outcome}
+use Rattle.listing_outcomes.specs.BoxedOutcome.{BoxedOutcome}
 use Rattle.capi.specs.Handed.{noRoomCode}
 
 -- ---- what is returned of an answer, and the counts that are written
@@ -55,3 +56,9 @@ HandedListing o returned c₀ c i₀ i p₀ p = HandedOver countPlaces listing o
 
 abbrev pub HandedPage : Outcome PageAnswer → ℕ → List ℕ → List ℕ → List ℕ → List ℕ → List Float → List Float → Type 0
 HandedPage o returned c₀ c i₀ i p₀ p = HandedOver pagePlaces ofPage o returned c₀ c i₀ i p₀ p
+
+-- a boxed listing: as a listing, and the index of boxes
+pub record HandedBoxed (o : BoxedOutcome) (returned : ℕ) (c₀ c : List ℕ) (b₀ b : List Float) (i₀ i : List ℕ) (p₀ p : List Float)
+    : Type 0 where
+  pub rows : HandedListing (o .listing) returned c₀ c i₀ i p₀ p
+  pub boxes : b ≡ cond (ltb (length c₀) countPlaces) b₀ (o .boxes)

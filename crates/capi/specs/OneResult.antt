@@ -6,7 +6,8 @@ use mathlib.Core.List.{List}
 use lib.Ieee.{Float}
 use Rattle.listing_outcomes.specs.Outcome.{Outcome}
 use Rattle.capi.specs.Handed.{Handed}
-use Rattle.capi.specs.HandedListing.{Counted, HandedOver}
+use Rattle.listing_outcomes.specs.BoxedOutcome.{BoxedOutcome}
+use Rattle.capi.specs.HandedListing.{Counted, HandedOver, HandedBoxed}
 use Rattle.answers.specs.declared.padded.PaddedAnswer.{PaddedAnswer}
 
 pub handed-one-result : {f : PaddedAnswer} {r s : ℕ} {old a b : List Float} → Handed f r old a → Handed f s old b
@@ -19,3 +20,10 @@ pub counted-one-result : {A : Type 0} {places : ℕ} {count : A → Counted} {o 
     → (r ≡ s) × (c ≡ d) × (i ≡ j) × (p ≡ q)
 counted-one-result a b =
     (a .code-is ∙ sym (b .code-is), a .counts ∙ sym (b .counts), a .indices ∙ sym (b .indices), a .points ∙ sym (b .points))
+
+pub boxed-one-result : {o : BoxedOutcome} {r s : ℕ} {c₀ c d i₀ i j : List ℕ} {b₀ a b p₀ p q : List Float}
+    → HandedBoxed o r c₀ c b₀ a i₀ i p₀ p → HandedBoxed o s c₀ d b₀ b i₀ j p₀ q
+    → (r ≡ s) × (c ≡ d) × (i ≡ j) × (p ≡ q) × (a ≡ b)
+boxed-one-result x y =
+    let same = counted-one-result (x .rows) (y .rows) in
+    (same .0, same .1, same .2, same .3, x .boxes ∙ sym (y .boxes))

@@ -34,8 +34,10 @@ use Rattle.listing_outcomes.specs.declared.answer.ListingAnswer.the-variants as
 use Rattle.listing_outcomes.specs.declared.answer.PageAnswer.the-variants as pages
 use Rattle.listing_outcomes.specs.Outcome.{outcomeOf, outcome}
 use Rattle.listing_outcomes.specs.PageOutcome.{pageOutcome}
+use Rattle.listing_outcomes.specs.BoxedOutcome.{boxedOutcome}
 use Rattle.listing_calls.specs.Listing.{mutualListing, selfListing}
 use Rattle.listing_calls.specs.Pages.{mutualPage, selfPage}
+use Rattle.listing_calls.specs.Boxed.{mutualBoxed, selfBoxed}
 use Rattle.listing_calls.specs.Laws.RefusalNumbers as laws
 use Rattle.capi.specs.Handed.{noRoomCode}
 
@@ -83,7 +85,7 @@ pline-seg v1 v2 u1 u2 eps =
     of-checked ofPairs.Refused ofPairs.Met (record { faults = λ f g e. cc; kinds = λ f i e. no-number cc })
     (calls.checkPlineSeg v1 v2 u1 u2 eps) (plineSeg v1 v2 u1 u2 eps) (search smalls depth 30)
 
--- ---- listings and pages
+-- ---- listings, boxed or not, and pages
 module _ {A : Type 0} (refused : Fault → A) (same : (f g : Fault) → refused f ≡ refused g → f ≡ g) where
   of-outcome : (c : Checked) (answer : A) (rows : List Row) (i : List ℕ) (p : List Float) → Small c
       → ((f : Fault) → answer ≡ refused f → ⊥)
@@ -114,6 +116,13 @@ module _ (first : List Float) (firstClosed : Bool) (second : List Float) (second
       of-outcome pages.Refused (λ f g e. cc) _ _ _ i p
       (laws.mutual-page-small position _ budget i p first firstClosed second secondClosed eps) (λ f e. page-other f e)
 
+  pub mutual-boxed : (b : List Float) (f : Fault)
+      → mutualBoxed first firstClosed second secondClosed eps b i p .listing .answer ≡ listings.Refused f → Shown f
+  unfolding mutualBoxed boxedOutcome
+  mutual-boxed b =
+      of-outcome listings.Refused (λ f g e. cc) _ _ _ i p
+      (laws.mutual-boxed-small _ b _ i p first firstClosed second secondClosed eps) (λ f e. listing-other f e)
+
 module _ (path : List Float) (closed : Bool) (eps : Float) (i : List ℕ) (p : List Float) where
   pub self-listing : (f : Fault) → selfListing path closed eps i p .answer ≡ listings.Refused f → Shown f
   unfolding selfListing outcome
@@ -126,6 +135,13 @@ module _ (path : List Float) (closed : Bool) (eps : Float) (i : List ℕ) (p : L
   self-page position budget =
       of-outcome pages.Refused (λ f g e. cc) _ _ _ i p (laws.self-page-small position _ budget i p path closed eps)
       (λ f e. page-other f e)
+
+  pub self-boxed : (b : List Float) (f : Fault)
+      → selfBoxed path closed eps b i p .listing .answer ≡ listings.Refused f → Shown f
+  unfolding selfBoxed boxedOutcome
+  self-boxed b =
+      of-outcome listings.Refused (λ f g e. cc) _ _ _ i p (laws.self-boxed-small _ b _ i p path closed eps)
+      (λ f e. listing-other f e)
 
 -- ---- the code of no room is no word
 pub no-room-not-refused : refusedIn noRoomCode ≡ false

@@ -1,11 +1,13 @@
 // The library for callers in C, C++ and Rust. include/vonjekona.h declares each call and says what it promises. The eight float
 // calls are here: each is the function of its name in `floats` or `floats::bits`, with that function's contract. The other
 // calls put their answers into lent slices and promise `Handed`, `HandedListing` or `HandedPage`: `calls` has those of the
-// three kernels and `vj_pair`, which is `fast_pair::pair::pline_seg_intr`; `listing` has the listings, `page` their pages.
+// three kernels and `vj_pair`, which is `fast_pair::pair::pline_seg_intr`; `listing` has the listings, `page` their pages, and
+// `boxed` the boxed listings, which promise `HandedBoxed`.
 ghost use mathlib.Core.Path.{_≡_};
 ghost use Rattle.floats.specs.F64;
 ghost use Rattle.floats.specs.Bits;
 
+pub mod boxed;
 pub mod calls;
 pub mod hand_over;
 pub mod listing;

@@ -6,6 +6,7 @@ pub mod Boxed
 pub mod Filled
 pub mod Refusals
 pub mod PageRefusals
+pub mod BoxedRefusals
 pub mod Chain
 pub mod Chained
 pub mod HasRow

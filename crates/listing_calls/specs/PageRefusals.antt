@@ -37,12 +37,12 @@ module _ (n : ℕ) (p : Place) (says : Bool) where
   one : Gives (refuse says n p) p (test n says ∷ [])
   one = gives _ p (test n says ∷ []) (sym (fine-right (refuse says n p)))
 
-  refused-iff : {C : Type 0} → (says ≡ true) ↔ C → (refuse says n p ≡ bad n p) ↔ C
+  pub refused-iff : {C : Type 0} → (says ≡ true) ↔ C → (refuse says n p ≡ bad n p) ↔ C
   refused-iff c =
       Iff·trans (one .refused n)
       (Iff·trans (λ h. elim h [ inl here ↦ here .0 | inr after ↦ absurd (after .1) ], λ e. inl (e, refl)) c)
 
-  fine-iff : {C : Type 0} → (says ≡ false) ↔ C → (refuse says n p ≡ Fine) ↔ C
+  pub fine-iff : {C : Type 0} → (says ≡ false) ↔ C → (refuse says n p ≡ Fine) ↔ C
   fine-iff c = Iff·trans (one .fine) (Iff·trans (λ h. h .0, λ e. (e, tt)) c)
 
 -- ---- 13: exactly if the position is beyond the end

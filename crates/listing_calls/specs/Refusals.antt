@@ -59,7 +59,7 @@ counted c = Listed (c .rows) (c .pairs)
 pub record Untouched (o : Outcome ListingAnswer) (indices : List ℕ) (points : List Float) : Type 0 where
   pub as-found : (f : Fault) → o .answer ≡ Refused f → (o .indices ≡ indices) × (o .points ≡ points)
 
-distinct : Distinct Refused counted
+pub distinct : Distinct Refused counted
 distinct = record { faults = λ f g e. cc; kinds = λ f i e. no-number cc }
 
 -- ---- any listing

@@ -1,4 +1,4 @@
--- A fault that a listing or a page finds fits into a word, by the checks that find it.
+-- A fault that a listing, boxed or not, or a page finds fits into a word, by the checks that find it.
 use mathlib.Core.Path.{_≡_, sym, _∙_}
 use mathlib.Core.Bool.{Bool}
 use mathlib.Core.List.{List, [], _∷_, _++_}
@@ -19,6 +19,7 @@ use Rattle.paths.specs.Laws.RefusalNumbers.{shape-small, shape-few, path-small}
 use Rattle.listing_pairs.specs.declared.row.Row.{Row}
 use Rattle.listing_outcomes.specs.Outcome.{roomCheck}
 use Rattle.listing_outcomes.specs.PageOutcome.{positionCheck, budgetCheck, rowCheck, limits}
+use Rattle.listing_outcomes.specs.BoxedOutcome.{indexCheck}
 use Rattle.listing_calls.specs.Listing.{mutualChecks, selfChecks}
 
 -- the earlier of two lists of checks is fine if both are
@@ -80,6 +81,24 @@ module _ (rows : List Row) (i : List ℕ) (p : List Float) where
       → Small (firstFault (selfChecks path closed eps ++ (roomCheck rows i p ∷ [])))
   self-small path closed eps =
       append (selfChecks path closed eps) (roomCheck rows i p ∷ []) (self-checked path closed eps) (and room-small fine)
+
+module _ (idx b : List Float) (rows : List Row) (i : List ℕ) (p : List Float) where
+  abbrev last : List Checked
+  last = indexCheck idx b ∷ roomCheck rows i p ∷ []
+
+  last-small : Small (firstFault (indexCheck idx b ∷ roomCheck rows i p ∷ []))
+  unfolding indexCheck
+  last-small = and (refused _ Refusal.boxes _ (omega arith) (omega arith) (at-0-0 _)) (and (room-small rows i p) fine)
+
+  pub mutual-boxed-small : (first : List Float) (firstClosed : Bool) (second : List Float) (secondClosed : Bool) (eps : Float)
+      → Small (firstFault (mutualChecks first firstClosed second secondClosed eps ++ last))
+  mutual-boxed-small first firstClosed second secondClosed eps =
+      append (mutualChecks first firstClosed second secondClosed eps) last
+      (mutual-checked first firstClosed second secondClosed eps) last-small
+
+  pub self-boxed-small : (path : List Float) (closed : Bool) (eps : Float)
+      → Small (firstFault (selfChecks path closed eps ++ last))
+  self-boxed-small path closed eps = append (selfChecks path closed eps) last (self-checked path closed eps) last-small
 
 module _ (position all budget : ℕ) (i : List ℕ) (p : List Float) where
   limits-small : Small (firstFault (limits position all budget i p))

@@ -1,0 +1,15 @@
+-- `capi::boxed::vj_self_boxed` meets its contract: without room for the counts nothing is done; else the listing is handed over.
+use borrow.Author.Needs.{needs}
+use Rattle.capi.proofs.ListingEnds.{no-room-boxed, handed-boxed}
+use Rattle.capi.proofs.boxed.vj_self_boxed.Statement.{statement}
+use Rattle.capi.proofs.boxed.vj_self_boxed.Tie as tie
+
+pub vj-self-boxed-spec : {M : Type 1} → statement M
+vj-self-boxed-spec =
+    tie.close
+    (tie.spec
+    (λ c. no-room-boxed _ _ _ _ _ (c .if1 .taken))
+    (λ c. search needs)
+    (λ c. search needs)
+    (λ c. search needs) (λ c. search needs) (λ c. search needs) (λ c. search needs)
+    (λ c. search handed-boxed))
