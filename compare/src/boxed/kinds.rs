@@ -1,81 +1,13 @@
 //! Kinds of call that a run must have met. They are read from the call itself, not from how it was drawn.
 
-use super::ask::{Asked, COUNTS};
+use super::case::Case;
 use super::index::A_GROUP;
-use super::model::{Boxed, NO_INDEX, NO_ROWS};
-use super::seen::{Seen, GAPS, SIDES, SORTS};
+use super::model::{NO_INDEX, NO_ROWS};
+use super::seen::{GAPS, SIDES, SORTS};
 use crate::crossing::faults::{INFINITE, NOT_A_NUMBER};
 use crate::listings::layout::Call;
 use crate::listings::lent::Old;
-use crate::listings::model::Path;
 use crate::pages::met::Met;
-
-/// A call as it was made. A plain copy of what is needed, so that a kind's test borrows nothing.
-pub struct Case {
-    /// Segments of each path, and whether it is closed.
-    paths: Vec<(usize, bool)>,
-    asked: Asked,
-    /// Floats of the first path's index, and of all.
-    first_floats: usize,
-    floats: usize,
-    /// The number of the first fault of the checks of numbers.
-    fault: Option<u64>,
-    /// The number of the refusal that is answered, if the counts have room.
-    refusal: Option<u64>,
-    rows: usize,
-    full_rows: usize,
-    pairs: u64,
-    looked_at: u64,
-    seen: Seen,
-}
-
-impl Case {
-    pub fn new(paths: &[Path], boxed: &Boxed, asked: &Asked) -> Case {
-        let refusal = boxed.fault(asked.boxes, asked.rows());
-        let form = |path: &Path| (path.segments(), path.closed);
-        Case {
-            paths: paths.iter().map(form).collect(),
-            asked: *asked,
-            first_floats: boxed.first_floats,
-            floats: boxed.floats,
-            fault: boxed.faults.first().map(|fault| fault.number),
-            refusal: refusal.map(|fault| fault.number),
-            rows: boxed.rows.len(),
-            full_rows: boxed.full_rows,
-            pairs: boxed.all_pairs,
-            looked_at: boxed.looked_at,
-            seen: boxed.seen,
-        }
-    }
-
-    fn counts_fit(&self) -> bool {
-        self.asked.room.counts >= COUNTS
-    }
-
-    fn is_answered(&self) -> bool {
-        self.counts_fit() && self.refusal.is_none()
-    }
-
-    fn is_refused(&self, number: u64) -> bool {
-        self.counts_fit() && self.refusal == Some(number)
-    }
-
-    /// How many floats there are beyond what the index needs.
-    fn beyond(&self) -> isize {
-        self.asked.boxes as isize - self.floats as isize
-    }
-
-    /// Whether the index does not fit, and whether the rows do not. Of paths with a fault no one knows the rows.
-    fn wrongs(&self) -> [bool; 2] {
-        let rows = self.asked.rows();
-        let no_rows = if self.fault.is_some() {
-            rows == 0
-        } else {
-            rows < self.rows
-        };
-        [self.beyond() < 0, no_rows]
-    }
-}
 
 /// The kinds that a call must meet: only a full run has the largest listing of one path.
 pub fn kinds(call: Call, full: bool) -> Met<Case> {

@@ -1,7 +1,8 @@
 //! Compares one call after the other with the model, and counts what came up: rows, refusals, kinds of call, and differences.
 
 use super::ask::{Asked, COUNTS};
-use super::kinds::{kinds, Case};
+use super::case::Case;
+use super::kinds::kinds;
 use super::lent::Lent;
 use super::model::Boxed;
 use super::Ours;

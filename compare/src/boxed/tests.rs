@@ -1,10 +1,13 @@
 //! The model on boxed listings worked out by hand; a right stand-in for the library, which must pass; and wrong ones, which the
 //! comparison must notice.
 
+use super::examples;
 use super::model::Boxed;
+use super::run::Run;
 use super::stand_in::{self, STAND_IN};
-use super::*;
 use crate::crossing::faults::Fault;
+use crate::listings::layout::Drawn;
+use crate::listings::model::Listed;
 
 const INPUTS: u64 = 1 << 17;
 
