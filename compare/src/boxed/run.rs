@@ -40,22 +40,29 @@ impl Run {
 
     pub fn all(&mut self, count: u64) {
         for _ in 0..2 + count / FULL {
-            self.sizes();
+            self.part(Run::sizes);
             for _ in 0..TOUCHING {
-                self.touching();
+                self.part(Run::touching);
             }
-            self.chosen();
+            self.part(Run::chosen);
         }
         for _ in 0..2 {
-            self.damaged();
+            self.part(Run::damaged);
         }
-        self.far_faults();
-        self.long_paths();
+        self.part(Run::far_faults);
+        self.part(Run::long_paths);
         while self.random < count && self.goes_on() {
             self.layouts();
         }
-        if count >= FULL && self.goes_on() {
-            self.largest();
+        if count >= FULL {
+            self.part(Run::largest);
+        }
+    }
+
+    /// A part of the run, unless there were differences enough.
+    fn part(&mut self, part: fn(&mut Run)) {
+        if self.goes_on() {
+            part(self);
         }
     }
 

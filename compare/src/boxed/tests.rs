@@ -137,6 +137,7 @@ fn wrong_stand_ins_are_found() {
         "from group to group",
         "neighbours are looked at",
         "the closing pair is looked at",
+        "the last group not in the index",
         "the one path's index twice",
         "groups before segments",
         "the second's groups before its segments",

@@ -167,19 +167,20 @@ fn is_pair(listed: Listed, i: usize, j: usize) -> bool {
 }
 
 fn index(listed: Listed, parts: &[Part; 2]) -> Vec<f64> {
-    let [first, second] = parts;
+    let lost = usize::from(is("the last group not in the index"));
+    let [(a, b), (c, d)] = parts.each_ref().map(|part| {
+        let groups = part.groups.len().saturating_sub(lost);
+        (&part.segments[..], &part.groups[..groups])
+    });
     let two = matches!(listed, Listed::Mutual(..)) || is("the one path's index twice");
-    let (a, b) = (&first.segments, &first.groups);
     let order = match () {
         _ if !two && is("groups before segments") => vec![b, a],
         _ if !two => vec![a, b],
-        _ if is("groups before segments") => vec![b, a, &second.groups, &second.segments],
-        _ if is("the second's groups before its segments") => {
-            vec![a, b, &second.groups, &second.segments]
-        }
-        _ if is("all segments, then all groups") => vec![a, &second.segments, b, &second.groups],
-        _ if is("the second path first") => vec![&second.segments, &second.groups, a, b],
-        _ => vec![a, b, &second.segments, &second.groups],
+        _ if is("groups before segments") => vec![b, a, d, c],
+        _ if is("the second's groups before its segments") => vec![a, b, d, c],
+        _ if is("all segments, then all groups") => vec![a, c, b, d],
+        _ if is("the second path first") => vec![c, d, a, b],
+        _ => vec![a, b, c, d],
     };
     order.into_iter().flatten().flatten().copied().collect()
 }
