@@ -97,22 +97,8 @@ impl Row<'_> {
     /// Times both in turns, and prints the line. Each is repeated so often that a round has at least this many calls or pairs.
     pub fn timed(self, a_round: u64, mut ours: impl FnMut(), mut other: impl FnMut()) {
         let times = (a_round / self.on).max(1);
-        let one = |pass: &mut dyn FnMut()| {
-            let start = clock::now();
-            for _ in 0..times {
-                pass();
-            }
-            (clock::now() - start).as_nanos() as f64 / (times * self.on) as f64
-        };
-        let mut least = [f64::INFINITY; 2];
-        let start = clock::now();
-        let mut rounds = 0;
-        while rounds < ROUNDS || clock::now() - start < SPENT {
-            rounds += 1;
-            least[0] = least[0].min(one(&mut ours));
-            least[1] = least[1].min(one(&mut other));
-        }
-        let [ours, other] = least;
+        let [ours, other] =
+            by_turns(times, &mut ours, &mut other).map(|time| time / self.on as f64);
         println!(
             "{:62} {:>8} {:9} {:>8} {ours:8.2} {other:8.2} {:6.2}",
             self.name,
@@ -122,6 +108,26 @@ impl Row<'_> {
             ours / other
         );
     }
+}
+
+/// Nanoseconds of each, the least of some rounds by turns. In a round each is repeated so many times.
+pub fn by_turns(times: u64, ours: &mut dyn FnMut(), other: &mut dyn FnMut()) -> [f64; 2] {
+    let one = |pass: &mut dyn FnMut()| {
+        let start = clock::now();
+        for _ in 0..times {
+            pass();
+        }
+        (clock::now() - start).as_nanos() as f64 / times as f64
+    };
+    let mut least = [f64::INFINITY; 2];
+    let start = clock::now();
+    let mut rounds = 0;
+    while rounds < ROUNDS || clock::now() - start < SPENT {
+        rounds += 1;
+        least[0] = least[0].min(one(ours));
+        least[1] = least[1].min(one(other));
+    }
+    least
 }
 
 /// Calls that do not wait for each other.

@@ -129,6 +129,37 @@ mod raw {
             counts: *mut u64,
             counts_room: usize,
         ) -> u64;
+        pub fn vj_mutual_boxed(
+            first: *const f64,
+            first_len: usize,
+            first_closed: bool,
+            second: *const f64,
+            second_len: usize,
+            second_closed: bool,
+            epsilon: f64,
+            boxes: *mut f64,
+            boxes_room: usize,
+            indices: *mut u64,
+            indices_room: usize,
+            points: *mut f64,
+            points_room: usize,
+            counts: *mut u64,
+            counts_room: usize,
+        ) -> u64;
+        pub fn vj_self_boxed(
+            path: *const f64,
+            len: usize,
+            closed: bool,
+            epsilon: f64,
+            boxes: *mut f64,
+            boxes_room: usize,
+            indices: *mut u64,
+            indices_room: usize,
+            points: *mut f64,
+            points_room: usize,
+            counts: *mut u64,
+            counts_room: usize,
+        ) -> u64;
     }
 }
 
@@ -283,6 +314,67 @@ pub fn vj_self_page(path: (&[f64], bool), epsilon: f64, page: Span, rows: Rows) 
             epsilon,
             page.position,
             page.budget,
+            indices.as_mut_ptr(),
+            indices.len(),
+            points.as_mut_ptr(),
+            points.len(),
+            counts.as_mut_ptr(),
+            counts.len(),
+        )
+    }
+}
+
+/// The boxed listing of two paths: its index goes into the boxes, four floats each.
+#[cfg(feature = "rust-text")]
+pub fn vj_mutual_boxed(
+    first: (&[f64], bool),
+    second: (&[f64], bool),
+    epsilon: f64,
+    boxes: &mut [f64],
+    rows: Rows,
+) -> u64 {
+    let Rows {
+        indices,
+        points,
+        counts,
+    } = rows;
+    unsafe {
+        raw::vj_mutual_boxed(
+            first.0.as_ptr(),
+            first.0.len(),
+            first.1,
+            second.0.as_ptr(),
+            second.0.len(),
+            second.1,
+            epsilon,
+            boxes.as_mut_ptr(),
+            boxes.len(),
+            indices.as_mut_ptr(),
+            indices.len(),
+            points.as_mut_ptr(),
+            points.len(),
+            counts.as_mut_ptr(),
+            counts.len(),
+        )
+    }
+}
+
+/// The boxed listing of one path by itself.
+#[cfg(feature = "rust-text")]
+pub fn vj_self_boxed(path: (&[f64], bool), epsilon: f64, boxes: &mut [f64], rows: Rows) -> u64 {
+    let Rows {
+        indices,
+        points,
+        counts,
+    } = rows;
+    unsafe {
+        raw::vj_self_boxed(
+            path.0.as_ptr(),
+            path.0.len(),
+            path.1,
+            epsilon,
+            boxes.as_mut_ptr(),
+            boxes.len(),
             indices.as_mut_ptr(),
             indices.len(),
             points.as_mut_ptr(),

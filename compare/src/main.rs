@@ -4,6 +4,8 @@
 mod answer;
 mod arcs;
 mod bench;
+#[cfg(feature = "rust-text")]
+mod boxed;
 mod capi;
 mod classes;
 mod clock;
@@ -48,12 +50,14 @@ usage: compare check [COUNT [SEED]]  compare each float function on COUNT random
                                      eighth of all bit patterns, and some beside the limits; each kernel and the pair
                                      call until twice as many were answered, and on some that are refused; listings of
                                      whole paths until as many pairs were looked at, and on chosen ones; then as compare
-                                     pages, and as compare edges with a tenth of COUNT
+                                     pages, as compare boxed, and as compare edges with a tenth of COUNT
        compare edges [COUNT [SEED]]  compare the kernels, the pair call and listings on COUNT inputs an edge (default 1048576,
                                      seed 1): where two numbers that are compared, by the Rust or by a shortcut of ours,
                                      are all but equal
        compare pages [COUNT [SEED]]  compare pages of listings: every position on small paths, and chains of calls on random
                                      paths, a tenth of COUNT calls (default 10485760, seed 1)
+       compare boxed [COUNT [SEED]]  compare boxed listings: on chosen paths, and on random ones until these have COUNT pairs
+                                     (default 10485760, seed 1)
        compare search [COUNT [SEED]] try to break what is promised of lines on the grid, on COUNT pairs (default 25165824,
                                      seed 1)
        compare arcs [COUNT [SEED]]   count how often touching segments with arcs are missed, and how far from each other
@@ -70,7 +74,7 @@ usage: compare check [COUNT [SEED]]  compare each float function on COUNT random
        compare record FILE           write the recorded list for the program replay
        compare bench [PART...]       nanoseconds of processor time a call or a pair, ours beside the machine's own and the Rust's,
                                      the least of five rounds or more by turns; all parts, or some of: floats calls listings
-                                     pages";
+                                     pages boxed";
 
 const COUNT: u64 = 10 << 20;
 const ON_AN_EDGE: u64 = 1 << 20;
@@ -79,7 +83,7 @@ const SEARCHED_ARCS: u64 = 11 << 20;
 const CLIMBED: u64 = 1 << 20;
 const TEXTS: u64 = 3072;
 const SEED: u64 = 1;
-const BENCHES: [&str; 4] = ["floats", "calls", "listings", "pages"];
+const BENCHES: [&str; 5] = ["floats", "calls", "listings", "pages", "boxed"];
 
 fn main() -> ExitCode {
     let words: Vec<String> = env::args().skip(1).collect();
@@ -88,6 +92,7 @@ fn main() -> ExitCode {
         ["check", ref numbers @ ..] => check(numbers),
         ["edges", ref numbers @ ..] => edges(numbers),
         ["pages", ref numbers @ ..] => pages(numbers),
+        ["boxed", ref numbers @ ..] => boxed(numbers),
         ["search", ref numbers @ ..] => search(numbers),
         ["arcs", "climb", ref numbers @ ..] => climb_arcs(numbers),
         ["arcs", "cures", ref numbers @ ..] => cure_arcs(numbers),
@@ -129,6 +134,14 @@ fn edges(numbers: &[&str]) -> Result<(), String> {
 fn pages(numbers: &[&str]) -> Result<(), String> {
     let (count, seed) = count_and_seed(numbers, COUNT)?;
     match check_pages(count, seed) {
+        0 => Ok(()),
+        differences => Err(format!("{differences} differences")),
+    }
+}
+
+fn boxed(numbers: &[&str]) -> Result<(), String> {
+    let (count, seed) = count_and_seed(numbers, COUNT)?;
+    match check_boxed(count, seed) {
         0 => Ok(()),
         differences => Err(format!("{differences} differences")),
     }
@@ -177,6 +190,7 @@ fn time(parts: &[&str]) -> Result<(), String> {
             "calls" => time_calls(),
             "listings" => time_listings(),
             "pages" => time_pages(),
+            "boxed" => time_boxed(),
             _ => return Err(USAGE.to_string()),
         }
     }
@@ -204,6 +218,7 @@ fn check_text(count: u64, seed: u64) -> u64 {
         + crossing::check(count, seed)
         + listings::check(count, seed)
         + check_pages(count, seed)
+        + check_boxed(count, seed)
         + check_edges(count / 10, seed)
 }
 
@@ -215,6 +230,11 @@ fn check_edges(count: u64, seed: u64) -> u64 {
 #[cfg(feature = "rust-text")]
 fn check_pages(count: u64, seed: u64) -> u64 {
     pages::check(count, seed)
+}
+
+#[cfg(feature = "rust-text")]
+fn check_boxed(count: u64, seed: u64) -> u64 {
+    boxed::check(count, seed)
 }
 
 #[cfg(not(feature = "rust-text"))]
@@ -235,6 +255,12 @@ fn check_pages(_count: u64, _seed: u64) -> u64 {
     0
 }
 
+#[cfg(not(feature = "rust-text"))]
+fn check_boxed(_count: u64, _seed: u64) -> u64 {
+    println!("rust text not compiled in: nothing was compared with it");
+    0
+}
+
 #[cfg(feature = "rust-text")]
 fn time_calls() {
     crossing::bench();
@@ -250,8 +276,16 @@ fn time_pages() {
     pages::bench();
 }
 
+#[cfg(feature = "rust-text")]
+fn time_boxed() {
+    boxed::bench();
+}
+
 #[cfg(not(feature = "rust-text"))]
 fn time_pages() {}
+
+#[cfg(not(feature = "rust-text"))]
+fn time_boxed() {}
 
 #[cfg(not(feature = "rust-text"))]
 fn time_calls() {}

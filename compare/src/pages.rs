@@ -5,8 +5,8 @@ mod ask;
 mod bench;
 mod chain;
 mod kinds;
-mod met;
-mod model;
+pub mod met;
+pub mod model;
 mod score;
 mod small;
 #[cfg(test)]

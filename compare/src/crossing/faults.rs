@@ -21,6 +21,8 @@ pub enum Item {
     /// Of a page.
     Position = 10,
     Budget = 11,
+    /// Of a boxed listing: the index.
+    Boxes = 12,
 }
 
 /// Whose item it is: a path, a segment, a point or a circle of the call, and there which vertex, segment or end. All count from
@@ -129,6 +131,7 @@ mod tests {
         assert_eq!(word(5, Item::Chord, 1, 4095), 0xfff_0107_0105);
         assert_eq!(word(12, Item::CenterY, 1, 0), 0x0106_010c);
         assert_eq!(word(14, Item::Budget, 0, 0), 0x000b_010e);
+        assert_eq!(word(17, Item::Boxes, 0, 0), 0x000c_0111);
     }
 
     /// At each number NaN comes first, then infinite, then its limits; epsilon has one refusal for all.

@@ -61,7 +61,8 @@ pub enum Old {
 }
 
 impl Old {
-    fn at(self, place: usize) -> u64 {
+    /// The bits at a place of the memory, which begins before the slice.
+    pub fn at(self, place: usize) -> u64 {
         let place = place as u64;
         match self {
             Old::Nans => 0x7ff4_0000_0000_0001 + (place << 8),

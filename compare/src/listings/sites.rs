@@ -36,8 +36,8 @@ enum Site {
         item: Item,
     },
     Rows(Short),
-    /// A page's position or budget.
-    OfPage(Item),
+    /// Of the call as a whole: a page's position or budget, a boxed listing's index.
+    OfCall(Item),
 }
 
 #[derive(Clone, Copy, Debug, PartialEq, Eq, PartialOrd, Ord)]
@@ -106,8 +106,14 @@ impl Sites {
     pub fn of_pages(call: Call) -> Sites {
         let mut sites = Sites::of_listings(call);
         for (number, item) in [(13, Item::Position), (14, Item::Budget)] {
-            sites.0.insert((number, Site::OfPage(item)), 0);
+            sites.0.insert((number, Site::OfCall(item)), 0);
         }
+        sites
+    }
+
+    pub fn of_boxed(call: Call) -> Sites {
+        let mut sites = Sites::of_listings(call);
+        sites.0.insert((17, Site::OfCall(Item::Boxes)), 0);
         sites
     }
 
@@ -123,7 +129,7 @@ impl Sites {
                 at: At::of(index, paths[owner].segments()),
             },
             Item::Rows => Site::Rows(short),
-            Item::Position | Item::Budget => Site::OfPage(item),
+            Item::Position | Item::Budget | Item::Boxes => Site::OfCall(item),
             _ => Site::Number {
                 path: owner,
                 closed: paths[owner].closed,

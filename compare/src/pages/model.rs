@@ -154,7 +154,7 @@ impl Page<'_> {
 
 /// Every pair: i outer, j inner, both rising. In one path i is below j, and neighbours are no pairs; neither are the first and
 /// the last segment if it is closed.
-fn in_order(listed: Listed, mut pass: impl FnMut([u64; 2])) {
+pub fn in_order(listed: Listed, mut pass: impl FnMut([u64; 2])) {
     match listed {
         Listed::Mutual(first, second) => {
             for i in 0..first.segments() as u64 {
