@@ -19,6 +19,7 @@ use Rattle.crossing.specs.declared.pline_seg_intersect.PlineSegAnswer.the-varia
 use Rattle.paths.specs.Segments.{segmentFrom, segmentCount}
 use Rattle.listing_outcomes.specs.declared.answer.ListingAnswer.the-variants.{Listed}
 use Rattle.listing_calls.specs.Listing.{mutualListing}
+use Rattle.listing_calls.specs.Boxed.{mutualBoxed}
 use Rattle.listing_calls.specs.HasRow.{HasRow}
 use Rattle.listing_calls.specs.Chain.{Lent}
 use Rattle.listing_calls.specs.ChainedCalls.{mutualChain, mutualEnd}
@@ -147,3 +148,13 @@ PagesPromise = (first : List Float) (closed : Bool) (second : List Float) (close
     → (i j : ℕ) → i < segmentCount first closed → j < segmentCount second closed′
     → (p1 p2 q1 q2 : Spot) → GridLine first i p1 p2 → GridLine second j q1 q2
     → Share p1 p2 q1 q2 → HasRow (all .rows) (all .indices) i j
+
+-- and the same of a boxed listing
+abbrev pub BoxedPromise : Type 0
+BoxedPromise = (first : List Float) (closed : Bool) (second : List Float) (closed′ : Bool) (e : Float) (num den : ℕ)
+    (boxes : List Float) (indices : List ℕ) (points : List Float) (rows pairs : ℕ) → Epsilon e num den
+    → let o = mutualBoxed first closed second closed′ e boxes indices points .listing in
+    o .answer ≡ Listed rows pairs
+    → (i j : ℕ) → i < segmentCount first closed → j < segmentCount second closed′
+    → (p1 p2 q1 q2 : Spot) → GridLine first i p1 p2 → GridLine second j q1 q2
+    → Share p1 p2 q1 q2 → HasRow rows (o .indices) i j

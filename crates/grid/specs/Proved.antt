@@ -25,9 +25,12 @@ use Rattle.arcs.specs.declared.pline_seg_intr.PlineSegIntr.the-variants.{
   OverlappingArcs,
 }
 use Rattle.paths.specs.Segments.{segmentFrom}
-use Rattle.listing_calls.specs.Complete.{pairOf, complete}
+use Rattle.listing_pairs.specs.Boxed.{boxesMeet}
+use Rattle.listing_calls.specs.Complete.{pairOf, complete, boxed-complete}
 use Rattle.listing_calls.specs.ChainedCalls.{chain-complete}
-use Rattle.grid.specs.Promise.{Spot, On, Epsilon, Share, Promised, Promise, GridLine, ListingPromise, PagesPromise}
+use Rattle.grid.specs.Promise.{Spot, On, Epsilon, Share, Promised, Promise, GridLine}
+use Rattle.grid.specs.Promise.{ListingPromise, PagesPromise, BoxedPromise}
+use Rattle.grid.specs.Boxes.{segment-boxes-meet}
 use Rattle.grid.specs.Accepted.{accepted, two-lines}
 use Rattle.grid.specs.Joined.{At, vec, vec-at, eps}
 use Rattle.grid.specs.Kernel.{crossed-promised, level-promised}
@@ -102,4 +105,11 @@ listing-promise first closed second closed′ e num den indices points rows pair
 pub pages-promise : PagesPromise
 pages-promise first closed second closed′ e num den lents small fine end i j hi hj p1 p2 q1 q2 v u share =
     chain-complete first closed second closed′ e lents fine end i j hi hj
+    (above first second e num den small i j p1 p2 q1 q2 v u share)
+
+pub boxed-promise : BoxedPromise
+unfolding boxesMeet
+boxed-promise first closed second closed′ e num den boxes indices points rows pairs small is i j hi hj p1 p2 q1 q2 v u share =
+    boxed-complete first closed second closed′ e boxes indices points rows pairs is i j hi hj
+    (segment-boxes-meet first second e num den small i j p1 p2 q1 q2 v u share)
     (above first second e num den small i j p1 p2 q1 q2 v u share)

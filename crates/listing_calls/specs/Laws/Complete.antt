@@ -1,5 +1,6 @@
 -- Where the row of a pair stands: the pair in the sequence, its row among the rows, and that row's numbers in the slice.
 use mathlib.Core.Path.{_≡_, refl, sym, ap, _∙_}
+use mathlib.Core.Bool.{Bool, true, false, cond}
 use mathlib.Core.Logic.{inl, inr}
 use mathlib.Core.List.{List, [], _∷_, _++_, append-assoc}
 use Prim.Native.Nat.{ℕ, zero, suc, _+_, _-_, _*_, _<_, _≤_}
@@ -11,7 +12,7 @@ use Rattle.listing_pairs.specs.declared.row.Row.{Row}
 use Rattle.listing_pairs.specs.declared.row.Look.{Look}
 use Rattle.listing_pairs.specs.declared.row.Look.the-variants.{Skipped, Nothing, Made}
 use Rattle.listing_pairs.specs.Row.{indicesARow, indicesOf, numbersOfRows}
-use Rattle.listing_pairs.specs.Order.{Pair, along, pairsFrom}
+use Rattle.listing_pairs.specs.Order.{Pair, along, pairsFrom, those}
 use Rattle.listing_pairs.specs.Rows.{onto, rowsOf}
 use Rattle.float_laws.specs.Stores.{flat-append, flat-length}
 use Rattle.listing_outcomes.specs.Outcome.{overwrite}
@@ -68,6 +69,28 @@ pairs-have from to i j (suc count) a h l f t =
       | inl same ↦ in-front row rest (rw same (along-has i j (to i - from i) (from i) f (omega (arith, f, t))))
       | inr less ↦ behind row rest (pairs-have from to i j count (suc a) (omega (arith, less)) (omega (arith, l)) f t)
     ]
+
+-- ---- a pair that the test keeps
+module _ (test : Pair → Bool) where
+  those-append : (ps qs : List Pair) → those test (ps ++ qs) ≡ those test ps ++ those test qs
+  those-append [] qs = refl
+  those-append (p ∷ ps) qs = go (test p) (those-append ps qs)
+    where
+      go : (t : Bool) → those test (ps ++ qs) ≡ those test ps ++ those test qs
+          → cond t (p ∷ those test (ps ++ qs)) (those test (ps ++ qs)) ≡ cond t (p ∷ those test ps) (those test ps) ++ those test qs
+      go true e = ap (λ (r : List Pair). p ∷ r) e
+      go false e = e
+
+  pub those-have : (p : Pair) (ps : List Pair) → test p ≡ true → Within p ps → Within p (those test ps)
+  those-have p ps kept w =
+      record {
+        before = those test (w .before);
+        after = those test (w .after);
+        is =
+            ap (those test) (w .is)
+            ∙ those-append (w .before) (p ∷ w .after)
+            ∙ ap (λ (t : Bool). those test (w .before) ++ cond t (p ∷ those test (w .after)) (those test (w .after))) kept;
+      }
 
 -- ---- its row among the rows
 module _ (look : ℕ → ℕ → Look) where
