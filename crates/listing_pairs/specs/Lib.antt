@@ -6,5 +6,6 @@ pub mod Rows
 pub mod Page
 pub mod Look
 pub mod Boxed
+pub mod Neighbours
 pub mod Workings
 pub mod Laws
