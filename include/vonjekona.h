@@ -389,7 +389,7 @@ uint64_t vj_self_page(const double *path, size_t len, bool closed,
  * to 1/2, have boxes that meet, so no such pair is lost. docs/LIMITS.md says
  * what is known of others.
  *
- * A boxed listing needs some 352 KiB of stack: what a listing needs, and the
+ * A boxed listing needs some 349 KiB of stack: what a listing needs, and the
  * second path's boxes.
  *
  * examples/boxed.c lists a coil both ways.
