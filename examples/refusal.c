@@ -42,7 +42,7 @@ static const struct places circles = {
 
 static const char *const items[] = {
     "epsilon", "x", "y", "bulge", "radius", "centre x", "centre y", "chord",
-    "length", "rows", "position", "budget",
+    "length", "rows", "position", "budget", "boxes",
 };
 
 /* By the refusal's number. A text's refusal, 10, comes from no call. */
@@ -59,6 +59,7 @@ static const char *const reasons[] = {
     [12] = "infinite",
     [13] = "beyond the end",
     [14] = "0",
+    [17] = "more than there is room for",
 };
 
 static void tell_owner(uint64_t word, const struct places *places)
@@ -92,6 +93,7 @@ static void tell(const char *call, uint64_t word, const struct places *places)
     case VJ_ITEM_ROWS:
     case VJ_ITEM_POSITION:
     case VJ_ITEM_BUDGET:
+    case VJ_ITEM_BOXES:
         break;
     default:
         tell_owner(word, places);
@@ -163,6 +165,21 @@ static void page(uint64_t position, uint64_t budget)
          &listing);
 }
 
+/* The closed path by itself, with room for so many numbers of its boxes. */
+static void boxed(size_t boxes_room)
+{
+    uint64_t indices[3], counts[2];
+    double path[3 * VERTICES], points[4];
+    double boxes[VJ_BOXES_NEEDED(VERTICES)];
+
+    draw(path);
+    tell("vj_self_boxed",
+         vj_self_boxed(path, COUNT(path), true, EPSILON, boxes, boxes_room,
+                       indices, COUNT(indices), points, COUNT(points), counts,
+                       COUNT(counts)),
+         &listing);
+}
+
 /* A line from (0, 0) to (4, 0) with this bulge, and one up to (x, 2). */
 static void two_segments(double bulge, double x, size_t room)
 {
@@ -195,6 +212,7 @@ int main(void)
     listings();
     page(1000, 1);
     page(0, 0);
+    boxed(VJ_BOXES_NEEDED(VERTICES) - 1);
     two_segments(0, 2, 4);
     two_segments(0, INFINITY, 4);
     two_segments(-1.5, 2, 4);

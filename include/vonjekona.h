@@ -131,10 +131,11 @@ uint64_t vj_sqrt_bits(uint64_t b);
 #define VJ_ITEM_ROWS 9      /* refusal 8 */
 #define VJ_ITEM_POSITION 10 /* refusal 13: of a page */
 #define VJ_ITEM_BUDGET 11   /* refusal 14: of a page */
+#define VJ_ITEM_BOXES 12    /* refusal 17: of a boxed listing */
 
 /*
- * The owner and the index of epsilon, rows, position and budget are 0, in every
- * call.
+ * The owner and the index of epsilon, rows, position, budget and boxes are 0,
+ * in every call.
  */
 
 /*
@@ -336,6 +337,82 @@ uint64_t vj_self_page(const double *path, size_t len, bool closed,
                       uint64_t *indices, size_t indices_room, double *points,
                       size_t points_room, uint64_t *counts,
                       size_t counts_room);
+
+/*
+ * Boxed listings: the same listings, kept to the pairs whose boxes meet. Other
+ * pairs are not looked at, so large paths are listed in less time.
+ *
+ * A box has four numbers: least x, least y, greatest x, greatest y. The box of
+ * a segment from (x1, y1) to (x2, y2) has
+ *
+ *   vj_min(x1, x2) - m, vj_min(y1, y2) - m,
+ *   vj_max(x1, x2) + m, vj_max(y1, y2) + m,
+ *
+ * where m is epsilon for a line. For an arc it is the length of the chord, as
+ * it is computed for refusal 5, plus epsilon. Each sum and each difference is
+ * one operation on binary64 numbers. Two boxes meet if each one's least x is at
+ * most the other's greatest x, and likewise y. So boxes that only touch meet. A
+ * group is 16 consecutive segments of a path, from 0, 16, 32, .. on; the last
+ * one may have fewer. Its box has the least and the greatest numbers of its
+ * members' boxes. Groups make the call quick, and decide nothing.
+ *
+ * Paths, rows and what is lent are as for a listing. The rows are those of the
+ * listing's pairs whose segment boxes meet, in the same order. The call also
+ * writes an index of boxes, from `boxes` on: four numbers a box, the first
+ * path's segments, its groups, the second path's segments, its groups. In
+ * vj_self_boxed the one path is there once. Box k, counted from 0, starts at
+ * boxes[4 * k]: if the first path has n segments, its segment i is box i, and
+ * its group g is box n + g. A path of n segments needs VJ_BOXES_NEEDED(n)
+ * numbers. The index is written also if there are no pairs. No number of it is
+ * NaN, infinite or -0. The call returns
+ *
+ *   VJ_NO_ROOM        if counts_room is below 2: nothing is written;
+ *   a refusal's word  else, if there is a fault: nothing is written, to none
+ *                     of the four slices;
+ *   0                 else. Then counts[0] is how many rows were written, and
+ *                     counts[1] how many pairs were looked at: all those whose
+ *                     boxes meet. What follows the index, what follows the
+ *                     last row, and what follows counts[1], is unchanged.
+ *
+ * The order of faults: as for a listing up to the last path's arcs; then
+ * refusal 17 if the index does not fit into boxes_room numbers; last, 8 if
+ * there are more of these rows than there is room for. The places are a
+ * listing's; that of 17 has the item boxes.
+ *
+ * Which one to use. For large coils and layouts, where most segments are far
+ * apart, use a boxed listing. If every pair that the Rust reports is wanted,
+ * use the full one, vj_mutual or vj_self: it may report pairs whose boxes are
+ * apart. The lines (0, 0) to (3/8, 0) and (0, 5/8) to (3/8, 5/8) with epsilon
+ * 1/4 are class 4, and their boxes are 1/8 apart. Such a pair is no row of a
+ * boxed listing, which may so be answered where the full one is refused with 8.
+ * Two lines that share a point, with whole-number ends and epsilon from 1/1024
+ * to 1/2, have boxes that meet, so no such pair is lost. docs/LIMITS.md says
+ * what is known of others.
+ *
+ * A boxed listing needs some 349 KiB of stack: what a listing needs, and the
+ * second path's boxes.
+ *
+ * examples/boxed.c lists a coil both ways.
+ */
+
+/* How many numbers the index of boxes needs for a path of n segments. */
+#define VJ_BOXES_NEEDED(n) (4 * ((size_t)(n) + ((size_t)(n) + 15) / 16))
+
+/* The pairs of vj_mutual whose boxes meet. */
+uint64_t vj_mutual_boxed(const double *first, size_t first_len,
+                         bool first_closed, const double *second,
+                         size_t second_len, bool second_closed, double epsilon,
+                         double *boxes, size_t boxes_room, uint64_t *indices,
+                         size_t indices_room, double *points,
+                         size_t points_room, uint64_t *counts,
+                         size_t counts_room);
+
+/* The pairs of vj_self whose boxes meet. */
+uint64_t vj_self_boxed(const double *path, size_t len, bool closed,
+                       double epsilon, double *boxes, size_t boxes_room,
+                       uint64_t *indices, size_t indices_room, double *points,
+                       size_t points_room, uint64_t *counts,
+                       size_t counts_room);
 
 #ifdef __cplusplus
 }
