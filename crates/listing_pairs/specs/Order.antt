@@ -1,8 +1,7 @@
 -- The pairs of a listing, in the scope's order: the first path's index is the outer one, and both rise.
-use mathlib.Core.Bool.{Bool, cond, not, _&&_, _||_}
+use mathlib.Core.Bool.{Bool, cond}
 use mathlib.Core.List.{List, [], _∷_, _++_}
 use Prim.Native.Nat.{ℕ, zero, suc, _+_, _-_}
-use lib.Dec.{eqb}
 
 -- segment i of the first path and segment j of the second
 pub record Pair : Type 0 where
@@ -30,15 +29,11 @@ pairs from to n = pairsFrom from to 0 (from 0) n
 abbrev pub mutualPairs : ℕ → ℕ → List Pair
 mutualPairs n m = pairs (λ i. 0) (λ i. m) n
 
--- ---- a self listing: i < j, without neighbours
--- neighbours: a segment and the next one, and the first and the last of a closed path
-abbrev pub neighbours : ℕ → Bool → Pair → Bool
-neighbours n closed p = eqb (p .j) (p .i + 1) || (closed && eqb (p .i) 0 && eqb (p .j + 1) n)
+-- ---- a self listing: i < j
+abbrev pub selfPairs : ℕ → List Pair
+selfPairs n = pairs (λ i. i + 1) (λ i. n) n
 
--- the pairs for which the test says yes
+-- ---- the pairs for which a test says yes
 abbrev pub those : (Pair → Bool) → List Pair → List Pair
 those test [] = []
 those test (p ∷ ps) = cond (test p) (p ∷ those test ps) (those test ps)
-
-abbrev pub selfPairs : ℕ → Bool → List Pair
-selfPairs n closed = those (λ p. not (neighbours n closed p)) (pairs (λ i. i + 1) (λ i. n) n)

@@ -53,7 +53,7 @@ pub fn keep_reached(second: &[f64], job: Job, i: usize, j: usize, budget: usize,
     if job.n <= i {
         return;
     }
-    let end = order::to(job, i);
+    let end = job.m;
     let spent = less(end, j);
     if (budget <= spent) | (job.n <= i + 1) {
         keep(second, j, end - less(spent, budget), job.epsilon, kept);

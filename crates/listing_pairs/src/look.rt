@@ -1,9 +1,10 @@
 // What a pair of segments of two checked paths gives.
 ghost use mathlib.Core.Path.{_≡_};
-ghost use Prim.Native.Nat.{_<_};
-ghost use Rattle.listing_pairs.specs.Look;
+ghost use Prim.Native.Nat.{_≤_, _<_};
+ghost use Rattle.paths.specs.Path;
 ghost use Rattle.listing_pairs.specs.Workings.Keeping;
 ghost use Rattle.listing_pairs.specs.Workings.Ready;
+use super::joint::at_joint;
 use super::keeping::kept_at;
 use super::order::Job;
 use super::row;
@@ -26,10 +27,14 @@ pub fn look(
     requires { ⌜ Keeping.KeptOf (now second) (now kept) (job .epsilon) j ⌝ }
     requires { ⌜ «v_kept» ≡ Keeping.ofSegment v (job .epsilon) ⌝ }
     requires { ⌜ j < job .m ⌝ }
-    ensures { λ r. ⌜ r ≡ Ready.lookOn v (now (second .entry)) (job .epsilon) i j ⌝ }
+    requires { ⌜ i ≤ Path.mostVertices ⌝ }
+    ensures { λ r. ⌜ r ≡ Ready.lookOn v (now (second .entry)) job i j ⌝ }
 {
     let u = segments::segment_from(second, j);
     let u_kept = kept_at(kept, j);
     let met = pline_seg_kept(v.v1, v.v2, v_kept, u.v1, u.v2, u_kept, job.epsilon);
+    if at_joint(second, job, i, j, met) {
+        return row::Look::Nothing;
+    }
     row::look_of(i as u64, j as u64, met)
 }

@@ -23,30 +23,15 @@ pub struct Spot {
     pub j: usize,
 }
 
-// The first j of the pairs (i, j). In a self listing it is i + 2: segment i + 1 is the neighbour of i, and a pair with a smaller
-// j came earlier, as (j, i).
+// The first j of the pairs (i, j). In a self listing it is i + 1: a pair with a smaller j came earlier, as (j, i).
 pub fn from(job: Job, i: usize) -> usize
     requires { ⌜ i ≤ Path.mostVertices ⌝ }
     ensures { λ r. ⌜ r ≡ job_of.from job i ⌝ }
 {
     if job.own {
-        return i + 2;
+        return i + 1;
     }
     0
-}
-
-// The end of j in the pairs (i, j): the index after the last. In a self listing of a closed path the last segment is the
-// neighbour of the first, so the pairs of segment 0 end one earlier.
-pub fn to(job: Job, i: usize) -> usize
-    ensures { λ r. ⌜ r ≡ job_of.to job i ⌝ }
-{
-    if job.own & job.closed & (i == 0) {
-        if job.m == 0 {
-            return 0;
-        }
-        return job.m - 1;
-    }
-    job.m
 }
 
 // How many pairs (i, j) there are.
@@ -55,8 +40,7 @@ pub fn pairs_at(job: Job, i: usize) -> usize
     ensures { λ r. ⌜ r ≡ job_of.to job i - job_of.from job i ⌝ }
 {
     let start = from(job, i);
-    let end = to(job, i);
-    less(end, start)
+    less(job.m, start)
 }
 
 // How many pairs there are in all.

@@ -9,7 +9,6 @@ use Rattle.listing_pairs.specs.declared.row.Look.{Look}
 use Rattle.listing_pairs.specs.declared.row.Look.the-variants.{Skipped}
 use Rattle.listing_pairs.specs.Order.{Pair, those}
 use Rattle.listing_pairs.specs.Rows.{onto, count, rowsOf, lookedAt}
-use Rattle.listing_pairs.specs.Look.{look}
 use Rattle.listing_pairs.specs.Boxed.{boxesMeet, boxedPairs}
 use Rattle.listing_pairs.specs.Workings.Ready.{boxedLook}
 
@@ -37,12 +36,11 @@ module _ (f : ℕ → ℕ → Look) (test : Pair → Bool) where
       go true e = ap (count (f (p .i) (p .j))) e
       go false e = e
 
-module _ (first second : List Float) (epsilon : Float) (ps : List Pair) where
-  pub boxed-rows : rowsOf (boxedLook first second epsilon) ps ≡ rowsOf (look first second epsilon) (boxedPairs first second epsilon ps)
+module _ (first second : List Float) (epsilon : Float) (f : ℕ → ℕ → Look) (ps : List Pair) where
+  pub boxed-rows : rowsOf (boxedLook first second epsilon f) ps ≡ rowsOf f (boxedPairs first second epsilon ps)
   unfolding boxedLook
-  boxed-rows = skipped-rows (look first second epsilon) (boxesMeet first second epsilon) ps
+  boxed-rows = skipped-rows f (boxesMeet first second epsilon) ps
 
-  pub boxed-looked :
-      lookedAt (boxedLook first second epsilon) ps ≡ lookedAt (look first second epsilon) (boxedPairs first second epsilon ps)
+  pub boxed-looked : lookedAt (boxedLook first second epsilon f) ps ≡ lookedAt f (boxedPairs first second epsilon ps)
   unfolding boxedLook
-  boxed-looked = skipped-looked (look first second epsilon) (boxesMeet first second epsilon) ps
+  boxed-looked = skipped-looked f (boxesMeet first second epsilon) ps

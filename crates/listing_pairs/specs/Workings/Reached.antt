@@ -344,9 +344,6 @@ not-here job i spent budget test = go (leb budget spent) refl test
 pub less-most : {a m : ℕ} (b : ℕ) → a ≤ m → a - b ≤ m
 less-most b h = omega (arith, h)
 
-pub end-most : (job : Job) (i : ℕ) {end : ℕ} → end ≡ job_of.to job i → end ≤ job .m
-end-most job i {end} e = omega (arith, e, job_of.to-within job i)
-
 pub room-left : (second l : List Float) (from to m : ℕ) (epsilon : Float) {now : List Float}
     → now ≡ keep second from to epsilon l → m * numbersKept ≤ length l → m * numbersKept ≤ length now
 room-left second l from to m epsilon {now} e room =

@@ -1,7 +1,7 @@
 -- What a listing's loop needs of its paths: the pair call's check finds no fault in any pair. It follows from the checks of both
 -- paths.
-use mathlib.Core.Path.{_≡_, ap, _∙_}
-use mathlib.Core.Bool.{Bool, cond}
+use mathlib.Core.Path.{_≡_, refl, ap, _∙_}
+use mathlib.Core.Bool.{Bool, true, false, cond, _&&_}
 use mathlib.Core.List.{List}
 use Prim.Native.Nat.{ℕ, _<_, _≤_}
 use native.Mathlib.Omega.{arith}
@@ -9,6 +9,7 @@ use lib.Ieee.{Float}
 use Rattle.checks.specs.declared.fault.Checked.the-variants.{Fine}
 use Rattle.checks.specs.Each
 use Rattle.checks.specs.Calls.{checkPlineSeg}
+use Rattle.arcs.specs.declared.pline_seg_intr.PlineSegIntr.{PlineSegIntr}
 use Rattle.crossing.specs.PlineSeg.{plineSeg}
 use Rattle.fast_pair.specs.Laws.AllFine.{Sound, look-fine}
 use Rattle.paths.specs.declared.path.Segment.{Segment}
@@ -17,33 +18,64 @@ use Rattle.paths.specs.Segments.{segmentFrom, segmentCount}
 use Rattle.paths.specs.Laws.Segments.{count-within, few-segments}
 use Rattle.paths.specs.Laws.Fine.{SegmentFine, PathFine, arc-fine, segment-fine}
 use Rattle.listing_pairs.specs.declared.row.Look.{Look}
-use Rattle.listing_pairs.specs.declared.row.Look.the-variants.{Skipped}
+use Rattle.listing_pairs.specs.declared.row.Look.the-variants.{Skipped, Nothing}
 use Rattle.listing_pairs.specs.declared.order.Job.{Job}
 use Rattle.listing_pairs.specs.Row.{lookOf}
-use Rattle.listing_pairs.specs.Look.{look}
+use Rattle.listing_pairs.specs.Look.{look, selfLook}
+use Rattle.listing_pairs.specs.Neighbours.{atJoint}
 use Rattle.listing_pairs.specs.Boxed.{boxesMeet}
 
--- in a boxed listing a pair whose boxes do not meet is skipped
-unfoldable pub boxedLook : List Float → List Float → Float → ℕ → ℕ → Look
-boxedLook first second epsilon i j =
-    cond (boxesMeet first second epsilon (record { i = i; j = j })) (look first second epsilon i j) Skipped
+-- what segments i and j give that meet like this
+abbrev pub givenBy : List Float → Job → ℕ → ℕ → PlineSegIntr → Look
+givenBy second job i j met =
+    cond (job .own && atJoint second (job .closed) (job .m) (job .epsilon) i j met) Nothing (lookOf i j met)
+
+-- the pair of v, which is segment i, and segment j of the second path
+unfoldable pub lookOn : Segment → List Float → Job → ℕ → ℕ → Look
+lookOn v second job i j =
+    let u = segmentFrom second j in
+    givenBy second job i j (plineSeg (v .v1) (v .v2) (u .v1) (u .v2) (job .epsilon))
+
+-- what a pair gives in the listing of a job that is not boxed
+abbrev pub eachLook : List Float → List Float → Job → ℕ → ℕ → Look
+eachLook first second job i j = lookOn (segmentFrom first i) second job i j
+
+-- in a boxed listing a pair whose boxes do not meet is skipped; any `look` will do
+unfoldable pub boxedLook : List Float → List Float → Float → (ℕ → ℕ → Look) → ℕ → ℕ → Look
+boxedLook first second epsilon look i j =
+    cond (boxesMeet first second epsilon (record { i = i; j = j })) (look i j) Skipped
 
 -- what a pair gives in the listing of a job
 abbrev pub lookBy : List Float → List Float → Job → ℕ → ℕ → Look
 lookBy first second job =
-    cond (job .boxed) (boxedLook first second (job .epsilon)) (look first second (job .epsilon))
+    cond (job .boxed) (boxedLook first second (job .epsilon) (eachLook first second job)) (eachLook first second job)
 
--- the pair of v, which is segment i, and segment j of the second path
-unfoldable pub lookOn : Segment → List Float → Float → ℕ → ℕ → Look
-lookOn v second epsilon i j =
-    let u = segmentFrom second j in
-    lookOf i j (plineSeg (v .v1) (v .v2) (u .v1) (u .v2) epsilon)
+pub look-on : (v : Segment) (first second : List Float) (job : Job) (i j : ℕ) → v ≡ segmentFrom first i
+    → lookOn v second job i j ≡ eachLook first second job i j
+look-on v first second job i j e = ap (λ (s : Segment). lookOn s second job i j) e
 
-pub look-on : (v : Segment) (first second : List Float) (epsilon : Float) (i j : ℕ) → v ≡ segmentFrom first i
-    → lookOn v second epsilon i j ≡ look first second epsilon i j
+-- from how the two segments meet, and whether that is at a joint
+module _ (v : Segment) (second : List Float) (job : Job) (i j : ℕ) (met : PlineSegIntr) (said : Bool)
+    (is : met ≡ plineSeg (v .v1) (v .v2) (segmentFrom second j .v1) (segmentFrom second j .v2) (job .epsilon))
+    (asked : said ≡ (job .own && atJoint second (job .closed) (job .m) (job .epsilon) i j met)) where
+  pub at-a-joint : said ≡ true → Nothing ≡ lookOn v second job i j
+  unfolding lookOn
+  at-a-joint e = rw (← is, ← asked, e) refl
+
+  pub elsewhere : said ≡ false → (r : Look) → r ≡ lookOf i j met → r ≡ lookOn v second job i j
+  unfolding lookOn
+  elsewhere e r f = rw (← is, ← asked, e) f
+
+-- two paths, and one
+pub each-of-two : (first second : List Float) (job : Job) → job .own ≡ false → (i j : ℕ)
+    → eachLook first second job i j ≡ look first second (job .epsilon) i j
 unfolding lookOn look
-look-on v first second epsilon i j e =
-    ap (λ (s : Segment). lookOf i j (plineSeg (s .v1) (s .v2) (segmentFrom second j .v1) (segmentFrom second j .v2) epsilon)) e
+each-of-two first second job own i j = rw own refl
+
+pub each-of-one : (path : List Float) (closed : Bool) (job : Job) → job .own ≡ true → job .closed ≡ closed
+    → job .m ≡ segmentCount path closed → (i j : ℕ) → eachLook path path job i j ≡ selfLook path closed (job .epsilon) i j
+unfolding lookOn selfLook
+each-of-one path closed job own flag count i j = rw (own, flag, count) refl
 
 abbrev PairFine : Segment → Segment → Float → Type 0
 PairFine v u epsilon = checkPlineSeg (v .v1) (v .v2) (u .v1) (u .v2) epsilon ≡ Fine

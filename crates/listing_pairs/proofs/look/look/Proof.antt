@@ -1,10 +1,14 @@
--- `listing_pairs::look::look` meets its contract: the pair call's own check finds no fault in the pair, so the call may be made.
-use mathlib.Core.Path.{sym, ap, _∙_}
+-- `listing_pairs::look::look` meets its contract: the pair call's own check finds no fault in the pair, so the call may be made; and
+-- what it gives is asked for a joint first.
+use mathlib.Core.Path.{_≡_, sym, ap, _∙_}
 use borrow.Author.Needs.{needs}
 use native.Mathlib.Omega.{arith}
+use denote.Ref.{now}
+use Rattle.crossing.specs.PlineSeg.{plineSeg}
 use Rattle.paths.specs.declared.path.Segment.{Segment}
+use Rattle.paths.specs.Segments.{segmentFrom}
 use Rattle.listing_pairs.specs.Workings.Keeping.{ofSegment}
-use Rattle.listing_pairs.specs.Workings.Ready.{lookOn}
+use Rattle.listing_pairs.specs.Workings.Ready.{at-a-joint, elsewhere}
 use Rattle.listing_pairs.proofs.look.look.Statement.{statement}
 use Rattle.listing_pairs.proofs.look.look.Tie as tie
 
@@ -18,7 +22,7 @@ pline-seg-kept-requires c κs =
     let g = c .before in
     let s = g .before .before .before in
     let h = s .pre in (
-      rw (g .segment-from .ensures) (h .0 .fine (s .args .j) (h .1 .1 .1)),
+      rw (g .segment-from .ensures) (h .0 .fine (s .args .j) (h .1 .1 .1 .0)),
       (
         h .1 .1 .0,
         c .kept-at .ensures ∙ h .1 .0 .is
@@ -26,15 +30,37 @@ pline-seg-kept-requires c κs =
       ),
     )
 
+at-joint-requires : tie.Need-at-joint-requires
+at-joint-requires c κs =
+    let s = c .before .before .before .before .before in
+    (s .pre .1 .1 .1 .1, omega (arith, s .pre .0 .m-within, s .pre .1 .1 .1 .0))
+
+-- how the two segments meet
+met : (c : tie.After-pline-seg-kept)
+    → let a = c .before .before .before .before .before .args in
+    let u = segmentFrom (now (a .second)) (a .j) in
+    c .pline-seg-kept .result ≡ plineSeg (a .v .v1) (a .v .v2) (u .v1) (u .v2) (a .job .epsilon)
+met c =
+    let a = c .before .before .before .before .before .args in
+    c .pline-seg-kept .ensures
+    ∙ ap (λ (u : Segment). plineSeg (a .v .v1) (a .v .v2) (u .v1) (u .v2) (a .job .epsilon)) (c .before .before .segment-from .ensures)
+
 returns : tie.Need-returns
-unfolding lookOn
 returns c =
-    let p1 = c .before in
-    let p2 = p1 .before .before in
-    simp (c .look-of .ensures, p1 .pline-seg-kept .ensures, p2 .segment-from .ensures)
+    let k = c .before .before in
+    let a = k .before .before .before .before .before .args in
+    at-a-joint (a .v) (now (a .second)) (a .job) (a .i) (a .j) _ _ (met k) (c .before .at-joint .ensures) (c .if1 .taken)
+
+returns-2 : tie.Need-returns-2
+returns-2 c =
+    let e = c .before in
+    let k = e .before .before in
+    let a = k .before .before .before .before .before .args in
+    elsewhere (a .v) (now (a .second)) (a .job) (a .i) (a .j) _ _ (met k) (e .before .at-joint .ensures) (e .if1 .left)
+    _ (c .look-of .ensures)
 
 pub look-spec : {M : Type 1} → statement M
 look-spec =
     tie.close
     (tie.spec
-    (λ c. search needs) kept-at-requires pline-seg-kept-requires (λ c. search needs) returns)
+    (λ c. search needs) kept-at-requires pline-seg-kept-requires at-joint-requires returns (λ c. search needs) returns-2)

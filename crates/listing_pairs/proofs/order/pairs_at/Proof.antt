@@ -7,5 +7,5 @@ pub pairs-at-spec : {M : Type 1} → statement M
 pairs-at-spec =
     tie.close
     (tie.spec
-    (λ c κs. search needs) (λ c κs. search needs) (λ c κs. search needs)
-    (λ c. simp (c .less .ensures, c .before .to .ensures, c .before .before .from .ensures)))
+    (λ c κs. search needs) (λ c κs. search needs)
+    (λ c. simp (c .less .ensures, c .before .from .ensures)))
