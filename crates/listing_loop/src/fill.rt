@@ -84,7 +84,7 @@ pub fn fill(
         let v = segments::segment_from(first, i);
         let v_kept = kept_of(v.v1, v.v2, job.epsilon);
         let v_box = box_for(v, job);
-        let to = order::to(job, i);
+        let to = job.m;
         let start = j;
         let end = end_within(start, to, budget);
         while j < end {

@@ -18,10 +18,9 @@ use Rattle.boxes.specs.Workings.Next.{first, First, first-is, meets, apart}
 use Rattle.listing_pairs.specs.declared.row.Look.{Look}
 use Rattle.listing_pairs.specs.declared.row.Look.the-variants.{Skipped}
 use Rattle.listing_pairs.specs.declared.order.Job.{Job}
-use Rattle.listing_pairs.specs.Look.{look}
 use Rattle.listing_pairs.specs.Boxed.{boxesMeet}
 use Rattle.listing_pairs.specs.Laws.Order.{lt-or-le}
-use Rattle.listing_pairs.specs.Workings.Ready.{boxedLook, lookBy}
+use Rattle.listing_pairs.specs.Workings.Ready.{eachLook, boxedLook, lookBy}
 use Rattle.listing_pairs.specs.Workings.Keeping.{boxesKept, BoxesKept}
 use Rattle.listing_loop.specs.declared.run.Run.{Run}
 
@@ -55,7 +54,7 @@ pub record Runs (first second : List Float) (job : Job) (i j end : ℕ) (r : Run
   pub high : r .to ≤ end
   pub on : j < r .to
   pub skipped : (k : ℕ) → j ≤ k → k < r .from → lookBy first second job i k ≡ Skipped
-  pub seen : (k : ℕ) → r .from ≤ k → k < r .to → lookBy first second job i k ≡ look first second (job .epsilon) i k
+  pub seen : (k : ℕ) → r .from ≤ k → k < r .to → lookBy first second job i k ≡ eachLook first second job i k
 
 not-not : (b : Bool) → not b ≡ false → b ≡ true
 not-not true e = refl
@@ -88,11 +87,11 @@ module _ (first′ second kept : List Float) (job : Job) (i j end : ℕ) (b : Bo
         ∙ ap (λ (c : Box). meet c (segmentBox second (job .epsilon) k)) is
 
     gives : (k : ℕ) → k < end → (t : Bool) → these k ≡ t
-        → lookBy first′ second job i k ≡ cond t (look first′ second (job .epsilon) i k) Skipped
+        → lookBy first′ second job i k ≡ cond t (eachLook first′ second job i k) Skipped
     unfolding boxedLook boxesMeet
     gives k h t e =
-        ap (λ (c : Bool). cond c (boxedLook first′ second (job .epsilon)) (look first′ second (job .epsilon)) i k) boxed
-        ∙ ap (λ (c : Bool). cond c (look first′ second (job .epsilon) i k) Skipped) (sym (same k h) ∙ e)
+        ap (λ (c : Bool). cond c (boxedLook first′ second (job .epsilon) (eachLook first′ second job)) (eachLook first′ second job) i k) boxed
+        ∙ ap (λ (c : Bool). cond c (eachLook first′ second job i k) Skipped) (sym (same k h) ∙ e)
 
     meeting-runs : Runs first′ second job i j end (meetingRun kept b j end)
     meeting-runs =
@@ -118,7 +117,7 @@ module _ (first′ second kept : List Float) (job : Job) (i j end : ℕ) (b : Bo
         on = inside;
         skipped = λ k low below. absurd (omega (arith, low, below));
         seen = λ k low below.
-            ap (λ (c : Bool). cond c (boxedLook first′ second (job .epsilon)) (look first′ second (job .epsilon)) i k) plain;
+            ap (λ (c : Bool). cond c (boxedLook first′ second (job .epsilon) (eachLook first′ second job)) (eachLook first′ second job) i k) plain;
       }
 
 -- so the next run is one

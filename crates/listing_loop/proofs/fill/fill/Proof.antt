@@ -70,7 +70,7 @@ abbrev In : Type 0
 In = tie.In-loop3 Inv-loop3 μ-loop3 Inv-loop2 μ-loop2 Inv-loop μ-loop
 
 abbrev outer : Middle → Outer
-outer c = c .before .before .before .before .before .before .before .before
+outer c = c .before .before .before .before .before .before .before
 
 abbrev start : Outer → tie.Start Inv-loop3 μ-loop3 Inv-loop2 μ-loop2 Inv-loop μ-loop
 start c = c .before .before .before .before .before .before
@@ -87,16 +87,16 @@ left c j = outer c .loop .budget - (j - outer c .loop .j)
 
 -- i is a segment of the first path
 inside : (c : Middle) → outer c .loop .i < start (outer c) .args .job .n
-inside c = c .before .before .before .before .before .before .if1 .taken
+inside c = c .before .before .before .before .before .if1 .taken
 
 -- where the indices end
 bounds : (c : Middle)
-    → EndsWithin (outer c .loop .j) (c .before .before .to .result) (outer c .loop .budget) (c .before .end-within .result)
+    → EndsWithin (outer c .loop .j) (start (outer c) .args .job .m) (outer c .loop .budget) (c .before .end-within .result)
 bounds c = so-ends (c .before .end-within .ensures)
 
 -- they all go with i
 end-inside : (c : Middle) → c .before .end-within .result ≤ job_of.to (start (outer c) .args .job) (outer c .loop .i)
-end-inside c = omega (arith, c .before .before .to .ensures, bounds c .inside)
+end-inside c = bounds c .inside
 
 -- ---- the state in the middle loop, and from there to the start of a run, over skipped pairs
 mid-state : (c : Middle)
@@ -114,7 +114,7 @@ run : (c : Found)
 run c =
     let m = middle c in
     let a = start (outer m) .args in
-    let b = m .before .before .before in
+    let b = m .before .before in
     next-runs _ _ _ _ _ _ _ _ _ _ (c .before .loop2-test .taken)
     (omega (arith, end-inside m, job_of.to-within (a .job) (outer m .loop .i))) (start (outer m) .pre .0 .boxes)
     (b .before .before .segment-from .ensures) (b .box-for .ensures) (c .next-run .ensures)
@@ -188,7 +188,7 @@ seen : (c : tie.After-look Inv-loop3 μ-loop3 Inv-loop2 μ-loop2 Inv-loop μ-loo
     lookBy (now (a .first)) (now (a .second)) (a .job) (outer m .loop .i) (l .loop3 .j) ≡ c .look .result
 seen c =
     let l = c .before .before in
-    let s = middle (found l) .before .before .before .before .before in
+    let s = middle (found l) .before .before .before .before in
     run (found l) .seen (l .loop3 .j) (l .loop3 .inv .0) (c .before .loop3-test .taken)
     ∙ sym (look-on _ _ _ _ _ _ (s .segment-from .ensures)) ∙ sym (c .look .ensures)
 
@@ -203,7 +203,7 @@ loop-holds c =
 
 loop2-holds : tie.Need-loop2-holds Inv-loop3 μ-loop3 Inv-loop2 μ-loop2 Inv-loop μ-loop
 loop2-holds c =
-    let o = c .before .before .before .before .before .before .before in
+    let o = c .before .before .before .before .before .before in
     let none : o .loop .budget - (o .loop .j - o .loop .j) ≡ o .loop .budget = omega arith in
     (omega arith, omega arith, λ x y s. rw none s)
 
@@ -243,10 +243,13 @@ look-requires c κs =
     let m = middle (found l) in
     let s = start (outer m) in
     let h = s .pre .0 in
-    let b = m .before .before .before in
+    let b = m .before .before in
     let within : l .loop3 .j < s .args .job .m = omega (arith, below c, job_of.to-within (s .args .job) (outer m .loop .i)) in (
       at-segment _ _ _ _ _ (h .pairs) (inside m) (b .before .before .segment-from .ensures),
-      (kept-here (inner l) (inside m) (below c) (less c) (allowed c), (b .before .kept-of .ensures, within)),
+      (
+        kept-here (inner l) (inside m) (below c) (less c) (allowed c),
+        (b .before .kept-of .ensures, (within, omega (arith, inside m, h .pairs .few))),
+      ),
     )
 
 loop3-again : tie.Need-loop3-again Inv-loop3 μ-loop3 Inv-loop2 μ-loop2 Inv-loop μ-loop
@@ -368,7 +371,7 @@ returns-2 c =
       end .spent (omega (arith, t .before .loop2-test .left, t .if3 .taken)),
       t .before .loop2-test .left,
     ) in
-    spent (mid-state m) (inside m) (rw (m .before .before .to .ensures) at (t .if3 .taken)) none
+    spent (mid-state m) (inside m) (t .if3 .taken) none
 
 from-requires : tie.Need-from-requires Inv-loop3 μ-loop3 Inv-loop2 μ-loop2 Inv-loop μ-loop
 from-requires c κs =
@@ -378,7 +381,7 @@ loop-again : tie.Need-loop-again Inv-loop3 μ-loop3 Inv-loop2 μ-loop2 Inv-loop 
 loop-again c =
     let e = c .before in
     let m = e .before .before in
-    rw (c .from .ensures) (next-i (mid-state m) (inside m) (rw (m .before .before .to .ensures) at (e .if3 .left)))
+    rw (c .from .ensures) (next-i (mid-state m) (inside m) (e .if3 .left))
 
 sub-t37 : tie.Need-sub-t37 Inv-loop3 μ-loop3 Inv-loop2 μ-loop2 Inv-loop μ-loop
 sub-t37 c = omega (arith, c .before .before .before .loop .inv .allowed)
@@ -391,7 +394,7 @@ fill-spec =
     tie.close
     (tie.spec
     Inv-loop3 μ-loop3 Inv-loop2 μ-loop2 Inv-loop μ-loop loop-holds
-    (λ c. search needs) (λ c. search needs) (λ c. search needs) (λ c. search needs) (λ c. search needs)
+    (λ c. search needs) (λ c. search needs) (λ c. search needs) (λ c. search needs)
     loop2-holds next-run-requires loop3-holds loop2-less loop2-again look-requires
     (λ c. search needs) (λ c. search needs) (λ c. search needs) loop3-again
     (λ c. search needs) add-looked (λ c. search needs) (λ c. search needs) loop3-again-2 (λ c. search needs)
