@@ -7,7 +7,7 @@ use lib.Ieee.{Float}
 use Rattle.paths.specs.Segments.{segmentCount}
 use Rattle.boxes.specs.Index.{index}
 use Rattle.listing_pairs.specs.Order.{mutualPairs, selfPairs}
-use Rattle.listing_pairs.specs.Look.{look}
+use Rattle.listing_pairs.specs.Look.{look, selfLook}
 use Rattle.listing_pairs.specs.Boxed.{boxedPairs}
 use Rattle.listing_outcomes.specs.BoxedOutcome.{BoxedOutcome, boxedOutcome}
 use Rattle.listing_calls.specs.Listing.{mutualChecks, selfChecks}
@@ -28,7 +28,7 @@ unfoldable pub selfBoxed : List Float → Bool → Float → List Float → List
 selfBoxed path closed epsilon boxes indices points =
     let n = segmentCount path closed in
     boxedOutcome (selfChecks path closed epsilon)
-    (look path path epsilon)
-    (boxedPairs path path epsilon (selfPairs n closed))
+    (selfLook path closed epsilon)
+    (boxedPairs path path epsilon (selfPairs n))
     (index path epsilon n)
     boxes indices points

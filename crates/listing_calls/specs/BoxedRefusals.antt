@@ -25,7 +25,7 @@ use Rattle.boxes.specs.Workings.Stored.{index-length}
 use Rattle.listing_pairs.specs.declared.row.Look.{Look}
 use Rattle.listing_pairs.specs.Order.{Pair, mutualPairs, selfPairs}
 use Rattle.listing_pairs.specs.Rows.{rowsOf, lookedAt}
-use Rattle.listing_pairs.specs.Look.{look}
+use Rattle.listing_pairs.specs.Look.{look, selfLook}
 use Rattle.listing_pairs.specs.Boxed.{boxedPairs}
 use Rattle.listing_outcomes.specs.declared.answer.ListingAnswer.the-variants.{Refused}
 use Rattle.listing_outcomes.specs.Outcome.{roomCheck}
@@ -124,20 +124,20 @@ module _ (first : List Float) (firstClosed : Bool) (second : List Float) (second
 -- ---- one path
 module _ (path : List Float) (closed : Bool) (epsilon : Float) (boxes : List Float) (indices : List ℕ) (points : List Float) where
   abbrev pub ownMeeting : List Pair
-  ownMeeting = boxedPairs path path epsilon (selfPairs (segmentCount path closed) closed)
+  ownMeeting = boxedPairs path path epsilon (selfPairs (segmentCount path closed))
 
   abbrev pub ownIndex : List Float
   ownIndex = index path epsilon (segmentCount path closed)
 
   pub self-boxed-when :
       ExactlyWhen Refused counted (selfBoxed path closed epsilon boxes indices points .listing .answer)
-      (boxedChecks (selfChecks path closed epsilon) (look path path epsilon) ownMeeting ownIndex boxes indices points)
-      (boxedCounts (selfChecks path closed epsilon) (look path path epsilon) ownMeeting ownIndex boxes indices points)
+      (boxedChecks (selfChecks path closed epsilon) (selfLook path closed epsilon) ownMeeting ownIndex boxes indices points)
+      (boxedCounts (selfChecks path closed epsilon) (selfLook path closed epsilon) ownMeeting ownIndex boxes indices points)
   unfolding selfBoxed
   self-boxed-when =
-      boxed-when (selfChecks path closed epsilon) (look path path epsilon) ownMeeting ownIndex boxes indices points
+      boxed-when (selfChecks path closed epsilon) (selfLook path closed epsilon) ownMeeting ownIndex boxes indices points
 
   pub self-boxed-untouched : BoxedUntouched (selfBoxed path closed epsilon boxes indices points) boxes indices points
   unfolding selfBoxed
   self-boxed-untouched =
-      boxed-untouched (selfChecks path closed epsilon) (look path path epsilon) ownMeeting ownIndex boxes indices points
+      boxed-untouched (selfChecks path closed epsilon) (selfLook path closed epsilon) ownMeeting ownIndex boxes indices points

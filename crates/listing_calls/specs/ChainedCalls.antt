@@ -2,7 +2,7 @@
 -- listing's rows, as read from its slices, and pass the pairs that the listing looks at. So no row is left out of the joined
 -- rows either.
 use mathlib.Core.Path.{_≡_, refl, sym, ap, _∙_}
-use mathlib.Core.Bool.{Bool, true, false}
+use mathlib.Core.Bool.{Bool, true, false, cond}
 use mathlib.Core.List.{List, [], _∷_, _++_, append-nil}
 use Prim.Native.Nat.{ℕ, zero, suc, _+_, _*_, _<_, zero-le}
 use native.Mathlib.Omega.{arith}
@@ -21,7 +21,8 @@ use Rattle.listing_pairs.specs.declared.row.Look.the-variants.{Skipped, Nothing
 use Rattle.listing_pairs.specs.Order.{Pair, mutualPairs, selfPairs}
 use Rattle.listing_pairs.specs.Row.{indicesARow, pointsARow, indicesOf, pointsOf, numbersOfRows, row, unlessApart, lookOf}
 use Rattle.listing_pairs.specs.Rows.{rowsOf, count, lookedAt}
-use Rattle.listing_pairs.specs.Look.{look}
+use Rattle.listing_pairs.specs.Look.{look, selfLook}
+use Rattle.listing_pairs.specs.Neighbours.{atJoint}
 use Rattle.float_laws.specs.Stores.{flat-length}
 use Rattle.listing_outcomes.specs.declared.answer.ListingAnswer.{ListingAnswer}
 use Rattle.listing_outcomes.specs.declared.answer.ListingAnswer.the-variants.{Refused, Listed}
@@ -55,13 +56,25 @@ never-skipped : (class : ℕ) (r : Row) (n : ℕ) → count (unlessApart class r
 never-skipped zero r n = refl
 never-skipped (suc class) r n = refl
 
-all-looked : (first second : List Float) (epsilon : Float) (ps : List Pair) → lookedAt (look first second epsilon) ps ≡ length ps
+all-looked : (f : ℕ → ℕ → Look) → ((i j n : ℕ) → count (f i j) n ≡ suc n) → (ps : List Pair) → lookedAt f ps ≡ length ps
+all-looked f each [] = refl
+all-looked f each (p ∷ ps) = each (p .i) (p .j) (lookedAt f ps) ∙ ap suc (all-looked f each ps)
+
+looks : (first second : List Float) (epsilon : Float) (i j n : ℕ) → count (look first second epsilon i j) n ≡ suc n
 unfolding look lookOf
-all-looked first second epsilon [] = refl
-all-looked first second epsilon (p ∷ ps) =
-    let m = pairOf first second epsilon (p .i) (p .j) in
-    never-skipped (classOf m) (row (p .i) (p .j) m) (lookedAt (look first second epsilon) ps)
-    ∙ ap suc (all-looked first second epsilon ps)
+looks first second epsilon i j n =
+    let m = pairOf first second epsilon i j in never-skipped (classOf m) (row i j m) n
+
+looks-at-own : (path : List Float) (closed : Bool) (epsilon : Float) (i j n : ℕ) → count (selfLook path closed epsilon i j) n ≡ suc n
+unfolding selfLook lookOf
+looks-at-own path closed epsilon i j n =
+    let m = pairOf path path epsilon i j in
+    go (atJoint path closed (segmentCount path closed) epsilon i j m) (unlessApart (classOf m) (row i j m))
+    (never-skipped (classOf m) (row i j m) n)
+  where
+    go : (b : Bool) (s : Look) → count s n ≡ suc n → count (cond b Nothing s) n ≡ suc n
+    go true s e = refl
+    go false s e = e
 
 listed-never : {f : Fault} {k m : ℕ} → Refused f ≡ Listed k m → ⊥
 listed-never e = let z : _≡_ {A = ℕ} 0 1 = cc in omega (arith, z)
@@ -119,7 +132,7 @@ module _ (first : List Float) (firstClosed : Bool) (second : List Float) (second
   unfolding mutualListing
   mutual-chain lents fine end indices points rows pairs e =
       let ps = mutualPairs (segmentCount first firstClosed) (segmentCount second secondClosed) in
-      same-outcome (look first second epsilon) ps (all-looked first second epsilon ps)
+      same-outcome (look first second epsilon) ps (all-looked (look first second epsilon) (looks first second epsilon) ps)
       (mutualChecks first firstClosed second secondClosed epsilon) (mutualChain lents) (mutual-whole lents fine end)
       indices points e
 
@@ -156,7 +169,7 @@ module _ (first : List Float) (firstClosed : Bool) (second : List Float) (second
 -- ---- one path
 module _ (path : List Float) (closed : Bool) (epsilon : Float) where
   abbrev pub selfEnd : ℕ
-  selfEnd = length (selfPairs (segmentCount path closed) closed)
+  selfEnd = length (selfPairs (segmentCount path closed))
 
   abbrev pub selfChain : List Lent → Joined
   selfChain lents = chain (selfPages path closed epsilon) 0 lents
@@ -167,7 +180,7 @@ module _ (path : List Float) (closed : Bool) (epsilon : Float) where
       → SameAs (selfListing path closed epsilon indices points) rows pairs (selfChain lents)
   unfolding selfPage selfListing
   self-chain lents fine end indices points rows pairs e =
-      let ps = selfPairs (segmentCount path closed) closed in
+      let ps = selfPairs (segmentCount path closed) in
       let checks = selfChecks path closed epsilon in
-      same-outcome (look path path epsilon) ps (all-looked path path epsilon ps) checks (selfChain lents)
-      (whole checks (look path path epsilon) ps lents fine end) indices points e
+      same-outcome (selfLook path closed epsilon) ps (all-looked (selfLook path closed epsilon) (looks-at-own path closed epsilon) ps) checks (selfChain lents)
+      (whole checks (selfLook path closed epsilon) ps lents fine end) indices points e

@@ -17,6 +17,7 @@ use Rattle.arcs.specs.declared.pline_seg_intr.PlineSegIntr.{PlineSegIntr}
 use Rattle.paths.specs.Segments.{segmentFrom, segmentCount}
 use Rattle.boxes.specs.Index.{index}
 use Rattle.listing_pairs.specs.declared.row.Row.{Row}
+use Rattle.listing_pairs.specs.declared.row.Look.{Look}
 use Rattle.listing_pairs.specs.declared.row.Look.the-variants.{Made}
 use Rattle.listing_pairs.specs.Row.{row, lookOf, unlessApart, indicesOf, numbersOfRows}
 use Rattle.listing_pairs.specs.Order.{Pair, mutualPairs}
@@ -61,7 +62,19 @@ listed-is : (c : Checked) (rows : List Row) (looked n m : ℕ) (old : List ℕ) 
 listed-is Fine rows looked n m old points e = (cc, refl)
 listed-is (Bad fault) rows looked n m old points e = absurd (never e)
 
--- a pair of the sequence that meets has a row
+-- a pair of the sequence that makes a row has it, for any `look`
+pub listed-row-of : (found : Checked) (f : ℕ → ℕ → Look) (ps : List Pair) (indices : List ℕ) (points : List Float)
+    (rows pairs : ℕ) (i j : ℕ) (met : PlineSegIntr)
+    → listedOf found (rowsOf f ps) (lookedAt f ps) indices points .answer ≡ Listed rows pairs
+    → Within (record { i = i; j = j }) ps → f i j ≡ Made (row i j met)
+    → HasRow rows (listedOf found (rowsOf f ps) (lookedAt f ps) indices points .indices) i j
+listed-row-of found f ps indices points rows pairs i j met e here made =
+    let is = listed-is found (rowsOf f ps) (lookedAt f ps) rows pairs indices points e in
+    let r = row i j met in
+    let w = row-of-pair f (record { i = i; j = j }) ps r here made in
+    let stands = row-in-slice r (rowsOf f ps) indices w in
+    record { k = length (w .before); written = omega (arith, stands .0, is .0); at = rw (is .1) (stands .1) }
+
 listed-row : (found : Checked) (first second : List Float) (epsilon : Float) (ps : List Pair)
     (indices : List ℕ) (points : List Float) (rows pairs : ℕ) (i j : ℕ)
     → (let f = look first second epsilon in
@@ -69,12 +82,8 @@ listed-row : (found : Checked) (first second : List Float) (epsilon : Float) (ps
     → Within (record { i = i; j = j }) ps → 0 < classOf (pairOf first second epsilon i j)
     → HasRow rows (listedOf found (rowsOf f ps) (lookedAt f ps) indices points .indices) i j)
 listed-row found first second epsilon ps indices points rows pairs i j e here meets =
-    let f = look first second epsilon in
-    let is = listed-is found (rowsOf f ps) (lookedAt f ps) rows pairs indices points e in
-    let r = row i j (pairOf first second epsilon i j) in
-    let w = row-of-pair f (record { i = i; j = j }) ps r here (makes first second epsilon i j meets) in
-    let stands = row-in-slice r (rowsOf f ps) indices w in
-    record { k = length (w .before); written = omega (arith, stands .0, is .0); at = rw (is .1) (stands .1) }
+    listed-row-of found (look first second epsilon) ps indices points rows pairs i j (pairOf first second epsilon i j) e here
+    (makes first second epsilon i j meets)
 
 -- each segment of the first path with each of the second
 between : (n m i j : ℕ) → i < n → j < m → Within (record { i = i; j = j }) (mutualPairs n m)

@@ -11,6 +11,7 @@ pub mod Chain
 pub mod Chained
 pub mod HasRow
 pub mod Complete
+pub mod Joints
 pub mod ChainedCalls
 pub mod Workings
 pub mod Laws

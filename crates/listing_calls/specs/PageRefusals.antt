@@ -24,7 +24,7 @@ use Rattle.paths.specs.Segments.{segmentCount}
 use Rattle.listing_pairs.specs.declared.row.Look.{Look}
 use Rattle.listing_pairs.specs.Order.{Pair, mutualPairs, selfPairs}
 use Rattle.listing_pairs.specs.Page.{Page, page}
-use Rattle.listing_pairs.specs.Look.{look}
+use Rattle.listing_pairs.specs.Look.{look, selfLook}
 use Rattle.listing_outcomes.specs.declared.answer.PageAnswer.{PageAnswer}
 use Rattle.listing_outcomes.specs.declared.answer.PageAnswer.the-variants.{Refused, Paged}
 use Rattle.listing_outcomes.specs.Outcome.{Outcome, room}
@@ -154,17 +154,17 @@ module _ (first : List Float) (firstClosed : Bool) (second : List Float) (second
 module _ (path : List Float) (closed : Bool) (epsilon : Float) (position budget : ℕ)
     (indices : List ℕ) (points : List Float) where
   abbrev own : List Pair
-  own = selfPairs (segmentCount path closed) closed
+  own = selfPairs (segmentCount path closed)
 
   pub self-page-when :
       ExactlyWhen Refused paging (selfPage path closed epsilon position budget indices points .answer)
-      (selfChecks path closed epsilon ++ limits position (length (selfPairs (segmentCount path closed) closed)) budget
+      (selfChecks path closed epsilon ++ limits position (length (selfPairs (segmentCount path closed))) budget
       indices points)
-      (pageCounts (selfChecks path closed epsilon) (look path path epsilon) own position budget indices points)
+      (pageCounts (selfChecks path closed epsilon) (selfLook path closed epsilon) own position budget indices points)
   unfolding selfPage
-  self-page-when = page-when (selfChecks path closed epsilon) (look path path epsilon) own position budget indices points
+  self-page-when = page-when (selfChecks path closed epsilon) (selfLook path closed epsilon) own position budget indices points
 
   pub self-page-untouched : PageUntouched (selfPage path closed epsilon position budget indices points) indices points
   unfolding selfPage
   self-page-untouched =
-      page-untouched (selfChecks path closed epsilon) (look path path epsilon) own position budget indices points
+      page-untouched (selfChecks path closed epsilon) (selfLook path closed epsilon) own position budget indices points

@@ -6,7 +6,7 @@ use Prim.Native.Nat.{ℕ}
 use lib.Ieee.{Float}
 use Rattle.paths.specs.Segments.{segmentCount}
 use Rattle.listing_pairs.specs.Order.{mutualPairs, selfPairs}
-use Rattle.listing_pairs.specs.Look.{look}
+use Rattle.listing_pairs.specs.Look.{look, selfLook}
 use Rattle.listing_outcomes.specs.declared.answer.PageAnswer.{PageAnswer}
 use Rattle.listing_outcomes.specs.Outcome.{Outcome}
 use Rattle.listing_outcomes.specs.PageOutcome.{pageOutcome}
@@ -23,5 +23,5 @@ mutualPage first firstClosed second secondClosed epsilon position budget indices
 -- ---- one path with itself
 unfoldable pub selfPage : List Float → Bool → Float → ℕ → ℕ → List ℕ → List Float → Outcome PageAnswer
 selfPage path closed epsilon position budget indices points =
-    pageOutcome (selfChecks path closed epsilon) (look path path epsilon) (selfPairs (segmentCount path closed) closed)
+    pageOutcome (selfChecks path closed epsilon) (selfLook path closed epsilon) (selfPairs (segmentCount path closed))
     position budget indices points

@@ -24,7 +24,7 @@ use Rattle.listing_pairs.specs.declared.row.Row.{Row}
 use Rattle.listing_pairs.specs.declared.row.Look.{Look}
 use Rattle.listing_pairs.specs.Order.{Pair, mutualPairs, selfPairs}
 use Rattle.listing_pairs.specs.Rows.{rowsOf, lookedAt}
-use Rattle.listing_pairs.specs.Look.{look}
+use Rattle.listing_pairs.specs.Look.{look, selfLook}
 use Rattle.listing_outcomes.specs.declared.answer.ListingAnswer.{ListingAnswer}
 use Rattle.listing_outcomes.specs.declared.answer.ListingAnswer.the-variants.{Refused, Listed}
 use Rattle.listing_outcomes.specs.Outcome.{Outcome, room, roomCheck, listedOf, outcome}
@@ -109,15 +109,15 @@ module _ (first : List Float) (firstClosed : Bool) (second : List Float) (second
 -- ---- one path
 module _ (path : List Float) (closed : Bool) (epsilon : Float) (indices : List ℕ) (points : List Float) where
   abbrev pub own : List Pair
-  own = selfPairs (segmentCount path closed) closed
+  own = selfPairs (segmentCount path closed)
 
   pub self-when :
       ExactlyWhen Refused counted (selfListing path closed epsilon indices points .answer)
-      (all (selfChecks path closed epsilon) (look path path epsilon) own indices points)
-      (counts (selfChecks path closed epsilon) (look path path epsilon) own indices points)
+      (all (selfChecks path closed epsilon) (selfLook path closed epsilon) own indices points)
+      (counts (selfChecks path closed epsilon) (selfLook path closed epsilon) own indices points)
   unfolding selfListing
-  self-when = outcome-when (selfChecks path closed epsilon) (look path path epsilon) own indices points
+  self-when = outcome-when (selfChecks path closed epsilon) (selfLook path closed epsilon) own indices points
 
   pub self-untouched : Untouched (selfListing path closed epsilon indices points) indices points
   unfolding selfListing
-  self-untouched = outcome-untouched (selfChecks path closed epsilon) (look path path epsilon) own indices points
+  self-untouched = outcome-untouched (selfChecks path closed epsilon) (selfLook path closed epsilon) own indices points

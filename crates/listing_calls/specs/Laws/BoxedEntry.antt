@@ -16,10 +16,10 @@ use Rattle.listing_pairs.specs.declared.row.Look.{Look}
 use Rattle.listing_pairs.specs.declared.order.Job.{Job}
 use Rattle.listing_pairs.specs.Order.{Pair, mutualPairs, selfPairs}
 use Rattle.listing_pairs.specs.Rows.{rowsOf, lookedAt}
-use Rattle.listing_pairs.specs.Look.{look}
+use Rattle.listing_pairs.specs.Look.{look, selfLook}
 use Rattle.listing_pairs.specs.Boxed.{boxedPairs}
 use Rattle.listing_pairs.specs.Workings.Job.{every}
-use Rattle.listing_pairs.specs.Workings.Ready.{boxedLook, lookBy}
+use Rattle.listing_pairs.specs.Workings.Ready.{lookOn, boxedLook, lookBy}
 use Rattle.listing_pairs.specs.Laws.Sequence.{mutual-every, self-every}
 use Rattle.listing_pairs.specs.Laws.Boxed.{boxed-rows, boxed-looked}
 use Rattle.listing_outcomes.specs.declared.answer.ListingAnswer.{ListingAnswer}
@@ -49,14 +49,14 @@ module _ (checks : List Checked) (f : ℕ → ℕ → Look) (ps : List Pair) (id
       (record { listing = record { answer = refl; indices = refl; points = refl }; boxes = refl })
 
 -- the pairs are skipped, or left out
-left-out : (first second : List Float) (epsilon : Float) (ps : List Pair) (idx b₀ : List Float) (i₀ : List ℕ) (p₀ : List Float)
-    → boxed (boxedLook first second epsilon) ps idx b₀ i₀ p₀
-    ≡ boxed (look first second epsilon) (boxedPairs first second epsilon ps) idx b₀ i₀ p₀
-left-out first second epsilon ps idx b₀ i₀ p₀ =
+left-out : (first second : List Float) (epsilon : Float) (f : ℕ → ℕ → Look) (ps : List Pair)
+    (idx b₀ : List Float) (i₀ : List ℕ) (p₀ : List Float)
+    → boxed (boxedLook first second epsilon f) ps idx b₀ i₀ p₀ ≡ boxed f (boxedPairs first second epsilon ps) idx b₀ i₀ p₀
+left-out first second epsilon f ps idx b₀ i₀ p₀ =
     let of : List Row → ℕ → BoxedOutcome = λ rows looked.
     boxedOf (firstFault (indexCheck idx b₀ ∷ roomCheck rows i₀ p₀ ∷ [])) rows looked idx b₀ i₀ p₀ in
-    ap (λ (rows : List Row). of rows (lookedAt (boxedLook first second epsilon) ps)) (boxed-rows first second epsilon ps)
-    ∙ ap (of (rowsOf (look first second epsilon) (boxedPairs first second epsilon ps))) (boxed-looked first second epsilon ps)
+    ap (λ (rows : List Row). of rows (lookedAt (boxedLook first second epsilon f) ps)) (boxed-rows first second epsilon f ps)
+    ∙ ap (of (rowsOf f (boxedPairs first second epsilon ps))) (boxed-looked first second epsilon f ps)
 
 -- ---- two paths
 module _ (first : List Float) (firstClosed : Bool) (second : List Float) (secondClosed : Bool) (epsilon : Float)
@@ -75,12 +75,12 @@ module _ (first : List Float) (firstClosed : Bool) (second : List Float) (second
       → (j : Job) → j ≡ job first firstClosed second secondClosed epsilon true
       → LeavesBoxed (boxed (lookBy first second j) (every j) (indexFor first second j) b₀ i₀ p₀) r b i p
       → LeavesBoxed (mutualBoxed first firstClosed second secondClosed epsilon b₀ i₀ p₀) r b i p
-  unfolding mutualBoxed checkMutual
+  unfolding mutualBoxed checkMutual lookOn look
   mutual-boxed b i p r e j is h =
-      let g : LeavesBoxed (boxed (boxedLook first second epsilon) between both b₀ i₀ p₀) r b i p =
+      let g : LeavesBoxed (boxed (boxedLook first second epsilon (look first second epsilon)) between both b₀ i₀ p₀) r b i p =
       rw (is, mutual-every (job first firstClosed second secondClosed epsilon true) refl) at h in
       rw (boxed-fine these (look first second epsilon) (boxedPairs first second epsilon between) both b₀ i₀ p₀ e)
-      (rw (left-out first second epsilon between both b₀ i₀ p₀) at g)
+      (rw (left-out first second epsilon (look first second epsilon) between both b₀ i₀ p₀) at g)
 
   pub mutual-boxed-refused : (x : Fault) → checkMutual first firstClosed second secondClosed epsilon ≡ Bad x
       → LeavesBoxed (mutualBoxed first firstClosed second secondClosed epsilon b₀ i₀ p₀) (Refused x) b₀ i₀ p₀
@@ -94,7 +94,7 @@ module _ (path : List Float) (closed : Bool) (epsilon : Float) (b₀ : List Floa
   its = selfChecks path closed epsilon
 
   abbrev own : List Pair
-  own = selfPairs (segmentCount path closed) closed
+  own = selfPairs (segmentCount path closed)
 
   abbrev one : List Float
   one = index path epsilon (segmentCount path closed)
@@ -103,16 +103,16 @@ module _ (path : List Float) (closed : Bool) (epsilon : Float) (b₀ : List Floa
       → (j : Job) → j ≡ own-job path closed epsilon true
       → LeavesBoxed (boxed (lookBy path path j) (every j) (indexFor path path j) b₀ i₀ p₀) r b i p
       → LeavesBoxed (selfBoxed path closed epsilon b₀ i₀ p₀) r b i p
-  unfolding selfBoxed checkSelf
+  unfolding selfBoxed checkSelf lookOn selfLook
   self-boxed b i p r e j is h =
-      let k : LeavesBoxed (boxed (boxedLook path path epsilon) own (one ++ []) b₀ i₀ p₀) r b i p =
+      let k : LeavesBoxed (boxed (boxedLook path path epsilon (selfLook path closed epsilon)) own (one ++ []) b₀ i₀ p₀) r b i p =
       rw (is, self-every (own-job path closed epsilon true) refl refl) at h in
-      let l : LeavesBoxed (boxed (boxedLook path path epsilon) own one b₀ i₀ p₀) r b i p = rw (append-nil one) at k in
-      rw (boxed-fine its (look path path epsilon) (boxedPairs path path epsilon own) one b₀ i₀ p₀ e)
-      (rw (left-out path path epsilon own one b₀ i₀ p₀) at l)
+      let l : LeavesBoxed (boxed (boxedLook path path epsilon (selfLook path closed epsilon)) own one b₀ i₀ p₀) r b i p = rw (append-nil one) at k in
+      rw (boxed-fine its (selfLook path closed epsilon) (boxedPairs path path epsilon own) one b₀ i₀ p₀ e)
+      (rw (left-out path path epsilon (selfLook path closed epsilon) own one b₀ i₀ p₀) at l)
 
   pub self-boxed-refused : (x : Fault) → checkSelf path closed epsilon ≡ Bad x
       → LeavesBoxed (selfBoxed path closed epsilon b₀ i₀ p₀) (Refused x) b₀ i₀ p₀
   unfolding selfBoxed checkSelf
   self-boxed-refused x e =
-      boxed-bad its (look path path epsilon) (boxedPairs path path epsilon own) one b₀ i₀ p₀ x e
+      boxed-bad its (selfLook path closed epsilon) (boxedPairs path path epsilon own) one b₀ i₀ p₀ x e

@@ -23,10 +23,10 @@ use Rattle.listing_pairs.specs.declared.row.Look.{Look}
 use Rattle.listing_pairs.specs.declared.order.Job.{Job}
 use Rattle.listing_pairs.specs.Order.{Pair, mutualPairs, selfPairs}
 use Rattle.listing_pairs.specs.Rows.{rowsOf, lookedAt}
-use Rattle.listing_pairs.specs.Look.{look}
+use Rattle.listing_pairs.specs.Look.{look, selfLook}
 use Rattle.listing_pairs.specs.Workings.Job.{every}
 use Rattle.listing_pairs.specs.Laws.Sequence.{mutual-every, self-every}
-use Rattle.listing_pairs.specs.Workings.Ready.{lookBy, Ready, paths-ready}
+use Rattle.listing_pairs.specs.Workings.Ready.{lookOn, lookBy, Ready, paths-ready}
 use Rattle.listing_outcomes.specs.declared.answer.ListingAnswer.{ListingAnswer}
 use Rattle.listing_outcomes.specs.declared.answer.ListingAnswer.the-variants.{Refused, Listed}
 use Rattle.listing_outcomes.specs.declared.answer.PageAnswer.{PageAnswer}
@@ -127,7 +127,7 @@ module _ (first : List Float) (firstClosed : Bool) (second : List Float) (second
     module _ (j : Job) (is : j ≡ job false) (i₀ i : List ℕ) (p₀ p : List Float) where
       pub mutual-listed : (r : ListingAnswer) → Leaves (listed (lookBy first second j) (every j) i₀ p₀) r i p
           → Leaves (mutualListing first firstClosed second secondClosed epsilon i₀ p₀) r i p
-      unfolding mutualListing checkMutual
+      unfolding mutualListing checkMutual lookOn look
       mutual-listed r h =
           let g : Leaves (listed f between i₀ p₀) r i p = rw (is, mutual-every (job false) refl) at h in
           rw (listing-fine these f between i₀ p₀ e) g
@@ -135,7 +135,7 @@ module _ (first : List Float) (firstClosed : Bool) (second : List Float) (second
       pub mutual-paged : (r : PageAnswer) (position budget : ℕ)
           → Leaves (paged (lookBy first second j) (every j) position budget i₀ p₀) r i p
           → Leaves (mutualPage first firstClosed second secondClosed epsilon position budget i₀ p₀) r i p
-      unfolding mutualPage checkMutual
+      unfolding mutualPage checkMutual lookOn look
       mutual-paged r position budget h =
           let g : Leaves (paged f between position budget i₀ p₀) r i p = rw (is, mutual-every (job false) refl) at h in
           rw (page-fine these f between position budget i₀ p₀ e) g
@@ -164,10 +164,10 @@ module _ (path : List Float) (closed : Bool) (epsilon : Float) where
   own-job boxed = selfJob path closed boxed epsilon
 
   abbrev g : ℕ → ℕ → Look
-  g = look path path epsilon
+  g = selfLook path closed epsilon
 
   abbrev own : List Pair
-  own = selfPairs (segmentCount path closed) closed
+  own = selfPairs (segmentCount path closed)
 
   pub self-chain : checkPath shaped path closed 0 ≡ checkSelf path closed epsilon
   unfolding checkPath checkSelf
@@ -195,7 +195,7 @@ module _ (path : List Float) (closed : Bool) (epsilon : Float) where
     module _ (j : Job) (is : j ≡ own-job false) (i₀ i : List ℕ) (p₀ p : List Float) where
       pub self-listed : (r : ListingAnswer) → Leaves (listed (lookBy path path j) (every j) i₀ p₀) r i p
           → Leaves (selfListing path closed epsilon i₀ p₀) r i p
-      unfolding selfListing checkSelf
+      unfolding selfListing checkSelf lookOn selfLook
       self-listed r h =
           let k : Leaves (listed g own i₀ p₀) r i p = rw (is, self-every (own-job false) refl refl) at h in
           rw (listing-fine its g own i₀ p₀ e) k
@@ -203,7 +203,7 @@ module _ (path : List Float) (closed : Bool) (epsilon : Float) where
       pub self-paged : (r : PageAnswer) (position budget : ℕ)
           → Leaves (paged (lookBy path path j) (every j) position budget i₀ p₀) r i p
           → Leaves (selfPage path closed epsilon position budget i₀ p₀) r i p
-      unfolding selfPage checkSelf
+      unfolding selfPage checkSelf lookOn selfLook
       self-paged r position budget h =
           let k : Leaves (paged g own position budget i₀ p₀) r i p = rw (is, self-every (own-job false) refl refl) at h in
           rw (page-fine its g own position budget i₀ p₀ e) k
