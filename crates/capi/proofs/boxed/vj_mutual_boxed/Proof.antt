@@ -12,4 +12,7 @@ vj-mutual-boxed-spec =
     (λ c. search needs)
     (λ c. search needs)
     (λ c. search needs) (λ c. search needs) (λ c. search needs) (λ c. search needs)
-    (λ c. search handed-boxed))
+    (λ c. let h = c .before .before in
+    let l = h .before .before .before .before .before .before .before .before in
+    handed-boxed _ _ _ _ _ (l .before .before .before .before .if1 .left) _ _ _ _ _ _ (l .mutual-boxed .ensures)
+    (h .hand-counts .ensures .0) (h .hand-counts .ensures .1)))

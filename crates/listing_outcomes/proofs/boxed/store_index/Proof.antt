@@ -15,7 +15,7 @@ store-index-spec =
     (tie.spec
     (λ c κs. let s = c .before .before .before .before in
     let p = s .pre in
-    ((p .0 .n-within, p .0 .few), omega (arith, first-fits (s .args .job) (length (now (s .args .boxes))) (p .1))))
+    (search needs, omega (arith, first-fits (s .args .job) (length (now (s .args .boxes))) (p .1))))
     (λ c. search needs)
     (λ c. let s = c .before .before .before in
     let f = s .before .before .before .before .before in
@@ -28,10 +28,8 @@ store-index-spec =
     let s = e .before .before .before in
     let f = s .before .before .before .before .before in
     let p = f .pre in
-    let fit = both-fit (f .args .job) (length (now (f .args .boxes))) (e .if1 .left) (p .1) in (
-      (p .0 .m-within, p .0 .few-second),
-      omega (arith, fit, g .group-count .ensures, s .store .kept .1 .1 .1 .1 .0),
-    ))
+    let fit = both-fit (f .args .job) (length (now (f .args .boxes))) (e .if1 .left) (p .1) in
+    (search needs, omega (arith, fit, g .group-count .ensures, s .store .kept .1 .1 .1 .1 .0)))
     (λ c. search needs)
     (λ c. let t = c .before .before in
     let g = t .before .before .before in
