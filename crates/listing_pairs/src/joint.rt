@@ -46,27 +46,14 @@ pub(crate) fn at_joint(path: &[f64], job: Job, i: usize, j: usize, met: PlineSeg
     if !(next | closing) {
         return false;
     }
+    let eps = job.epsilon;
     match met {
         PlineSegIntr::NoIntersect => false,
-        PlineSegIntr::TangentIntersect { point } => near_some(
-            path,
-            next,
-            closing,
-            j,
-            job.epsilon,
-            point,
-        ),
-        PlineSegIntr::OneIntersect { point } => near_some(
-            path,
-            next,
-            closing,
-            j,
-            job.epsilon,
-            point,
-        ),
+        PlineSegIntr::TangentIntersect { point } => near_some(path, next, closing, j, eps, point),
+        PlineSegIntr::OneIntersect { point } => near_some(path, next, closing, j, eps, point),
         PlineSegIntr::TwoIntersects { point1, point2 } => {
-            let first = near_some(path, next, closing, j, job.epsilon, point1);
-            let second = near_some(path, next, closing, j, job.epsilon, point2);
+            let first = near_some(path, next, closing, j, eps, point1);
+            let second = near_some(path, next, closing, j, eps, point2);
             first & second
         }
         PlineSegIntr::OverlappingLines { point1, point2 } => false,
