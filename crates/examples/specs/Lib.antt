@@ -1,3 +1,4 @@
--- The worked examples: the table, and the proof of all its entries.
+-- The worked examples: the table, the proof of all its entries, and the joints of request 4.
 pub mod ExampleTable
 pub mod Proved
+pub mod Folds
