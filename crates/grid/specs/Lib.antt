@@ -8,5 +8,6 @@ pub mod Joined
 pub mod Crossed
 pub mod Level
 pub mod Kernel
+pub mod Meeting
 pub mod Proved
 pub mod Boxes
