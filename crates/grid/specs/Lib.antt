@@ -11,3 +11,5 @@ pub mod Kernel
 pub mod Meeting
 pub mod Proved
 pub mod Boxes
+pub mod Joints
+pub mod JointsProved

@@ -17,6 +17,7 @@ use Rattle.crossing.specs.declared.line_line_intr.LineLineIntr.{LineLineIntr}
 use Rattle.crossing.specs.declared.line_line_intr.LineLineIntr.the-variants.{NoIntersect, TrueIntersect}
 use Rattle.grid.specs.Promise.{Spot}
 use Rattle.grid.specs.Plane.Spots.{Same}
+use Rattle.grid.specs.Plane.Joints.{AnEnd, back, through}
 use Rattle.grid.specs.Floats.Small.{Vec, vec-sub, perp}
 use Rattle.grid.specs.Floats.Zero.{Eps}
 use Rattle.grid.specs.Floats.Length.{IsZero}
@@ -28,16 +29,7 @@ use Rattle.grid.specs.Floats.Ways.{point-or-not}
 use Rattle.grid.specs.Floats.Joint.{zero-is, one-is, ratio-zero, ratio-one, overlap-end, touching}
 use Rattle.grid.specs.Joined.{At, point-at}
 
--- a is one of the ends b and c
-abbrev pub AnEnd : Spot → Spot → Spot → Type 0
-AnEnd a b c = Same a b ⊎ Same a c
-
 -- ---- the same grid point
-back : {a b : Spot} → Same a b → Same b a
-back (x, y) = (sym x, sym y)
-
-through : {a b c : Spot} → Same a b → Same b c → Same a c
-through (x, y) (z, w) = (x ∙ z, y ∙ w)
 
 -- the ends b and c are one
 the-end : (a b c : Spot) → Same b c → AnEnd a b c → Same a b
