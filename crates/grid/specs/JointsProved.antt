@@ -6,17 +6,13 @@ use mathlib.Core.Path.{_≡_, refl, sym, ap, _∙_, subst}
 use mathlib.Core.Logic.{_⊎_, inl, inr, _↔_, _≢_}
 use mathlib.Core.Bool.{Bool, true, false, cond, _&&_, _||_, true≢false}
 use mathlib.Core.List.{List, [], _∷_, _++_}
-use Prim.Native.Nat.{ℕ, _+_, _*_, _^_, _≤_, _<_}
-use native.Mathlib.Nat.{le-of-mul-le-mul-right}
+use Prim.Native.Nat.{ℕ, _+_, _-_, _<_}
 use native.Mathlib.Decide.{ℕ-discrete}
 use native.Mathlib.Omega.{arith}
-use lib.Dec.{T}
-use lib.IntN.{ℤ, natAbs, _-ℤ_, _*ℤ_}
-use lib.IntN as int
-use lib.Ieee.{Float, nan, inf, fin, down}
-use lib.Ieee.Fits.{down-pos}
+use lib.Dec.{T, eqb, eqb→eq, ltb, lt→ltb, ltb→lt, not-T}
+use lib.Ieee.{Float}
+use lib.Ieee.Bits.{is-true, is-false}
 use Rattle.float_laws.specs.Signed.{Diff}
-use Rattle.plane.specs.Fuzzy
 use Rattle.plane.specs.Vector2 as vector2
 use Rattle.plane.specs.PlineVertex as vertex
 use Rattle.plane.specs.PlineVertex.{bulgeIsZero}
@@ -29,113 +25,31 @@ use Rattle.crossing.specs.declared.line_line_intr.LineLineIntr.{LineLineIntr}
 use Rattle.crossing.specs.declared.line_line_intr.LineLineIntr.the-variants as lines
 use Rattle.arcs.specs.declared.pline_seg_intr.PlineSegIntr.{PlineSegIntr}
 use Rattle.arcs.specs.declared.pline_seg_intr.PlineSegIntr.the-variants.{NoIntersect, OneIntersect, OverlappingLines}
-use Rattle.listing_pairs.specs.Neighbours.{onlyAt}
-use Rattle.grid.specs.Promise.{Is, Epsilon, Spot, On, NearExact, Parallel, Shared, ShareMore, Promised}
-use Rattle.grid.specs.Joints.{Seen, EndOf, JointPromise, BackPromise}
-use Rattle.grid.specs.Accepted.{size-mul, two-lines}
-use Rattle.grid.specs.Plane.Whole.{diff, whole, naturals, gain, loss}
-use Rattle.grid.specs.Plane.Ring.{combine, sub-of-equal, var, num, _⊟_, _⊠_}
-use Rattle.grid.specs.Plane.Order.{cancel}
-use Rattle.grid.specs.Plane.Spots.{Same, IsSpot, spot}
+use Rattle.paths.specs.Path.{vertexCount}
+use Rattle.paths.specs.Path.{vertex as vertexAt}
+use Rattle.paths.specs.Shape.{refused}
+use Rattle.paths.specs.Segments.{segmentCount, after, segmentFrom}
+use Rattle.paths.specs.Laws.Segments.{count-within}
+use Rattle.listing_pairs.specs.declared.row.Look.the-variants.{Made}
+use Rattle.listing_pairs.specs.Row.{row}
+use Rattle.listing_pairs.specs.Look.{look}
+use Rattle.listing_pairs.specs.Neighbours.{sharedVertices, nearSome, onlyAt, atJoint}
+use Rattle.listing_calls.specs.Complete.{pairOf, makes}
+use Rattle.grid.specs.Promise.{Epsilon, Spot, On, Parallel, Shared, ShareMore, Promised}
+use Rattle.grid.specs.Joints.{Seen, EndOf, JointPromise, BackPromise, FoldPromise}
+use Rattle.grid.specs.Accepted.{two-lines}
+use Rattle.grid.specs.Plane.Spots.{Same, spot}
 use Rattle.grid.specs.Plane.Joints.{AnEnd, start-shared, end-shared, only-one, cross-there, there-and-back}
 use Rattle.grid.specs.Floats.Small.{Vec, vec-sub, perp}
-use Rattle.grid.specs.Floats.Zero.{Eps}
-use Rattle.grid.specs.Floats.Length.{gap}
 use Rattle.grid.specs.Floats.Ways.{goes-parallel}
-use Rattle.grid.specs.Floats.Joint.{near-whole, There, at-start, at-end}
-use Rattle.grid.specs.Joined.{is-diff, whole-diff, size-gap, At, vec, vec-at, eps}
+use Rattle.grid.specs.Floats.Joint.{at-start, at-end}
+use Rattle.grid.specs.Joined.{vec, vec-at, eps}
+use Rattle.grid.specs.Nearby.{one-spot, Close, close-there, close-cross, close-same, near-vertex}
 use Rattle.grid.specs.Kernel.{slant}
 use Rattle.grid.specs.Meeting.{meets-at}
-use Rattle.grid.specs.Proved.{promised}
-
--- ---- coordinates
-
--- a float is one number
-one-number : (x : Float) (a b : ℤ) → Is x a 1 → Is x b 1 → a ≡ b
-one-number nan a b h k = absurd h
-one-number (inf s) a b h k = absurd h
-one-number (fin s m e) a b h k = cancel a b (down e) (down-pos e) (sym h ∙ k)
-
-one-spot : (v : PlineVertex) (a b : Spot) → On v a → On v b → Same a b
-one-spot v a b h k = (one-number (v .x) (a .x) (b .x) (h .0) (k .0), one-number (v .y) (a .y) (b .y) (h .2) (k .2))
-
--- close to a point that is the whole number a
-near-a : (c : Float) (x a : ℤ) (over : ℕ) → 0 < over → x ≡ a *ℤ int.pos over → NearExact c x over → NearExact c a 1
-near-a c x a over O e h =
-    record {
-      a = h .a;
-      d = h .d;
-      positive = h .positive;
-      value = h .value;
-      near = le-of-mul-le-mul-right {m = natAbs z * 1073741824} {n = h .d * 1} {k = over} (less (natAbs z) over (h .d) most) O;
-    }
-  where
-    z : ℤ
-    z = h .a *ℤ int.pos 1 -ℤ a *ℤ int.pos (h .d)
-
-    wide : h .a *ℤ int.pos over -ℤ x *ℤ int.pos (h .d) ≡ z *ℤ int.pos over
-    wide =
-        let A = var 0 in let X = var 1 in let B = var 2 in let O = var 3 in let D = var 4 in
-        combine (h .a ∷ x ∷ a ∷ int.pos over ∷ int.pos (h .d) ∷ []) (A ⊠ O ⊟ X ⊠ D) ((A ⊠ num 1 ⊟ B ⊠ D) ⊠ O)
-        (num 0 ⊟ D) X (B ⊠ O) e tt
-
-    most : natAbs z * over * 1073741824 ≤ h .d * over
-    most = subst (λ (k : ℕ). k * 1073741824 ≤ h .d * over) (ap natAbs wide ∙ size-mul z (int.pos over)) (h .near)
-
-    less : (n o d : ℕ) → n * o * 1073741824 ≤ d * o → n * 1073741824 * o ≤ d * 1 * o
-    less n o d l = omega arith
-
--- exactly there
-at-a : (c : Float) (a : ℤ) → Is c a 1 → NearExact c a 1
-at-a c a h = record { a = a; d = 1; positive = omega arith; value = h; near = none (a *ℤ int.pos 1) }
-  where
-    none : (b : ℤ) → natAbs (b -ℤ b) * 1073741824 ≤ 1 * 1
-    none b = subst (λ (z : ℤ). natAbs z * 1073741824 ≤ 1 * 1) (sym (sub-of-equal b b refl)) (omega arith)
-
--- so a float that is a is near it
-module _ (e : Float) (num den : ℕ) (E : Eps e num den) where
-  near-float : (c x : Float) (a : ℤ) → NearExact c a 1 → Is x a 1 → Fuzzy.fuzzyEqEps c x e ≡ true
-  near-float c x a h is =
-      near-whole e num den E c x (gain (h .a)) (loss (h .a)) (h .d) (gain a) (loss a) (h .positive)
-      (whole-diff c (h .a) (h .d) (h .value)) (whole-diff x a 1 is) (up .0) (up .1)
-    where
-      P : ℕ
-      P = gain (h .a) + loss a * h .d
-
-      N : ℕ
-      N = loss (h .a) + gain a * h .d
-
-      off-is : (b a : ℤ) (p n q m d : ℕ) → b ≡ diff p n → a ≡ diff q m
-          → b *ℤ int.pos 1 -ℤ a *ℤ int.pos d ≡ diff (p + m * d) (n + q * d)
-      off-is b a p n q m d e f = rw (e, f) (simp naturals (omega arith))
-
-      close : (P N d k : ℕ) → k ≡ gap P N → k * 1073741824 ≤ d * 1
-          → (2 ^ 30 * P ≤ 2 ^ 30 * N + d) × (2 ^ 30 * N ≤ 2 ^ 30 * P + d)
-      close P N d k e l = (omega arith, omega arith)
-
-      up : (2 ^ 30 * P ≤ 2 ^ 30 * N + h .d) × (2 ^ 30 * N ≤ 2 ^ 30 * P + h .d)
-      up = close P N (h .d) _ 
-          (size-gap _ P N (off-is (h .a) a _ _ _ _ (h .d) (sym (whole (h .a))) (sym (whole a)))) (h .near)
-
-  -- and a point close to a grid point is near the vertex there
-  near-vertex : (o : Vector2) (w : PlineVertex) (a : Spot) → NearExact (o .x) (a .x) 1 → NearExact (o .y) (a .y) 1 → On w a
-      → vector2.fuzzyEqEps o (vertex.pos w) e ≡ true
-  unfolding vector2.fuzzyEqEps vertex.pos
-  near-vertex o w a x y h =
-      ap (λ (z : Bool). z && Fuzzy.fuzzyEqEps (o .y) (w .y) e) (near-float (o .x) (w .x) (a .x) x (h .0))
-      ∙ near-float (o .y) (w .y) (a .y) y (h .2)
+use Rattle.grid.specs.Proved.{promised, class-above}
 
 -- ---- the point that is answered
--- o is close to the grid point a
-abbrev Close : Vector2 → Spot → Type 0
-Close o a = NearExact (o .x) (a .x) 1 × NearExact (o .y) (a .y) 1
-
-close-there : (o v : Vector2) (A : Vec 20 v) (a : Spot) → At 20 v A a → There o v A → Close o a
-close-there o v A a at (x, y) = (
-  at-a (o .x) (a .x) (subst (λ (z : ℤ). Is (o .x) z 1) (sym (at .at-x)) (is-diff (o .x) _ _ 1 .1 x)),
-  at-a (o .y) (a .y) (subst (λ (z : ℤ). Is (o .y) z 1) (sym (at .at-y)) (is-diff (o .y) _ _ 1 .1 y)),
-)
-
 -- a point comes from a true intersection
 from-true : (r : LineLineIntr) (v1 v2 u1 u2 o : Vector2) → lineLineOf r v1 v2 u1 u2 ≡ OneIntersect o
     → (t : Float) × (t' : Float) × (r ≡ lines.TrueIntersect t t') × (pointFromParametric v1 v2 t ≡ o)
@@ -195,10 +109,7 @@ module _ (v1 v2 u1 u2 : PlineVertex) (p1 p2 q1 q2 : Spot) (e : Float) (num den :
   slanted : ¬ Parallel p1 p2 q1 q2 → (o : Vector2) → met ≡ OneIntersect o → (a : Spot) → Common a → Close o a
   slanted n o h a c =
       let x = as-promised .exact o h n in
-      let P = x .0 in
-      let s = cross-there p1 p2 q1 q2 n P (x .1) a c in
-      (near-a (o .x) (P .x) (a .x) (P .over) (P .positive) (s .0) (x .2),
-      near-a (o .y) (P .y) (a .y) (P .over) (P .positive) (s .1) (x .3))
+      close-cross o (x .0) a (cross-there p1 p2 q1 q2 n (x .0) (x .1) a c) (x .2) (x .3)
 
   -- parallel lines answer a common end
   level : perp v u F G .p ≡ perp v u F G .n → (o : Vector2) → met ≡ OneIntersect o → (a : Spot) × Common a × Close o a
@@ -247,3 +158,189 @@ module _ (v1 v2 u1 u2 : PlineVertex) (p1 p2 q1 q2 : Spot) (e : Float) (num den :
                 A1 A2 B1 B2 p1 p2 q1 q2 (vec-at v1 p1 on-v1) (vec-at v2 p2 on-v2) (vec-at u1 q1 on-u1) (vec-at u2 q2 on-u2) n)
                 o h (c .0) (c .1),
           )
+
+  -- ---- what is promised at the vertex j, at the common end s
+  module _ (j : PlineVertex) (s : Spot) (on-j : On j s) (there : Common s) (near : Vector2 → Bool)
+      (says : (p : Vector2) → vector2.fuzzyEqEps p (vertex.pos j) e ≡ true → near p ≡ true) where
+    abbrev More : Type 0
+    More = ShareMore p1 p2 q1 q2
+
+    close-is-near : (o : Vector2) (a : Spot) → Same a s → Close o a → near o ≡ true
+    close-is-near o a same c = says o (near-vertex e num den (eps e num den small) o j s (close-same o a s same c) on-j)
+
+    -- they share the end, so they meet; and if they share no more, in one point, near it
+    one-point : ¬ More → (p : Vector2) × (met ≡ OneIntersect p) × (near p ≡ true)
+    one-point n = go (as-promised .classes)
+      where
+        go : (met ≡ NoIntersect) ⊎ ((p : Vector2) × (met ≡ OneIntersect p))
+            ⊎ ((p : Vector2) × (q : Vector2) × (met ≡ OverlappingLines p q))
+            → (p : Vector2) × (met ≡ OneIntersect p) × (near p ≡ true)
+        go (inl h) = absurd (as-promised .none-missed h (spot s, there))
+        go (inr (inl (o, h))) =
+            let k = answered o h in (o, h, close-is-near o (k .0) (only-one p1 p2 q1 q2 n (k .0) s (k .1) there) (k .2))
+        go (inr (inr (p, q, h))) = absurd (n (as-promised .overlap .0 (p, q, h)))
+
+    yes-at : (o : Vector2) → met ≡ OneIntersect o → near o ≡ true → onlyAt near met ≡ true
+    unfolding onlyAt
+    yes-at o h k = ap (onlyAt near) h ∙ k
+
+    no-at : More → onlyAt near met ≡ false
+    unfolding onlyAt
+    no-at m = ap (onlyAt near) (as-promised .overlap .1 m .2)
+
+    only : ¬ More → onlyAt near met ≡ true
+    only n = let k = one-point n in yes-at (k .0) (k .1) (k .2)
+
+    -- a row that is not only there is an overlap
+    more : onlyAt near met ≡ false → More
+    more f = go (as-promised .classes)
+      where
+        two : (r : PlineSegIntr) (o p q : Vector2) → r ≡ OneIntersect o → r ≡ OverlappingLines p q → ⊥
+        two r o p q h k = let z : _≡_ {A = ℕ} 0 1 = cc in omega arith
+
+        go : (met ≡ NoIntersect) ⊎ ((p : Vector2) × (met ≡ OneIntersect p))
+            ⊎ ((p : Vector2) × (q : Vector2) × (met ≡ OverlappingLines p q))
+            → More
+        go (inl h) = absurd (as-promised .none-missed h (spot s, there))
+        go (inr (inl (o, h))) =
+            let single : ¬ More = λ m. let k = as-promised .overlap .1 m in two met o (k .0) (k .1) h (k .2) in
+            absurd (true≢false (sym (only single) ∙ f))
+        go (inr (inr (p, q, h))) = as-promised .overlap .0 (p, q, h)
+
+    seen : Seen p1 p2 q1 q2 near met
+    seen =
+        record {
+          only-there = (λ t m. true≢false (sym t ∙ no-at m), only);
+          elsewhere = (more, no-at);
+          point = one-point;
+          overlap = as-promised .overlap;
+        }
+
+-- ---- two lines with a common end
+pub joint-promise : JointPromise
+joint-promise v1 v2 u1 u2 w p1 p2 q1 q2 e num den a b c d line-v line-u small end-v end-u near says = go end-v end-u
+  where
+    at : (x : PlineVertex) (p : Spot) → w ≡ x → On x p → On w p
+    at x p h k = subst (λ (z : PlineVertex). On z p) (sym h) k
+
+    start : AnEnd p1 q1 q2 → On w p1 → Seen p1 p2 q1 q2 near (plineSeg v1 v2 u1 u2 e)
+    start j on =
+        seen v1 v2 u1 u2 p1 p2 q1 q2 e num den a b c d line-v line-u small (inl j) w p1 on (start-shared p1 p2 q1 q2 j) near says
+
+    end : AnEnd p2 q1 q2 → On w p2 → Seen p1 p2 q1 q2 near (plineSeg v1 v2 u1 u2 e)
+    end j on =
+        seen v1 v2 u1 u2 p1 p2 q1 q2 e num den a b c d line-v line-u small (inr j) w p2 on (end-shared p1 p2 q1 q2 j) near says
+
+    go : EndOf w v1 v2 → EndOf w u1 u2 → Seen p1 p2 q1 q2 near (plineSeg v1 v2 u1 u2 e)
+    go (inl h) (inl k) = let x = at v1 p1 h a in start (inl (one-spot w p1 q1 x (at u1 q1 k c))) x
+    go (inl h) (inr k) = let x = at v1 p1 h a in start (inr (one-spot w p1 q2 x (at u2 q2 k d))) x
+    go (inr h) (inl k) = let x = at v2 p2 h b in end (inl (one-spot w p2 q1 x (at u1 q1 k c))) x
+    go (inr h) (inr k) = let x = at v2 p2 h b in end (inr (one-spot w p2 q2 x (at u2 q2 k d))) x
+
+pub back-promise : BackPromise
+back-promise = there-and-back
+
+-- ---- one path
+closed-count : (path : List Float) (closed : Bool) → closed ≡ true → 0 < segmentCount path closed
+    → segmentCount path closed ≡ vertexCount path
+unfolding segmentCount
+closed-count path closed = go (refused path) (ltb (vertexCount path) 2) closed (vertexCount path)
+  where
+    go : (a b c : Bool) (n : ℕ) → c ≡ true → 0 < cond a 0 (cond b 0 (cond c n (n - 1)))
+        → cond a 0 (cond b 0 (cond c n (n - 1))) ≡ n
+    go true b c n e h = absurd (omega arith)
+    go false true c n e h = absurd (omega arith)
+    go false false true n e h = refl
+    go false false false n e h = absurd (true≢false (sym e))
+
+after-next : (path : List Float) (i : ℕ) → i + 1 < vertexCount path → after path i ≡ i + 1
+unfolding after
+after-next path i h = ap (λ (b : Bool). cond b (i + 1) 0) (is-true (ltb (i + 1) (vertexCount path)) (lt→ltb (i + 1) (vertexCount path) h))
+
+after-last : (path : List Float) (i : ℕ) → i + 1 ≡ vertexCount path → after path i ≡ 0
+unfolding after
+after-last path i h =
+    ap (λ (b : Bool). cond b (i + 1) 0)
+    (is-false (ltb (i + 1) (vertexCount path))
+    (not-T (ltb (i + 1) (vertexCount path)) (λ t. never (i + 1) (vertexCount path) h (ltb→lt (i + 1) (vertexCount path) t))))
+  where
+    never : (a b : ℕ) → a ≡ b → a < b → ⊥
+    never a b e l = omega arith
+
+-- a vertex that segments i and j share, among those of the list ks
+record Between (path : List Float) (e : Float) (i j : ℕ) (ks : List ℕ) : Type 0 where
+  pub k : ℕ
+  pub of-i : EndOf (vertexAt path k) (segmentFrom path i .v1) (segmentFrom path i .v2)
+  pub of-j : EndOf (vertexAt path k) (segmentFrom path j .v1) (segmentFrom path j .v2)
+  pub near : (p : Vector2) → vector2.fuzzyEqEps p (vertex.pos (vertexAt path k)) e ≡ true → nearSome path e ks p ≡ true
+
+module _ (path : List Float) (closed : Bool) (e : Float) (i j : ℕ) (rises : i < j) (within : j < segmentCount path closed) where
+  abbrev n : ℕ
+  n = segmentCount path closed
+
+  next : (ks : List ℕ) → j ≡ i + 1 → Between path e i j (j ∷ ks)
+  unfolding segmentFrom
+  next ks is =
+      let l : i + 1 < vertexCount path = omega (arith, count-within path closed) in
+      record {
+        k = j;
+        of-i = inr (ap (vertexAt path) (is ∙ sym (after-next path i l)));
+        of-j = inl refl;
+        near = λ p h. ap (λ (b : Bool). b || nearSome path e ks p) h;
+      }
+
+  first : closed ≡ true → i ≡ 0 → j + 1 ≡ n → Between path e i j (0 ∷ [])
+  unfolding segmentFrom
+  first all start last =
+      let l : j + 1 ≡ vertexCount path = last ∙ closed-count path closed all (omega arith) in
+      record {
+        k = 0;
+        of-i = inl (ap (vertexAt path) (sym start));
+        of-j = inr (ap (vertexAt path) (sym (after-last path j l)));
+        near = λ p h. ap (λ (b : Bool). b || false) h;
+      }
+
+  between : sharedVertices n closed i j ≢ [] → Between path e i j (sharedVertices n closed i j)
+  between =
+      go (eqb j (i + 1)) (closed && eqb i 0 && eqb (j + 1) n) (eqb→eq j (i + 1))
+      (λ t. let a = all-three closed (eqb i 0) (eqb (j + 1) n) t in
+      (is-true closed (a .0), eqb→eq i 0 (a .1), eqb→eq (j + 1) n (a .2)))
+    where
+      all-three : (a b c : Bool) → T (a && b && c) → T a × T b × T c
+      all-three true true true t = (tt, tt, tt)
+      all-three true true false t = absurd t
+      all-three true false c t = absurd t
+      all-three false b c t = absurd t
+
+      go : (a b : Bool) → (T a → j ≡ i + 1) → (T b → (closed ≡ true) × (i ≡ 0) × (j + 1 ≡ n))
+          → cond a (j ∷ []) [] ++ cond b (0 ∷ []) [] ≢ []
+          → Between path e i j (cond a (j ∷ []) [] ++ cond b (0 ∷ []) [])
+      go true b x y some = next (cond b (0 ∷ []) []) (x tt)
+      go false true x y some = let k = y tt in first (k .0) (k .1) (k .2)
+      go false false x y some = absurd (some refl)
+
+pub fold-promise : FoldPromise
+unfolding atJoint
+fold-promise path closed e num den small i j (rises, within, some) p1 p2 q1 q2 (on-v1, on-v2, line-v) (on-u1, on-u2, line-u) =
+    (s .only-there, (λ r. s .elsewhere .0 (r .1), λ m. ((row i j met, made m), s .elsewhere .1 m)))
+  where
+    n : ℕ
+    n = segmentCount path closed
+
+    met : PlineSegIntr
+    met = pairOf path path e i j
+
+    shares : Between path e i j (sharedVertices n closed i j)
+    shares = between path closed e i j rises within some
+
+    s : Seen p1 p2 q1 q2 (nearSome path e (sharedVertices n closed i j)) met
+    s =
+        joint-promise (segmentFrom path i .v1) (segmentFrom path i .v2) (segmentFrom path j .v1) (segmentFrom path j .v2)
+        (vertexAt path (shares .k)) p1 p2 q1 q2 e num den on-v1 on-v2 on-u1 on-u2 line-v line-u small (shares .of-i) (shares .of-j)
+        (nearSome path e (sharedVertices n closed i j)) (shares .near)
+
+    apart : (r : PlineSegIntr) (p q : Vector2) → r ≡ OverlappingLines p q → r ≡ NoIntersect → ⊥
+    apart r p q h k = let z : _≡_ {A = ℕ} 0 1 = cc in omega arith
+
+    made : ShareMore p1 p2 q1 q2 → look path path e i j ≡ Made (row i j met)
+    made m = let k = s .overlap .1 m in makes path path e i j (class-above met (apart met (k .0) (k .1) (k .2)))

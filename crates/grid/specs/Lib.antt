@@ -11,5 +11,6 @@ pub mod Kernel
 pub mod Meeting
 pub mod Proved
 pub mod Boxes
+pub mod Nearby
 pub mod Joints
 pub mod JointsProved

@@ -81,7 +81,7 @@ promise v1 v2 u1 u2 p1 p2 q1 q2 e num den a b c d line-v line-u small = (
 )
 
 -- ---- listings: a pair that shares a point is not NoIntersect, so it has a row
-class-above : (r : PlineSegIntr) → (r ≡ NoIntersect → ⊥) → 0 < classOf r
+pub class-above : (r : PlineSegIntr) → (r ≡ NoIntersect → ⊥) → 0 < classOf r
 class-above NoIntersect h = absurd (h refl)
 class-above (TangentIntersect p) h = omega arith
 class-above (OneIntersect p) h = omega arith
