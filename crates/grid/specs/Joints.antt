@@ -3,7 +3,7 @@
 use Prim.Native.Nat.{ℕ, _<_}
 use mathlib.Core.Path.{_≡_}
 use mathlib.Core.Logic.{_≢_, _⊎_, _↔_}
-use mathlib.Core.Bool.{Bool, true, false}
+use mathlib.Core.Bool.{Bool, true, false, _||_}
 use mathlib.Core.List.{List, []}
 use lib.Dec.{T}
 use lib.Ieee.{Float}
@@ -30,23 +30,34 @@ pub record Seen (v1 v2 u1 u2 : Spot) (near : Vector2 → Bool) (met : PlineSegIn
   pub point : ¬ ShareMore v1 v2 u1 u2 → (p : Vector2) × (met ≡ OneIntersect p) × (near p ≡ true)
   pub overlap : ((p : Vector2) × (q : Vector2) × (met ≡ OverlappingLines p q)) ↔ ShareMore v1 v2 u1 u2
 
--- the vertex w is an end of the line from a to b
+-- the vertex w is an end of the line from a to b; p is near w in each coordinate, by epsilon
 abbrev pub EndOf : PlineVertex → PlineVertex → PlineVertex → Type 0
 EndOf w a b = (w ≡ a) ⊎ (w ≡ b)
 
--- The lines run from v1 to v2 and from u1 to u2, and w is an end of each: v2 and u1 at a joint of a path, u2 and v1 where a
--- closed path begins. `near` says yes of every point that is near w in each coordinate, by epsilon; it may say yes of others, as
--- of those near a second common end.
+abbrev pub nearTo : PlineVertex → Float → Vector2 → Bool
+nearTo w e p = fuzzyEqEps p (pos w) e
+
+-- The lines run from v1 to v2 and from u1 to u2, and w is an end of each. `near` says yes of every point near w; it may say yes
+-- of others, as of those near a second common end.
 abbrev pub JointPromise : Type 0
 JointPromise = (v1 v2 u1 u2 w : PlineVertex) (p1 p2 q1 q2 : Spot) (e : Float) (num den : ℕ)
     → On v1 p1 → On v2 p2 → On u1 q1 → On u2 q2 → T (bulgeIsZero v1) → T (bulgeIsZero u1) → Epsilon e num den
     → EndOf w v1 v2 → EndOf w u1 u2
-    → (near : Vector2 → Bool) → ((p : Vector2) → fuzzyEqEps p (pos w) e ≡ true → near p ≡ true)
+    → (near : Vector2 → Bool) → ((p : Vector2) → nearTo w e p ≡ true → near p ≡ true)
     → Seen p1 p2 q1 q2 near (plineSeg v1 v2 u1 u2 e)
 
--- two lines that run there and back share more than one point unless they have no length
+-- The three ways in which this happens on a path: a to b and b to c at a joint; a to b, the first line of a closed path, and c to
+-- a, its last; there and back, a to b and b to a, the two lines of a closed path of two.
+abbrev pub ThreeWays : Type 0
+ThreeWays = (a b c : PlineVertex) (p q r : Spot) (e : Float) (num den : ℕ)
+    → On a p → On b q → On c r → T (bulgeIsZero a) → T (bulgeIsZero b) → T (bulgeIsZero c) → Epsilon e num den
+    → Seen p q q r (nearTo b e) (plineSeg a b b c e)
+    × Seen p q r p (nearTo a e) (plineSeg a b c a e)
+    × Seen p q q p (λ x. nearTo b e x || nearTo a e x) (plineSeg a b b a e)
+
+-- there and back, they share more than one point unless the two ends are one spot
 abbrev pub BackPromise : Type 0
-BackPromise = (a b : Spot) → ShareMore a b b a ↔ (¬ ((a .x ≡ b .x) × (a .y ≡ b .y)))
+BackPromise = (p q : Spot) → ShareMore p q q p ↔ (¬ ((p .x ≡ q .x) × (p .y ≡ q .y)))
 
 -- ---- one path. Segments i < j of it are neighbours if they share a vertex by index.
 abbrev pub Neighbours : List Float → Bool → ℕ → ℕ → Type 0

@@ -1,6 +1,6 @@
 -- Parallel grid segments of which an end of the one is an end of the other: if the kernel answers a point, it is such an end of
--- the first. It is given by its parameter there: 0 is the start, 1 the end. v is the way from v1 to v2, u that from u1 to u2 and w
--- that from u1 to v1; F, G and H are their numbers.
+-- the first. It is given by its parameter there: 0 is the start, 1 the end. v is the way from v1 to v2, u that from u1 to u2 and
+-- w that from u1 to v1; F, G and H are their numbers.
 use mathlib.Core.Path.{_≡_, sym, _∙_, subst}
 use mathlib.Core.Logic.{_⊎_, inl, inr, _↔_}
 use Prim.Native.Nat.{ℕ, _+_}

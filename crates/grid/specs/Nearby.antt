@@ -114,7 +114,7 @@ module _ (e : Float) (top den : ℕ) (E : Eps e top den) where
       close P N d k e l = (omega arith, omega arith)
 
       up : (2 ^ 30 * P ≤ 2 ^ 30 * N + h .d) × (2 ^ 30 * N ≤ 2 ^ 30 * P + h .d)
-      up = close P N (h .d) _ 
+      up = close P N (h .d) _
           (size-gap _ P N (off-is (h .a) a _ _ _ _ (h .d) (sym (whole (h .a))) (sym (whole a)))) (h .near)
 
   pub near-vertex : (o : Vector2) (w : PlineVertex) (a : Spot) → Close o a → On w a → vector2.fuzzyEqEps o (vertex.pos w) e ≡ true

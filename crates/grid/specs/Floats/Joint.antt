@@ -5,10 +5,10 @@
 use mathlib.Core.Path.{_≡_, refl, ap, _∙_}
 use mathlib.Core.Logic.{_⊎_, inl, inr}
 use Prim.Native.Nat.{ℕ, _+_, _*_, _^_, _≤_, _<_}
-use native.Mathlib.Nat.{mul-le-mul-left, mul-le-mul-right, le-of-mul-le-mul-right, mul-pos, zero-lt-suc}
+use native.Mathlib.Nat.{mul-le-mul-right, le-of-mul-le-mul-right, mul-pos, zero-lt-suc}
 use native.Mathlib.Omega.{arith}
 use mathlib.Core.Bool.{Bool, true, false, not, cond, _||_}
-use lib.Dec.{T, lit≤}
+use lib.Dec.{lit≤}
 use lib.Ieee.{Float, binary64, ofBits}
 use lib.Ieee.Bits.{is-true}
 use Rattle.float_laws.specs.Signed.{Diff, diff-at}
@@ -25,7 +25,6 @@ use Rattle.plane.specs.Fuzzy.{fuzzyEqZeroEps, fuzzyEqEps, fuzzyGtEps, fuzzyLtEp
 use Rattle.plane.specs.BaseMath.{pointFromParametric}
 use Rattle.crossing.specs.LineLine.{overlap, touchingEnd}
 use Rattle.crossing.specs.declared.line_line.Span.{Span}
-use Rattle.crossing.specs.declared.line_line_intr.LineLineIntr.{LineLineIntr}
 use Rattle.crossing.specs.declared.line_line_intr.LineLineIntr.the-variants.{NoIntersect, TrueIntersect, Overlapping}
 use Rattle.grid.specs.Floats.Small.{Small, Vec, small-sub, small-mul, vec-sub}
 use Rattle.grid.specs.Floats.Zero.{Eps}
@@ -76,9 +75,9 @@ module _ (e : Float) (num den : ℕ) (E : Eps e num den) (c x : Float) (p n d q 
 on-axis : (c0 c1 t : Float) (A : Small 20 c0) (B : Small 20 c1) (k : ℕ) → k ≤ 1 → Diff t k 0 1
     → Diff (c0 ⊕ (c1 ⊖ c0) ⊗ t) (A .p + k * (B .p + A .n)) (A .n + k * (B .n + A .p)) 1
 on-axis c0 c1 t A B k few is =
-    let T : Small 21 t = record { p = k; n = 0; is = is; p-le = omega arith; n-le = omega arith } in
+    let K : Small 21 t = record { p = k; n = 0; is = is; p-le = omega arith; n-le = omega arith } in
     let d = small-sub 20 c1 c0 (lit≤ tt) B A in
-    let m = small-mul 21 (c1 ⊖ c0) t (lit≤ tt) d T in
+    let m = small-mul 21 (c1 ⊖ c0) t (lit≤ tt) d K in
     let s = add-whole binary64 c0 ((c1 ⊖ c0) ⊗ t) (A .p) (A .n) (m .p) (m .n) (A .is) (m .is)
     (omega (arith, A .p-le, m .p-le)) (omega (arith, A .n-le, m .n-le)) in
     diff-at (c0 ⊕ (c1 ⊖ c0) ⊗ t) (A .p + m .p) (A .n + m .n) 1 (A .p + k * (B .p + A .n)) (A .n + k * (B .n + A .p)) 1
@@ -184,11 +183,17 @@ touching e num den h v1 u1 u2 A1 B1 B2 =
         ⊎ ((X ⊎ Y → ⊥) × (end (vector2.fuzzyEqEps v1 u1 e || vector2.fuzzyEqEps v1 u2 e) ≡ f1))
     go (inl x) y = inl (inl x, ap (λ (z : Bool). end (z || vector2.fuzzyEqEps v1 u2 e)) (same-point e num den h v1 u1 A1 B1 x))
     go (inr x) (inl y) =
-        inl (inr y, ap (λ (z : Bool). end (vector2.fuzzyEqEps v1 u1 e || z)) (same-point e num den h v1 u2 A1 B2 y)
-            ∙ ap end (any (vector2.fuzzyEqEps v1 u1 e)))
+        inl (
+          inr y,
+          ap (λ (z : Bool). end (vector2.fuzzyEqEps v1 u1 e || z)) (same-point e num den h v1 u2 A1 B2 y)
+              ∙ ap end (any (vector2.fuzzyEqEps v1 u1 e)),
+        )
     go (inr x) (inr y) =
-        inr (neither, ap (λ (z : Bool). end (z || vector2.fuzzyEqEps v1 u2 e)) (two-points e num den h v1 u1 A1 B1 x)
-            ∙ ap (λ (z : Bool). end (false || z)) (two-points e num den h v1 u2 A1 B2 y))
+        inr (
+          neither,
+          ap (λ (z : Bool). end (z || vector2.fuzzyEqEps v1 u2 e)) (two-points e num den h v1 u1 A1 B1 x)
+              ∙ ap (λ (z : Bool). end (false || z)) (two-points e num den h v1 u2 A1 B2 y),
+        )
       where
         neither : X ⊎ Y → ⊥
         neither (inl z) = x z

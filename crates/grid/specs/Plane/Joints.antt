@@ -1,6 +1,6 @@
 -- Segments between grid points, one of which has an end that is an end of the other: that end lies on both. If they share no
 -- more than one point, a grid point on both is that end. If they are not parallel, their straight lines cross there.
-use mathlib.Core.Path.{_≡_, refl, sym, _∙_}
+use mathlib.Core.Path.{_≡_, sym, _∙_}
 use mathlib.Core.Logic.{_⊎_, inl, inr, _≢_, _↔_}
 use mathlib.Core.List.{[], _∷_}
 use native.Mathlib.Omega.{arith}
