@@ -40,7 +40,7 @@ size-neg : (k : ℕ) → natAbs (negℤ (pos k)) ≡ k
 size-neg zero = refl
 size-neg (suc k) = refl
 
-size-mul : (a b : ℤ) → natAbs (a *ℤ b) ≡ natAbs a * natAbs b
+pub size-mul : (a b : ℤ) → natAbs (a *ℤ b) ≡ natAbs a * natAbs b
 size-mul (pos a) (pos b) = refl
 size-mul (pos a) (negsuc b) = size-neg (a * suc b)
 size-mul (negsuc a) (pos b) = size-neg (suc a * b)

@@ -14,3 +14,4 @@ pub mod Shared
 pub mod Overlap
 pub mod Parallel
 pub mod Ways
+pub mod Joint

@@ -115,7 +115,7 @@ module _ (e : Float) (num den : ℕ) (h : Eps e num den)
   t2 = vector2.perpDot v w ⊘ vector2.perpDot v u
 
   module _ (not-level : Level → ⊥) where
-    slant : ¬ Parallel p1 p2 q1 q2
+    pub slant : ¬ Parallel p1 p2 q1 q2
     slant par = not-level (level-is .0 (parallel-across p1 p2 q1 q2 par))
 
     R1 : Ratio 44 t1 (perp u w G H .p) (perp u w G H .n) (perp v u F G .p) (perp v u F G .n)

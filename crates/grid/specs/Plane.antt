@@ -12,3 +12,4 @@ pub mod Overlap
 pub mod Parts
 pub mod Suffices
 pub mod Ends
+pub mod Joints

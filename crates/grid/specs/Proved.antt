@@ -64,7 +64,7 @@ module _ (e : Float) (num den : ℕ) (h : Eps e num den)
           (level-promised e num den h v1 v2 u1 u2 A1 A2 B1 B2 p1 p2 q1 q2 a1 a2 b1 b2 s)
 
 -- the pair's definition
-promised : (v1 v2 u1 u2 : PlineVertex) (p1 p2 q1 q2 : Spot) (e : Float) (num den : ℕ)
+pub promised : (v1 v2 u1 u2 : PlineVertex) (p1 p2 q1 q2 : Spot) (e : Float) (num den : ℕ)
     → On v1 p1 → On v2 p2 → On u1 q1 → On u2 q2 → T (bulgeIsZero v1) → T (bulgeIsZero u1) → Epsilon e num den
     → Promised p1 p2 q1 q2 num den (plineSeg v1 v2 u1 u2 e)
 promised v1 v2 u1 u2 p1 p2 q1 q2 e num den a b c d line-v line-u small =
@@ -81,7 +81,7 @@ promise v1 v2 u1 u2 p1 p2 q1 q2 e num den a b c d line-v line-u small = (
 )
 
 -- ---- listings: a pair that shares a point is not NoIntersect, so it has a row
-class-above : (r : PlineSegIntr) → (r ≡ NoIntersect → ⊥) → 0 < classOf r
+pub class-above : (r : PlineSegIntr) → (r ≡ NoIntersect → ⊥) → 0 < classOf r
 class-above NoIntersect h = absurd (h refl)
 class-above (TangentIntersect p) h = omega arith
 class-above (OneIntersect p) h = omega arith

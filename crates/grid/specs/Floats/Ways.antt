@@ -200,11 +200,15 @@ module _ (e : Float) (num den : ℕ) (h : Eps e num den) where
           (point-at e num den h v1 v2 u1 A1 A2 B1 a (TrueIntersect (parametricFromPoint v1 v2 u1 e) f0))
 
       -- neither is a point
+      pub goes-overlap : (IsZero v V1 → ⊥) → (IsZero u U1 → ⊥)
+          → parallel v1 v2 u1 u2 v u w e ≡ overlap v1 u1 u2 u (spanOf w w2 u e) e
+      goes-overlap a b = at false false (other v1 v2 A1 A2 a) (other u1 u2 B1 B2 b)
+
       pub segments : (IsZero v V1 → ⊥) → (IsZero u U1 → ⊥)
           → Spanned (parallel v1 v2 u1 u2 v u w e) (W1 .x .p) (W1 .x .n) (W2 .x .p) (W2 .x .n) (U1 .x .p) (U1 .x .n)
           ⊎ Spanned (parallel v1 v2 u1 u2 v u w e) (W1 .y .p) (W1 .y .n) (W2 .y .p) (W2 .y .n) (U1 .y .p) (U1 .y .n)
       segments a b =
           subst (λ (r : LineLineIntr). Spanned r (W1 .x .p) (W1 .x .n) (W2 .x .p) (W2 .x .n) (U1 .x .p) (U1 .x .n)
           ⊎ Spanned r (W1 .y .p) (W1 .y .n) (W2 .y .p) (W2 .y .n) (U1 .y .p) (U1 .y .n))
-          (sym (at false false (other v1 v2 A1 A2 a) (other u1 u2 B1 B2 b)))
+          (sym (goes-overlap a b))
           (overlap-spanned e num den h v1 u1 u2 w w2 u W1 W2 U1 b)

@@ -73,7 +73,7 @@ same-ratio a b c p q k H h e =
     (combine2 (a ∷ b ∷ c ∷ pos p ∷ pos q ∷ pos k ∷ []) (A ⊠ Q ⊠ K) (B ⊠ P ⊠ K)
     Q (A ⊠ K) (C ⊠ P) (neg P) (B ⊠ K) (C ⊠ Q) h e tt)
 
-on-line : (P : Point) (a b : Spot) → OnSegment P a b → OnLine P a b
+pub on-line : (P : Point) (a b : Spot) → OnSegment P a b → OnLine P a b
 on-line P a b (s, t, l, h) = (pos s, t, h)
 
 -- ---- the place of the crossing point
@@ -164,13 +164,18 @@ module _ (v1 v2 u1 u2 : Spot) (slant : ¬ Parallel v1 v2 u1 u2) where
             (on-v .at-y) place,
       )
 
+  pub crossing-same : (P Q : Point) → Crossing v1 v2 u1 u2 P → Crossing v1 v2 u1 u2 Q
+      → (P .x *ℤ pos (Q .over) ≡ Q .x *ℤ pos (P .over)) × (P .y *ℤ pos (Q .over) ≡ Q .y *ℤ pos (P .over))
+  crossing-same P Q h k = (
+    same-ratio (P .x) (Q .x) (crossing-point .x) (P .over) (Q .over) (base v1 v2 u1 u2) base-pos (crossing-is P h .0)
+        (crossing-is Q k .0),
+    same-ratio (P .y) (Q .y) (crossing-point .y) (P .over) (Q .over) (base v1 v2 u1 u2) base-pos (crossing-is P h .1)
+        (crossing-is Q k .1),
+  )
+
   pub crossing-once : (P Q : Point) → Crossing v1 v2 u1 u2 P → Crossing v1 v2 u1 u2 Q → ¬ Differ P Q
-  crossing-once P Q h k (inl a) =
-      a (same-ratio (P .x) (Q .x) (crossing-point .x) (P .over) (Q .over) (base v1 v2 u1 u2) base-pos (crossing-is P h .0)
-      (crossing-is Q k .0))
-  crossing-once P Q h k (inr a) =
-      a (same-ratio (P .y) (Q .y) (crossing-point .y) (P .over) (Q .over) (base v1 v2 u1 u2) base-pos (crossing-is P h .1)
-      (crossing-is Q k .1))
+  crossing-once P Q h k (inl a) = a (crossing-same P Q h k .0)
+  crossing-once P Q h k (inr a) = a (crossing-same P Q h k .1)
 
   pub share-once : ¬ ShareMore v1 v2 u1 u2
   share-once (P, Q, differ, (p, p'), (q, q')) =

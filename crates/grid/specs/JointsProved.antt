@@ -1,0 +1,173 @@
+-- The proof of the promise on joints and folds: from two lines with a common end (Jointed) to the segments of a path, which share
+-- a vertex by index.
+use mathlib.Core.Path.{_≡_, refl, sym, ap, _∙_, subst}
+use mathlib.Core.Logic.{inl, inr, _≢_}
+use mathlib.Core.Bool.{Bool, true, false, cond, _&&_, _||_, true≢false}
+use mathlib.Core.List.{List, [], _∷_, _++_}
+use Prim.Native.Nat.{ℕ, _+_, _-_, _<_}
+use native.Mathlib.Omega.{arith}
+use lib.Dec.{T, eqb, eqb→eq, ltb, lt→ltb, ltb→lt, not-T}
+use lib.Ieee.{Float}
+use lib.Ieee.Bits.{is-true, is-false}
+use Rattle.plane.specs.Vector2 as vector2
+use Rattle.plane.specs.PlineVertex as vertex
+use Rattle.plane.specs.declared.vector2.Vector2.{Vector2}
+use Rattle.plane.specs.declared.pline_vertex.PlineVertex.{PlineVertex}
+use Rattle.crossing.specs.PlineSeg.{plineSeg}
+use Rattle.arcs.specs.declared.pline_seg_intr.PlineSegIntr.{PlineSegIntr}
+use Rattle.arcs.specs.declared.pline_seg_intr.PlineSegIntr.the-variants.{NoIntersect, OverlappingLines}
+use Rattle.paths.specs.Path.{vertexCount}
+use Rattle.paths.specs.Path.{vertex as vertexAt}
+use Rattle.paths.specs.Shape.{refused}
+use Rattle.paths.specs.Segments.{segmentCount, after, segmentFrom}
+use Rattle.paths.specs.Laws.Segments.{count-within}
+use Rattle.listing_pairs.specs.declared.row.Look.the-variants.{Made}
+use Rattle.listing_pairs.specs.Row.{row}
+use Rattle.listing_pairs.specs.Look.{look}
+use Rattle.listing_pairs.specs.Neighbours.{sharedVertices, nearSome, atJoint}
+use Rattle.listing_calls.specs.Complete.{pairOf, makes}
+use Rattle.grid.specs.Promise.{Spot, On, ShareMore}
+use Rattle.grid.specs.Joints.{Seen, EndOf, nearTo, JointPromise, ThreeWays, BackPromise, FoldPromise}
+use Rattle.grid.specs.Plane.Joints.{AnEnd, start-shared, end-shared, there-and-back}
+use Rattle.grid.specs.Nearby.{one-spot}
+use Rattle.grid.specs.Proved.{class-above}
+use Rattle.grid.specs.Jointed.{seen}
+
+-- ---- two lines with a common end
+pub joint-promise : JointPromise
+joint-promise v1 v2 u1 u2 w p1 p2 q1 q2 e num den a b c d line-v line-u small end-v end-u near says = go end-v end-u
+  where
+    at : (x : PlineVertex) (p : Spot) → w ≡ x → On x p → On w p
+    at x p h k = subst (λ (z : PlineVertex). On z p) (sym h) k
+
+    start : AnEnd p1 q1 q2 → On w p1 → Seen p1 p2 q1 q2 near (plineSeg v1 v2 u1 u2 e)
+    start j on =
+        seen v1 v2 u1 u2 p1 p2 q1 q2 e num den a b c d line-v line-u small (inl j) w p1 on (start-shared p1 p2 q1 q2 j) near says
+
+    end : AnEnd p2 q1 q2 → On w p2 → Seen p1 p2 q1 q2 near (plineSeg v1 v2 u1 u2 e)
+    end j on =
+        seen v1 v2 u1 u2 p1 p2 q1 q2 e num den a b c d line-v line-u small (inr j) w p2 on (end-shared p1 p2 q1 q2 j) near says
+
+    go : EndOf w v1 v2 → EndOf w u1 u2 → Seen p1 p2 q1 q2 near (plineSeg v1 v2 u1 u2 e)
+    go (inl h) (inl k) = let x = at v1 p1 h a in start (inl (one-spot w p1 q1 x (at u1 q1 k c))) x
+    go (inl h) (inr k) = let x = at v1 p1 h a in start (inr (one-spot w p1 q2 x (at u2 q2 k d))) x
+    go (inr h) (inl k) = let x = at v2 p2 h b in end (inl (one-spot w p2 q1 x (at u1 q1 k c))) x
+    go (inr h) (inr k) = let x = at v2 p2 h b in end (inr (one-spot w p2 q2 x (at u2 q2 k d))) x
+
+pub three-ways : ThreeWays
+three-ways a b c p q r e num den at-a at-b at-c line-a line-b line-c small = (
+  joint-promise a b b c b p q q r e num den at-a at-b at-b at-c line-a line-b small (inr refl) (inl refl) (nearTo b e) (λ x h. h),
+  joint-promise a b c a a p q r p e num den at-a at-b at-c at-a line-a line-c small (inl refl) (inr refl) (nearTo a e) (λ x h. h),
+  joint-promise a b b a b p q q p e num den at-a at-b at-b at-a line-a line-b small (inr refl) (inl refl)
+      (λ x. nearTo b e x || nearTo a e x) (λ x h. ap (λ (z : Bool). z || nearTo a e x) h),
+)
+
+pub back-promise : BackPromise
+back-promise = there-and-back
+
+-- ---- one path
+closed-count : (path : List Float) (closed : Bool) → closed ≡ true → 0 < segmentCount path closed
+    → segmentCount path closed ≡ vertexCount path
+unfolding segmentCount
+closed-count path closed = go (refused path) (ltb (vertexCount path) 2) closed (vertexCount path)
+  where
+    go : (a b c : Bool) (n : ℕ) → c ≡ true → 0 < cond a 0 (cond b 0 (cond c n (n - 1)))
+        → cond a 0 (cond b 0 (cond c n (n - 1))) ≡ n
+    go true b c n e h = absurd (omega arith)
+    go false true c n e h = absurd (omega arith)
+    go false false true n e h = refl
+    go false false false n e h = absurd (true≢false (sym e))
+
+after-next : (path : List Float) (i : ℕ) → i + 1 < vertexCount path → after path i ≡ i + 1
+unfolding after
+after-next path i h =
+    ap (λ (b : Bool). cond b (i + 1) 0)
+    (is-true (ltb (i + 1) (vertexCount path)) (lt→ltb (i + 1) (vertexCount path) h))
+
+after-last : (path : List Float) (i : ℕ) → i + 1 ≡ vertexCount path → after path i ≡ 0
+unfolding after
+after-last path i h =
+    ap (λ (b : Bool). cond b (i + 1) 0)
+    (is-false (ltb (i + 1) (vertexCount path))
+    (not-T (ltb (i + 1) (vertexCount path)) (λ t. never (i + 1) (vertexCount path) h (ltb→lt (i + 1) (vertexCount path) t))))
+  where
+    never : (a b : ℕ) → a ≡ b → a < b → ⊥
+    never a b e l = omega arith
+
+-- a vertex that segments i and j share, among those of the list ks
+record Between (path : List Float) (e : Float) (i j : ℕ) (ks : List ℕ) : Type 0 where
+  pub k : ℕ
+  pub of-i : EndOf (vertexAt path k) (segmentFrom path i .v1) (segmentFrom path i .v2)
+  pub of-j : EndOf (vertexAt path k) (segmentFrom path j .v1) (segmentFrom path j .v2)
+  pub near : (p : Vector2) → vector2.fuzzyEqEps p (vertex.pos (vertexAt path k)) e ≡ true → nearSome path e ks p ≡ true
+
+module _ (path : List Float) (closed : Bool) (e : Float) (i j : ℕ) (rises : i < j) (within : j < segmentCount path closed) where
+  abbrev n : ℕ
+  n = segmentCount path closed
+
+  next : (ks : List ℕ) → j ≡ i + 1 → Between path e i j (j ∷ ks)
+  unfolding segmentFrom
+  next ks is =
+      let l : i + 1 < vertexCount path = omega (arith, count-within path closed) in
+      record {
+        k = j;
+        of-i = inr (ap (vertexAt path) (is ∙ sym (after-next path i l)));
+        of-j = inl refl;
+        near = λ p h. ap (λ (b : Bool). b || nearSome path e ks p) h;
+      }
+
+  first : closed ≡ true → i ≡ 0 → j + 1 ≡ n → Between path e i j (0 ∷ [])
+  unfolding segmentFrom
+  first all start last =
+      let l : j + 1 ≡ vertexCount path = last ∙ closed-count path closed all (omega arith) in
+      record {
+        k = 0;
+        of-i = inl (ap (vertexAt path) (sym start));
+        of-j = inr (ap (vertexAt path) (sym (after-last path j l)));
+        near = λ p h. ap (λ (b : Bool). b || false) h;
+      }
+
+  between : sharedVertices n closed i j ≢ [] → Between path e i j (sharedVertices n closed i j)
+  between =
+      go (eqb j (i + 1)) (closed && eqb i 0 && eqb (j + 1) n) (eqb→eq j (i + 1))
+      (λ t. let a = all-three closed (eqb i 0) (eqb (j + 1) n) t in
+      (is-true closed (a .0), eqb→eq i 0 (a .1), eqb→eq (j + 1) n (a .2)))
+    where
+      all-three : (a b c : Bool) → T (a && b && c) → T a × T b × T c
+      all-three true true true t = (tt, tt, tt)
+      all-three true true false t = absurd t
+      all-three true false c t = absurd t
+      all-three false b c t = absurd t
+
+      go : (a b : Bool) → (T a → j ≡ i + 1) → (T b → (closed ≡ true) × (i ≡ 0) × (j + 1 ≡ n))
+          → cond a (j ∷ []) [] ++ cond b (0 ∷ []) [] ≢ []
+          → Between path e i j (cond a (j ∷ []) [] ++ cond b (0 ∷ []) [])
+      go true b x y some = next (cond b (0 ∷ []) []) (x tt)
+      go false true x y some = let k = y tt in first (k .0) (k .1) (k .2)
+      go false false x y some = absurd (some refl)
+
+pub fold-promise : FoldPromise
+unfolding atJoint
+fold-promise path closed e num den small i j (rises, within, some) p1 p2 q1 q2 (on-v1, on-v2, line-v) (on-u1, on-u2, line-u) =
+    (s .only-there, (λ r. s .elsewhere .0 (r .1), λ m. ((row i j met, made m), s .elsewhere .1 m)))
+  where
+    n : ℕ
+    n = segmentCount path closed
+
+    met : PlineSegIntr
+    met = pairOf path path e i j
+
+    shares : Between path e i j (sharedVertices n closed i j)
+    shares = between path closed e i j rises within some
+
+    s : Seen p1 p2 q1 q2 (nearSome path e (sharedVertices n closed i j)) met
+    s =
+        joint-promise (segmentFrom path i .v1) (segmentFrom path i .v2) (segmentFrom path j .v1) (segmentFrom path j .v2)
+        (vertexAt path (shares .k)) p1 p2 q1 q2 e num den on-v1 on-v2 on-u1 on-u2 line-v line-u small (shares .of-i)
+        (shares .of-j) (nearSome path e (sharedVertices n closed i j)) (shares .near)
+
+    apart : (r : PlineSegIntr) (p q : Vector2) → r ≡ OverlappingLines p q → r ≡ NoIntersect → ⊥
+    apart r p q h k = let z : _≡_ {A = ℕ} 0 1 = cc in omega arith
+
+    made : ShareMore p1 p2 q1 q2 → look path path e i j ≡ Made (row i j met)
+    made m = let k = s .overlap .1 m in makes path path e i j (class-above met (apart met (k .0) (k .1) (k .2)))
