@@ -17,7 +17,7 @@ use Rattle.arcs.specs.declared.pline_seg_intr.PlineSegIntr.the-variants.{OneInt
 use Rattle.paths.specs.Segments.{segmentCount}
 use Rattle.listing_pairs.specs.declared.row.Row.{Row}
 use Rattle.listing_pairs.specs.declared.row.Look.the-variants.{Made}
-use Rattle.listing_pairs.specs.Look.{look}
+use Rattle.listing_pairs.specs.Look.{selfLook}
 use Rattle.listing_pairs.specs.Neighbours.{sharedVertices, onlyAt, atJoint}
 use Rattle.listing_calls.specs.Complete.{pairOf}
 use Rattle.grid.specs.Promise.{Spot, On, Epsilon, ShareMore, GridLine}
@@ -64,11 +64,9 @@ abbrev pub Neighbours : List Float → Bool → ℕ → ℕ → Type 0
 Neighbours path closed i j =
     (i < j) × (j < segmentCount path closed) × (sharedVertices (segmentCount path closed) closed i j ≢ [])
 
--- they meet, in any class except NoIntersect, and not only at vertices that they share
+-- they make a row in a self listing
 abbrev pub MakesRow : List Float → Bool → Float → ℕ → ℕ → Type 0
-MakesRow path closed e i j =
-    ((r : Row) × (look path path e i j ≡ Made r))
-    × (atJoint path closed (segmentCount path closed) e i j (pairOf path path e i j) ≡ false)
+MakesRow path closed e i j = (r : Row) × (selfLook path closed e i j ≡ Made r)
 
 -- neighbours that are lines between grid points are at a joint exactly if they share no more than one point, and make a row
 -- exactly if they share more

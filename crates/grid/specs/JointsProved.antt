@@ -21,9 +21,11 @@ use Rattle.paths.specs.Path.{vertex as vertexAt}
 use Rattle.paths.specs.Shape.{refused}
 use Rattle.paths.specs.Segments.{segmentCount, after, segmentFrom}
 use Rattle.paths.specs.Laws.Segments.{count-within}
-use Rattle.listing_pairs.specs.declared.row.Look.the-variants.{Made}
+use Rattle.listing_pairs.specs.declared.row.Row.{Row}
+use Rattle.listing_pairs.specs.declared.row.Look.{Look}
+use Rattle.listing_pairs.specs.declared.row.Look.the-variants.{Nothing, Made}
 use Rattle.listing_pairs.specs.Row.{row}
-use Rattle.listing_pairs.specs.Look.{look}
+use Rattle.listing_pairs.specs.Look.{look, selfLook}
 use Rattle.listing_pairs.specs.Neighbours.{sharedVertices, nearSome, atJoint}
 use Rattle.listing_calls.specs.Complete.{pairOf, makes}
 use Rattle.grid.specs.Promise.{Spot, On, ShareMore}
@@ -146,10 +148,15 @@ module _ (path : List Float) (closed : Bool) (e : Float) (i j : ℕ) (rises : i 
       go false true x y some = let k = y tt in first (k .0) (k .1) (k .2)
       go false false x y some = absurd (some refl)
 
+-- a pair that is at a joint makes no row
+not-silent : (b : Bool) (l : Look) (r : Row) → cond b Nothing l ≡ Made r → b ≡ false
+not-silent true l r e = let z : _≡_ {A = ℕ} 0 1 = cc in absurd (omega (arith, z))
+not-silent false l r e = refl
+
 pub fold-promise : FoldPromise
-unfolding atJoint
+unfolding atJoint selfLook look
 fold-promise path closed e num den small i j (rises, within, some) p1 p2 q1 q2 (on-v1, on-v2, line-v) (on-u1, on-u2, line-u) =
-    (s .only-there, (λ r. s .elsewhere .0 (r .1), λ m. ((row i j met, made m), s .elsewhere .1 m)))
+    (s .only-there, (λ r. s .elsewhere .0 (not-silent _ _ (r .0) (r .1)), λ m. (row i j met, rw (s .elsewhere .1 m) (made m))))
   where
     n : ℕ
     n = segmentCount path closed
