@@ -1,27 +1,27 @@
 -- The box of a group holds the extremes of its members' boxes exactly: each of its four numbers is that of some member, and no
 -- member's number is beyond it. For f64 without NaN, infinity and -0 these two properties leave one box only, so the order in
 -- which the members are joined is no matter.
-use mathlib.Core.Path.{_≡_, refl, sym, ap, _∙_, subst}
+use mathlib.Core.Path.{_≡_, refl, sym, subst}
 use mathlib.Core.Logic.{_⊎_, inl, inr}
-use mathlib.Core.Bool.{Bool, true, false, cond, _||_, true≢false}
+use mathlib.Core.Bool.{Bool, true, false, cond}
 use mathlib.Core.List.{List}
 use Prim.Native.Nat.{ℕ, zero, suc, _+_, _-_, _*_, _≤_, _<_}
 use native.Mathlib.Nat.{eq-or-lt-of-le}
 use native.Mathlib.Omega.{arith}
 use lib.Dec.{T}
-use lib.Ieee.{Float, nan, inf, fin, binary64, isNan}
+use lib.Ieee.{Float, binary64, isNan}
 use lib.Ieee.Scale.{finite}
+use Rattle.float_laws.specs.Chains.{le-refl, finite-real}
 use Rattle.floats.specs.Ops.{_≼_}
 use Rattle.floats.specs.F64.{min, max}
 use Rattle.plane.specs.PlineVertex.{bulgeIsZero}
 use Rattle.plane.specs.declared.pline_vertex.PlineVertex.{PlineVertex}
 use Rattle.checks.specs.declared.fault.Checked.{Checked}
 use Rattle.checks.specs.declared.fault.Checked.the-variants.{Fine}
-use Rattle.checks.specs.Number.{isInfinite}
 use Rattle.checks.specs.Limit
 use Rattle.checks.specs.Each
 use Rattle.checks.specs.Chord.{of-points}
-use Rattle.checks.specs.Laws.Fine.{Between, neither, epsilon-fine}
+use Rattle.checks.specs.Laws.Fine.{Between, to-number, epsilon-fine}
 use Rattle.checks.specs.Laws.Chains.{PointFine}
 use Rattle.paths.specs.Segments.{segmentCount}
 use Rattle.paths.specs.Check.{checkPath}
@@ -31,17 +31,8 @@ use Rattle.boxes.specs.Box.{margin, boxOf, join}
 use Rattle.boxes.specs.Groups.{segmentBox, groupSize, groupCount, membersOf, joinFrom, groupBox}
 use Rattle.boxes.specs.BoxNumbers.{Plain, PlainBox}
 use Rattle.boxes.specs.Laws.Numbers.{add-real, sub-real, arc-outward, outward-finite}
-use Rattle.boxes.specs.Laws.Extremes.{
-  le-refl,
-  le-trans,
-  same-of-le,
-  min-has,
-  max-has,
-  min-first,
-  min-second,
-  max-first,
-  max-second,
-}
+use Rattle.boxes.specs.Laws.Extremes.{same-of-le, min-has, max-has, min-first, min-second, max-first, max-second}
+use Rattle.boxes.specs.Workings.Stored.{same-box}
 
 -- ---- what is said of a box
 
@@ -50,10 +41,10 @@ abbrev pub Member : ℕ → ℕ → ℕ → Type 0
 Member n g i = (g * groupSize ≤ i) × (i < g * groupSize + groupSize) × (i < n)
 
 abbrev pub AtMost : Float → Float → Type 0
-AtMost x y = (x ≼ y) ≡ true
+AtMost x y = T (x ≼ y)
 
 abbrev pub AtLeast : Float → Float → Type 0
-AtLeast x y = (y ≼ x) ≡ true
+AtLeast x y = T (y ≼ x)
 
 -- x is exactly the number of some member, and it is at most (or at least) the number of each member
 pub record Extreme (Is : Float → Float → Type 0) (Member : ℕ → Type 0) (number : ℕ → Float) (x : Float) : Type 0 where
@@ -87,11 +78,9 @@ other-words to from h =
 -- `pick` is the minimum or the maximum
 module _ (Is : Float → Float → Type 0) (pick : Float → Float → Float)
     (has : (P : Float → Type 0) (x y : Float) → P x → P y → P (pick x y))
-    (first : (x y : Float) → isNan x ≡ false → isNan y ≡ false → Is (pick x y) x)
-    (second : (x y : Float) → isNan x ≡ false → isNan y ≡ false → Is (pick x y) y)
-    (chain : (x y z : Float) → Is x y → Is y z → Is x z) where
-  next : (number : ℕ → Float) (x : Float) (a i : ℕ) → a ≤ i → ((j : ℕ) → From a (suc i) j → isNan (number j) ≡ false)
-      → Extreme Is (From a i) number x
+    (first : (z x y : Float) → Is x z → Is (pick x y) z) (second : (z x y : Float) → Is y z → Is (pick x y) z)
+    (same : (x : Float) → isNan x ≡ false → Is x x) where
+  next : (number : ℕ → Float) (x : Float) (a i : ℕ) → a ≤ i → isNan (number i) ≡ false → Extreme Is (From a i) number x
       → Extreme Is (From a (suc i)) number (pick x (number i))
   next number x a i l real h =
       record {
@@ -100,46 +89,36 @@ module _ (Is : Float → Float → Type 0) (pick : Float → Float → Float)
         all = λ j m. go j m (eq-or-lt-of-le (under j i (m .1)));
       }
     where
-      x-real : isNan x ≡ false
-      x-real = ap isNan (h .one .2) ∙ real (h .one .0) (h .one .1 .0, omega (arith, h .one .1 .1))
-
-      i-real : isNan (number i) ≡ false
-      i-real = real i (l, omega arith)
-
       under : (j i : ℕ) → j < suc i → j ≤ i
       under j i h = omega arith
 
       go : (j : ℕ) → From a (suc i) j → (j ≡ i) ⊎ (j < i) → Is (pick x (number i)) (number j)
-      go j m (inl e) = subst (λ (k : ℕ). Is (pick x (number i)) (number k)) (sym e) (second x (number i) x-real i-real)
-      go j m (inr k) = chain (pick x (number i)) x (number j) (first x (number i) x-real i-real) (h .all j (m .0, k))
+      go j m (inl e) =
+          subst (λ (k : ℕ). Is (pick x (number i)) (number k)) (sym e) (second (number i) x (number i) (same (number i) real))
+      go j m (inr k) = first (number j) x (number i) (h .all j (m .0, k))
 
-least-next : (number : ℕ → Float) (x : Float) (a i : ℕ) → a ≤ i → ((j : ℕ) → From a (suc i) j → isNan (number j) ≡ false)
+least-next : (number : ℕ → Float) (x : Float) (a i : ℕ) → a ≤ i → isNan (number i) ≡ false
     → Extreme AtMost (From a i) number x
     → Extreme AtMost (From a (suc i)) number (min x (number i))
-least-next = next AtMost min min-has min-first min-second le-trans
+least-next = next AtMost min min-has min-first min-second le-refl
 
-greatest-next : (number : ℕ → Float) (x : Float) (a i : ℕ) → a ≤ i → ((j : ℕ) → From a (suc i) j → isNan (number j) ≡ false)
+greatest-next : (number : ℕ → Float) (x : Float) (a i : ℕ) → a ≤ i → isNan (number i) ≡ false
     → Extreme AtLeast (From a i) number x
     → Extreme AtLeast (From a (suc i)) number (max x (number i))
-greatest-next = next AtLeast max max-has max-first max-second (λ x y z h k. le-trans z y x k h)
+greatest-next = next AtLeast max max-has max-first max-second le-refl
 
 module _ (box : ℕ → Box) (a e : ℕ) (real : (j : ℕ) → From a e j → NoNan (box j)) where
   join-next : (b : Box) (i : ℕ) → a ≤ i → i < e → Exact (From a i) box b → Exact (From a (suc i)) box (join b (box i))
   unfolding join
   join-next b i l u h =
       record {
-        least-x = least-next (λ (j : ℕ). box j .«least_x») (b .«least_x») a i l
-            (λ j m. real j (in-all j m) .least-x) (h .least-x);
-        least-y = least-next (λ (j : ℕ). box j .«least_y») (b .«least_y») a i l
-            (λ j m. real j (in-all j m) .least-y) (h .least-y);
-        greatest-x = greatest-next (λ (j : ℕ). box j .«greatest_x») (b .«greatest_x») a i l
-            (λ j m. real j (in-all j m) .greatest-x) (h .greatest-x);
-        greatest-y = greatest-next (λ (j : ℕ). box j .«greatest_y») (b .«greatest_y») a i l
-            (λ j m. real j (in-all j m) .greatest-y) (h .greatest-y);
+        least-x = least-next (λ (j : ℕ). box j .«least_x») (b .«least_x») a i l (real i (l, u) .least-x) (h .least-x);
+        least-y = least-next (λ (j : ℕ). box j .«least_y») (b .«least_y») a i l (real i (l, u) .least-y) (h .least-y);
+        greatest-x = greatest-next (λ (j : ℕ). box j .«greatest_x») (b .«greatest_x») a i l (real i (l, u) .greatest-x)
+            (h .greatest-x);
+        greatest-y = greatest-next (λ (j : ℕ). box j .«greatest_y») (b .«greatest_y») a i l (real i (l, u) .greatest-y)
+            (h .greatest-y);
       }
-    where
-      in-all : (j : ℕ) → From a (suc i) j → From a e j
-      in-all j m = (m .0, omega (arith, m .1))
 
   joined : (b : Box) (i count : ℕ) → a ≤ i → e ≡ i + count → Exact (From a i) box b
       → Exact (From a e) box (joinFrom box b i count)
@@ -204,18 +183,12 @@ no-nan b p =
     }
   where
     real : (x : Float) → Plain x → isNan x ≡ false
-    real x h = neither (isNan x) (isInfinite x) .0 (h .number) .0
+    real x h = finite-real x (to-number x (h .number))
 
 -- ---- these properties leave one box, if the members' numbers are f64 without NaN, infinity and -0
-plain-finite : (x : Float) → (isNan x || isInfinite x) ≡ false → T (finite x)
-unfolding isNan isInfinite
-plain-finite nan h = absurd (true≢false h)
-plain-finite (inf s) h = absurd (true≢false h)
-plain-finite (fin s m e) h = tt
-
 plain-same : (x y : Float) → Plain x → Plain y → AtMost x y → AtMost y x → x ≡ y
 plain-same x y p q h k =
-    same-of-le binary64 x y (p .f64) (q .f64) (plain-finite x (p .number)) (plain-finite y (q .number)) (p .not-minus-zero)
+    same-of-le binary64 x y (p .f64) (q .f64) (to-number x (p .number)) (to-number y (q .number)) (p .not-minus-zero)
     (q .not-minus-zero) h k
 
 once : (Is : Float → Float → Type 0) → ((x y : Float) → Plain x → Plain y → Is x y → Is y x → x ≡ y)
@@ -234,19 +207,13 @@ pub exact-once : (M : ℕ → Type 0) (box : ℕ → Box) → ((i : ℕ) → M i
     → (a b : Box) → Exact M box a → Exact M box b
     → a ≡ b
 exact-once M box plain a b h k =
-    same-box (a .«least_x») (a .«least_y») (a .«greatest_x») (a .«greatest_y») (b .«least_x») (b .«least_y») (b .«greatest_x»)
-    (b .«greatest_y»)
+    same-box a b
     (once AtMost plain-same M (λ (i : ℕ). box i .«least_x») (λ i m. plain i m .least-x) _ _ (h .least-x) (k .least-x))
     (once AtMost plain-same M (λ (i : ℕ). box i .«least_y») (λ i m. plain i m .least-y) _ _ (h .least-y) (k .least-y))
     (once AtLeast (λ x y p q h k. plain-same x y p q k h) M (λ (i : ℕ). box i .«greatest_x») (λ i m. plain i m .greatest-x) _ _
     (h .greatest-x) (k .greatest-x))
     (once AtLeast (λ x y p q h k. plain-same x y p q k h) M (λ (i : ℕ). box i .«greatest_y») (λ i m. plain i m .greatest-y) _ _
     (h .greatest-y) (k .greatest-y))
-  where
-    same-box : (p q r s p' q' r' s' : Float) → p ≡ p' → q ≡ q' → r ≡ r' → s ≡ s'
-        → _≡_ {A = Box} (record { «least_x» = p; «least_y» = q; «greatest_x» = r; «greatest_y» = s })
-        (record { «least_x» = p'; «least_y» = q'; «greatest_x» = r'; «greatest_y» = s' })
-    same-box p q r s p' q' r' s' i j k l = rw (i, j, k, l) refl
 
 -- so a box that has them is the group's, however it was made
 pub group-box-only : (box : ℕ → Box) (n g : ℕ) → g < groupCount n → ((i : ℕ) → Member n g i → PlainBox (box i))

@@ -1,6 +1,5 @@
 -- Laws that only proofs need. A reader need not believe them: they are proved.
 pub mod Later
-pub mod Order
 pub mod Fine
 pub mod Chains
 pub mod Found

@@ -145,6 +145,22 @@ not-below (fin s m e) (fin t n d) a b f =
         pick true h = absurd (subst T f (below (ltb-true q p h)))
         pick false h = ltb-false q p h
 
+-- a number is at most itself, and what is finite is a number
+pub le-refl : (x : Float) → isNan x ≡ false → T (le x x)
+unfolding le isNan
+le-refl nan a = absurd (true≢false a)
+le-refl (inf true) a = tt
+le-refl (inf false) a = tt
+le-refl (fin s m e) a =
+    let x = fin s m e in
+    le-diff x x _ _ _ _ _ _ (down-pos e) (down-pos e) (written-diff s m e) (written-diff s m e) .1 (omega arith)
+
+pub finite-real : (x : Float) → T (finite x) → isNan x ≡ false
+unfolding isNan
+finite-real nan t = absurd t
+finite-real (inf s) t = absurd t
+finite-real (fin s m e) t = refl
+
 -- what is compared with a yes is a number
 pub le-numbers : (x y : Float) → T (le x y) → (isNan x ≡ false) × (isNan y ≡ false)
 unfolding le isNan

@@ -1,9 +1,9 @@
--- Minimum, maximum and order of floats that are no NaN, infinities included: the minimum and the maximum are one of the two, the
--- minimum is at most each of them and the maximum at least each, and the order can be chained. Two f64 that are no -0 and are
--- each at most the other are the same.
+-- Minimum and maximum, for all floats: each is one of the two; what is at most one of them is at most the maximum, and what is at
+-- least one of them is at least the minimum, since a comparison with a NaN says no. Two f64 that are no -0 and are each at most the
+-- other are the same.
 use mathlib.Core.Path.{_≡_, refl, sym, ap, _∙_, subst}
 use mathlib.Core.Logic.{_≢_}
-use mathlib.Core.Bool.{Bool, true, false, not, cond, false≢true}
+use mathlib.Core.Bool.{Bool, true, false, cond, true≢false}
 use Prim.Native.Nat.{ℕ, zero, suc, _+_, _*_, _^_, _≤_, _<_}
 use native.Mathlib.Nat.{mul-pos, zero-lt-suc}
 use native.Mathlib.Omega.{arith}
@@ -17,90 +17,64 @@ use lib.Ieee.Scale.{finite}
 use Rattle.float_laws.specs.Count.{counted, count-unique}
 use Rattle.float_laws.specs.Signed.{ups, downs, own-diff}
 use Rattle.float_laws.specs.Order.{le-over}
-use Rattle.float_laws.specs.Chains.{not-both, lt-le}
+use Rattle.float_laws.specs.Chains.{not-below, le-numbers, le-trans}
 use Rattle.floats.specs.Ops.{_≼_}
 use Rattle.floats.specs.F64.{choose, min, max}
-use Rattle.floats.specs.Laws.Picked.{lt-once}
-use Rattle.checks.specs.Laws.Fine.{of-number, neither}
-use Rattle.checks.specs.Laws.Order.{le-not-lt}
 
--- ---- what both have, the minimum and the maximum have
-chosen-has : (P : Float → Type 0) (first : Bool) (x y : Float) → P x → P y → P (choose first x y)
-chosen-has P first x y a b = go (isNan x) (isNan y) first
+-- ---- the one of two that is chosen, by its cases
+chosen : (P : Float → Type 0) (first : Bool) (x y : Float) → (isNan x ≡ true → P y) → (isNan y ≡ true → P x)
+    → (isNan x ≡ false → isNan y ≡ false → first ≡ true → P x) → (isNan x ≡ false → isNan y ≡ false → first ≡ false → P y)
+    → P (choose first x y)
+chosen P first x y a b c d = go (isNan x) (isNan y) first refl refl refl
   where
-    go : (p q f : Bool) → P (cond p y (cond q x (cond f x y)))
-    go true q f = b
-    go false true f = a
-    go false false true = a
-    go false false false = b
+    go : (p q r : Bool) → isNan x ≡ p → isNan y ≡ q → first ≡ r → P (cond p y (cond q x (cond r x y)))
+    go true q r e f g = a e
+    go false true r e f g = b f
+    go false false true e f g = c e f g
+    go false false false e f g = d e f g
 
+-- what both have, the minimum and the maximum have
 module _ (P : Float → Type 0) (x y : Float) (a : P x) (b : P y) where
   pub min-has : P (min x y)
   unfolding min
-  min-has = chosen-has P (lt x y) x y a b
+  min-has = chosen P (lt x y) x y (λ e. b) (λ e. a) (λ e f g. a) (λ e f g. b)
 
   pub max-has : P (max x y)
   unfolding max
-  max-has = chosen-has P (lt y x) x y a b
+  max-has = chosen P (lt y x) x y (λ e. b) (λ e. a) (λ e f g. a) (λ e f g. b)
 
--- ---- the order of floats that are no NaN
-pub finite-real : (x : Float) → T (finite x) → isNan x ≡ false
-finite-real x t = neither _ _ .0 (of-number x t) .0
+-- ---- the larger of two is not below either, and the smaller not above
+never : {A : Type 0} (x : Float) → isNan x ≡ true → isNan x ≡ false → A
+never x a b = absurd (true≢false (sym a ∙ b))
 
-not-once : (b : Bool) → (b ≡ true → b ≡ false) → b ≡ false
-not-once true h = h refl
-not-once false h = refl
+lt-is-le : (x y : Float) → lt x y ≡ true → T (le x y)
+unfolding le
+lt-is-le x y e = rw e tt
 
-pub le-refl : (x : Float) → isNan x ≡ false → (x ≼ x) ≡ true
-le-refl x a = le-not-lt x x a a ∙ ap not (not-once (lt x x) (lt-once x x))
-
--- a comparison that says yes is one of two numbers
-le-numbers : (x y : Float) → (x ≼ y) ≡ true → (isNan x ≡ false) × (isNan y ≡ false)
-unfolding le isNan
-le-numbers nan y h = absurd (false≢true h)
-le-numbers (inf s) nan h = absurd (false≢true h)
-le-numbers (fin s m e) nan h = absurd (false≢true h)
-le-numbers (inf s) (inf t) h = (refl, refl)
-le-numbers (inf s) (fin t n d) h = (refl, refl)
-le-numbers (fin s m e) (inf t) h = (refl, refl)
-le-numbers (fin s m e) (fin t n d) h = (refl, refl)
-
-pub le-trans : (x y z : Float) → (x ≼ y) ≡ true → (y ≼ z) ≡ true → (x ≼ z) ≡ true
-le-trans x y z h k =
-    le-not-lt x z (le-numbers x y h .0) (le-numbers y z k .1)
-    ∙ ap not (never (lt z x) (λ l. not-both y z (subst T (sym k) tt) (lt-le z x y l (subst T (sym h) tt))))
-  where
-    never : (b : Bool) → (T b → ⊥) → b ≡ false
-    never true h = absurd (h tt)
-    never false h = refl
-
--- ---- the minimum and the maximum of two numbers
-module _ (x y : Float) (a : isNan x ≡ false) (b : isNan y ≡ false) where
-  -- the one that the test picks has what the test says
-  chosen : (P : Float → Type 0) (first : Bool) → (first ≡ true → P x) → (first ≡ false → P y) → P (choose first x y)
-  chosen P first f g = rw (a, b) (go first f g)
-    where
-      go : (z : Bool) → (z ≡ true → P x) → (z ≡ false → P y) → P (cond z x y)
-      go true f g = f refl
-      go false f g = g refl
-
-  pub min-first : (min x y ≼ x) ≡ true
-  unfolding min
-  min-first = chosen (λ (z : Float). (z ≼ x) ≡ true) (lt x y) (λ t. le-refl x a) (λ f. le-not-lt y x b a ∙ ap not f)
-
-  pub min-second : (min x y ≼ y) ≡ true
-  unfolding min
-  min-second =
-      chosen (λ (z : Float). (z ≼ y) ≡ true) (lt x y) (λ t. le-not-lt x y a b ∙ ap not (lt-once x y t)) (λ f. le-refl y b)
-
-  pub max-first : (x ≼ max x y) ≡ true
+module _ (x a b : Float) where
+  pub max-first : T (x ≼ a) → T (x ≼ max a b)
   unfolding max
-  max-first = chosen (λ (z : Float). (x ≼ z) ≡ true) (lt y x) (λ t. le-refl x a) (λ f. le-not-lt x y a b ∙ ap not f)
+  max-first h =
+      chosen (λ (z : Float). T (x ≼ z)) (lt b a) a b (λ e. never a e (le-numbers x a h .1)) (λ e. h) (λ e f g. h)
+      (λ e f g. le-trans x a b h (not-below a b e f g))
 
-  pub max-second : (y ≼ max x y) ≡ true
+  pub max-second : T (x ≼ b) → T (x ≼ max a b)
   unfolding max
-  max-second =
-      chosen (λ (z : Float). (y ≼ z) ≡ true) (lt y x) (λ t. le-not-lt y x b a ∙ ap not (lt-once y x t)) (λ f. le-refl y b)
+  max-second h =
+      chosen (λ (z : Float). T (x ≼ z)) (lt b a) a b (λ e. h) (λ e. never b e (le-numbers x b h .1))
+      (λ e f g. le-trans x b a h (lt-is-le b a g)) (λ e f g. h)
+
+  pub min-first : T (a ≼ x) → T (min a b ≼ x)
+  unfolding min
+  min-first h =
+      chosen (λ (z : Float). T (z ≼ x)) (lt a b) a b (λ e. never a e (le-numbers a x h .0)) (λ e. h) (λ e f g. h)
+      (λ e f g. le-trans b a x (not-below b a f e g) h)
+
+  pub min-second : T (b ≼ x) → T (min a b ≼ x)
+  unfolding min
+  min-second h =
+      chosen (λ (z : Float). T (z ≼ x)) (lt a b) a b (λ e. h) (λ e. never b e (le-numbers b x h .0))
+      (λ e f g. le-trans a b x (lt-is-le a b g) h) (λ e f g. h)
 
 -- ---- two f64 without -0 that are each at most the other
 
@@ -115,18 +89,17 @@ minus-zero (fin s (suc m) e) c C h none = some (suc m * up e * c) (down e) (mul-
     some a d l e = omega arith
 
 pub same-of-le : (f : Format) (x y : Float) → T (fits f x) → T (fits f y) → T (finite x) → T (finite y)
-    → ((e : ℤ) → x ≢ fin true 0 e) → ((e : ℤ) → y ≢ fin true 0 e) → (x ≼ y) ≡ true → (y ≼ x) ≡ true
+    → ((e : ℤ) → x ≢ fin true 0 e) → ((e : ℤ) → y ≢ fin true 0 e) → T (x ≼ y) → T (y ≼ x)
     → x ≡ y
 same-of-le f x y fx fy X Y nx ny h k =
     let a = counted f x X fx in
     let b = counted f y Y fy in
     go (a .s) (b .s) (a .count) (b .count) (a .value) (b .value)
   where
-    in-order : (u v : Float) (s t : Bool) (A B : ℕ) → HasValue u s A (2 ^ low f) → HasValue v t B (2 ^ low f) → (u ≼ v) ≡ true
+    in-order : (u v : Float) (s t : Bool) (A B : ℕ) → HasValue u s A (2 ^ low f) → HasValue v t B (2 ^ low f) → T (u ≼ v)
         → ups s A + downs t B ≤ ups t B + downs s A
-    in-order u v s t A B p q e =
+    in-order u v s t A B p q =
         le-over u v _ _ _ _ (2 ^ low f) (pow-pos (low f)) (own-diff u s A (2 ^ low f) p) (own-diff v t B (2 ^ low f) q) .0
-        (subst T (sym e) tt)
 
     alike : (s : Bool) (A B : ℕ) → HasValue x s A (2 ^ low f) → HasValue y s B (2 ^ low f) → A ≡ B → x ≡ y
     alike s A B p q e = count-unique f x y s B fx fy (subst (λ (z : ℕ). HasValue x s z (2 ^ low f)) e p) q

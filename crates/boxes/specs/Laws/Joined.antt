@@ -1,68 +1,17 @@
 -- A box that meets one of several boxes meets their joined box, for all floats: a comparison with a NaN says no. So a box that
 -- does not meet a group's box meets none of its members' boxes.
-use mathlib.Core.Path.{_≡_, refl, sym, subst, ap, _∙_}
-use mathlib.Core.Bool.{Bool, true, false, cond, _&&_, true≢false}
+use mathlib.Core.Path.{_≡_, refl, sym, subst}
+use mathlib.Core.Bool.{Bool, true, false, _&&_}
 use mathlib.Core.Logic.{_⊎_, inl, inr}
-use Prim.Native.Nat.{ℕ, zero, suc, _+_, _-_, _*_, _≤_, _<_, min as lesser}
+use Prim.Native.Nat.{ℕ, zero, suc, _+_, _-_, _*_, _≤_, _<_}
 use native.Mathlib.Omega.{arith}
 use native.Mathlib.Nat.{eq-or-lt-of-le}
 use lib.Dec.{T}
-use lib.Ieee.{Float, isNan, lt, le}
-use Rattle.float_laws.specs.Chains.{not-below, le-numbers, le-trans}
 use Rattle.floats.specs.Ops.{_≼_}
-use Rattle.floats.specs.F64.{min, max}
 use Rattle.boxes.specs.declared.bounds.Box.{Box}
 use Rattle.boxes.specs.Box.{meet, join}
-use Rattle.boxes.specs.Groups.{groupSize, groupCount, membersOf, joinFrom, groupBox}
-
-never : (x : Float) → isNan x ≡ true → isNan x ≡ false → ⊥
-never x a b = true≢false (sym a ∙ b)
-
-lt-is-le : (x y : Float) → lt x y ≡ true → T (le x y)
-unfolding le
-lt-is-le x y e = rw e tt
-
--- ---- the larger of two numbers is not below either, and the smaller not above
-module _ (x a b : Float) where
-  max-first : T (x ≼ a) → T (x ≼ max a b)
-  unfolding max
-  max-first h = go (isNan a) (isNan b) (lt b a) refl refl refl
-    where
-      go : (p q r : Bool) → isNan a ≡ p → isNan b ≡ q → lt b a ≡ r → T (x ≼ cond p b (cond q a (cond r a b)))
-      go true q r e f g = absurd (never a e (le-numbers x a h .1))
-      go false true r e f g = h
-      go false false true e f g = h
-      go false false false e f g = le-trans x a b h (not-below a b e f g)
-
-  max-second : T (x ≼ b) → T (x ≼ max a b)
-  unfolding max
-  max-second h = go (isNan a) (isNan b) (lt b a) refl refl refl
-    where
-      go : (p q r : Bool) → isNan a ≡ p → isNan b ≡ q → lt b a ≡ r → T (x ≼ cond p b (cond q a (cond r a b)))
-      go true q r e f g = h
-      go false true r e f g = absurd (never b f (le-numbers x b h .1))
-      go false false true e f g = le-trans x b a h (lt-is-le b a g)
-      go false false false e f g = h
-
-  min-first : T (a ≼ x) → T (min a b ≼ x)
-  unfolding min
-  min-first h = go (isNan a) (isNan b) (lt a b) refl refl refl
-    where
-      go : (p q r : Bool) → isNan a ≡ p → isNan b ≡ q → lt a b ≡ r → T (cond p b (cond q a (cond r a b)) ≼ x)
-      go true q r e f g = absurd (never a e (le-numbers a x h .0))
-      go false true r e f g = h
-      go false false true e f g = h
-      go false false false e f g = le-trans b a x (not-below b a f e g) h
-
-  min-second : T (b ≼ x) → T (min a b ≼ x)
-  unfolding min
-  min-second h = go (isNan a) (isNan b) (lt a b) refl refl refl
-    where
-      go : (p q r : Bool) → isNan a ≡ p → isNan b ≡ q → lt a b ≡ r → T (cond p b (cond q a (cond r a b)) ≼ x)
-      go true q r e f g = h
-      go false true r e f g = absurd (never b f (le-numbers b x h .0))
-      go false false true e f g = le-trans a b x (lt-is-le a b g) h
-      go false false false e f g = h
+use Rattle.boxes.specs.Groups.{groupSize, membersOf, joinFrom, groupBox}
+use Rattle.boxes.specs.Laws.Extremes.{min-first, min-second, max-first, max-second}
 
 -- ---- four comparisons
 four : (p q r s : Bool) → T ((p && q) && (r && s)) → T p × T q × T r × T s

@@ -66,7 +66,7 @@ store-one l from box k b is =
     (sym (boxes-more box 0 k) ∙ ap (boxesFrom box 0) (sym (add-one k)))
 
 -- ---- read back
-same-box : (a b : Box) → a .«least_x» ≡ b .«least_x» → a .«least_y» ≡ b .«least_y»
+pub same-box : (a b : Box) → a .«least_x» ≡ b .«least_x» → a .«least_y» ≡ b .«least_y»
     → a .«greatest_x» ≡ b .«greatest_x» → a .«greatest_y» ≡ b .«greatest_y» → a ≡ b
 same-box a b = go (a .«least_x») (a .«least_y») (a .«greatest_x») (a .«greatest_y»)
   where

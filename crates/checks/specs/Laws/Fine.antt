@@ -1,13 +1,16 @@
 -- What a check says of a number that it finds fine, and that it finds only such numbers fine. The proofs of callers use these
 -- facts.
-use mathlib.Core.Path.{_≡_, refl, sym, subst}
+use mathlib.Core.Path.{_≡_, refl}
 use mathlib.Core.Logic.{_↔_, Iff·trans}
 use mathlib.Core.Bool.{Bool, true, false, not, _||_, true≢false}
 use mathlib.Core.List.{[], _∷_}
 use Prim.Native.Nat.{ℕ}
 use lib.Dec.{T}
-use lib.Ieee.{Float, nan, inf, fin, ofBits, isNan, lt, le}
+use lib.Ieee.{Float, nan, inf, fin, ofBits, isNan, lt}
+use lib.Ieee.Bits.{is-false}
 use lib.Ieee.Scale.{finite}
+use Rattle.float_laws.specs.Chains as chains
+use Rattle.float_laws.specs.Chains.{finite-real, le-not-lt}
 use Rattle.floats.specs.Ops.{_≺_, _≻_, _≼_}
 use Rattle.floats.specs.F64
 use Rattle.checks.specs.declared.fault.Place.{Place}
@@ -17,7 +20,6 @@ use Rattle.checks.specs.Each
 use Rattle.checks.specs.Limit
 use Rattle.checks.specs.RefusalTable
 use Rattle.checks.specs.Exactly.{AllNo, test}
-use Rattle.checks.specs.Laws.Order.{le-not-lt}
 
 -- x is a number, at most `most` in magnitude
 pub record Within (most x : Float) : Type 0 where
@@ -31,7 +33,7 @@ pub record Between (least most x : Float) : Type 0 where
   pub below : T (x ≼ most)
 
 -- ---- what follows from a test that says no
-to-number : (x : Float) → (isNan x || isInfinite x) ≡ false → T (finite x)
+pub to-number : (x : Float) → (isNan x || isInfinite x) ≡ false → T (finite x)
 unfolding isNan isInfinite
 to-number nan h = absurd (true≢false h)
 to-number (inf s) h = absurd (true≢false h)
@@ -43,12 +45,6 @@ of-number nan t = absurd t
 of-number (inf s) t = absurd t
 of-number (fin s m e) t = refl
 
-real : (x : Float) → T (finite x) → isNan x ≡ false
-unfolding isNan
-real nan t = absurd t
-real (inf s) t = absurd t
-real (fin s m e) t = refl
-
 real-abs : (x : Float) → T (finite x) → isNan (F64.abs x) ≡ false
 unfolding isNan F64.abs
 real-abs nan t = absurd t
@@ -57,11 +53,7 @@ real-abs (fin s m e) t = refl
 
 -- if neither is a NaN: x < y is false exactly if y <= x
 not-below : (x y : Float) → isNan x ≡ false → isNan y ≡ false → ((x ≺ y) ≡ false) ↔ T (y ≼ x)
-not-below x y a b = go (lt x y) (le y x) (le-not-lt y x b a)
-  where
-    go : (l g : Bool) → g ≡ not l → (l ≡ false) ↔ T g
-    go true g e = (λ h. absurd (true≢false h), λ t. absurd (subst T e t))
-    go false g e = (λ h. subst T (sym e) tt, λ t. refl)
+not-below x y a b = (chains.not-below y x b a, λ t. is-false (x ≺ y) (le-not-lt y x t))
 
 pub not-denied : (b : Bool) → not b ≡ false → T b
 not-denied true h = tt
@@ -93,10 +85,11 @@ between : (least most x : Float) → isNan least ≡ false → isNan most ≡ fa
 between least most x l m = (
   λ h.
       let n = to-number x (h .0) in
+      let r = finite-real x n in
       let o = neither (x ≺ least) (x ≻ most) .0 (h .1) in
-      record { number = n; above = not-below x least (real x n) l .0 (o .0); below = not-below most x m (real x n) .0 (o .1) },
+      record { number = n; above = not-below x least r l .0 (o .0); below = not-below most x m r .0 (o .1) },
   λ b.
-      let r = real x (b .number) in (
+      let r = finite-real x (b .number) in (
         of-number x (b .number),
         neither (x ≺ least) (x ≻ most) .1 (not-below x least r l .1 (b .above), not-below most x m r .1 (b .below)),
       ),
