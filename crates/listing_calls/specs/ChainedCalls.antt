@@ -182,5 +182,6 @@ module _ (path : List Float) (closed : Bool) (epsilon : Float) where
   self-chain lents fine end indices points rows pairs e =
       let ps = selfPairs (segmentCount path closed) in
       let checks = selfChecks path closed epsilon in
-      same-outcome (selfLook path closed epsilon) ps (all-looked (selfLook path closed epsilon) (looks-at-own path closed epsilon) ps) checks (selfChain lents)
+      same-outcome (selfLook path closed epsilon) ps
+      (all-looked (selfLook path closed epsilon) (looks-at-own path closed epsilon) ps) checks (selfChain lents)
       (whole checks (selfLook path closed epsilon) ps lents fine end) indices points e

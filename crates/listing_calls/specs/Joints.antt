@@ -98,10 +98,12 @@ near-some-when path epsilon (k ∷ ks) p = (
             → (fuzzyEqEps p (pos (vertex path k)) epsilon || nearSome path epsilon ks p) ≡ true
         at [] after e =
             let same : k ≡ m = cc in
-            ap (λ (b : Bool). b || nearSome path epsilon ks p) (ap (λ (n : ℕ). fuzzyEqEps p (pos (vertex path n)) epsilon) same ∙ near)
+            ap (λ (b : Bool). b || nearSome path epsilon ks p)
+            (ap (λ (n : ℕ). fuzzyEqEps p (pos (vertex path n)) epsilon) same ∙ near)
         at (x ∷ before) after e =
             let rest : ks ≡ before ++ m ∷ after = cc in
-            ap (λ (b : Bool). fuzzyEqEps p (pos (vertex path k)) epsilon || b) (later (record { before = before; after = after; is = rest }))
+            ap (λ (b : Bool). fuzzyEqEps p (pos (vertex path k)) epsilon || b)
+            (later (record { before = before; after = after; is = rest }))
             ∙ or-true (fuzzyEqEps p (pos (vertex path k)) epsilon)
           where
             or-true : (b : Bool) → (b || true) ≡ true
