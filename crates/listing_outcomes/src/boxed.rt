@@ -67,7 +67,8 @@ fn list_by_boxes(
         r (now (indices .exit)) (now (points .exit)) ⌝ }
 {
     // for each segment and each group that a path may have: 232 KiB
-    let mut kept = [0.0f64; path::VERTICES * keeping::NUMBERS + index::FLOATS * (path::VERTICES + GROUPS)];
+    let mut kept = [0.0f64; path::VERTICES * keeping::NUMBERS
+        + index::FLOATS * (path::VERTICES + GROUPS)];
     keeping::keep(second, 0, job.m, job.epsilon, &mut kept);
     index::store(second, job.m, job.epsilon, keeping::BOXES, &mut kept);
     list_kept(first, second, &kept, job, indices, points)
