@@ -19,6 +19,13 @@ use crate::rng::Rng;
 const A_ROUND: u64 = 1 << 17;
 /// For layouts on which the epsilon matters little.
 const EPSILON: f64 = 1e-5;
+/// Sheets of which the first path is listed by itself.
+const BY_ITSELF: [(&str, usize); 4] = [
+    ("4,096 lines, spread", 0),
+    ("4,096 lines, a coil", 1),
+    ("4,096 arcs, spread", 6),
+    ("4,096 arcs, a coil", 7),
+];
 
 pub fn run() {
     let mut rng = Rng::new(0xbe7c);
@@ -56,6 +63,8 @@ pub fn run() {
     );
     real_coil();
 
+    by_itself();
+
     head("growth, closed paths spread over the sheet (4,096 lines above)");
     for (name, sheet, sizes) in [
         ("lines", &SHEETS[0], [64, 256, 1024].as_slice()),
@@ -65,6 +74,18 @@ pub fn run() {
             let layout = of_sheet(sheet, *size, &mut rng);
             let name = format!("{size} {name} by {size}");
             timed(&name, &layout, EPSILON, Call::Mutual);
+        }
+    }
+}
+
+/// With numbers of its own, so that the other layouts stay as they are.
+fn by_itself() {
+    let mut rng = Rng::new(0xbe7c);
+    head("a path of 4,096 by itself, closed");
+    for (name, at) in BY_ITSELF {
+        let layout = of_sheet(&SHEETS[at], 4096, &mut rng);
+        for epsilon in EPSILONS {
+            timed(name, &layout, epsilon, Call::Own);
         }
     }
 }
