@@ -207,6 +207,7 @@ fn plain(listed: Listed, epsilon: f64, lent: Rows) -> u64 {
     }
     let mut writer = Writer {
         lent,
+        epsilon,
         rows: 0,
         pairs: 0,
     };
@@ -216,15 +217,16 @@ fn plain(listed: Listed, epsilon: f64, lent: Rows) -> u64 {
             first
                 .iter()
                 .enumerate()
-                .try_for_each(|(i, v)| writer.look(i, *v, 0, &second, epsilon))
+                .try_for_each(|(i, v)| writer.look(i, *v, 0, &second, |_| false))
         }
         Listed::Own(path) => {
             let all = segments(path);
             all.iter().enumerate().try_for_each(|(i, v)| {
-                let around = path.closed && i == 0;
-                let end = if around { all.len() - 1 } else { all.len() };
-                let start = (i + 2).min(end);
-                writer.look(i, *v, start, &all[start..end], epsilon)
+                let at_joint = |row: &Row| {
+                    let [i, j] = row.indices.map(|index| index as usize);
+                    row.is_at_joint(path.shared(i, j), epsilon)
+                };
+                writer.look(i, *v, i + 1, &all[i + 1..], at_joint)
             })
         }
     };
@@ -244,25 +246,30 @@ fn segments(path: Path) -> Vec<Segment> {
 
 struct Writer<'a> {
     lent: Rows<'a>,
+    epsilon: f64,
     rows: usize,
     pairs: u64,
 }
 
 impl Writer<'_> {
-    /// A segment with others, the first of which has the index `from`. None if there are too many rows.
+    /// A segment with others, the first of which has the index `from`. Some that meet make no row. None if there are too many
+    /// rows.
     fn look(
         &mut self,
         i: usize,
         (v1, v2): Segment,
         from: usize,
         others: &[Segment],
-        epsilon: f64,
+        silent: impl Fn(&Row) -> bool,
     ) -> Option<()> {
         self.pairs += others.len() as u64;
         for (j, (u1, u2)) in (from..).zip(others) {
-            let answer = pline_seg_intr(v1, v2, *u1, *u2, epsilon);
+            let answer = pline_seg_intr(v1, v2, *u1, *u2, self.epsilon);
             if !matches!(answer, PlineSegIntr::NoIntersect) {
-                self.push(&Row::new([i, j], answer))?;
+                let row = Row::new([i, j], answer);
+                if !silent(&row) {
+                    self.push(&row)?;
+                }
             }
         }
         Some(())
