@@ -1,8 +1,8 @@
 //! Paths with a joint: a segment, and another that starts where it ends; smooth, folded, on the same circle, or anyhow.
 
 use crate::inputs::values::{
-    arc_bulge, epsilon, line_bulge, nudge, power, whole, COORDINATE_LIMIT, LARGEST_EPSILON,
-    SMALLEST,
+    arc_bulge, coordinate, epsilon, line_bulge, nudge, power, up, whole, COORDINATE_LIMIT,
+    LARGEST_EPSILON, SMALLEST,
 };
 use crate::inputs::{Point, Vertex};
 use crate::listings::layout::{Drawn, Layout};
@@ -12,12 +12,16 @@ use crate::rng::Rng;
 /// A path with neighbours of one sort or another, mostly of two to four segments.
 pub fn draw(rng: &mut Rng) -> Layout {
     loop {
-        let size = size(rng);
-        let epsilon = tolerance(size, rng);
-        let (path, closed) = if rng.one_in(8) {
-            (walk(rng), rng.one_in(2))
-        } else {
-            around(joint(size, epsilon, rng), rng)
+        let (path, closed, epsilon) = match rng.below(16) {
+            0 | 1 => (walk(rng), rng.one_in(2), epsilon(rng)),
+            2..=4 => wide(rng),
+            5 | 6 => short(rng),
+            _ => {
+                let size = size(rng);
+                let epsilon = tolerance(size, rng);
+                let (path, closed) = around(joint(size, epsilon, rng), rng);
+                (path, closed, epsilon)
+            }
         };
         let fits = |v: &Vertex| v.at.x.abs().max(v.at.y.abs()) <= COORDINATE_LIMIT;
         if path.iter().all(fits) {
@@ -42,10 +46,11 @@ fn size(rng: &mut Rng) -> f64 {
 
 /// Any epsilon, or one by the size.
 fn tolerance(size: f64, rng: &mut Rng) -> f64 {
-    if rng.one_in(2) {
-        return epsilon(rng);
-    }
-    let part = size * power(rng, -8, 1);
+    let part = match rng.below(4) {
+        0 | 1 => return epsilon(rng),
+        2 => size * power(rng, -8, 1),
+        _ => size * rng.between(0.25, 1.5),
+    };
     part.clamp(SMALLEST, LARGEST_EPSILON)
 }
 
@@ -131,7 +136,6 @@ fn joint(size: f64, epsilon: f64, rng: &mut Rng) -> [Vertex; 3] {
     };
     let middle = at.along(chord, 1.0);
     let end = middle.along(next, 1.0);
-    let closing = if rng.one_in(2) { 0.0 } else { arc_bulge(rng) };
     [
         Vertex { at, bulge },
         Vertex {
@@ -140,9 +144,64 @@ fn joint(size: f64, epsilon: f64, rng: &mut Rng) -> [Vertex; 3] {
         },
         Vertex {
             at: end,
-            bulge: closing,
+            bulge: closing(rng),
         },
     ]
+}
+
+/// The bulge of the segment that closes the path.
+fn closing(rng: &mut Rng) -> f64 {
+    match rng.below(2) {
+        0 => 0.0,
+        _ => arc_bulge(rng),
+    }
+}
+
+/// Vertices of very different magnitudes, so that computed points are other numbers than the vertices; and a small epsilon, which
+/// sees it.
+fn wide(rng: &mut Rng) -> (Vec<Vertex>, bool, f64) {
+    let [bulge, next_bulge] = bulges(rng);
+    let mut place = |far: bool| {
+        let mut number = || match rng.below(4) {
+            0 => coordinate(rng),
+            _ if far => rng.sign() * power(rng, 15, 20),
+            _ => rng.sign() * power(rng, -8, 12),
+        };
+        [number(), number()]
+    };
+    let [a, m, c] = [place(true), place(false), place(false)];
+    let joint = [
+        vertex(a[0], a[1], bulge),
+        vertex(m[0], m[1], next_bulge),
+        vertex(c[0], c[1], closing(rng)),
+    ];
+    let (path, closed) = if rng.one_in(3) {
+        (joint[..2].to_vec(), true)
+    } else {
+        around(joint, rng)
+    };
+    (path, closed, power(rng, -40, -24))
+}
+
+/// Two lines, of which the first is a point by epsilon: it is a last bit shorter. The Rust finds its place on the second by a
+/// quotient and a product, which may round away that last bit.
+fn short(rng: &mut Rng) -> (Vec<Vertex>, bool, f64) {
+    let long = rng.between(0.01, 0.25);
+    let mut away = |least: f64, most: f64| rng.sign() * long * rng.between(least, most);
+    let mut places = [
+        [away(1.0, 1.0), away(0.0, 1.0)],
+        [away(1.0, 3.0), away(0.0, 1.0)],
+    ];
+    if rng.one_in(2) {
+        places.iter_mut().for_each(|place| place.reverse());
+    }
+    let [a, c] = places.map(|[x, y]| vertex(x, y, 0.0));
+    let m = vertex(0.0, 0.0, 0.0);
+    let (path, closed) = match rng.below(4) {
+        0 => around([a, m, c], rng),
+        _ => (vec![m, c, a], true),
+    };
+    (path, closed, up(long))
 }
 
 /// The joint in a path: as the next pair, as the closing pair, as both; and where the two segments are no neighbours, since the

@@ -17,34 +17,30 @@ pub fn kinds() -> Met<Joint> {
     kinds
 }
 
-/// Classes that a sort of pair may have, with a row and without.
-fn classes(sort: usize) -> &'static [(u64, bool)] {
-    match sort {
-        0 => &[(2, false), (2, true), (4, true)],
-        3 => &[
+/// Classes that a sort of pair may have, with a row and without. A tangent joint with a row is rare, so it counts in any link.
+fn classes(link: Link, sort: usize) -> &'static [(u64, bool)] {
+    match (sort, link) {
+        // on each other, or both so short that they are points
+        (0, Link::Both) => &[(2, false), (4, true)],
+        (0, _) => &[(2, false), (2, true), (4, true)],
+        (3, _) => &[
             (1, false),
-            (1, true),
             (2, false),
             (2, true),
             (3, false),
             (3, true),
             (5, true),
         ],
-        _ => &[
-            (1, false),
-            (1, true),
-            (2, false),
-            (2, true),
-            (3, false),
-            (3, true),
-        ],
+        // both points near to one vertex is rare
+        (_, Link::Closing) => &[(1, false), (2, false), (2, true), (3, true)],
+        _ => &[(1, false), (2, false), (2, true), (3, false), (3, true)],
     }
 }
 
 fn of_classes(kinds: &mut Met<Joint>) {
-    for link in LINKS {
-        for (sort, sort_name) in SORTS.iter().enumerate() {
-            for &(class, row) in classes(sort) {
+    for (sort, sort_name) in SORTS.iter().enumerate() {
+        for link in LINKS {
+            for &(class, row) in classes(link, sort) {
                 let gives = if row { "a row" } else { "no row" };
                 let class_name = CLASSES[class as usize];
                 let name = format!("{link:?}, {sort_name}, {class_name}, {gives}");
@@ -56,12 +52,25 @@ fn of_classes(kinds: &mut Met<Joint>) {
                 });
             }
         }
+        if sort > 0 {
+            kinds.add(format!("{sort_name}, tangent, a row"), move |joint| {
+                let neighbours = LINKS.contains(&joint.link);
+                neighbours && joint.sort == sort && joint.class == 1 && joint.makes_row()
+            });
+        }
     }
 }
 
 fn of_edges(kinds: &mut Met<Joint>) {
     for (gap, gap_name) in GAPS.iter().enumerate() {
         for (sort, sort_name) in SORTS.iter().enumerate() {
+            if sort == 0 && gap == 2 {
+                // rare, so any coordinate on any side will do
+                kinds.add(format!("{sort_name}, {gap_name} epsilon"), move |joint| {
+                    joint.sort == sort && joint.edges().iter().any(|edge| edge[2] == gap)
+                });
+                continue;
+            }
             for (axis, above) in [(0, 0), (0, 1), (1, 0), (1, 1)] {
                 let coordinate = ["x", "y"][axis];
                 let side = ["below", "above"][above];
@@ -99,15 +108,13 @@ fn of_points(kinds: &mut Met<Joint>) {
             });
         }
     }
-    for first in 0..3 {
-        for second in 0..3 {
-            let vertex = ["none", "vertex 1", "vertex 0"];
-            let (near, near_too) = (vertex[first], vertex[second]);
-            let name = format!("Both, the first near to {near}, the second to {near_too}");
-            kinds.add(name, move |joint| {
-                joint.link == Link::Both && nears(joint) == Some([first, second])
-            });
-        }
+    for [first, second] in [[0, 0], [1, 0], [0, 2], [1, 2], [2, 1]] {
+        let vertex = ["none", "vertex 1", "vertex 0"];
+        let (near, near_too) = (vertex[first], vertex[second]);
+        let name = format!("Both, the first near to {near}, the second to {near_too}");
+        kinds.add(name, move |joint| {
+            joint.link == Link::Both && nears(joint) == Some([first, second])
+        });
     }
 }
 

@@ -18,8 +18,8 @@ use crate::pages::model::Pages;
 use crate::rng::Rng;
 
 const SHOWN: u64 = 5;
-/// At least so many paths are drawn, and of one that is drawn in so many is the count.
-const LEAST: u64 = 4096;
+/// At least so many paths are drawn, and one for so many of the count. Some kinds of joint are rare.
+const LEAST: u64 = 1 << 14;
 const A_PATH: u64 = 512;
 
 pub struct Run {

@@ -3,6 +3,7 @@
 use super::grid::{judge, Count};
 use super::run::Run;
 use super::stand_in::{self, Of, STAND_IN};
+use crate::listings::FULL;
 use crate::search::plane::Spot;
 
 const SEED: u64 = 1;
@@ -11,7 +12,7 @@ const SEED: u64 = 1;
 fn a_right_stand_in_passes() {
     stand_in::set("", Of::Full);
     let mut run = Run::new(STAND_IN, SEED, 1);
-    run.all(10 << 20);
+    run.all(FULL);
     assert_eq!(run.report(), 0);
 }
 
