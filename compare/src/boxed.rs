@@ -1,15 +1,15 @@
 //! Boxed listings compared with a model that is written here from the request's words, over the model of listings: the index bit
 //! for bit, the pairs looked at, the rows, the refusals, and every place of the lent slices.
 
-mod ask;
+pub mod ask;
 mod bench;
 mod case;
 mod draw;
 mod examples;
 mod index;
 mod kinds;
-mod lent;
-mod model;
+pub mod lent;
+pub mod model;
 mod run;
 mod score;
 mod seen;
@@ -21,6 +21,7 @@ mod tests;
 mod touching;
 
 pub use bench::run as bench;
+pub use index::is_arc;
 
 use run::Run;
 
@@ -44,7 +45,7 @@ const OURS: Ours = Ours {
 };
 
 /// Our call of a boxed listing on lent paths.
-fn ours(listed: Listed, epsilon: f64, boxes: &mut [f64], rows: Rows) -> u64 {
+pub fn ours(listed: Listed, epsilon: f64, boxes: &mut [f64], rows: Rows) -> u64 {
     match listed {
         Listed::Mutual(first, second) => vj_mutual_boxed(
             (first.numbers, first.closed),

@@ -10,6 +10,7 @@ mod kinds;
 pub mod layout;
 pub mod lent;
 pub mod model;
+pub mod neighbours;
 pub mod orders;
 mod rooms;
 pub mod score;

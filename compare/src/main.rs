@@ -16,6 +16,8 @@ mod floats;
 #[cfg(feature = "rust-text")]
 mod inputs;
 #[cfg(feature = "rust-text")]
+mod joints;
+#[cfg(feature = "rust-text")]
 mod lent;
 #[cfg(feature = "rust-text")]
 mod listings;
@@ -50,7 +52,7 @@ usage: compare check [COUNT [SEED]]  compare each float function on COUNT random
                                      eighth of all bit patterns, and some beside the limits; each kernel and the pair
                                      call until twice as many were answered, and on some that are refused; listings of
                                      whole paths until as many pairs were looked at, and on chosen ones; then as compare
-                                     pages, as compare boxed, and as compare edges with a tenth of COUNT
+                                     pages, as compare boxed, as compare joints, and as compare edges with a tenth of COUNT
        compare edges [COUNT [SEED]]  compare the kernels, the pair call and listings on COUNT inputs an edge (default 1048576,
                                      seed 1): where two numbers that are compared, by the Rust or by a shortcut of ours,
                                      are all but equal
@@ -58,6 +60,9 @@ usage: compare check [COUNT [SEED]]  compare each float function on COUNT random
                                      paths, a tenth of COUNT calls (default 10485760, seed 1)
        compare boxed [COUNT [SEED]]  compare boxed listings: on chosen paths, and on random ones until these have COUNT pairs
                                      (default 10485760, seed 1)
+       compare joints [COUNT [SEED]] compare self listings where neighbours meet, full, paged and boxed: every short path on a
+                                     small grid, if COUNT is at least 1048576, and COUNT / 512 drawn ones (default 10485760,
+                                     seed 1)
        compare search [COUNT [SEED]] try to break what is promised of lines on the grid, on COUNT pairs (default 25165824,
                                      seed 1)
        compare arcs [COUNT [SEED]]   count how often touching segments with arcs are missed, and how far from each other
@@ -93,6 +98,7 @@ fn main() -> ExitCode {
         ["edges", ref numbers @ ..] => edges(numbers),
         ["pages", ref numbers @ ..] => pages(numbers),
         ["boxed", ref numbers @ ..] => boxed(numbers),
+        ["joints", ref numbers @ ..] => joints(numbers),
         ["search", ref numbers @ ..] => search(numbers),
         ["arcs", "climb", ref numbers @ ..] => climb_arcs(numbers),
         ["arcs", "cures", ref numbers @ ..] => cure_arcs(numbers),
@@ -142,6 +148,14 @@ fn pages(numbers: &[&str]) -> Result<(), String> {
 fn boxed(numbers: &[&str]) -> Result<(), String> {
     let (count, seed) = count_and_seed(numbers, COUNT)?;
     match check_boxed(count, seed) {
+        0 => Ok(()),
+        differences => Err(format!("{differences} differences")),
+    }
+}
+
+fn joints(numbers: &[&str]) -> Result<(), String> {
+    let (count, seed) = count_and_seed(numbers, COUNT)?;
+    match check_joints(count, seed) {
         0 => Ok(()),
         differences => Err(format!("{differences} differences")),
     }
@@ -219,6 +233,7 @@ fn check_text(count: u64, seed: u64) -> u64 {
         + listings::check(count, seed)
         + check_pages(count, seed)
         + check_boxed(count, seed)
+        + check_joints(count, seed)
         + check_edges(count / 10, seed)
 }
 
@@ -235,6 +250,11 @@ fn check_pages(count: u64, seed: u64) -> u64 {
 #[cfg(feature = "rust-text")]
 fn check_boxed(count: u64, seed: u64) -> u64 {
     boxed::check(count, seed)
+}
+
+#[cfg(feature = "rust-text")]
+fn check_joints(count: u64, seed: u64) -> u64 {
+    joints::check(count, seed)
 }
 
 #[cfg(not(feature = "rust-text"))]
@@ -257,6 +277,12 @@ fn check_pages(_count: u64, _seed: u64) -> u64 {
 
 #[cfg(not(feature = "rust-text"))]
 fn check_boxed(_count: u64, _seed: u64) -> u64 {
+    println!("rust text not compiled in: nothing was compared with it");
+    0
+}
+
+#[cfg(not(feature = "rust-text"))]
+fn check_joints(_count: u64, _seed: u64) -> u64 {
     println!("rust text not compiled in: nothing was compared with it");
     0
 }

@@ -1,7 +1,7 @@
 //! Pages of listings compared with a model that is written here from the request's words, over the model of listings: each call
 //! by itself, every place of the lent slices, and the joined rows of chains.
 
-mod ask;
+pub mod ask;
 mod bench;
 mod chain;
 mod kinds;

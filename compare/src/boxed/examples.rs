@@ -103,7 +103,8 @@ fn apart(own: bool, room: [usize; 2], full: (u64, [u64; 2])) -> Example {
         word: 0,
         index,
         rows: vec![],
-        counts: [0, 0],
+        // in one path the line between meets both boxes, and both lines, at their ends only
+        counts: if own { [0, 2] } else { [0, 0] },
         full,
     }
 }
@@ -170,7 +171,7 @@ pub fn all() -> Vec<Example> {
         apart(false, [16, 1], (0, [1, 1])),
         apart(false, [19, 1], (0, [1, 1])),
         apart(true, [16, 0], refused),
-        apart(true, [21, 1], (0, [1, 1])),
+        apart(true, [21, 1], (0, [1, 3])),
         touching([24, 1], 0),
         touching([25, 2], 0),
         touching([24, 0], REFUSED_8),

@@ -69,7 +69,8 @@ fn of_boxes(kinds: &mut Met<Case>, call: Call) {
             });
         }
     }
-    if call != Call::Twice {
+    if call == Call::Mutual {
+        // in one path the boxes of neighbours meet
         kinds.add("pairs, and none meets", |c| {
             c.is_answered() && c.pairs > 1 && c.looked_at == 0
         });

@@ -65,7 +65,7 @@ fn boxes_by_hand() {
     assert_eq!(boxed.looked_at, boxed.all_pairs - not_met());
 }
 
-/// Of the pairs of 17 segments, neighbours left out, those that do not meet: counted from the ends.
+/// Of the pairs of 17 segments those that do not meet: counted from the ends.
 fn not_met() -> u64 {
     // least and greatest x of each segment's box
     let lines = (0..14).map(|k| (3.5 + f64::from(k), 5.5 + f64::from(k)));
@@ -73,7 +73,7 @@ fn not_met() -> u64 {
     all.extend(lines);
     let mut apart = 0;
     for i in 0..all.len() {
-        for j in i + 2..all.len() {
+        for j in i + 1..all.len() {
             apart += u64::from(all[i].1 < all[j].0);
         }
     }
@@ -135,8 +135,9 @@ fn wrong_stand_ins_are_found() {
         "17 a group",
         "every pair of groups that meet",
         "from group to group",
-        "neighbours are looked at",
-        "the closing pair is looked at",
+        "the next one is no pair",
+        "the closing pair is none",
+        "a segment with itself",
         "the last group not in the index",
         "the one path's index twice",
         "groups before segments",

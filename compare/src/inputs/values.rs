@@ -125,11 +125,11 @@ pub fn beside(number: f64, steps: u64, rng: &mut Rng) -> f64 {
 }
 
 /// The float next above a number above 0.
-fn up(number: f64) -> f64 {
+pub fn up(number: f64) -> f64 {
     f64::from_bits(number.to_bits() + 1)
 }
 
 /// The float next below a number above 0.
-fn down(number: f64) -> f64 {
+pub fn down(number: f64) -> f64 {
     f64::from_bits(number.to_bits() - 1)
 }

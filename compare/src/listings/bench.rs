@@ -19,6 +19,13 @@ use crate::rng::Rng;
 const A_ROUND: u64 = 1 << 17;
 /// For layouts on which the epsilon matters little.
 const EPSILON: f64 = 1e-5;
+/// Sheets of which the first path is listed by itself.
+const BY_ITSELF: [(&str, usize); 4] = [
+    ("4,096 lines, spread", 0),
+    ("4,096 lines, a coil", 1),
+    ("4,096 arcs, spread", 6),
+    ("4,096 arcs, a coil", 7),
+];
 
 pub fn run() {
     let mut rng = Rng::new(0xbe7c);
@@ -56,6 +63,8 @@ pub fn run() {
     );
     real_coil();
 
+    by_itself();
+
     head("growth, closed paths spread over the sheet (4,096 lines above)");
     for (name, sheet, sizes) in [
         ("lines", &SHEETS[0], [64, 256, 1024].as_slice()),
@@ -65,6 +74,18 @@ pub fn run() {
             let layout = of_sheet(sheet, *size, &mut rng);
             let name = format!("{size} {name} by {size}");
             timed(&name, &layout, EPSILON, Call::Mutual);
+        }
+    }
+}
+
+/// With numbers of its own, so that the other layouts stay as they are.
+fn by_itself() {
+    let mut rng = Rng::new(0xbe7c);
+    head("a path of 4,096 by itself, closed");
+    for (name, at) in BY_ITSELF {
+        let layout = of_sheet(&SHEETS[at], 4096, &mut rng);
+        for epsilon in EPSILONS {
+            timed(name, &layout, epsilon, Call::Own);
         }
     }
 }
@@ -186,6 +207,7 @@ fn plain(listed: Listed, epsilon: f64, lent: Rows) -> u64 {
     }
     let mut writer = Writer {
         lent,
+        epsilon,
         rows: 0,
         pairs: 0,
     };
@@ -195,15 +217,16 @@ fn plain(listed: Listed, epsilon: f64, lent: Rows) -> u64 {
             first
                 .iter()
                 .enumerate()
-                .try_for_each(|(i, v)| writer.look(i, *v, 0, &second, epsilon))
+                .try_for_each(|(i, v)| writer.look(i, *v, 0, &second, |_| false))
         }
         Listed::Own(path) => {
             let all = segments(path);
             all.iter().enumerate().try_for_each(|(i, v)| {
-                let around = path.closed && i == 0;
-                let end = if around { all.len() - 1 } else { all.len() };
-                let start = (i + 2).min(end);
-                writer.look(i, *v, start, &all[start..end], epsilon)
+                let at_joint = |row: &Row| {
+                    let [i, j] = row.indices.map(|index| index as usize);
+                    row.is_at_joint(path.shared(i, j), epsilon)
+                };
+                writer.look(i, *v, i + 1, &all[i + 1..], at_joint)
             })
         }
     };
@@ -223,25 +246,30 @@ fn segments(path: Path) -> Vec<Segment> {
 
 struct Writer<'a> {
     lent: Rows<'a>,
+    epsilon: f64,
     rows: usize,
     pairs: u64,
 }
 
 impl Writer<'_> {
-    /// A segment with others, the first of which has the index `from`. None if there are too many rows.
+    /// A segment with others, the first of which has the index `from`. Some that meet make no row. None if there are too many
+    /// rows.
     fn look(
         &mut self,
         i: usize,
         (v1, v2): Segment,
         from: usize,
         others: &[Segment],
-        epsilon: f64,
+        silent: impl Fn(&Row) -> bool,
     ) -> Option<()> {
         self.pairs += others.len() as u64;
         for (j, (u1, u2)) in (from..).zip(others) {
-            let answer = pline_seg_intr(v1, v2, *u1, *u2, epsilon);
+            let answer = pline_seg_intr(v1, v2, *u1, *u2, self.epsilon);
             if !matches!(answer, PlineSegIntr::NoIntersect) {
-                self.push(&Row::new([i, j], answer))?;
+                let row = Row::new([i, j], answer);
+                if !silent(&row) {
+                    self.push(&row)?;
+                }
             }
         }
         Some(())

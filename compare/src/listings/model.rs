@@ -1,5 +1,5 @@
 //! Whole-path listings as in the scope's prose: which pairs are looked at, which make a row, what is refused and in which order.
-//! How a pair meets is the Rust's own answer; why a number is refused comes from the table, as for the pair call. A fault's owner
+//! Which neighbours of one path make no row is said in `neighbours.rs`. How a pair meets is the Rust's own answer; why a number is refused comes from the table, as for the pair call. A fault's owner
 //! is the path; its index is the vertex, or the segment if the chord is at fault.
 
 use cavalier_contours::polyline::{pline_seg_intr, PlineSegIntr, PlineVertex};
@@ -28,7 +28,7 @@ impl Path<'_> {
         }
     }
 
-    fn vertex(self, i: usize) -> PlineVertex {
+    pub fn vertex(self, i: usize) -> PlineVertex {
         let n = &self.numbers[3 * i..];
         PlineVertex::new(n[0], n[1], n[2])
     }
@@ -90,26 +90,25 @@ impl<'a> Listed<'a> {
             .chain(insides)
     }
 
-    /// The rows of accepted paths.
+    /// The rows of accepted paths. In one path each two segments are a pair, and neighbours that meet only at a vertex that they
+    /// share make no row.
     pub fn rows(self, epsilon: f64) -> Rows {
         let mut found = Rows::default();
         match self {
             Listed::Mutual(first, second) => {
                 for i in 0..first.segments() {
                     for j in 0..second.segments() {
-                        found.look((first, i), (second, j), epsilon);
+                        let row = found.look((first, i), (second, j), epsilon);
+                        found.rows.extend(row);
                     }
                 }
             }
             Listed::Own(path) => {
-                let n = path.segments();
-                for i in 0..n {
-                    for j in i + 1..n {
-                        let follows = j == i + 1;
-                        let around = path.closed && i == 0 && j == n - 1;
-                        if !follows && !around {
-                            found.look((path, i), (path, j), epsilon);
-                        }
+                for i in 0..path.segments() {
+                    for j in i + 1..path.segments() {
+                        let row = found.look((path, i), (path, j), epsilon);
+                        let at_joint = |row: &Row| row.is_at_joint(path.shared(i, j), epsilon);
+                        found.rows.extend(row.filter(|row| !at_joint(row)));
                     }
                 }
             }
@@ -133,14 +132,15 @@ impl Row {
 }
 
 impl Rows {
-    fn look(&mut self, (v, i): (Path, usize), (u, j): (Path, usize), epsilon: f64) {
+    /// Looks at a pair. Answers its row if it meets.
+    fn look(&mut self, (v, i): (Path, usize), (u, j): (Path, usize), epsilon: f64) -> Option<Row> {
         let ((v1, v2), (u1, u2)) = (v.segment(i), u.segment(j));
         let answer = pline_seg_intr(v1, v2, u1, u2, epsilon);
         self.pairs += 1;
-        if let PlineSegIntr::NoIntersect = answer {
-            return;
+        match answer {
+            PlineSegIntr::NoIntersect => None,
+            answer => Some(Row::new([i, j], answer)),
         }
-        self.rows.push(Row::new([i, j], answer));
     }
 }
 

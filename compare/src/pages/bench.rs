@@ -31,8 +31,7 @@ pub fn run() {
     one_pair("the first pair", mutual, 0);
     one_pair("a pair in the middle", mutual, pairs / 2);
     one_pair("the last pair", mutual, pairs - 1);
-    // of a closed path by itself: each segment with all but itself and its neighbours, every pair once
-    let pairs = (VERTICES * (VERTICES - 3) / 2) as u64;
+    let pairs = (VERTICES * (VERTICES - 1) / 2) as u64;
     let own = layout.listed(Call::Own);
     one_pair("the first pair of one path by itself", own, 0);
     one_pair("the last pair of one path by itself", own, pairs - 1);

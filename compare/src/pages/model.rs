@@ -152,8 +152,7 @@ impl Page<'_> {
     }
 }
 
-/// Every pair: i outer, j inner, both rising. In one path i is below j, and neighbours are no pairs; neither are the first and
-/// the last segment if it is closed.
+/// Every pair: i outer, j inner, both rising. In one path i is below j.
 pub fn in_order(listed: Listed, mut pass: impl FnMut([u64; 2])) {
     match listed {
         Listed::Mutual(first, second) => {
@@ -166,9 +165,7 @@ pub fn in_order(listed: Listed, mut pass: impl FnMut([u64; 2])) {
         Listed::Own(path) => {
             let n = path.segments() as u64;
             for i in 0..n {
-                let around = path.closed && i == 0;
-                let end = if around { n - 1 } else { n };
-                for j in i + 2..end {
+                for j in i + 1..n {
                     pass([i, j]);
                 }
             }

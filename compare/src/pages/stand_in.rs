@@ -33,11 +33,14 @@ impl Given {
             _ if !listing.faults.is_empty() => Vec::new(),
             Listed::Mutual(first, second) => both(first, second),
             Listed::Own(path) => {
-                let n = path.segments() as u64;
-                let around =
-                    |i, j| path.closed && i == 0 && j == n - 1 && !is("with the closing pair");
+                let last = path.segments() as u64;
                 let mut pairs = both(path, path);
-                pairs.retain(|&[i, j]| i + 1 < j && !around(i, j));
+                pairs.retain(|&[i, j]| match () {
+                    _ if is("the next one is no pair") => i + 1 < j,
+                    _ if is("the closing pair is none") => i < j && (i > 0 || j + 1 < last),
+                    _ if is("a segment with itself") => i <= j,
+                    _ => i < j,
+                });
                 pairs
             }
         };

@@ -50,18 +50,23 @@ fn pages_by_hand() {
 
 #[test]
 fn pages_of_one_path_by_hand() {
-    // a bow tie: of a closed path of four segments 0 with 2 and 1 with 3 are the pairs
+    // a bow tie: of a closed path of four segments, 0 with 2 has the only row, at position 1
     let first = drawn(&[[0.0, 0.0], [2.0, 2.0], [2.0, 0.0], [0.0, 2.0]], true);
     let layout = Layout {
         first,
         ..Layout::default()
     };
     let pages = Pages::new(layout.listed(Call::Own), 1e-5);
-    assert_eq!(page(&pages, 0, 9, 9), Ok(vec![1, 2, 2, 2, 0, 2]));
-    assert_eq!(page(&pages, 1, 9, 9), Ok(vec![0, 1, 2, 2]));
+    assert_eq!(page(&pages, 0, 9, 9), Ok(vec![1, 6, 6, 6, 0, 2]));
+    assert_eq!(page(&pages, 1, 2, 9), Ok(vec![1, 2, 3, 6, 0, 2]));
+    assert_eq!(page(&pages, 2, 9, 9), Ok(vec![0, 4, 6, 6]));
     let open = drawn(&[[0.0, 0.0], [2.0, 2.0], [2.0, 0.0], [0.0, 2.0]], false);
     let pages = Pages::new(Call::Own.of(open.path(), open.path()), 1e-5);
-    assert_eq!(page(&pages, 0, 9, 9), Ok(vec![1, 1, 1, 1, 0, 2]));
+    assert_eq!(page(&pages, 0, 9, 9), Ok(vec![1, 3, 3, 3, 0, 2]));
+    // back over itself
+    let fold = drawn(&[[0.0, 0.0], [10.0, 0.0], [5.0, 0.0]], false);
+    let pages = Pages::new(Call::Own.of(fold.path(), fold.path()), 1e-5);
+    assert_eq!(page(&pages, 0, 9, 9), Ok(vec![1, 1, 1, 1, 0, 1]));
     let nothing = Drawn::default();
     let pages = Pages::new(Call::Own.of(nothing.path(), nothing.path()), 1e-5);
     assert_eq!(page(&pages, 0, 1, 1), Ok(vec![0, 0, 0, 0]));
@@ -86,7 +91,9 @@ fn a_right_stand_in_passes() {
 #[test]
 fn wrong_stand_ins_are_found() {
     for defect in [
-        "with the closing pair",
+        "the next one is no pair",
+        "the closing pair is none",
+        "a segment with itself",
         "j outer, i inner",
         "a position of 32 bits",
         "13 at the end",

@@ -160,8 +160,12 @@ fn is_pair(listed: Listed, i: usize, j: usize) -> bool {
         Listed::Mutual(..) => true,
         Listed::Own(path) => {
             let around = path.closed && i == 0 && j + 1 == path.segments();
-            let follows = j == i + 1 && !is("neighbours are looked at");
-            i < j && !follows && (!around || is("the closing pair is looked at"))
+            match () {
+                _ if is("the next one is no pair") => i + 1 < j,
+                _ if is("the closing pair is none") => i < j && !around,
+                _ if is("a segment with itself") => i <= j,
+                _ => i < j,
+            }
         }
     }
 }
