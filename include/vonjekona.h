@@ -277,8 +277,49 @@ uint64_t vj_mutual(const double *first, size_t first_len, bool first_closed,
                    size_t counts_room);
 
 /*
- * The segments i and j of one path, i < j, without neighbours: j is not i + 1,
- * and the first and the last segment of a closed path are no pair.
+ * The segments i and j of one path, all i < j: s segments have s * (s - 1) / 2
+ * pairs.
+ *
+ * Neighbours share vertices, by index: the segments i and i + 1 share vertex
+ * i + 1, and the first and the last segment of a closed path share vertex 0.
+ * The two segments of a closed path of two vertices share both. A neighbour
+ * pair of class 1, 2 or 3 makes no row exactly if each of its points is near to
+ * some vertex that the pair shares. Near means that the difference of the two x
+ * is below epsilon in magnitude, and so is that of the two y. Neighbours that
+ * overlap, class 4 or 5, always make a row. A pair that makes no row counts as
+ * looked at all the same. All other pairs are as in vj_mutual.
+ *
+ * So a corner is no row, and a path that runs back over itself is one: (0, 0),
+ * (10, 0), (5, 0) has a row of class 4. A neighbours' row has all points of the
+ * pair, so one of two may be the vertex that they share.
+ *
+ * What looks true and is not. The numbers here were searched, not proved;
+ * docs/LIMITS.md has more.
+ *
+ *   "A joint of a path makes no row." Where epsilon is small and coordinates
+ *     are large, the point computed for a joint with an arc may not be near the
+ *     vertex, and then there is a row: at a third of random joints with epsilon
+ *     2^-40, at 0.2 % of joints of flat arcs on large coordinates with 1/1024,
+ *     at none of 6 million with 1/1024, whole coordinates and bulges n/65,536.
+ *   "Class 4 is a fold." Short lines that turn back sharply are class 4 if
+ *     epsilon is large, since the Rust compares a perp dot with epsilon and
+ *     does not divide it by lengths: (0, 0), (1, 0), (1/4, 7/16) with epsilon
+ *     1/2.
+ *   "Every fold makes a row." One that is shorter than epsilon makes none. A
+ *     line and a flat arc that run back along each other are no overlap. They
+ *     make a row only if the pair has a point that is not near the vertex.
+ *   "A path that ends on its start is closed." An open one shares nothing
+ *     there: its first and its last segment make a row.
+ *   "A segment without length does not count." It has its index like any other:
+ *     the segments before and after it are not neighbours of each other, and
+ *     make a row.
+ *
+ * For callers from before: neighbours were left out, and are not any more.
+ * counts[1] is larger, and the positions of pages have moved, so a position
+ * that was stored before means another pair now. There may be rows that were
+ * not there, so refusal 8 may come where it did not. No refusal is new.
+ *
+ * examples/fold.c lists a fold, corners, and a path that ends on its start.
  */
 uint64_t vj_self(const double *path, size_t len, bool closed, double epsilon,
                  uint64_t *indices, size_t indices_room, double *points,
@@ -331,7 +372,11 @@ uint64_t vj_mutual_page(const double *first, size_t first_len,
                         size_t points_room, uint64_t *counts,
                         size_t counts_room);
 
-/* A page of vj_self's listing. */
+/*
+ * A page of vj_self's listing. A path of s segments has s * (s - 1) / 2 pairs,
+ * neighbours included: a page passes them and spends budget on them, whether
+ * they make a row or not.
+ */
 uint64_t vj_self_page(const double *path, size_t len, bool closed,
                       double epsilon, uint64_t position, uint64_t budget,
                       uint64_t *indices, size_t indices_room, double *points,
@@ -407,7 +452,10 @@ uint64_t vj_mutual_boxed(const double *first, size_t first_len,
                          size_t points_room, uint64_t *counts,
                          size_t counts_room);
 
-/* The pairs of vj_self whose boxes meet. */
+/*
+ * The pairs of vj_self whose boxes meet. Neighbours among them make a row by
+ * the same rule.
+ */
 uint64_t vj_self_boxed(const double *path, size_t len, bool closed,
                        double epsilon, double *boxes, size_t boxes_room,
                        uint64_t *indices, size_t indices_room, double *points,
