@@ -5,8 +5,8 @@ use crate::inputs::values::{down, up, LARGEST_EPSILON, SMALLEST};
 use crate::listings::layout::Layout;
 use crate::rng::Rng;
 
-/// The same path with three epsilons: the larger difference of a computed point from a shared vertex, in x or in y, and the floats
-/// next to it. None if no such epsilon is accepted. The point may be another one then: what came up is read from the path.
+/// The same path with three epsilons: the larger difference of a computed point from a shared vertex, in x or in y, and the two
+/// floats next to it. None if no such epsilon is accepted. The point may be another one then: what came up is read from the path.
 pub fn beside(layout: &Layout, rng: &mut Rng) -> Vec<Layout> {
     let mut distances = Vec::new();
     for joint in joints(layout.first.path(), layout.epsilon) {

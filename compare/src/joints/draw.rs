@@ -70,8 +70,8 @@ fn bulges(rng: &mut Rng) -> [f64; 2] {
     [first, second]
 }
 
-/// By twice the angle whose tangent is the bulge: from a segment's tangent at its start to its chord, and from that to the tangent
-/// at its end.
+/// By twice the angle whose tangent is the bulge: from a segment's tangent at its start to its chord, and from that to the one at
+/// its end.
 fn swung(way: Point, bulge: f64) -> Point {
     let whole = 1.0 + bulge * bulge;
     let (a, b) = ((1.0 - bulge * bulge) / whole, 2.0 * bulge / whole);

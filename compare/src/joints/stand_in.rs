@@ -1,5 +1,5 @@
-//! A stand-in for the library, right or with a defect in the full listing, in pages or in the boxed listing. It finds the vertices
-//! that two segments share from the ends of each.
+//! A stand-in for the library, right or with a defect in the full listing, in pages or in the boxed listing. Which vertices two
+//! segments share it finds from the ends of each.
 
 use std::cell::Cell;
 

@@ -1,7 +1,10 @@
 //! The model on what the scope states, and on listings that one can compute by hand.
 
+use cavalier_contours::polyline::PlineVertex;
+
 use super::layout::Drawn;
 use super::model::{row_room, Listed, Listing, Rows};
+use super::neighbours::is_near;
 use super::shapes::{crossed, crossed_by_itself};
 use crate::crossing::faults::{Fault, Item, Place};
 
@@ -189,6 +192,61 @@ fn own_crossing() {
     assert_eq!(rows.pairs, 6);
     assert_eq!(plain(&rows), [([0, 3], 2, vec![1.0, 0.0])]);
     assert_eq!(refusal(own(&path, 0)), 8);
+}
+
+/// The second segment runs back over the first: an overlap makes a row, also of neighbours.
+#[test]
+fn a_fold_at_a_joint() {
+    let fold = [[0.0, 0.0, 0.0], [10.0, 0.0, 0.0], [5.0, 0.0, 0.0]];
+    let open = own(&path(&fold, false), 1).expect("accepted");
+    let row = ([0, 1], 4, vec![10.0, 0.0, 5.0, 0.0]);
+    assert_eq!((open.pairs, plain(&open)), (1, vec![row.clone()]));
+    // the last two run straight on
+    let closed = own(&path(&fold, true), 2).expect("accepted");
+    let back = ([0, 2], 4, vec![5.0, 0.0, 0.0, 0.0]);
+    assert_eq!((closed.pairs, plain(&closed)), (3, vec![row, back]));
+}
+
+/// A circle of two half arcs: closed, they share both vertices, and open only the one between.
+#[test]
+fn shared_vertices() {
+    let halves = [[-1.0, 0.0, 1.0], [1.0, 0.0, 1.0], [-1.0, 0.0, 0.0]];
+    let closed = own(&path(&halves[..2], true), 0).expect("accepted");
+    assert_eq!((closed.pairs, closed.rows.len()), (1, 0));
+    let open = own(&path(&halves, false), 1).expect("accepted");
+    assert_eq!(plain(&open), [([0, 1], 3, vec![1.0, 0.0, -1.0, 0.0])]);
+    // of a square the first and the last side; by the same places they share none
+    let square = [
+        [0.0, 0.0, 0.0],
+        [4.0, 0.0, 0.0],
+        [4.0, 4.0, 0.0],
+        [0.0, 4.0, 0.0],
+        [0.0, 0.0, 0.0],
+    ];
+    let closed = own(&path(&square[..4], true), 0).expect("accepted");
+    assert_eq!((closed.pairs, closed.rows.len()), (6, 0));
+    let open = own(&path(&square, false), 1).expect("accepted");
+    assert_eq!(
+        (open.pairs, plain(&open)),
+        (6, vec![([0, 3], 2, vec![0.0, 0.0])])
+    );
+    // with the last side as a point, the first shares vertex 0 with that
+    let closed = own(&path(&square, true), 1).expect("accepted");
+    assert_eq!(
+        (closed.pairs, plain(&closed)),
+        (10, vec![([0, 3], 2, vec![0.0, 0.0])])
+    );
+}
+
+/// Strictly closer than epsilon, in x and in y.
+#[test]
+fn near_to_a_vertex() {
+    let vertex = PlineVertex::new(1.0, -2.0, 0.5);
+    let near = |x: f64, y: f64| is_near([x, y], vertex, 0.25);
+    assert!(near(1.0, -2.0) && near(1.2, -2.2) && near(0.8, -1.8));
+    assert!(!near(1.25, -2.0) && !near(0.75, -2.0));
+    assert!(!near(1.0, -1.75) && !near(1.0, -2.25));
+    assert!(!near(f64::NAN, -2.0) && !near(1.0, f64::INFINITY));
 }
 
 #[test]
