@@ -293,6 +293,10 @@ uint64_t vj_mutual(const double *first, size_t first_len, bool first_closed,
  * (10, 0), (5, 0) has a row of class 4. A neighbours' row has all points of the
  * pair, so one of two may be the vertex that they share.
  *
+ * What is proved: two neighbouring lines with whole coordinates up to 1048576
+ * either way, and an epsilon of 1/1024 to 1/2, make a row exactly if they share
+ * more than one point.
+ *
  * What looks true and is not. The numbers here were searched, not proved;
  * docs/LIMITS.md has more.
  *
