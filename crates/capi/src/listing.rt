@@ -64,7 +64,7 @@ pub extern "C" fn vj_mutual(
     hand_counts(answer, counts)
 }
 
-// Which segments of a path meet. Neighbours are left out.
+// Which segments of a path meet. Neighbours that meet only near vertices which they share make no row.
 #[no_mangle]
 pub extern "C" fn vj_self(
     path: &[f64],

@@ -6,7 +6,8 @@ use checks::fault::Checked;
 use listing_outcomes::answer::ListingAnswer;
 use listing_outcomes::buffer;
 
-// Lists into the lent slices which segments of the path meet, and where. Neighbours are left out.
+// Lists into the lent slices which segments of the path meet, and where. Neighbours that meet only near vertices which they share
+// make no row.
 pub fn self_listing(
     path: &[f64],
     closed: bool,
