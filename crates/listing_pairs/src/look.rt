@@ -8,6 +8,7 @@ use super::joint::at_joint;
 use super::keeping::kept_at;
 use super::order::Job;
 use super::row;
+use arcs::pline_seg_intr::PlineSegIntr;
 use fast_pair::kept::Kept;
 use fast_pair::pair::pline_seg_kept;
 use paths::path::Segment;
@@ -33,6 +34,9 @@ pub fn look(
     let u = segments::segment_from(second, j);
     let u_kept = kept_at(kept, j);
     let met = pline_seg_kept(v.v1, v.v2, v_kept, u.v1, u.v2, u_kept, job.epsilon);
+    if let PlineSegIntr::NoIntersect = met {
+        return row::Look::Nothing;
+    }
     if at_joint(second, job, i, j, met) {
         return row::Look::Nothing;
     }

@@ -10,6 +10,7 @@ use Rattle.checks.specs.declared.fault.Checked.the-variants.{Fine}
 use Rattle.checks.specs.Each
 use Rattle.checks.specs.Calls.{checkPlineSeg}
 use Rattle.arcs.specs.declared.pline_seg_intr.PlineSegIntr.{PlineSegIntr}
+use Rattle.arcs.specs.declared.pline_seg_intr.PlineSegIntr.the-variants.{NoIntersect}
 use Rattle.crossing.specs.PlineSeg.{plineSeg}
 use Rattle.fast_pair.specs.Laws.AllFine.{Sound, look-fine}
 use Rattle.paths.specs.declared.path.Segment.{Segment}
@@ -54,17 +55,26 @@ pub look-on : (v : Segment) (first second : List Float) (job : Job) (i j : ℕ) 
     → lookOn v second job i j ≡ eachLook first second job i j
 look-on v first second job i j e = ap (λ (s : Segment). lookOn s second job i j) e
 
--- from how the two segments meet, and whether that is at a joint
-module _ (v : Segment) (second : List Float) (job : Job) (i j : ℕ) (met : PlineSegIntr) (said : Bool)
-    (is : met ≡ plineSeg (v .v1) (v .v2) (segmentFrom second j .v1) (segmentFrom second j .v2) (job .epsilon))
-    (asked : said ≡ (job .own && atJoint second (job .closed) (job .m) (job .epsilon) i j met)) where
-  pub at-a-joint : said ≡ true → Nothing ≡ lookOn v second job i j
-  unfolding lookOn
-  at-a-joint e = rw (← is, ← asked, e) refl
+-- from how the two segments meet
+module _ (v : Segment) (second : List Float) (job : Job) (i j : ℕ) (met : PlineSegIntr)
+    (is : met ≡ plineSeg (v .v1) (v .v2) (segmentFrom second j .v1) (segmentFrom second j .v2) (job .epsilon)) where
+  pub apart : met ≡ NoIntersect → Nothing ≡ lookOn v second job i j
+  unfolding lookOn lookOf
+  apart e = rw (← is, e) (either (job .own && atJoint second (job .closed) (job .m) (job .epsilon) i j NoIntersect))
+    where
+      either : (b : Bool) → Nothing ≡ cond b Nothing Nothing
+      either true = refl
+      either false = refl
 
-  pub elsewhere : said ≡ false → (r : Look) → r ≡ lookOf i j met → r ≡ lookOn v second job i j
-  unfolding lookOn
-  elsewhere e r f = rw (← is, ← asked, e) f
+  -- and whether that is at a joint
+  module _ (said : Bool) (asked : said ≡ (job .own && atJoint second (job .closed) (job .m) (job .epsilon) i j met)) where
+    pub at-a-joint : said ≡ true → Nothing ≡ lookOn v second job i j
+    unfolding lookOn
+    at-a-joint e = rw (← is, ← asked, e) refl
+
+    pub elsewhere : said ≡ false → (r : Look) → r ≡ lookOf i j met → r ≡ lookOn v second job i j
+    unfolding lookOn
+    elsewhere e r f = rw (← is, ← asked, e) f
 
 -- two paths, and one
 pub each-of-two : (first second : List Float) (job : Job) → job .own ≡ false → (i j : ℕ)
