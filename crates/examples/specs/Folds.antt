@@ -1,11 +1,32 @@
--- What neighbouring lines of one path give in a self listing, epsilon 1e-5: the request's fold makes a row, a corner and a square's
--- joints make none, and an open path that ends on its start has the row of its ends.
+-- What neighbouring lines of one path give in a self listing, epsilon 1e-5: the request's fold makes a row, a corner and a
+-- square's joints make none, and an open path that ends on its start has the row of its ends.
 use mathlib.Core.Path.{_≡_, refl}
 use mathlib.Core.Bool.{Bool, true, false}
 use mathlib.Core.List.{List, [], _∷_}
 use Prim.Native.Nat.{ℕ}
 use lib.Count.{trailingZeros}
-use lib.Ieee.{Float, binary64, add, sub, mul, div, neg, sum, round, units, odd, size, span, climb, lt, le, eq, isNan, ofBits, ofFields}
+use lib.Ieee.{
+  Float,
+  binary64,
+  add,
+  sub,
+  mul,
+  div,
+  neg,
+  sum,
+  round,
+  units,
+  odd,
+  size,
+  span,
+  climb,
+  lt,
+  le,
+  eq,
+  isNan,
+  ofBits,
+  ofFields,
+}
 use Rattle.floats.specs.F64.{abs, min, max, sqrt, rootOf, rootAt, isqrt, rootIn}
 use Rattle.plane.specs.Vector2 as vector2
 use Rattle.plane.specs.PlineVertex as vertices

@@ -22,7 +22,6 @@ use Rattle.floats.specs.Ops.{_⊕_, _⊖_, _≼_, f0}
 use Rattle.floats.specs.F64.{min, max}
 use Rattle.plane.specs.PlineVertex.{bulgeIsZero}
 use Rattle.plane.specs.declared.pline_vertex.PlineVertex.{PlineVertex}
-use Rattle.boxes.specs.declared.bounds.Box.{Box}
 use Rattle.boxes.specs.Box.{margin, boxOf, meet}
 use Rattle.boxes.specs.Groups.{segmentBox}
 use Rattle.boxes.specs.Laws.Numbers.{zero-is}
@@ -121,17 +120,6 @@ line-margin v1 v2 e t = go (bulgeIsZero v1) _ t
     go true x t = refl
     go false x t = absurd t
 
-line-box : (v1 v2 : PlineVertex) (e : Float) → T (bulgeIsZero v1)
-    → boxOf v1 v2 e
-    ≡ record {
-      «least_x» = min (v1 .x) (v2 .x) ⊖ e;
-      «least_y» = min (v1 .y) (v2 .y) ⊖ e;
-      «greatest_x» = max (v1 .x) (v2 .x) ⊕ e;
-      «greatest_y» = max (v1 .y) (v2 .y) ⊕ e;
-    }
-unfolding boxOf
-line-box v1 v2 e t = rw (line-margin v1 v2 e t) refl
-
 at-x : (v : PlineVertex) (p : Spot) → On v p → Whole (v .x) (p .x)
 at-x v p h = (h .0, h .1)
 
@@ -139,16 +127,18 @@ at-y : (v : PlineVertex) (p : Spot) → On v p → Whole (v .y) (flip p .x)
 at-y v p h = (h .2, h .3)
 
 pub boxes-meet : BoxesMeet
+unfolding boxOf
 boxes-meet v1 v2 u1 u2 p1 p2 q1 q2 e num den a1 a2 b1 b2 line-v line-u small share =
     let E : Eps e num den = eps e num den small in
     let number = diff-finite e num 0 den (E .is) in
     let least = order.le-diff f0 e 0 0 1 num 0 den (zero-lt-suc 0) (E .some) zero-is (E .is) .1 (omega arith) in
     let back = share-swapped p1 p2 q1 q2 .0 share in
-    rw (line-box v1 v2 e line-v, line-box u1 u2 e line-u)
+    rw (line-margin v1 v2 e line-v, line-margin u1 u2 e line-u)
     (is-true _ (they-meet _ _ (record {
       left = axis-meets e number least (v1 .x) (v2 .x) (u1 .x) (u2 .x) p1 p2 q1 q2 (at-x v1 p1 a1) (at-x v2 p2 a2) (at-x u1 q1 b1)
           (at-x u2 q2 b2) share;
-      right = axis-meets e number least (u1 .x) (u2 .x) (v1 .x) (v2 .x) q1 q2 p1 p2 (at-x u1 q1 b1) (at-x u2 q2 b2) (at-x v1 p1 a1)
+      right = axis-meets e number least (u1 .x) (u2 .x) (v1 .x) (v2 .x) q1 q2 p1 p2 (at-x u1 q1 b1) (at-x u2 q2 b2)
+          (at-x v1 p1 a1)
           (at-x v2 p2 a2) back;
       below = axis-meets e number least (v1 .y) (v2 .y) (u1 .y) (u2 .y) (flip p1) (flip p2) (flip q1) (flip q2) (at-y v1 p1 a1)
           (at-y v2 p2 a2) (at-y u1 q1 b1) (at-y u2 q2 b2) (share-flipped p1 p2 q1 q2 .0 share);

@@ -65,7 +65,8 @@ unfolding look lookOf
 looks first second epsilon i j n =
     let m = pairOf first second epsilon i j in never-skipped (classOf m) (row i j m) n
 
-looks-at-own : (path : List Float) (closed : Bool) (epsilon : Float) (i j n : ℕ) → count (selfLook path closed epsilon i j) n ≡ suc n
+looks-at-own : (path : List Float) (closed : Bool) (epsilon : Float) (i j n : ℕ)
+    → count (selfLook path closed epsilon i j) n ≡ suc n
 unfolding selfLook lookOf
 looks-at-own path closed epsilon i j n =
     let m = pairOf path path epsilon i j in

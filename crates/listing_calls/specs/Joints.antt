@@ -161,7 +161,8 @@ module _ (path : List Float) (closed : Bool) (epsilon : Float) (i j : ℕ) where
       forth zero false e f h = let z : _≡_ {A = ℕ} 0 1 = cc in absurd (omega (arith, z))
       forth (suc class) false e f h = (omega (arith, e), λ a. true≢false (sym (silent-when .1 a) ∙ f))
 
-      back : (0 < classOf met) × (AtJoint → ⊥) → cond silent Nothing (unlessApart (classOf met) (row i j met)) ≡ Made (row i j met)
+      back : (0 < classOf met) × (AtJoint → ⊥)
+          → cond silent Nothing (unlessApart (classOf met) (row i j met)) ≡ Made (row i j met)
       back h = go silent refl (classOf met) (h .0)
         where
           go : (b : Bool) → silent ≡ b → (class : ℕ) → 0 < class

@@ -1,5 +1,5 @@
--- What a boxed listing of any sequence of pairs answers, and what it leaves in the slices: a listing's refusals with 17 before the
--- last, its rows, and the index of boxes.
+-- What a boxed listing of any sequence of pairs answers, and what it leaves in the slices: a listing's refusals with 17 before
+-- the last, its rows, and the index of boxes.
 use mathlib.Core.Path.{_≡_}
 use mathlib.Core.List.{List, [], _∷_, _++_}
 use Prim.Native.Nat.{ℕ}

@@ -1,5 +1,5 @@
--- A row (Row), the order of pairs (Order), the rows of a sequence of pairs (Rows), a page of one (Page), what a pair gives (Look),
--- and the pairs of a boxed listing (Boxed). A reader need not believe Workings and Laws.
+-- A row (Row), the order of pairs (Order), the rows of a sequence of pairs (Rows), a page of one (Page), what a pair gives
+-- (Look), and the pairs of a boxed listing (Boxed). A reader need not believe Workings and Laws.
 pub mod Row
 pub mod Order
 pub mod Rows

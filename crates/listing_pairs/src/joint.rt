@@ -31,8 +31,8 @@ fn near_some(path: &[f64], next: bool, closing: bool, j: usize, epsilon: f64, p:
     at_next | at_start
 }
 
-// Whether the listing is of one path and its segments i and j, which meet like this, meet only at vertices that they share. A pair
-// that is apart does not, and an overlap never does.
+// Whether the listing is of one path and its segments i and j, which meet like this, meet only at vertices that they share. A
+// pair that is apart does not, and an overlap never does.
 pub(crate) fn at_joint(path: &[f64], job: Job, i: usize, j: usize, met: PlineSegIntr) -> bool
     requires { ⌜ (i ≤ Path.mostVertices) × (j < Path.vertexCount (now path)) ⌝ }
     ensures { λ r. ⌜

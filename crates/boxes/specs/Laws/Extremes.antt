@@ -1,6 +1,6 @@
 -- Minimum and maximum, for all floats: each is one of the two; what is at most one of them is at most the maximum, and what is at
--- least one of them is at least the minimum, since a comparison with a NaN says no. Two f64 that are no -0 and are each at most the
--- other are the same.
+-- least one of them is at least the minimum, since a comparison with a NaN says no. Two f64 that are no -0 and are each at most
+-- the other are the same.
 use mathlib.Core.Path.{_≡_, refl, sym, ap, _∙_, subst}
 use mathlib.Core.Logic.{_≢_}
 use mathlib.Core.Bool.{Bool, true, false, cond, true≢false}

@@ -1,5 +1,5 @@
--- From the checks of a boxed listing to its outcome: that of checked paths, or the refusal of the first fault. To skip pairs is to
--- leave them out.
+-- From the checks of a boxed listing to its outcome: that of checked paths, or the refusal of the first fault. To skip pairs is
+-- to leave them out.
 use mathlib.Core.Path.{_≡_, refl, ap, _∙_}
 use mathlib.Core.Bool.{Bool, true}
 use mathlib.Core.List.{List, [], _∷_, _++_, append-nil}
@@ -107,7 +107,8 @@ module _ (path : List Float) (closed : Bool) (epsilon : Float) (b₀ : List Floa
   self-boxed b i p r e j is h =
       let k : LeavesBoxed (boxed (boxedLook path path epsilon (selfLook path closed epsilon)) own (one ++ []) b₀ i₀ p₀) r b i p =
       rw (is, self-every (own-job path closed epsilon true) refl refl) at h in
-      let l : LeavesBoxed (boxed (boxedLook path path epsilon (selfLook path closed epsilon)) own one b₀ i₀ p₀) r b i p = rw (append-nil one) at k in
+      let l : LeavesBoxed (boxed (boxedLook path path epsilon (selfLook path closed epsilon)) own one b₀ i₀ p₀) r b i p =
+          rw (append-nil one) at k in
       rw (boxed-fine its (selfLook path closed epsilon) (boxedPairs path path epsilon own) one b₀ i₀ p₀ e)
       (rw (left-out path path epsilon (selfLook path closed epsilon) own one b₀ i₀ p₀) at l)
 

@@ -77,7 +77,8 @@ module _ (test : Pair → Bool) where
   those-append (p ∷ ps) qs = go (test p) (those-append ps qs)
     where
       go : (t : Bool) → those test (ps ++ qs) ≡ those test ps ++ those test qs
-          → cond t (p ∷ those test (ps ++ qs)) (those test (ps ++ qs)) ≡ cond t (p ∷ those test ps) (those test ps) ++ those test qs
+          → cond t (p ∷ those test (ps ++ qs)) (those test (ps ++ qs))
+          ≡ cond t (p ∷ those test ps) (those test ps) ++ those test qs
       go true e = ap (λ (r : List Pair). p ∷ r) e
       go false e = e
 

@@ -90,7 +90,8 @@ module _ (first′ second kept : List Float) (job : Job) (i j end : ℕ) (b : Bo
         → lookBy first′ second job i k ≡ cond t (eachLook first′ second job i k) Skipped
     unfolding boxedLook boxesMeet
     gives k h t e =
-        ap (λ (c : Bool). cond c (boxedLook first′ second (job .epsilon) (eachLook first′ second job)) (eachLook first′ second job) i k) boxed
+        ap (λ (c : Bool). cond c (boxedLook first′ second (job .epsilon) (eachLook first′ second job)) (eachLook first′ second job) i k)
+        boxed
         ∙ ap (λ (c : Bool). cond c (eachLook first′ second job i k) Skipped) (sym (same k h) ∙ e)
 
     meeting-runs : Runs first′ second job i j end (meetingRun kept b j end)
@@ -117,7 +118,8 @@ module _ (first′ second kept : List Float) (job : Job) (i j end : ℕ) (b : Bo
         on = inside;
         skipped = λ k low below. absurd (omega (arith, low, below));
         seen = λ k low below.
-            ap (λ (c : Bool). cond c (boxedLook first′ second (job .epsilon) (eachLook first′ second job)) (eachLook first′ second job) i k) plain;
+            ap (λ (c : Bool). cond c (boxedLook first′ second (job .epsilon) (eachLook first′ second job)) (eachLook first′ second job) i k)
+            plain;
       }
 
 -- so the next run is one
@@ -128,7 +130,8 @@ pub next-runs : (first′ second kept : List Float) (job : Job) (i j end : ℕ) 
 unfolding nextRun boxFor
 next-runs first′ second kept job i j end v b r inside within boxes is for e = rw e (go (job .boxed) refl)
   where
-    go : (t : Bool) → job .boxed ≡ t → Runs first′ second job i j end (cond t (meetingRun kept b j end) (record { from = j; to = end }))
+    go : (t : Bool) → job .boxed ≡ t
+        → Runs first′ second job i j end (cond t (meetingRun kept b j end) (record { from = j; to = end }))
     go true f =
         let c : b ≡ boxOf (v .v1) (v .v2) (job .epsilon) =
         for ∙ ap (λ (t : Bool). cond t (boxOf (v .v1) (v .v2) (job .epsilon)) anyBox) f in

@@ -1,4 +1,5 @@
--- To skip some pairs is to leave them out: the rows are the same, and so is how many pairs are looked at. For any `look` and test.
+-- To skip some pairs is to leave them out: the rows are the same, and so is how many pairs are looked at. For any `look` and
+-- test.
 use mathlib.Core.Path.{_≡_, refl, ap}
 use mathlib.Core.Bool.{Bool, true, false, cond}
 use mathlib.Core.List.{List, [], _∷_}

@@ -1,4 +1,5 @@
--- How the code finds whether a pair meets only at vertices that it shares: two flags for the vertices, and the case of the answer.
+-- How the code finds whether a pair meets only at vertices that it shares: two flags for the vertices, and the case of the
+-- answer.
 use mathlib.Core.Path.{_≡_, refl, sym, ap, _∙_}
 use mathlib.Core.Bool.{Bool, true, false, cond, not, _&&_, _||_, true≢false}
 use mathlib.Core.List.{List, [], _∷_, _++_}

@@ -16,4 +16,5 @@ store-spec =
     (λ c. search needs)
     (λ c. let r = c .before .before in
     let g = r .before .before .before .before in
-    stores-index _ _ _ _ _ _ _ (g .before .before .before .before .pre .1) (g .store-segments .ensures) (r .store-groups .ensures)))
+    stores-index _ _ _ _ _ _ _ (g .before .before .before .before .pre .1) (g .store-segments .ensures)
+    (r .store-groups .ensures)))

@@ -12,7 +12,8 @@ pub store-groups-spec : {M : Type 1} → statement M
 store-groups-spec =
     tie.close
     (tie.spec
-    (λ n from boxes₀ groups behind g₀ boxes g. Storing (groupBox (boxesOn boxes₀ from) n) (from + n) (groupCount n) boxes₀ boxes g)
+    (λ n from boxes₀ groups behind g₀ boxes g. Storing (groupBox (boxesOn boxes₀ from) n)
+    (from + n) (groupCount n) boxes₀ boxes g)
     (λ n from boxes₀ groups behind g₀ boxes g. groupCount n - g)
     (λ c κs. search needs)
     (λ c. omega (arith, c .before .before .pre))
@@ -22,7 +23,8 @@ store-groups-spec =
       (s .before .before .pre .0, omega (arith, l .loop-test .taken, s .group-count .ensures)),
       omega (arith, l .before .loop .inv .long, s .before .before .pre),
     ))
-    (λ c. let l = c .before .before .before in omega (arith, l .before .loop .inv .within, l .before .before .before .before .pre))
+    (λ c. let l = c .before .before .before in
+    omega (arith, l .before .loop .inv .within, l .before .before .before .before .pre))
     (λ c κs. let l = c .before .before .before in
     let s = l .before .before in
     omega (arith, l .loop-test .taken, s .group-count .ensures, l .before .loop .inv .long, s .before .before .pre))

@@ -21,10 +21,12 @@ next-apart-spec =
     (λ c κs. search needs)
     (λ c. let m = c .before in
     let l = m .before .before in
-    finding-here (l .before .loop .inv) _ (l .loop-test .taken) (ap not (m .meet .ensures ∙ ap (meet _) (m .before .box-at .ensures))) (c .if1 .taken))
+    finding-here (l .before .loop .inv) _ (l .loop-test .taken)
+    (ap not (m .meet .ensures ∙ ap (meet _) (m .before .box-at .ensures))) (c .if1 .taken))
     (λ c. let l = c .before .before .before in omega (arith, l .loop-test .taken))
     (λ c. search needs)
     (λ c. let m = c .before in
     let l = m .before .before in
-    finding-on (l .before .loop .inv) _ (l .loop-test .taken) (ap not (m .meet .ensures ∙ ap (meet _) (m .before .box-at .ensures))) (c .if1 .left))
+    finding-on (l .before .loop .inv) _ (l .loop-test .taken)
+    (ap not (m .meet .ensures ∙ ap (meet _) (m .before .box-at .ensures))) (c .if1 .left))
     (λ c. finding-ends (c .before .loop .inv) (c .loop-test .left)))

@@ -103,7 +103,8 @@ mid-state : (c : Middle)
     → let a = start (outer c) .args in
     State (now (a .first)) (now (a .second)) (now (a .kept)) (a .job) (a .part)
     (now (a .indices)) (now (a .points))
-    (outer c .loop .i) (c .loop2 .j) (c .loop2 .rows) (left c (c .loop2 .j)) (c .loop2 .looked) (c .loop2 .indices) (c .loop2 .points)
+    (outer c .loop .i) (c .loop2 .j) (c .loop2 .rows) (left c (c .loop2 .j)) (c .loop2 .looked) (c .loop2 .indices)
+    (c .loop2 .points)
 mid-state c = let a = start (outer c) .args in c .loop2 .inv .2 (now (a .indices)) (now (a .points)) (outer c .loop .inv)
 
 run : (c : Found)
@@ -128,7 +129,8 @@ skip : (c : Found) (x : List ℕ) (y : List Float)
     → let m = middle c in
     let a = start (outer m) .args in
     State (now (a .first)) (now (a .second)) (now (a .kept)) (a .job) (a .part) x y
-    (outer m .loop .i) (m .loop2 .j) (m .loop2 .rows) (left m (m .loop2 .j)) (m .loop2 .looked) (m .loop2 .indices) (m .loop2 .points)
+    (outer m .loop .i) (m .loop2 .j) (m .loop2 .rows) (left m (m .loop2 .j)) (m .loop2 .looked) (m .loop2 .indices)
+    (m .loop2 .points)
     → State (now (a .first)) (now (a .second)) (now (a .kept)) (a .job) (a .part) x y
     (outer m .loop .i) (c .next-run .result .from) (m .loop2 .rows) (left m (c .next-run .result .from)) (m .loop2 .looked)
     (m .loop2 .indices) (m .loop2 .points)
@@ -150,7 +152,8 @@ inner : (c : Inner)
     let a = start (outer m) .args in
     State (now (a .first)) (now (a .second)) (now (a .kept)) (a .job) (a .part)
     (now (a .indices)) (now (a .points))
-    (outer m .loop .i) (c .loop3 .j) (c .loop3 .rows) (left m (c .loop3 .j)) (c .loop3 .looked) (c .loop3 .indices) (c .loop3 .points)
+    (outer m .loop .i) (c .loop3 .j) (c .loop3 .rows) (left m (c .loop3 .j)) (c .loop3 .looked) (c .loop3 .indices)
+    (c .loop3 .points)
 inner c =
     let m = middle (found c) in
     let a = start (outer m) .args in

@@ -54,7 +54,8 @@ returns-2 c =
     let k = c .before in
     let l = listed (k .before .before) in
     let a = start (checked l .before) .args in
-    boxed-refused (looks (checked l .before)) (every (a .job)) _ _ (now (a .indices)) (now (a .points)) (fits (checked l)) _ _ _ _ (k .answer .given .1) (l .list-by-boxes .ensures)
+    boxed-refused (looks (checked l .before)) (every (a .job)) _ _ (now (a .indices)) (now (a .points))
+    (fits (checked l)) _ _ _ _ (k .answer .given .1) (l .list-by-boxes .ensures)
 
 returns-3 : tie.Need-returns-3
 returns-3 c =

@@ -23,7 +23,8 @@ at-joint-spec =
     (λ c. search needs) (λ c. search needs)
     (λ c. let a = c .before .before .before .before .before .before .args in
     joint.shares-none (now (a .path)) (a .job) (a .i) (a .j) (a .met) (c .before .before .before .if1 .left) (c .if2 .taken))
-    (λ c. search needs) (λ c. search needs) (λ c κs. search needs) (λ c. search needs) (λ c κs. search needs) (λ c. search needs) (λ c κs. search needs) (λ c κs. search needs) (λ c. search needs) (λ c. search needs)
+    (λ c. search needs) (λ c. search needs) (λ c κs. search needs) (λ c. search needs) (λ c κs. search needs)
+    (λ c. search needs) (λ c κs. search needs) (λ c κs. search needs) (λ c. search needs) (λ c. search needs)
     (λ c. let e = c .before .before in
     let a = start e .args in
     joint.meets-none (now (a .path)) (a .job) (a .i) (a .j) (a .met) (own e) (c .enum-told .given .1))

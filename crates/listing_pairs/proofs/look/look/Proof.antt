@@ -1,5 +1,5 @@
--- `listing_pairs::look::look` meets its contract: the pair call's own check finds no fault in the pair, so the call may be made; and
--- if the two meet, they are asked for a joint first.
+-- `listing_pairs::look::look` meets its contract: the pair call's own check finds no fault in the pair, so the call may be made;
+-- and if the two meet, they are asked for a joint first.
 use mathlib.Core.Path.{_≡_, sym, ap, _∙_}
 use borrow.Author.Needs.{needs}
 use native.Mathlib.Omega.{arith}
@@ -43,7 +43,8 @@ met : (c : tie.After-pline-seg-kept)
 met c =
     let a = c .before .before .before .before .before .args in
     c .pline-seg-kept .ensures
-    ∙ ap (λ (u : Segment). plineSeg (a .v .v1) (a .v .v2) (u .v1) (u .v2) (a .job .epsilon)) (c .before .before .segment-from .ensures)
+    ∙ ap (λ (u : Segment). plineSeg (a .v .v1) (a .v .v2) (u .v1) (u .v2) (a .job .epsilon))
+    (c .before .before .segment-from .ensures)
 
 returns : tie.Need-returns
 returns c =
