@@ -230,7 +230,7 @@ fn shared_vertices() {
         (open.pairs, plain(&open)),
         (6, vec![([0, 3], 2, vec![0.0, 0.0])])
     );
-    // with the last side as a point, the first shares vertex 0 with that
+    // closed, with a last side that is a point: the first shares vertex 0 with that
     let closed = own(&path(&square, true), 1).expect("accepted");
     assert_eq!(
         (closed.pairs, plain(&closed)),
