@@ -1,7 +1,7 @@
 //! Whole-path listings as in the scope's prose: which pairs are looked at, which make a row, what is refused and in which order.
-//! `neighbours.rs` says which neighbours of one path make none. How a pair meets is the Rust's own answer; why a number is refused
-//! comes from the table, as for the pair call. A fault's owner is the path; its index is the vertex, or the segment if the chord is
-//! at fault.
+//! `neighbours.rs` says which neighbours of one path make none. How a pair meets is the Rust's own answer; why a number is
+//! refused comes from the table, as for the pair call. A fault's owner is the path; its index is the vertex, or the segment if
+//! the chord is at fault.
 
 use cavalier_contours::polyline::{pline_seg_intr, PlineSegIntr, PlineVertex};
 
