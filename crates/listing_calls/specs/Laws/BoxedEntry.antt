@@ -108,7 +108,7 @@ module _ (path : List Float) (closed : Bool) (epsilon : Float) (b₀ : List Floa
       let k : LeavesBoxed (boxed (boxedLook path path epsilon (selfLook path closed epsilon)) own (one ++ []) b₀ i₀ p₀) r b i p =
       rw (is, self-every (own-job path closed epsilon true) refl refl) at h in
       let l : LeavesBoxed (boxed (boxedLook path path epsilon (selfLook path closed epsilon)) own one b₀ i₀ p₀) r b i p =
-          rw (append-nil one) at k in
+      rw (append-nil one) at k in
       rw (boxed-fine its (selfLook path closed epsilon) (boxedPairs path path epsilon own) one b₀ i₀ p₀ e)
       (rw (left-out path path epsilon (selfLook path closed epsilon) own one b₀ i₀ p₀) at l)
 
