@@ -2,3 +2,4 @@
 -- them.
 pub mod Stored
 pub mod Next
+pub mod Chord

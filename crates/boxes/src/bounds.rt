@@ -1,6 +1,7 @@
 // The box of a segment, and of two boxes together.
 ghost use mathlib.Core.Path.{_≡_};
 ghost use Rattle.boxes.specs.Box as box_of;
+ghost use Rattle.boxes.specs.Workings.Chord;
 use floats::max;
 use floats::min;
 use plane::pline_vertex::PlineVertex;
@@ -13,27 +14,46 @@ pub struct Box {
     pub greatest_y: f64,
 }
 
-// How far the box of the segment from v1 to v2 is moved outward: epsilon for a line, for an arc its chord length more.
-pub fn margin(v1: PlineVertex, v2: PlineVertex, epsilon: f64) -> f64
-    ensures { λ r. ⌜ r ≡ box_of.margin v1 v2 epsilon ⌝ }
+// The chord length of the segment from v1 to v2 if it is an arc. A line needs none and gets 0.
+pub fn chord_if_arc(v1: PlineVertex, v2: PlineVertex) -> f64
+    ensures { λ r. ⌜ r ≡ Chord.chordIfArc v1 v2 ⌝ }
+{
+    if v1.bulge_is_zero() {
+        return 0.0;
+    }
+    v2.pos().sub(v1.pos()).length()
+}
+
+// How far the box of a segment that starts at v1 is moved outward: epsilon for a line, for an arc its chord length more.
+pub fn margin(v1: PlineVertex, chord: f64, epsilon: f64) -> f64
+    ensures { λ r. ⌜ r ≡ Chord.marginBy v1 chord epsilon ⌝ }
 {
     if v1.bulge_is_zero() {
         return epsilon;
     }
-    v2.pos().sub(v1.pos()).length() + epsilon
+    chord + epsilon
 }
 
-// The box of the segment from v1 to v2.
-pub fn box_of(v1: PlineVertex, v2: PlineVertex, epsilon: f64) -> Box
+// The box of the segment from v1 to v2, of which the chord length is known if it is an arc.
+pub fn box_with(v1: PlineVertex, v2: PlineVertex, chord: f64, epsilon: f64) -> Box
+    requires { ⌜ Chord.Known v1 v2 chord ⌝ }
     ensures { λ r. ⌜ r ≡ box_of.boxOf v1 v2 epsilon ⌝ }
 {
-    let m = margin(v1, v2, epsilon);
+    let m = margin(v1, chord, epsilon);
     Box {
         least_x: min(v1.x, v2.x) - m,
         least_y: min(v1.y, v2.y) - m,
         greatest_x: max(v1.x, v2.x) + m,
         greatest_y: max(v1.y, v2.y) + m,
     }
+}
+
+// The box of the segment from v1 to v2.
+pub fn box_of(v1: PlineVertex, v2: PlineVertex, epsilon: f64) -> Box
+    ensures { λ r. ⌜ r ≡ box_of.boxOf v1 v2 epsilon ⌝ }
+{
+    let chord = chord_if_arc(v1, v2);
+    box_with(v1, v2, chord, epsilon)
 }
 
 // The box that holds the least and the greatest numbers of both.

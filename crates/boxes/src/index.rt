@@ -50,7 +50,7 @@ pub fn box_at(boxes: &[f64], k: usize) -> Box
 }
 
 // Stores a box as box k.
-fn put_box(boxes: &mut [f64], k: usize, b: Box)
+pub fn put_box(boxes: &mut [f64], k: usize, b: Box)
     requires { ⌜ (k + 1) * index_of.floatsABox ≤ length (now boxes) ⌝ }
     ensures { λ _. ⌜ now (boxes .exit) ≡ sets (now (boxes .entry)) (k * index_of.floatsABox) (index_of.floatsOf b) ⌝ }
 {
@@ -109,14 +109,11 @@ fn store_segments(path: &[f64], n: usize, epsilon: f64, from: usize, boxes: &mut
 }
 
 // Stores the boxes of the groups of n segments, whose boxes stand from box `from` on, behind these.
-fn store_groups(n: usize, from: usize, boxes: &mut [f64])
+pub fn store_groups(n: usize, from: usize, boxes: &mut [f64])
     requires { ⌜ n ≤ Path.mostVertices ⌝ }
     requires { ⌜ from * index_of.floatsABox + index_of.floatsNeeded n ≤ length (now boxes) ⌝ }
     ensures { λ _. ⌜
-        now (boxes .exit)
-        ≡ sets (now (boxes .entry)) ((from + n) * index_of.floatsABox)
-        (index_of.floatsOfBoxes
-        (index_of.boxesFrom (groups_of.groupBox (Stored.boxesOn (now (boxes .entry)) from) n) 0 (groups_of.groupCount n))) ⌝ }
+        now (boxes .exit) ≡ Stored.withGroups (now (boxes .entry)) from n ⌝ }
 {
     let groups = group_count(n);
     let behind = from + n;
@@ -138,4 +135,21 @@ pub fn store(path: &[f64], n: usize, epsilon: f64, from: usize, boxes: &mut [f64
 {
     store_segments(path, n, epsilon, from, boxes);
     store_groups(n, from, boxes);
+}
+
+// Copies `count` boxes of one slice, from box `from` on, to another, from box `at` on.
+pub fn copy(stored: &[f64], from: usize, count: usize, at: usize, boxes: &mut [f64])
+    requires { ⌜ (from + count) * index_of.floatsABox ≤ length (now stored) ⌝ }
+    requires { ⌜ (at + count) * index_of.floatsABox ≤ length (now boxes) ⌝ }
+    ensures { λ _. ⌜
+        now (boxes .exit)
+        ≡ sets (now (boxes .entry)) (at * index_of.floatsABox)
+        (index_of.floatsOfBoxes (index_of.boxesFrom (Stored.boxesOn (now (stored .entry)) from) 0 count)) ⌝ }
+{
+    let mut i = 0;
+    while i < count {
+        let b = box_at(stored, from + i);
+        put_box(boxes, at + i, b);
+        i += 1;
+    }
 }

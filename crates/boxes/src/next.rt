@@ -48,6 +48,43 @@ pub fn next_meeting(boxes: &[f64], from: usize, n: usize, b: Box, j: usize, end:
     end
 }
 
+// The place k, or the first segment of group g if that comes later.
+fn in_group(k: usize, g: usize) -> usize
+    requires { ⌜ g ≤ Path.mostVertices ⌝ }
+    ensures { λ r. ⌜ r ≡ next_of.inGroup k g ⌝ }
+{
+    let start = g * index::GROUP;
+    if k < start {
+        return start;
+    }
+    k
+}
+
+// The same as `next_meeting`, if the boxes of groups of groups stand behind those of the groups: the next group that meets b is
+// found through these.
+pub fn next_by_groups(boxes: &[f64], from: usize, n: usize, b: Box, j: usize, end: usize) -> usize
+    requires { ⌜ next_of.GroupedTwice (now boxes) from n ⌝ }
+    requires { ⌜ (j ≤ end) × (end ≤ n) × (n ≤ Path.mostVertices) ⌝ }
+    ensures { λ r. ⌜ r ≡ next_of.first (next_of.meets (now (boxes .entry)) from b) j end ⌝ }
+{
+    let groups = index::group_count(n);
+    let mut k = j;
+    while k < end {
+        let g = next_meeting(boxes, from + n, groups, b, k / index::GROUP, groups);
+        let at = in_group(k, g);
+        if end <= at {
+            return end;
+        }
+        let stop = index::group_end(g, end);
+        let found = next_of_each(boxes, from, b, at, stop);
+        if found < stop {
+            return found;
+        }
+        k = stop;
+    }
+    end
+}
+
 // The first segment from j on and before `end` whose box does not meet b; `end` if there is none.
 pub fn next_apart(boxes: &[f64], from: usize, b: Box, j: usize, end: usize) -> usize
     requires { ⌜ (j ≤ end) × ((from + end) * index_of.floatsABox ≤ length (now boxes)) ⌝ }

@@ -8,14 +8,15 @@ use plane::pline_seg::seg_arc_radius_and_center;
 use plane::pline_vertex::PlineVertex;
 use plane::vector2::Vector2;
 
-// The numbers kept of a segment. Of an arc: its radius and the x and y of its centre. Of a line on the straight line
-// a * x + b * y + c = 0: a, which is its slope, or 1 if it is vertical; then a number that is not below the root of
-// a * a + b * b, or 2^101 if there is no sound guess or the segment is a point; and 0. The bulge of the segment says which of
-// the two it is.
+// The numbers kept of a segment. Of an arc: its radius, the x and y of its centre, and its chord length. Of a line on the
+// straight line a * x + b * y + c = 0: a, which is its slope, or 1 if it is vertical; then a number that is not below the root of
+// a * a + b * b, or 2^101 if there is no sound guess or the segment is a point; and 0 twice. The bulge of the segment says which
+// of the two it is.
 pub struct Kept {
     pub radius_or_slope: f64,
     pub center_x_or_root: f64,
     pub center_y_or_zero: f64,
+    pub chord_or_zero: f64,
 }
 
 // The second number of a line if there is no sound guess of its root, or the segment is a point: 2^101, too large for the quick
@@ -47,6 +48,7 @@ fn of_slant(a: f64, b: f64, point: bool) -> Kept
             radius_or_slope: a,
             center_x_or_root: NO_GUESS,
             center_y_or_zero: 0.0,
+            chord_or_zero: 0.0,
         };
     }
     if (moderate(q) & moderate(w)) & (q < w * w) {
@@ -54,12 +56,14 @@ fn of_slant(a: f64, b: f64, point: bool) -> Kept
             radius_or_slope: a,
             center_x_or_root: w,
             center_y_or_zero: 0.0,
+            chord_or_zero: 0.0,
         };
     }
     Kept {
         radius_or_slope: a,
         center_x_or_root: NO_GUESS,
         center_y_or_zero: 0.0,
+        chord_or_zero: 0.0,
     }
 }
 
@@ -81,10 +85,13 @@ fn of_arc(v1: PlineVertex, v2: PlineVertex) -> Kept
     ensures { λ r. ⌜ r ≡ workings.ofArc v1 v2 ⌝ }
 {
     let arc = seg_arc_radius_and_center(v1, v2);
+    // the radius has the same root: the compiler takes it once
+    let chord = v2.pos().sub(v1.pos()).length();
     Kept {
         radius_or_slope: arc.radius,
         center_x_or_root: arc.center.x,
         center_y_or_zero: arc.center.y,
+        chord_or_zero: chord,
     }
 }
 

@@ -65,6 +65,13 @@ module _ {A : Type 0} where
       sets-before (set l i v) vs (suc i) n d (omega (arith, h))
       ∙ getD-set-other l i n v d (λ (e : n ≡ i). omega (arith, h, e))
 
+  -- and behind them
+  pub sets-behind : (l vs : List A) (i n : ℕ) (d : A) → i + length vs ≤ n → getD (sets l i vs) n d ≡ getD l n d
+  sets-behind l [] i n d h = refl
+  sets-behind l (v ∷ vs) i n d h =
+      sets-behind (set l i v) vs (suc i) n d (omega (arith, h))
+      ∙ getD-set-other l i n v d (λ (e : n ≡ i). omega (arith, h, e))
+
   -- read back
   pub sets-read : (l vs : List A) (i n : ℕ) (d : A) → i + length vs ≤ length l → n < length vs
       → getD (sets l i vs) (i + n) d ≡ getD vs n d

@@ -83,7 +83,7 @@ pub fn fill(
     while i < job.n {
         let v = segments::segment_from(first, i);
         let v_kept = kept_of(v.v1, v.v2, job.epsilon);
-        let v_box = box_for(v, job);
+        let v_box = box_for(v, v_kept, job);
         let to = job.m;
         let start = j;
         let end = end_within(start, to, budget);

@@ -6,10 +6,10 @@ ghost use Prim.Native.Nat.{_≤_};
 ghost use lib.ListN.{length};
 ghost use Rattle.paths.specs.Path;
 ghost use Rattle.listing_pairs.specs.Workings.Job as job_of;
+ghost use Rattle.listing_pairs.specs.Workings.Keeping;
 ghost use Rattle.listing_pairs.specs.Workings.Ready;
 ghost use Rattle.listing_outcomes.specs.Outcome;
 ghost use Rattle.listing_outcomes.specs.BoxedOutcome;
-ghost use Rattle.listing_outcomes.specs.Workings.Outcome as outcome_of;
 ghost use Rattle.listing_outcomes.specs.Workings.BoxedOutcome as boxed_of;
 use super::answer::ListingAnswer;
 use super::buffer::list_kept;
@@ -24,6 +24,9 @@ use paths::path;
 // the most groups that a path may have
 const GROUPS: usize = path::VERTICES / index::GROUP;
 
+// the most groups of groups
+const OUTER_GROUPS: usize = GROUPS / index::GROUP;
+
 // How many floats the index of a job needs.
 fn floats_for(job: Job) -> usize
     requires { ⌜ (job .n ≤ Path.mostVertices) × (job .m ≤ Path.mostVertices) ⌝ }
@@ -36,42 +39,62 @@ fn floats_for(job: Job) -> usize
     first + index::floats_needed(job.m)
 }
 
-// Stores the index of a job from the front: the first path's and, if there is a second path, that one's behind it.
-fn store_index(first: &[f64], second: &[f64], job: Job, boxes: &mut [f64])
+// Stores the index of a job from the front: the first path's and, if there is a second path, that one's behind it. The second
+// path's boxes are kept, so they are copied.
+fn store_index(first: &[f64], second: &[f64], kept: &[f64], job: Job, boxes: &mut [f64])
     requires { ⌜ Ready.Ready (now first) (now second) job ⌝ }
+    requires { ⌜ boxed_of.OwnPath (now first) (now second) job ⌝ }
+    requires { ⌜ Keeping.BoxesKept (now second) (now kept) job ⌝ }
     requires { ⌜ boxed_of.floatsFor job ≤ length (now boxes) ⌝ }
     ensures { λ _. ⌜
         now (boxes .exit)
         ≡ Outcome.overwrite (now (boxes .entry)) (boxed_of.indexFor (now (first .entry)) (now (second .entry)) job) ⌝ }
 {
-    index::store(first, job.n, job.epsilon, 0, boxes);
+    let count = job.m + index::group_count(job.m);
     if job.own {
+        index::copy(kept, keeping::BOXES, count, 0, boxes);
         return;
     }
+    index::store(first, job.n, job.epsilon, 0, boxes);
     let behind = job.n + index::group_count(job.n);
-    index::store(second, job.m, job.epsilon, behind, boxes);
+    index::copy(kept, keeping::BOXES, count, behind, boxes);
 }
 
-// The listing of a boxed job, by boxes of its own.
+// The listing of a boxed job whose index fits, and the index. If it has more rows than fit, the answer is refusal 8, and nothing
+// is written.
 fn list_by_boxes(
     first: &[f64],
     second: &[f64],
     job: Job,
+    boxes: &mut [f64],
     indices: &mut [u64],
     points: &mut [f64],
 ) -> ListingAnswer
     requires { ⌜ Ready.Ready (now first) (now second) job ⌝ }
+    requires { ⌜ boxed_of.OwnPath (now first) (now second) job ⌝ }
+    requires { ⌜ boxed_of.floatsFor job ≤ length (now boxes) ⌝ }
     ensures { λ r. ⌜
-        Outcome.Leaves (outcome_of.listed (Ready.lookBy (now (first .entry)) (now (second .entry)) job) (job_of.every job)
-        (now (indices .entry)) (now (points .entry)))
-        r (now (indices .exit)) (now (points .exit)) ⌝ }
+        BoxedOutcome.LeavesBoxed (boxed_of.boxed (Ready.lookBy (now (first .entry)) (now (second .entry)) job) (job_of.every job)
+        (boxed_of.indexFor (now (first .entry)) (now (second .entry)) job)
+        (now (boxes .entry)) (now (indices .entry)) (now (points .entry)))
+        r (now (boxes .exit)) (now (indices .exit)) (now (points .exit)) ⌝ }
 {
-    // for each segment and each group that a path may have: 232 KiB
+    // for each segment, each group and each group of groups that a path may have: 264 KiB
     let mut kept = [0.0f64; path::VERTICES * keeping::NUMBERS
-        + index::FLOATS * (path::VERTICES + GROUPS)];
+        + index::FLOATS * (path::VERTICES + GROUPS + OUTER_GROUPS)];
     keeping::keep(second, 0, job.m, job.epsilon, &mut kept);
-    index::store(second, job.m, job.epsilon, keeping::BOXES, &mut kept);
-    list_kept(first, second, &kept, job, indices, points)
+    keeping::keep_boxes(second, job.m, job.epsilon, &mut kept);
+    let answer = list_kept(first, second, &kept, job, indices, points);
+    match answer {
+        ListingAnswer::Refused(fault) => ListingAnswer::Refused(fault),
+        ListingAnswer::Listed { rows, pairs } => {
+            store_index(first, second, &kept, job, boxes);
+            ListingAnswer::Listed {
+                rows: rows,
+                pairs: pairs,
+            }
+        }
+    }
 }
 
 // The listing of a boxed job, and its index. If the index does not fit, the answer is refusal 17; if it has more rows than fit,
@@ -85,6 +108,7 @@ pub fn list_boxed(
     points: &mut [f64],
 ) -> ListingAnswer
     requires { ⌜ Ready.Ready (now first) (now second) job ⌝ }
+    requires { ⌜ boxed_of.OwnPath (now first) (now second) job ⌝ }
     ensures { λ r. ⌜
         BoxedOutcome.LeavesBoxed (boxed_of.boxed (Ready.lookBy (now (first .entry)) (now (second .entry)) job) (job_of.every job)
         (boxed_of.indexFor (now (first .entry)) (now (second .entry)) job)
@@ -94,15 +118,5 @@ pub fn list_boxed(
     if boxes.len() < floats_for(job) {
         return ListingAnswer::Refused(whole(refusal::BOXES, Item::Boxes));
     }
-    let answer = list_by_boxes(first, second, job, indices, points);
-    match answer {
-        ListingAnswer::Refused(fault) => ListingAnswer::Refused(fault),
-        ListingAnswer::Listed { rows, pairs } => {
-            store_index(first, second, job, boxes);
-            ListingAnswer::Listed {
-                rows: rows,
-                pairs: pairs,
-            }
-        }
-    }
+    list_by_boxes(first, second, job, boxes, indices, points)
 }

@@ -1,9 +1,13 @@
 // What a listing keeps of the second path's segments while it walks the pairs: a few numbers of each segment, one segment after
-// the other, so that no pair computes them again. A boxed listing keeps the path's index of boxes behind these.
+// the other, so that no pair computes them again. A boxed listing keeps the path's index of boxes behind these, and the boxes of
+// groups of groups behind that.
 ghost use mathlib.Core.Path.{_≡_};
 ghost use Prim.Native.Nat.{_≤_, _<_, _+_, _*_};
 ghost use lib.ListN.{length};
+ghost use lib.Seq.{sets};
 ghost use Rattle.paths.specs.Path;
+ghost use Rattle.boxes.specs.Groups as groups_of;
+ghost use Rattle.boxes.specs.Index as index_of;
 ghost use Rattle.listing_pairs.specs.Workings.Keeping;
 ghost use Rattle.listing_pairs.specs.Workings.Reached;
 use super::order;
@@ -11,6 +15,7 @@ use super::order::Job;
 use super::sizes::greater;
 use super::sizes::less;
 use super::sizes::lesser;
+use boxes::bounds::box_with;
 use boxes::index;
 use fast_pair::kept::Kept;
 use fast_pair::kept::kept_of;
@@ -18,7 +23,7 @@ use paths::path;
 use paths::segments;
 
 // how many numbers are kept of a segment
-pub const NUMBERS: usize = 3;
+pub const NUMBERS: usize = 4;
 
 // the box from which on the index stands: behind the numbers of as many segments as a path may have
 pub const BOXES: usize = path::VERTICES * NUMBERS / index::FLOATS;
@@ -37,8 +42,43 @@ pub fn keep(path: &[f64], from: usize, to: usize, epsilon: f64, kept: &mut [f64]
         kept[at] = k.radius_or_slope;
         kept[at + 1] = k.center_x_or_root;
         kept[at + 2] = k.center_y_or_zero;
+        kept[at + 3] = k.chord_or_zero;
         j += 1;
     }
+}
+
+// Stores the boxes of the path's first n segments behind the numbers that are kept, with the chord lengths that are among these.
+fn keep_segment_boxes(path: &[f64], n: usize, epsilon: f64, kept: &mut [f64])
+    requires { ⌜ (n ≤ Path.vertexCount (now path)) × (n ≤ Path.mostVertices) ⌝ }
+    requires { ⌜ Keeping.AllKept (now path) (now kept) epsilon n ⌝ }
+    requires { ⌜ (Keeping.boxesKept + n) * index_of.floatsABox ≤ length (now kept) ⌝ }
+    ensures { λ _. ⌜
+        now (kept .exit)
+        ≡ sets (now (kept .entry)) (Keeping.boxesKept * index_of.floatsABox)
+        (index_of.floatsOfBoxes (index_of.boxesFrom (groups_of.segmentBox (now (path .entry)) epsilon) 0 n)) ⌝ }
+{
+    let mut j = 0;
+    while j < n {
+        let s = segments::segment_from(path, j);
+        let k = kept_at(kept, j);
+        let b = box_with(s.v1, s.v2, k.chord_or_zero, epsilon);
+        index::put_box(kept, BOXES + j, b);
+        j += 1;
+    }
+}
+
+// Stores the index of the path's first n segments behind the numbers that are kept of them, and the boxes of groups of groups
+// behind the index.
+pub fn keep_boxes(path: &[f64], n: usize, epsilon: f64, kept: &mut [f64])
+    requires { ⌜ (n ≤ Path.vertexCount (now path)) × (n ≤ Path.mostVertices) ⌝ }
+    requires { ⌜ Keeping.AllKept (now path) (now kept) epsilon n ⌝ }
+    requires { ⌜ Keeping.boxesKept * index_of.floatsABox + Keeping.boxFloats n ≤ length (now kept) ⌝ }
+    ensures { λ _. ⌜ now (kept .exit) ≡ Keeping.keepBoxes (now (path .entry)) n epsilon (now (kept .entry)) ⌝ }
+{
+    keep_segment_boxes(path, n, epsilon, kept);
+    index::store_groups(n, BOXES, kept);
+    let groups = index::group_count(n);
+    index::store_groups(groups, BOXES + n, kept);
 }
 
 // Stores what is kept of those segments of the second path that the first `budget` pairs from (i, j) on can reach. If i has
@@ -75,5 +115,6 @@ pub(crate) fn kept_at(kept: &[f64], j: usize) -> Kept
         radius_or_slope: kept[at],
         center_x_or_root: kept[at + 1],
         center_y_or_zero: kept[at + 2],
+        chord_or_zero: kept[at + 3],
     }
 }

@@ -8,15 +8,18 @@ use Prim.Native.Nat.{ℕ, zero, suc, _+_, _-_, _*_, _/_, _≤_, _<_}
 use native.Mathlib.Nat.{eq-or-lt-of-le}
 use native.Mathlib.Numerals.{add-one}
 use native.Mathlib.Omega.{arith}
+use borrow.Author.Tests.{ltb-true, ltb-false}
+use lib.Dec.{ltb}
 use lib.Ieee.{Float}
 use lib.ListN.{length}
 use lib.Seq.{sets, length-sets}
 use Rattle.boxes.specs.declared.bounds.Box.{Box}
 use Rattle.boxes.specs.Box.{meet}
 use Rattle.boxes.specs.Groups.{segmentBox, groupSize, groupCount, groupBox}
-use Rattle.boxes.specs.Index.{floatsABox, index, floatsNeeded}
+use Rattle.boxes.specs.Index.{floatsABox, floatsOfBoxes, boxesFrom, index, floatsNeeded}
 use Rattle.boxes.specs.Laws.Joined.{group-apart}
-use Rattle.boxes.specs.Workings.Stored.{boxAt, boxesOn, group-same, index-segment, index-group}
+use Rattle.boxes.specs.Workings.Stored.{boxAt, boxesOn, withGroups, box-before, stored-from, group-same}
+use Rattle.boxes.specs.Workings.Stored.{index-segment, index-group}
 
 -- the first of j, j + 1, .., `count` of them, for which the test says yes; the number after them if there is none
 unfoldable pub firstOf : (ℕ → Bool) → ℕ → ℕ → ℕ
@@ -164,6 +167,87 @@ none-in-group boxes from n b k stop has e inside within ends i low high =
     let is = has .groups g (omega (arith, inside)) in
     group-apart (boxesOn boxes from) b n g i (sym (ap (meet b) is) ∙ e)
     (omega (arith, low)) (omega (arith, high, ends)) (omega (arith, high, within))
+
+-- ---- groups of groups
+-- behind the boxes of n segments stand those of their groups, and behind these those of groups of groups
+pub record GroupedTwice (boxes : List Float) (from n : ℕ) : Type 0 where
+  pub once : Grouped boxes from n
+  pub twice : Grouped boxes (from + n) (groupCount n)
+
+-- k, or the first segment of group g if that comes later
+unfoldable pub inGroup : ℕ → ℕ → ℕ
+inGroup k g = cond (ltb k (g * groupSize)) (g * groupSize) k
+
+pub record InGroup (k g r : ℕ) : Type 0 where
+  pub low : k ≤ r
+  pub start : g * groupSize ≤ r
+  pub least : (i : ℕ) → k ≤ i → i < r → i < g * groupSize
+  pub high : (end : ℕ) → k < end → g * groupSize < end → r < end
+
+pub in-group : (k g r : ℕ) → r ≡ inGroup k g → InGroup k g r
+unfolding inGroup
+in-group k g r e = rw e (go (ltb k (g * groupSize)) refl)
+  where
+    go : (b : Bool) → ltb k (g * groupSize) ≡ b → InGroup k g (cond b (g * groupSize) k)
+    go true f =
+        let less : k < g * groupSize = ltb-true k (g * groupSize) f in
+        record { low = omega (arith, less); start = omega arith; least = λ i a b. b; high = λ end a b. b }
+    go false f =
+        let more : g * groupSize ≤ k = ltb-false k (g * groupSize) f in
+        record {
+          low = omega arith;
+          start = more;
+          least = λ i a b. absurd (omega (arith, a, b));
+          high = λ end a b. a;
+        }
+
+-- if no group from that of k up to g meets b, no segment from k up to the start of group g does
+pub none-in-groups : (boxes : List Float) (from n : ℕ) (b : Box) (k g : ℕ) → Grouped boxes from n
+    → ((h : ℕ) → k / groupSize ≤ h → h < g → meets boxes (from + n) b h ≡ false)
+    → (i : ℕ) → k ≤ i → i < g * groupSize → i < n → meets boxes from b i ≡ false
+none-in-groups boxes from n b k g has none i low high inside =
+    none-in-group boxes from n b i (i + 1) has (none (i / groupSize) (omega (arith, low)) (omega (arith, high)))
+    inside (omega (arith, inside)) (omega arith) i (omega arith) (omega arith)
+
+-- so a search that has found no group before g goes on there
+module _ {boxes : List Float} {from n j end k groups g at : ℕ} (b : Box) (so-far : Finding (meets boxes from b) j end k)
+    (has : Grouped boxes from n) (next : First (meets boxes (from + n) b) (k / groupSize) groups g) (there : InGroup k g at) where
+  pub groups-over : (m : ℕ) → k ≤ m → m ≤ at → m ≤ end → end ≤ n → Finding (meets boxes from b) j end m
+  groups-over m low high within inside =
+      finding-over so-far m low within (λ i a l.
+      none-in-groups boxes from n b k g has (next .before) i a
+      (there .least i a (omega (arith, l, high))) (omega (arith, l, within, inside)))
+
+  -- and before the end of that group
+  pub in-time : at < (g + 1) * groupSize
+  in-time = there .high ((g + 1) * groupSize) (omega (arith, next .low)) (omega arith)
+
+-- groups that are stored behind the boxes
+pub still-grouped : (l vs : List Float) (from n at : ℕ) → (from + n + groupCount n) * floatsABox ≤ at → Grouped l from n
+    → Grouped (sets l at vs) from n
+still-grouped l vs from n at behind has =
+    record {
+      room = omega (arith, has .room, length-sets l at vs);
+      groups = λ g some.
+          box-before l vs at (from + n + g) (omega (arith, behind, some))
+          ∙ has .groups g some
+          ∙ group-same (boxesOn l from) (boxesOn (sets l at vs) from) n g some
+          (λ k h. sym (box-before l vs at (from + k) (omega (arith, behind, h))));
+    }
+
+pub groups-stored : (l : List Float) (from n : ℕ) → from * floatsABox + floatsNeeded n ≤ length l
+    → Grouped (withGroups l from n) from n
+groups-stored l from n room =
+    let at = (from + n) * floatsABox in
+    let box = groupBox (boxesOn l from) n in
+    let vs = floatsOfBoxes (boxesFrom box 0 (groupCount n)) in
+    record {
+      room = omega (arith, room, length-sets l at vs);
+      groups = λ g some.
+          stored-from l box (groupCount n) (from + n) g (omega (arith, room)) some
+          ∙ group-same (boxesOn l from) (boxesOn (sets l at vs) from) n g some
+          (λ k h. sym (box-before l vs at (from + k) (omega (arith, h))));
+    }
 
 -- ---- an index that is stored from box `from` on
 module _ (l path : List Float) (epsilon : Float) (from n : ℕ) (room : from * floatsABox + floatsNeeded n ≤ length l) where

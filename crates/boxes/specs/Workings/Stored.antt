@@ -31,6 +31,11 @@ boxAt l k =
 abbrev pub boxesOn : List Float → ℕ → ℕ → Box
 boxesOn l from i = boxAt l (from + i)
 
+-- the boxes of the groups of n boxes, which stand from box `from` on, stored behind these
+abbrev pub withGroups : List Float → ℕ → ℕ → List Float
+withGroups l from n =
+    sets l ((from + n) * floatsABox) (floatsOfBoxes (boxesFrom (groupBox (boxesOn l from) n) 0 (groupCount n)))
+
 -- ---- lengths
 pub boxes-length : (box : ℕ → Box) (i count : ℕ) → length (boxesFrom box i count) ≡ count
 boxes-length box i zero = refl
@@ -64,6 +69,40 @@ store-one l from box k b is =
     ∙ ap (sets l (from * floatsABox)) (sym (flat-append floatsOf bs (box (0 + k) ∷ [])))
     ∙ ap (λ (cs : List Box). sets l (from * floatsABox) (floatsOfBoxes cs))
     (sym (boxes-more box 0 k) ∙ ap (boxesFrom box 0) (sym (add-one k)))
+
+-- boxes that are the same, and one list of them behind another
+boxes-same : (f h : ℕ → Box) (i count : ℕ) → ((k : ℕ) → i ≤ k → k < i + count → f k ≡ h k)
+    → boxesFrom f i count ≡ boxesFrom h i count
+boxes-same f h i zero same = refl
+boxes-same f h i (suc count) same =
+    ap (λ (b : Box). b ∷ boxesFrom f (suc i) count) (same i (omega arith) (omega arith))
+    ∙ ap (λ (bs : List Box). h i ∷ bs)
+    (boxes-same f h (suc i) count (λ k a b. same k (omega (arith, a)) (omega (arith, b))))
+
+boxes-join : (f h : ℕ → Box) (i count n m : ℕ) → ((k : ℕ) → k < m → f (i + count + k) ≡ h (n + k))
+    → boxesFrom f i (count + m) ≡ boxesFrom f i count ++ boxesFrom h n m
+boxes-join f h i zero n m same = go i n m (λ k b. let e : i + k ≡ i + 0 + k = omega arith in ap f e ∙ same k b)
+  where
+    go : (i n m : ℕ) → ((k : ℕ) → k < m → f (i + k) ≡ h (n + k)) → boxesFrom f i (0 + m) ≡ boxesFrom h n m
+    go i n m same = let e : 0 + m ≡ m = omega arith in ap (boxesFrom f i) e ∙ each i n m same
+      where
+        each : (i n m : ℕ) → ((k : ℕ) → k < m → f (i + k) ≡ h (n + k)) → boxesFrom f i m ≡ boxesFrom h n m
+        each i n zero same = refl
+        each i n (suc m) same =
+            let a : i ≡ i + 0 = omega arith in
+            let b : n + 0 ≡ n = omega arith in
+            ap (λ (c : Box). c ∷ boxesFrom f (suc i) m) (ap f a ∙ same 0 (omega arith) ∙ ap h b)
+            ∙ ap (λ (bs : List Box). h n ∷ bs)
+            (each (suc i) (suc n) m (λ k l.
+            let c : suc i + k ≡ i + suc k = omega arith in
+            let d : n + suc k ≡ suc n + k = omega arith in
+            ap f c ∙ same (suc k) (omega (arith, l)) ∙ ap h d))
+boxes-join f h i (suc count) n m same =
+    let e : suc count + m ≡ suc (count + m) = omega arith in
+    ap (boxesFrom f i) e
+    ∙ ap (λ (bs : List Box). f i ∷ bs)
+    (boxes-join f h (suc i) count n m (λ k b.
+    let c : suc i + count + k ≡ i + suc count + k = omega arith in ap f c ∙ same k b))
 
 -- ---- read back
 pub same-box : (a b : Box) → a .«least_x» ≡ b .«least_x» → a .«least_y» ≡ b .«least_y»
@@ -210,7 +249,7 @@ group-still old now from n g b {box} {count} {i} so-far some e =
 pub stores-index : (l m r : List Float) (path : List Float) (epsilon : Float) (from n : ℕ)
     → from * floatsABox + floatsNeeded n ≤ length l
     → m ≡ sets l (from * floatsABox) (floatsOfBoxes (boxesFrom (segmentBox path epsilon) 0 n))
-    → r ≡ sets m ((from + n) * floatsABox) (floatsOfBoxes (boxesFrom (groupBox (boxesOn m from) n) 0 (groupCount n)))
+    → r ≡ withGroups m from n
     → r ≡ sets l (from * floatsABox) (index path epsilon n)
 unfolding index
 stores-index l m r path epsilon from n room to-m to-r =
@@ -228,6 +267,22 @@ stores-index l m r path epsilon from n room to-m to-r =
     ∙ ap (λ (d : List Float). sets d (from * floatsABox + length (floatsOfBoxes bs)) (floatsOfBoxes gs)) to-m
     ∙ sets-append l (from * floatsABox) (floatsOfBoxes bs) (floatsOfBoxes gs)
     ∙ ap (sets l (from * floatsABox)) (sym (flat-append floatsOf bs gs))
+
+-- boxes that are copied from a slice are the index, if the slice has the boxes of the segments and, behind them, of their groups
+pub index-copied : (stored path : List Float) (epsilon : Float) (from n : ℕ)
+    → ((k : ℕ) → k < n → boxesOn stored from k ≡ segmentBox path epsilon k)
+    → ((g : ℕ) → g < groupCount n → boxAt stored (from + n + g) ≡ groupBox (boxesOn stored from) n g)
+    → floatsOfBoxes (boxesFrom (boxesOn stored from) 0 (n + groupCount n)) ≡ index path epsilon n
+unfolding index
+index-copied stored path epsilon from n segments groups =
+    let box = segmentBox path epsilon in
+    ap floatsOfBoxes
+    (boxes-join (boxesOn stored from) (groupBox box n) 0 n 0 (groupCount n) (λ g some.
+    let e : from + (0 + n + g) ≡ from + n + g = omega arith in
+    let z : g ≡ 0 + g = omega arith in
+    ap (boxAt stored) e ∙ groups g some ∙ group-same (boxesOn stored from) box n g some segments ∙ ap (groupBox box n) z)
+    ∙ ap (λ (bs : List Box). bs ++ boxesFrom (groupBox box n) 0 (groupCount n))
+    (boxes-same (boxesOn stored from) box 0 n (λ k a b. segments k (omega (arith, b)))))
 
 -- ---- a loop that joins: b is joined of those before i, up to `end`
 pub record Joining (box : ℕ → Box) (n g end : ℕ) (b : Box) (i : ℕ) : Type 0 where

@@ -1,6 +1,7 @@
 -- What is kept of a segment: src/kept.rt, function by function. A reader need not believe it: the pair's answer is that of
 -- `plineSeg`.
-use mathlib.Core.Bool.{Bool, cond, _&&_}
+use mathlib.Core.Path.{_≡_, ap, _∙_}
+use mathlib.Core.Bool.{Bool, false, cond, _&&_}
 use lib.Ieee.{Float, neg, binary64, ofBits}
 use Rattle.floats.specs.Ops.{_⊕_, _⊖_, _⊗_, _⊘_, _≺_, f0, f1}
 use Rattle.floats.specs.F64
@@ -11,6 +12,7 @@ use Rattle.plane.specs.Vector2 as vector2
 use Rattle.plane.specs.declared.vector2.Vector2.{Vector2}
 use Rattle.plane.specs.declared.pline_vertex.PlineVertex.{PlineVertex}
 use Rattle.plane.specs.declared.pline_seg.ArcRadiusCenter.{ArcRadiusCenter}
+use Rattle.checks.specs.Arc.{chordLength}
 use Rattle.crossing.specs.Workings.FarLine.{moderate}
 use Rattle.fast_pair.specs.declared.kept.Kept.{Kept}
 
@@ -40,6 +42,7 @@ ofSlant a b point =
       «radius_or_slope» = a;
       «center_x_or_root» = cond point noGuess (cond (sound q w) w noGuess);
       «center_y_or_zero» = f0;
+      «chord_or_zero» = f0;
     }
 
 unfoldable pub ofLine : Vector2 → Vector2 → Float → Kept
@@ -52,7 +55,12 @@ ofLine p0 p1 eps =
 unfoldable pub ofArc : PlineVertex → PlineVertex → Kept
 ofArc v1 v2 =
     let arc = segArcRadiusAndCenter v1 v2 in
-    record { «radius_or_slope» = arc .radius; «center_x_or_root» = arc .center .x; «center_y_or_zero» = arc .center .y }
+    record {
+      «radius_or_slope» = arc .radius;
+      «center_x_or_root» = arc .center .x;
+      «center_y_or_zero» = arc .center .y;
+      «chord_or_zero» = chordLength v1 v2;
+    }
 
 unfoldable pub keptOf : PlineVertex → PlineVertex → Float → Kept
 keptOf v1 v2 eps = cond (bulgeIsZero v1) (ofLine (pos v1) (pos v2) eps) (ofArc v1 v2)
@@ -60,3 +68,10 @@ keptOf v1 v2 eps = cond (bulgeIsZero v1) (ofLine (pos v1) (pos v2) eps) (ofArc v
 unfoldable pub circleOf : Kept → ArcRadiusCenter
 circleOf kept =
     record { radius = kept .«radius_or_slope»; center = vector2.new (kept .«center_x_or_root») (kept .«center_y_or_zero») }
+
+-- so the chord length of an arc is kept
+pub chord-kept : (v1 v2 : PlineVertex) (v : Kept) (eps : Float) → v ≡ keptOf v1 v2 eps → bulgeIsZero v1 ≡ false
+    → v .«chord_or_zero» ≡ chordLength v1 v2
+unfolding keptOf ofArc
+chord-kept v1 v2 v eps e arc =
+    ap (λ (k : Kept). k .«chord_or_zero») (e ∙ ap (λ (b : Bool). cond b (ofLine (pos v1) (pos v2) eps) (ofArc v1 v2)) arc)

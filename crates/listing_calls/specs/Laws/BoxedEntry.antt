@@ -1,7 +1,7 @@
 -- From the checks of a boxed listing to its outcome: that of checked paths, or the refusal of the first fault. To skip pairs is
 -- to leave them out.
-use mathlib.Core.Path.{_≡_, refl, ap, _∙_}
-use mathlib.Core.Bool.{Bool, true}
+use mathlib.Core.Path.{_≡_, refl, sym, ap, _∙_}
+use mathlib.Core.Bool.{Bool, true, true≢false}
 use mathlib.Core.List.{List, [], _∷_, _++_, append-nil}
 use Prim.Native.Nat.{ℕ}
 use lib.Ieee.{Float}
@@ -26,9 +26,10 @@ use Rattle.listing_outcomes.specs.declared.answer.ListingAnswer.{ListingAnswer}
 use Rattle.listing_outcomes.specs.declared.answer.ListingAnswer.the-variants.{Refused}
 use Rattle.listing_outcomes.specs.Outcome.{roomCheck}
 use Rattle.listing_outcomes.specs.BoxedOutcome.{BoxedOutcome, LeavesBoxed, indexCheck, boxedOf, boxedOutcome}
-use Rattle.listing_outcomes.specs.Workings.BoxedOutcome.{boxed, indexFor}
+use Rattle.listing_outcomes.specs.Workings.BoxedOutcome.{boxed, indexFor, OwnPath}
 use Rattle.listing_calls.specs.Listing.{mutualChecks, checkMutual, selfChecks, checkSelf}
 use Rattle.listing_calls.specs.Boxed.{mutualBoxed, selfBoxed}
+use Rattle.listing_calls.specs.Workings.Jobs.{mutualJob, selfJob}
 use Rattle.listing_calls.specs.Laws.Entry.{after-fine, after-bad, job, own-job}
 
 -- ---- any boxed listing
@@ -47,6 +48,16 @@ module _ (checks : List Checked) (f : ℕ → ℕ → Look) (ps : List Pair) (id
   boxed-bad x e =
       rw (after-bad checks more x e)
       (record { listing = record { answer = refl; indices = refl; points = refl }; boxes = refl })
+
+-- whether both are one path
+pub two-paths : (first : List Float) (firstClosed : Bool) (second : List Float) (secondClosed boxed : Bool) (epsilon : Float)
+    (j : Job) → j ≡ mutualJob first firstClosed second secondClosed boxed epsilon → OwnPath first second j
+two-paths first firstClosed second secondClosed boxed epsilon j is own =
+    absurd (true≢false (sym own ∙ ap (λ (k : Job). k .own) is))
+
+pub one-path : (path : List Float) (closed boxed : Bool) (epsilon : Float) (j : Job) → j ≡ selfJob path closed boxed epsilon
+    → OwnPath path path j
+one-path path closed boxed epsilon j is own = (refl, ap (λ (k : Job). k .n) is ∙ sym (ap (λ (k : Job). k .m) is))
 
 -- the pairs are skipped, or left out
 left-out : (first second : List Float) (epsilon : Float) (f : ℕ → ℕ → Look) (ps : List Pair)

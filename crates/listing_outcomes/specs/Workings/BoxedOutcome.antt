@@ -17,13 +17,14 @@ use Rattle.checks.specs.Fault.{whole, refuse, later}
 use Rattle.checks.specs.Refusal
 use Rattle.checks.specs.First.{first as firstFault}
 use Rattle.boxes.specs.Groups.{segmentBox, groupCount}
-use Rattle.boxes.specs.Index.{floatsABox, index, floatsNeeded}
-use Rattle.boxes.specs.Workings.Stored.{index-length}
+use Rattle.boxes.specs.Index.{floatsABox, floatsOfBoxes, boxesFrom, index, floatsNeeded}
+use Rattle.boxes.specs.Workings.Stored.{boxesOn, index-length, index-copied}
 use Rattle.listing_pairs.specs.declared.row.Row.{Row}
 use Rattle.listing_pairs.specs.declared.row.Look.{Look}
 use Rattle.listing_pairs.specs.declared.order.Job.{Job}
 use Rattle.listing_pairs.specs.Order.{Pair}
 use Rattle.listing_pairs.specs.Rows.{rowsOf, lookedAt}
+use Rattle.listing_pairs.specs.Workings.Keeping.{boxesKept, BoxesKept}
 use Rattle.listing_outcomes.specs.declared.answer.ListingAnswer.{ListingAnswer}
 use Rattle.listing_outcomes.specs.declared.answer.ListingAnswer.the-variants.{Refused, Listed}
 use Rattle.listing_outcomes.specs.Outcome.{Outcome, Leaves, overwrite, roomCheck, listedOf}
@@ -35,6 +36,10 @@ use Rattle.listing_outcomes.specs.Workings.Outcome.{listed}
 abbrev pub indexFor : List Float → List Float → Job → List Float
 indexFor first second job =
     index first (job .epsilon) (job .n) ++ cond (job .own) [] (index second (job .epsilon) (job .m))
+
+-- in a listing of one path both are the same
+abbrev pub OwnPath : List Float → List Float → Job → Type 0
+OwnPath first second job = job .own ≡ true → (first ≡ second) × (job .n ≡ job .m)
 
 abbrev pub floatsFor : Job → ℕ
 floatsFor job = cond (job .own) (floatsNeeded (job .n)) (floatsNeeded (job .n) + floatsNeeded (job .m))
@@ -81,31 +86,49 @@ pub short-index : (first second : List Float) (job : Job) (room needed : ℕ) �
     → room < length (indexFor first second job)
 short-index first second job room needed is h = omega (arith, index-for-length first second job, is, h)
 
--- ---- the index, stored from the front
-module _ (first second : List Float) (job : Job) (old : List Float) where
+-- ---- the index, stored from the front, by what is kept of the second path
+module _ (first second kept : List Float) (job : Job) (old : List Float) (same : OwnPath first second job)
+    (boxes : BoxesKept second kept job) where
   abbrev one : List Float
   one = index first (job .epsilon) (job .n)
 
   abbrev two : List Float
   two = index second (job .epsilon) (job .m)
 
-  pub stored-own : (now : List Float) → job .own ≡ true → floatsFor job ≤ length old → now ≡ sets old (0 * floatsABox) one
+  -- what is copied
+  abbrev copied : ℕ → List Float
+  copied count = floatsOfBoxes (boxesFrom (boxesOn kept boxesKept) 0 count)
+
+  copied-is : (count : ℕ) → count ≡ job .m + groupCount (job .m) → copied count ≡ two
+  copied-is count is =
+      ap copied is
+      ∙ index-copied kept second (job .epsilon) boxesKept (job .m) (boxes .is) (boxes .grouped .once .groups)
+
+  pub stored-own : (now : List Float) (count : ℕ) → job .own ≡ true → floatsFor job ≤ length old
+      → count ≡ job .m + groupCount (job .m) → now ≡ sets old (0 * floatsABox) (copied count)
       → now ≡ overwrite old (indexFor first second job)
-  stored-own now own fits e =
+  stored-own now count own fits is e =
       let few : floatsNeeded (job .n) ≤ length old = rw own at fits in
-      e ∙ sets-over old one (omega (arith, long first (job .epsilon) (job .n), few))
+      let both = same own in
+      let whole : copied count ≡ one =
+      copied-is count is
+      ∙ ap (λ (n : ℕ). index second (job .epsilon) n) (sym (both .1))
+      ∙ ap (λ (p : List Float). index p (job .epsilon) (job .n)) (sym (both .0)) in
+      e ∙ ap (sets old (0 * floatsABox)) whole
+      ∙ sets-over old one (omega (arith, long first (job .epsilon) (job .n), few))
       ∙ ap (overwrite old) (sym (append-nil one) ∙ ap (λ (b : Bool). one ++ cond b [] two) (sym own))
 
-  pub stored-both : (middle now : List Float) (behind : ℕ) → job .own ≡ false → floatsFor job ≤ length old
-      → behind ≡ job .n + groupCount (job .n)
-      → middle ≡ sets old (0 * floatsABox) one → now ≡ sets middle (behind * floatsABox) two
+  pub stored-both : (middle now : List Float) (behind count : ℕ) → job .own ≡ false → floatsFor job ≤ length old
+      → behind ≡ job .n + groupCount (job .n) → count ≡ job .m + groupCount (job .m)
+      → middle ≡ sets old (0 * floatsABox) one → now ≡ sets middle (behind * floatsABox) (copied count)
       → now ≡ overwrite old (indexFor first second job)
-  stored-both middle now behind own fits is e f =
+  stored-both middle now behind count own fits is count-is e f =
       let few : floatsNeeded (job .n) + floatsNeeded (job .m) ≤ length old = rw own at fits in
       let n = long first (job .epsilon) (job .n) in
       let m = long second (job .epsilon) (job .m) in
       let at : behind * floatsABox ≡ 0 + length one = omega (arith, is, n) in
       f
+      ∙ ap (sets middle (behind * floatsABox)) (copied-is count count-is)
       ∙ ap (λ (k : ℕ). sets middle k two) at
       ∙ ap (λ (l : List Float). sets l (0 + length one) two) e
       ∙ sets-append old 0 one two

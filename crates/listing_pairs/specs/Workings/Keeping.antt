@@ -1,24 +1,27 @@
--- What is kept of the second path's segments: three numbers of each in a list, stored one segment after the other, and read back.
+-- What is kept of the second path's segments: four numbers of each in a list, stored one segment after the other, and read back.
 use mathlib.Core.Path.{_≡_, refl, sym, ap, _∙_}
 use mathlib.Core.Bool.{true, false, true≢false}
 use mathlib.Core.List.{List, [], _∷_}
-use mathlib.Core.Logic.{_⊎_, inl, inr, _≢_}
+use mathlib.Core.Logic.{_⊎_, inl, inr}
 use Prim.Native.Nat.{ℕ, zero, suc, _+_, _-_, _*_, _/_, _≤_, _<_}
 use native.Mathlib.Nat.{eq-or-lt-of-le}
 use native.Mathlib.Omega.{arith}
 use lib.Ieee.{Float, nan}
-use lib.ListN.{length, length-set, getD, set, take}
-use lib.Seq.{getD-set-same, getD-set-other, sets, length-sets}
-use Rattle.float_laws.specs.Stores.{sets-before}
+use lib.ListN.{length, getD, set, take}
+use lib.Seq.{sets, length-sets}
+use Rattle.float_laws.specs.Stores.{four-set, sets-before, sets-behind, sets-read}
 use Rattle.fast_pair.specs.declared.kept.Kept.{Kept}
-use Rattle.fast_pair.specs.Workings.Kept.{keptOf}
+use Rattle.fast_pair.specs.Workings.Kept.{keptOf, chord-kept}
 use Rattle.paths.specs.declared.path.Segment.{Segment}
 use Rattle.paths.specs.Path.{mostVertices}
 use Rattle.paths.specs.Segments.{segmentFrom}
-use Rattle.boxes.specs.Groups.{segmentBox}
-use Rattle.boxes.specs.Index.{floatsABox}
-use Rattle.boxes.specs.Workings.Stored.{boxesOn}
-use Rattle.boxes.specs.Workings.Next.{Grouped}
+use Rattle.boxes.specs.declared.bounds.Box.{Box}
+use Rattle.boxes.specs.Groups.{segmentBox, groupCount, groupBox}
+use Rattle.boxes.specs.Index.{floatsABox, floatsNeeded, floatsOfBoxes, boxesFrom, index}
+use Rattle.boxes.specs.Workings.Chord.{Known}
+use Rattle.boxes.specs.Workings.Stored.{boxesOn, withGroups, box-before, stores-index}
+use Rattle.boxes.specs.Workings.Stored.{Storing as StoringBoxes}
+use Rattle.boxes.specs.Workings.Next.{GroupedTwice, still-grouped, groups-stored, index-grouped, index-segments}
 use Rattle.listing_pairs.specs.declared.order.Job.{Job}
 use Rattle.listing_pairs.specs.Order.{Pair}
 use Rattle.listing_pairs.specs.Laws.Order.{lt-or-le}
@@ -30,9 +33,9 @@ ofSegment s epsilon = keptOf (s .v1) (s .v2) epsilon
 
 -- how many numbers are kept of a segment
 abbrev pub numbersKept : ℕ
-numbersKept = 3
+numbersKept = 4
 
--- ---- three numbers
+-- ---- four numbers
 unfoldable pub keptAt : List Float → ℕ → Kept
 keptAt l j =
     let at = j * numbersKept in
@@ -40,11 +43,17 @@ keptAt l j =
       «radius_or_slope» = getD l at nan;
       «center_x_or_root» = getD l (at + 1) nan;
       «center_y_or_zero» = getD l (at + 2) nan;
+      «chord_or_zero» = getD l (at + 3) nan;
     }
 
 -- stored from a place on
+abbrev numbersOf : Kept → List Float
+numbersOf k = k .«radius_or_slope» ∷ k .«center_x_or_root» ∷ k .«center_y_or_zero» ∷ k .«chord_or_zero» ∷ []
+
 abbrev putAt : List Float → ℕ → Kept → List Float
-putAt l at k = set (set (set l at (k .«radius_or_slope»)) (at + 1) (k .«center_x_or_root»)) (at + 2) (k .«center_y_or_zero»)
+putAt l at k =
+    set (set (set (set l at (k .«radius_or_slope»)) (at + 1) (k .«center_x_or_root»)) (at + 2) (k .«center_y_or_zero»))
+    (at + 3) (k .«chord_or_zero»)
 
 abbrev put : List Float → ℕ → Kept → List Float
 put l j k = putAt l (j * numbersKept) k
@@ -60,11 +69,12 @@ abbrev pub keep : List Float → ℕ → ℕ → Float → List Float → List F
 keep path from to epsilon l = keepFrom path from (to - from) epsilon l
 
 -- ---- stored and read
+put-sets : (l : List Float) (at : ℕ) (k : Kept) → putAt l at k ≡ sets l at (numbersOf k)
+put-sets l at k =
+    four-set l at (k .«radius_or_slope») (k .«center_x_or_root») (k .«center_y_or_zero») (k .«chord_or_zero»)
+
 put-length : (l : List Float) (at : ℕ) (k : Kept) → length (putAt l at k) ≡ length l
-put-length l at k =
-    length-set (set (set l at (k .«radius_or_slope»)) (at + 1) (k .«center_x_or_root»)) (at + 2) (k .«center_y_or_zero»)
-    ∙ length-set (set l at (k .«radius_or_slope»)) (at + 1) (k .«center_x_or_root»)
-    ∙ length-set l at (k .«radius_or_slope»)
+put-length l at k = ap length (put-sets l at k) ∙ length-sets l at (numbersOf k)
 
 pub keep-length : (path : List Float) (from count : ℕ) (epsilon : Float) (l : List Float)
     → length (keepFrom path from count epsilon l) ≡ length l
@@ -73,82 +83,53 @@ keep-length path from zero epsilon l = refl
 keep-length path from (suc count) epsilon l =
     put-length (keepFrom path from count epsilon l) ((from + count) * numbersKept) _ ∙ keep-length path from count epsilon l
 
--- every number before and after the three is unchanged
-others : (l : List Float) (a n : ℕ) (x y z : Float) → (n < a) ⊎ (a + 2 < n)
-    → getD (set (set (set l a x) (a + 1) y) (a + 2) z) n nan ≡ getD l n nan
-others l a n x y z apart =
-    getD-set-other (set (set l a x) (a + 1) y) (a + 2) n z nan (differs (a + 2) (omega arith) (omega arith) apart)
-    ∙ getD-set-other (set l a x) (a + 1) n y nan (differs (a + 1) (omega arith) (omega arith) apart)
-    ∙ getD-set-other l a n x nan (differs a (omega arith) (omega arith) apart)
+same-kept : (a b : Kept) → a .«radius_or_slope» ≡ b .«radius_or_slope» → a .«center_x_or_root» ≡ b .«center_x_or_root»
+    → a .«center_y_or_zero» ≡ b .«center_y_or_zero» → a .«chord_or_zero» ≡ b .«chord_or_zero» → a ≡ b
+same-kept a b = go (a .«radius_or_slope») (a .«center_x_or_root») (a .«center_y_or_zero») (a .«chord_or_zero»)
   where
-    differs : (b : ℕ) → a ≤ b → b ≤ a + 2 → (n < a) ⊎ (a + 2 < n) → n ≢ b
-    differs b least most (inl h) e = omega (arith, least, h, e)
-    differs b least most (inr h) e = omega (arith, most, h, e)
+    go : (x y z w : Float) → x ≡ b .«radius_or_slope» → y ≡ b .«center_x_or_root» → z ≡ b .«center_y_or_zero»
+        → w ≡ b .«chord_or_zero»
+        → record { «radius_or_slope» = x; «center_x_or_root» = y; «center_y_or_zero» = z; «chord_or_zero» = w } ≡ b
+    go x y z w e f g h = rw (e, f, g, h) refl
 
--- the three
-module _ (l : List Float) (a : ℕ) (x y z : Float) (room : a + numbersKept ≤ length l) where
-  first-is : getD (set (set (set l a x) (a + 1) y) (a + 2) z) a nan ≡ x
-  first-is =
-      getD-set-other (set (set l a x) (a + 1) y) (a + 2) a z nan (λ (e : a ≡ a + 2). omega arith)
-      ∙ getD-set-other (set l a x) (a + 1) a y nan (λ (e : a ≡ a + 1). omega arith)
-      ∙ getD-set-same l a x nan (omega arith)
+-- if the numbers are the same, what is kept is
+kept-same : (l m : List Float) (i j : ℕ) → ((n : ℕ) → n < numbersKept → getD l (i * numbersKept + n) nan ≡ getD m (j * numbersKept + n) nan)
+    → keptAt l i ≡ keptAt m j
+unfolding keptAt
+kept-same l m i j same =
+    same-kept _ _
+    (at (i * numbersKept) (j * numbersKept) 0 (omega arith) (omega arith) (omega arith))
+    (at (i * numbersKept + 1) (j * numbersKept + 1) 1 (omega arith) (omega arith) (omega arith))
+    (at (i * numbersKept + 2) (j * numbersKept + 2) 2 (omega arith) (omega arith) (omega arith))
+    (at (i * numbersKept + 3) (j * numbersKept + 3) 3 (omega arith) (omega arith) (omega arith))
+  where
+    at : (a b n : ℕ) → a ≡ i * numbersKept + n → b ≡ j * numbersKept + n → n < numbersKept → getD l a nan ≡ getD m b nan
+    at a b n e f few =
+        ap (λ (k : ℕ). getD l k nan) e ∙ same n few ∙ sym (ap (λ (k : ℕ). getD m k nan) f)
 
-  second-is : getD (set (set (set l a x) (a + 1) y) (a + 2) z) (a + 1) nan ≡ y
-  second-is =
-      getD-set-other (set (set l a x) (a + 1) y) (a + 2) (a + 1) z nan (λ (e : a + 1 ≡ a + 2). omega arith)
-      ∙ getD-set-same (set l a x) (a + 1) y nan (omega (arith, length-set l a x))
-
-  third-is : getD (set (set (set l a x) (a + 1) y) (a + 2) z) (a + 2) nan ≡ z
-  third-is =
-      getD-set-same (set (set l a x) (a + 1) y) (a + 2) z nan
-      (omega (arith, length-set (set l a x) (a + 1) y, length-set l a x))
-
-three : (a b : Kept) → a .«radius_or_slope» ≡ b .«radius_or_slope» → a .«center_x_or_root» ≡ b .«center_x_or_root»
-    → a .«center_y_or_zero» ≡ b .«center_y_or_zero» → a ≡ b
-three a b e f g =
-    ap (λ (x : Float). record {
-      «radius_or_slope» = x;
-      «center_x_or_root» = a .«center_x_or_root»;
-      «center_y_or_zero» = a .«center_y_or_zero»;
-    }) e
-    ∙ ap (λ (x : Float). record {
-      «radius_or_slope» = b .«radius_or_slope»;
-      «center_x_or_root» = x;
-      «center_y_or_zero» = a .«center_y_or_zero»;
-    }) f
-    ∙ ap (λ (x : Float). record {
-      «radius_or_slope» = b .«radius_or_slope»;
-      «center_x_or_root» = b .«center_x_or_root»;
-      «center_y_or_zero» = x;
-    }) g
-
+-- the segment's own numbers are read back
 put-same : (l : List Float) (j : ℕ) (k : Kept) → suc j * numbersKept ≤ length l → keptAt (put l j k) j ≡ k
 unfolding keptAt
 put-same l j k h =
-    let at = j * numbersKept in
-    let room : at + numbersKept ≤ length l = omega arith in
-    three _ k
-    (first-is l at (k .«radius_or_slope») (k .«center_x_or_root») (k .«center_y_or_zero») room)
-    (second-is l at (k .«radius_or_slope») (k .«center_x_or_root») (k .«center_y_or_zero») room)
-    (third-is l at (k .«radius_or_slope») (k .«center_x_or_root») (k .«center_y_or_zero») room)
+    kept-same (put l j k) (numbersOf k) j 0 (λ n few.
+    ap (λ (a : List Float). getD a (j * numbersKept + n) nan) (put-sets l (j * numbersKept) k)
+    ∙ sets-read l (numbersOf k) (j * numbersKept) n nan (omega (arith, h)) few
+    ∙ zero n)
+  where
+    zero : (n : ℕ) → getD (numbersOf k) n nan ≡ getD (numbersOf k) (0 * numbersKept + n) nan
+    zero n = let e : n ≡ 0 * numbersKept + n = omega arith in ap (λ (m : ℕ). getD (numbersOf k) m nan) e
 
 -- another segment's numbers are unchanged
 put-other : (l : List Float) (i j : ℕ) (k : Kept) → (i < j) ⊎ (j < i) → keptAt (put l j k) i ≡ keptAt l i
-unfolding keptAt
 put-other l i j k apart =
-    three _ _
-    (others l (j * numbersKept) (i * numbersKept) _ _ _ (first apart))
-    (others l (j * numbersKept) (i * numbersKept + 1) _ _ _ (nth 1 (omega arith) apart))
-    (others l (j * numbersKept) (i * numbersKept + 2) _ _ _ (nth 2 (omega arith) apart))
+    kept-same (put l j k) l i i (λ n few.
+    ap (λ (a : List Float). getD a (i * numbersKept + n) nan) (put-sets l (j * numbersKept) k)
+    ∙ other n few apart)
   where
-    nth : (n : ℕ) → n ≤ 2 → (i < j) ⊎ (j < i)
-        → (i * numbersKept + n < j * numbersKept) ⊎ (j * numbersKept + 2 < i * numbersKept + n)
-    nth n few (inl h) = inl (omega (arith, few, h))
-    nth n few (inr h) = inr (omega (arith, few, h))
-
-    first : (i < j) ⊎ (j < i) → (i * numbersKept < j * numbersKept) ⊎ (j * numbersKept + 2 < i * numbersKept)
-    first (inl h) = inl (omega (arith, h))
-    first (inr h) = inr (omega (arith, h))
+    other : (n : ℕ) → n < numbersKept → (i < j) ⊎ (j < i)
+        → getD (sets l (j * numbersKept) (numbersOf k)) (i * numbersKept + n) nan ≡ getD l (i * numbersKept + n) nan
+    other n few (inl h) = sets-before l (numbersOf k) (j * numbersKept) (i * numbersKept + n) nan (omega (arith, few, h))
+    other n few (inr h) = sets-behind l (numbersOf k) (j * numbersKept) (i * numbersKept + n) nan (omega (arith, h))
 
 -- a segment that is not among those that are stored
 pub keep-other : (path : List Float) (from count : ℕ) (epsilon : Float) (l : List Float) (j : ℕ)
@@ -240,6 +221,10 @@ pub record KeptOf (second kept : List Float) (epsilon : Float) (j : ℕ) : Type 
   pub room : (j + 1) * numbersKept ≤ length kept
   pub is : keptAt kept j ≡ ofSegment (segmentFrom second j) epsilon
 
+-- so of the first n segments
+abbrev pub AllKept : List Float → List Float → Float → ℕ → Type 0
+AllKept second kept epsilon n = (j : ℕ) → j < n → KeptOf second kept epsilon j
+
 -- so for the second segment of each of these pairs
 unfoldable pub KeptFor : List Float → List Float → Float → List Pair → Type 0
 KeptFor second kept epsilon [] = Unit {0}
@@ -249,8 +234,15 @@ KeptFor second kept epsilon (p ∷ ps) = KeptOf second kept epsilon (p .j) × Ke
 abbrev pub boxesKept : ℕ
 boxesKept = mostVertices * numbersKept / floatsABox
 
+-- how many floats the index of n segments needs, with the boxes of groups of groups behind it
+abbrev pub boxFloats : ℕ → ℕ
+boxFloats n = floatsNeeded n + floatsABox * groupCount (groupCount n)
+
+unfoldable pub keepBoxes : List Float → ℕ → Float → List Float → List Float
+keepBoxes path n epsilon l = withGroups (sets l (boxesKept * floatsABox) (index path epsilon n)) (boxesKept + n) (groupCount n)
+
 pub record BoxesKept (second kept : List Float) (job : Job) : Type 0 where
-  pub grouped : Grouped kept boxesKept (job .m)
+  pub grouped : GroupedTwice kept boxesKept (job .m)
   pub is : (j : ℕ) → j < job .m → boxesOn kept boxesKept j ≡ segmentBox second (job .epsilon) j
 
 -- the first `budget` pairs from (i, j) on can be looked at
@@ -262,7 +254,7 @@ pub record Ready (first second kept : List Float) (job : Job) (i j budget : ℕ)
 -- every pair can be looked at
 pub record AllReady (first second kept : List Float) (job : Job) : Type 0 where
   pub pairs : paths.Ready first second job
-  pub keeps : (j : ℕ) → j < job .m → KeptOf second kept (job .epsilon) j
+  pub keeps : AllKept second kept (job .epsilon) (job .m)
   pub boxes : job .boxed ≡ true → BoxesKept second kept job
 
 -- a listing that is not boxed needs no boxes
@@ -304,15 +296,83 @@ kept-still path l from to epsilon room j was = at (lt-or-le j from)
 -- and if boxes are stored behind the numbers, it still does
 pub kept-before : (path l vs : List Float) (epsilon : Float) (j : ℕ) → j < mostVertices → KeptOf path l epsilon j
     → KeptOf path (sets l (boxesKept * floatsABox) vs) epsilon j
-unfolding keptAt
 kept-before path l vs epsilon j few was =
-    let place = j * numbersKept in
     let at = boxesKept * floatsABox in
     record {
       room = omega (arith, was .room, length-sets l at vs);
       is =
-          three _ _
-          (sets-before l vs at place nan (omega (arith, few))) (sets-before l vs at (place + 1) nan (omega (arith, few)))
-          (sets-before l vs at (place + 2) nan (omega (arith, few)))
+          kept-same (sets l at vs) l j j (λ n h. sets-before l vs at (j * numbersKept + n) nan (omega (arith, few, h)))
           ∙ was .is;
     }
+
+-- ---- boxes behind the numbers
+-- the box of a segment, with the chord length that is kept of it
+pub chord-known : (path kept : List Float) (epsilon : Float) (j : ℕ) (s : Segment) (k : Kept) → KeptOf path kept epsilon j
+    → s ≡ segmentFrom path j → k ≡ keptAt kept j → Known (s .v1) (s .v2) (k .«chord_or_zero»)
+chord-known path kept epsilon j s k was e f arc =
+    chord-kept (s .v1) (s .v2) k epsilon (f ∙ was .is ∙ ap (λ (t : Segment). ofSegment t epsilon) (sym e)) arc
+
+-- while boxes are stored, the numbers stand as they did
+pub kept-while : {path old now : List Float} {epsilon : Float} {n i : ℕ} (box : ℕ → Box) → n ≤ mostVertices
+    → AllKept path old epsilon n → StoringBoxes box boxesKept n old now i → AllKept path now epsilon n
+kept-while {path} {old} {now} {epsilon} {n} {i} box few was so-far j below =
+    rw (so-far .is)
+    (kept-before path old (floatsOfBoxes (boxesFrom box 0 i)) epsilon j (omega (arith, few, below)) (was j below))
+
+-- from what three calls left: the boxes of segments, of groups, of groups of groups
+pub boxes-stored : (path l m r s : List Float) (epsilon : Float) (n groups : ℕ)
+    → boxesKept * floatsABox + boxFloats n ≤ length l
+    → m ≡ sets l (boxesKept * floatsABox) (floatsOfBoxes (boxesFrom (segmentBox path epsilon) 0 n))
+    → r ≡ withGroups m boxesKept n → groups ≡ groupCount n → s ≡ withGroups r (boxesKept + n) groups
+    → s ≡ keepBoxes path n epsilon l
+unfolding keepBoxes
+boxes-stored path l m r s epsilon n groups room to-m to-r is to-s =
+    to-s
+    ∙ ap (λ (k : ℕ). withGroups r (boxesKept + n) k) is
+    ∙ ap (λ (d : List Float). withGroups d (boxesKept + n) (groupCount n))
+    (stores-index l m r path epsilon boxesKept n (omega (arith, room)) to-m to-r)
+
+-- what the boxes are, and that the numbers stand as they did
+module _ (path l : List Float) (epsilon : Float) (n : ℕ) (room : boxesKept * floatsABox + boxFloats n ≤ length l) where
+  abbrev front : List Float
+  front = sets l (boxesKept * floatsABox) (index path epsilon n)
+
+  -- the boxes of groups of groups
+  abbrev outer : List Float
+  outer =
+      floatsOfBoxes
+      (boxesFrom (groupBox (boxesOn front (boxesKept + n)) (groupCount n)) 0 (groupCount (groupCount n)))
+
+  long : length front ≡ length l
+  long = length-sets l (boxesKept * floatsABox) (index path epsilon n)
+
+  first-room : boxesKept * floatsABox + floatsNeeded n ≤ length l
+  first-room = omega (arith, room)
+
+  pub boxes-grouped : GroupedTwice (keepBoxes path n epsilon l) boxesKept n
+  unfolding keepBoxes
+  boxes-grouped =
+      record {
+        once =
+            still-grouped front outer boxesKept n ((boxesKept + n + groupCount n) * floatsABox) (omega arith)
+            (index-grouped l path epsilon boxesKept n first-room);
+        twice = groups-stored front (boxesKept + n) (groupCount n) (omega (arith, room, long));
+      }
+
+  pub boxes-are : (j : ℕ) → j < n → boxesOn (keepBoxes path n epsilon l) boxesKept j ≡ segmentBox path epsilon j
+  unfolding keepBoxes
+  boxes-are j below =
+      box-before front outer ((boxesKept + n + groupCount n) * floatsABox) (boxesKept + j) (omega (arith, below))
+      ∙ index-segments l path epsilon boxesKept n first-room j below
+
+  pub still-kept : n ≤ mostVertices → AllKept path l epsilon n → AllKept path (keepBoxes path n epsilon l) epsilon n
+  unfolding keepBoxes
+  still-kept few was j below =
+      let inside : j < mostVertices = omega (arith, few, below) in
+      record {
+        room = omega (arith, was j below .room, long, length-sets front ((boxesKept + n + groupCount n) * floatsABox) outer);
+        is =
+            kept-same (sets front ((boxesKept + n + groupCount n) * floatsABox) outer) front j j (λ m h.
+            sets-before front outer ((boxesKept + n + groupCount n) * floatsABox) (j * numbersKept + m) nan (omega (arith, inside, h)))
+            ∙ kept-before path l (index path epsilon n) epsilon j inside (was j below) .is;
+      }

@@ -10,10 +10,9 @@ use borrow.Author.Tests.{le-leb, lt-leb, leb-false}
 use lib.Dec.{leb}
 use lib.Ieee.{Float}
 use lib.ListN.{length, take}
-use lib.Seq.{take-append-le, take-append-add, sets}
+use lib.Seq.{take-append-le, take-append-add}
 use Rattle.paths.specs.Path.{mostVertices}
-use Rattle.boxes.specs.Index.{floatsABox, index, floatsNeeded}
-use Rattle.boxes.specs.Workings.Next.{index-segments, index-grouped}
+use Rattle.boxes.specs.Index.{floatsABox}
 use Rattle.listing_pairs.specs.declared.order.Job.{Job}
 use Rattle.listing_pairs.specs.Order.{Pair, along, pairsFrom}
 use Rattle.listing_pairs.specs.Laws.Order.{lt-or-le, along-length, left-end}
@@ -27,11 +26,17 @@ use Rattle.listing_pairs.specs.Workings.Keeping.{
   KeptFor,
   Ready,
   AllReady,
+  AllKept,
   boxesKept,
+  boxFloats,
+  keepBoxes,
+  BoxesKept,
   no-boxes,
   kept-inside,
   kept-still,
-  kept-before,
+  boxes-grouped,
+  boxes-are,
+  still-kept,
 }
 
 module _ (second kept : List Float) (epsilon : Float) where
@@ -102,24 +107,35 @@ kept-ready first second l kept job ready plain room e =
     }
 
 -- and after the boxes were stored behind them
-pub boxes-ready : (first second l front kept : List Float) (job : Job) → paths.Ready first second job
-    → boxesKept * floatsABox + floatsNeeded (job .m) ≤ length l
-    → front ≡ keep second 0 (job .m) (job .epsilon) l
-    → kept ≡ sets front (boxesKept * floatsABox) (index second (job .epsilon) (job .m)) → AllReady first second kept job
-boxes-ready first second l front kept job ready room e f =
-    let few = ready .few-second in
-    let long = ap length e ∙ keep-length second 0 (job .m - 0) (job .epsilon) l in
-    let behind : boxesKept * floatsABox + floatsNeeded (job .m) ≤ length front = omega (arith, room, long) in
-    record {
-      pairs = ready;
-      keeps = λ j b. rw f
-          (kept-before second front (index second (job .epsilon) (job .m)) (job .epsilon) j (omega (arith, few, b))
-          (rw e (kept-inside second l 0 (job .m) (job .epsilon) (omega (arith, few, room)) j (omega arith) b)));
-      boxes = λ t. rw f (record {
-        grouped = index-grouped front second (job .epsilon) boxesKept (job .m) behind;
-        is = λ j b. index-segments front second (job .epsilon) boxesKept (job .m) behind j b;
-      });
-    }
+module _ (first second l front : List Float) (job : Job) (ready : paths.Ready first second job)
+    (room : boxesKept * floatsABox + boxFloats (job .m) ≤ length l) (e : front ≡ keep second 0 (job .m) (job .epsilon) l) where
+  long : length front ≡ length l
+  long = ap length e ∙ keep-length second 0 (job .m - 0) (job .epsilon) l
+
+  pub front-room : boxesKept * floatsABox + boxFloats (job .m) ≤ length front
+  front-room = omega (arith, room, long)
+
+  pub front-kept : AllKept second front (job .epsilon) (job .m)
+  front-kept j b =
+      rw e
+      (kept-inside second l 0 (job .m) (job .epsilon) (omega (arith, ready .few-second, room)) j (omega arith) b)
+
+  module _ (kept : List Float) (f : kept ≡ keepBoxes second (job .m) (job .epsilon) front) where
+    pub boxes-kept : BoxesKept second kept job
+    boxes-kept =
+        rw f
+        (record {
+          grouped = boxes-grouped second front (job .epsilon) (job .m) front-room;
+          is = boxes-are second front (job .epsilon) (job .m) front-room;
+        })
+
+    pub boxes-ready : AllReady first second kept job
+    boxes-ready =
+        record {
+          pairs = ready;
+          keeps = rw f (still-kept second front (job .epsilon) (job .m) front-room (ready .few-second) front-kept);
+          boxes = λ t. boxes-kept;
+        }
 
 -- ---- of the segments that the first `budget` pairs from (i, j) on can reach
 -- the larger of two

@@ -1,19 +1,9 @@
--- `boxes::bounds::box_of` meets its contract: it puts together what the margin, the minima and the maxima answer.
+-- `boxes::bounds::box_of` meets its contract: the chord that it hands on is the arc's.
 use borrow.Author.Needs.{needs}
-use Rattle.boxes.specs.Box as box_of
+use Rattle.boxes.specs.Workings.Chord.{known}
 use Rattle.boxes.proofs.bounds.box_of.Statement.{statement}
 use Rattle.boxes.proofs.bounds.box_of.Tie as tie
 
 pub box-of-spec : {M : Type 1} → statement M
-unfolding box_of.boxOf
 box-of-spec =
-    tie.close
-    (tie.spec
-    (λ c. search needs) (λ c. search needs) (λ c. search needs) (λ c. search needs) (λ c. search needs)
-    (λ c. simp (
-      c .before .before .before .before .margin .ensures,
-      c .before .before .before .min .ensures,
-      c .before .before .min2 .ensures,
-      c .before .max .ensures,
-      c .max2 .ensures,
-    )))
+    tie.close (tie.spec (λ c κs. search needs) (λ c κs. known _ _ _ (c .chord-if-arc .ensures)) (λ c. search needs))

@@ -6,4 +6,7 @@ use Rattle.fast_pair.proofs.kept.of_arc.Tie as tie
 
 pub of-arc-spec : {M : Type 1} → statement M
 unfolding workings.ofArc
-of-arc-spec = tie.close (tie.spec (λ c. search needs) (λ c. cc))
+of-arc-spec = tie.close
+    (tie.spec
+    (λ c. search needs) (λ c. search needs) (λ c. search needs) (λ c. search needs) (λ c. search needs)
+    (λ c. cc))

@@ -18,6 +18,7 @@ guessed : (c : tie.After-moderate2) → let m = c .before in let t = m .before .
       «radius_or_slope» = a .a;
       «center_x_or_root» = cond ((m .moderate .result && c .moderate2 .result) && (q ≺ w ⊗ w)) w workings.noGuess;
       «center_y_or_zero» = f0;
+      «chord_or_zero» = f0;
     })
     (workings.ofSlant (a .a) (a .b) (a .point))
 unfolding workings.ofSlant

@@ -21,7 +21,8 @@ fine c = sym (c .before .before .check-mutual .ensures) ∙ c .enum-told .given 
 
 list-boxed-requires : tie.Need-list-boxed-requires
 list-boxed-requires c κs =
-    let j = c .before .before .before in mutual-ready _ _ _ _ _ (fine (j .before)) _ (j .mutual-job .ensures)
+    let j = c .before .before .before in
+    (mutual-ready _ _ _ _ _ (fine (j .before)) _ (j .mutual-job .ensures), entry.two-paths _ _ _ _ _ _ _ (j .mutual-job .ensures))
 
 returns : tie.Need-returns
 returns c =

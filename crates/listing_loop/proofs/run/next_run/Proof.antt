@@ -17,8 +17,8 @@ next-run-spec =
     (λ c κs. let t = c .before in
     let p = t .before .before .pre in
     let g = p .0 (t .if1 .taken) in
-    let f = first-is _ _ _ _ (p .1 .0) (c .next-meeting .ensures) in
-    (f .high, omega (arith, g .room, p .1)))
+    let f = first-is _ _ _ _ (p .1 .0) (c .next-by-groups .ensures) in
+    (f .high, omega (arith, g .once .room, p .1)))
     (λ c. let t = c .before .before in
-    holds _ _ _ _ (t .if1 .taken) (run-of _ _ _ _ _ _ (c .before .next-meeting .ensures) (c .next-apart .ensures)))
+    holds _ _ _ _ (t .if1 .taken) (run-of _ _ _ _ _ _ (c .before .next-by-groups .ensures) (c .next-apart .ensures)))
     (λ c. fails _ _ _ _ (c .if1 .left) refl))

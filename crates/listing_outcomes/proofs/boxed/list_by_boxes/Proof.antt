@@ -1,36 +1,106 @@
 -- `listing_outcomes::boxed::list_by_boxes` meets its contract: what is kept is that of the second path's segments, with their
--- boxes behind it, and the listing is that of `list_kept`.
-use mathlib.Core.Path.{_≡_}
-use Prim.Native.Nat.{ℕ, _+_, _*_, _/_}
+-- boxes behind it; the listing is that of `list_kept`, and the index is written if it is no refusal.
+use mathlib.Core.Path.{_≡_, refl}
+use Prim.Native.Nat.{ℕ, _+_, _*_, _/_, _≤_}
 use native.Mathlib.Omega.{arith}
+use borrow.Author.Needs.{needs}
+use denote.Ref.{now}
 use lib.Ieee.{Float, binary64, ofBits}
 use lib.ListN.{length, replicate, length-replicate}
 use Rattle.paths.specs.Path.{mostVertices}
 use Rattle.boxes.specs.Groups.{groupSize}
 use Rattle.boxes.specs.Index.{floatsABox}
-use Rattle.listing_pairs.specs.Workings.Keeping.{numbersKept}
-use Rattle.listing_pairs.specs.Workings.Reached.{boxes-ready}
-use borrow.Author.Needs.{needs}
+use Rattle.listing_pairs.specs.declared.row.Look.{Look}
+use Rattle.listing_pairs.specs.Workings.Job.{every}
+use Rattle.listing_pairs.specs.Workings.Keeping.{numbersKept, boxesKept, boxFloats}
+use Rattle.listing_pairs.specs.Workings.Ready.{lookBy}
+use Rattle.listing_pairs.specs.Workings.Reached.{front-room, front-kept, boxes-kept, boxes-ready}
+use Rattle.listing_outcomes.specs.Workings.BoxedOutcome.{indexFor, fits-index, boxed-refused, boxed-listed}
 use Rattle.listing_outcomes.proofs.boxed.list_by_boxes.Statement.{statement}
 use Rattle.listing_outcomes.proofs.boxed.list_by_boxes.Tie as tie
 
 -- the numbers, at first
 abbrev all : ℕ
-all = mostVertices * numbersKept + floatsABox * (mostVertices + mostVertices / groupSize)
+all =
+    mostVertices * numbersKept
+    + floatsABox * (mostVertices + mostVertices / groupSize + mostVertices / groupSize / groupSize)
 
 long : length (let z : Float = ofBits binary64 0 in replicate all z) ≡ all
 long = let z : Float = ofBits binary64 0 in length-replicate all z
 
+-- they are enough
+enough : (m n : ℕ) → m ≤ mostVertices → n ≡ all → boxesKept * floatsABox + boxFloats m ≤ n
+enough m n few e = omega arith
+
+abbrev start : tie.After-keep → tie.Start
+start c = c .before .before .before .before .before .before .before
+
+abbrev kept : tie.After-keep-boxes → tie.After-keep
+kept c = c .before .before .before
+
+abbrev listed : tie.After-list-kept → tie.After-keep-boxes
+listed c = c .before .before .before .before .before
+
+keep-boxes-requires : tie.Need-keep-boxes-requires
+keep-boxes-requires c κs =
+    let k = c .before .before in
+    let ready = start k .pre .0 in
+    let room = enough _ _ (ready .few-second) long in (
+      (ready .m-within, ready .few-second),
+      (
+        front-kept _ _ _ _ _ ready room (k .keep .ensures),
+        front-room _ _ _ _ _ ready room (k .keep .ensures),
+      ),
+    )
+
 list-kept-requires : tie.Need-list-kept-requires
 list-kept-requires c κs =
-    let s = c .before .before .before .before in
-    let k = s .before .before .before in
-    let ready = k .before .before .before .before .before .before .pre in
-    boxes-ready _ _ _ _ _ _ ready (omega (arith, long, ready .few-second)) (k .keep .ensures) (s .store .ensures)
+    let b = c .before .before .before .before in
+    let k = kept b in
+    let ready = start k .pre .0 in
+    boxes-ready _ _ _ _ _ ready (enough _ _ (ready .few-second) long) (k .keep .ensures) _ (b .keep-boxes .ensures)
+
+-- what a pair gives
+abbrev looks : tie.After-keep → ℕ → ℕ → Look
+looks c = let a = start c .args in lookBy (now (a .first)) (now (a .second)) (a .job)
+
+-- the index fits
+fits : (c : tie.After-keep)
+    → (let a = start c .args in length (indexFor (now (a .first)) (now (a .second)) (a .job)) ≤ length (now (a .boxes)))
+fits c =
+    let s = start c in
+    let a = s .args in
+    fits-index (now (a .first)) (now (a .second)) (a .job) _ _ refl (s .pre .1 .1)
+
+returns : tie.Need-returns
+returns c =
+    let l = c .before .before .before .before .before .before .before in
+    let k = kept (listed l) in
+    let a = start k .args in
+    boxed-refused (looks k) (every (a .job)) _ _ (now (a .indices)) (now (a .points)) (fits k) _ _ _ _
+    (c .before .answer .given .1) (l .list-kept .ensures)
+
+returns-2 : tie.Need-returns-2
+returns-2 c =
+    let s = c .before .before in
+    let t = s .before .before .before .before in
+    let l = t .before .before .before .before .before .before in
+    let k = kept (listed l) in
+    let a = start k .args in
+    boxed-listed (looks k) (every (a .job)) _ _ (now (a .indices)) (now (a .points)) (fits k) _ _ _ _ _ _
+    (t .answer2 .given .1) (l .list-kept .ensures) (s .store-index .ensures)
 
 pub list-by-boxes-spec : {M : Type 1} → statement M
 list-by-boxes-spec =
     tie.close
     (tie.spec
-    (λ c. search needs) (λ c. search needs) (λ c. search needs) (λ c. search needs) (λ c. search needs) list-kept-requires
-    (λ c. search needs) (λ c. search needs) (λ c. search needs))
+    (λ c. search needs) (λ c κs. search needs) (λ c. search needs) keep-boxes-requires (λ c. search needs) list-kept-requires
+    (λ c. search needs) (λ c. search needs)
+    (λ c. search needs)
+    (λ c κs. let b = listed (c .before .before .before .before .before .before .before .before .before) in
+    let p = start (kept b) .pre in
+    let room = enough _ _ (p .0 .few-second) long in
+    let there = boxes-kept _ _ _ _ _ (p .0) room (kept b .keep .ensures) _ (b .keep-boxes .ensures) in
+    (p .0, (p .1 .0, (there, p .1 .1))))
+    (λ c. search needs) (λ c. search needs) returns
+    (λ c. search needs) (λ c. search needs) (λ c. search needs) returns-2)

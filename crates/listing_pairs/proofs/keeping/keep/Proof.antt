@@ -19,6 +19,8 @@ keep-spec =
     (λ c. search needs) (λ c. search needs)
     (λ c. simp length-set (omega arith))
     (λ c. search needs) (λ c. search needs)
+    (λ c. simp length-set (omega arith))
+    (λ c. search needs) (λ c. search needs)
     (λ c.
     let s = c .before in
     let l = s .before in

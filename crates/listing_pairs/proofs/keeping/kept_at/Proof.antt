@@ -1,4 +1,4 @@
--- `listing_pairs::keeping::kept_at` meets its contract: it reads the three numbers where they stand.
+-- `listing_pairs::keeping::kept_at` meets its contract: it reads the four numbers where they stand.
 use mathlib.Core.Path.{refl}
 use Rattle.listing_pairs.specs.Workings.Keeping.{keptAt}
 use borrow.Author.Needs.{needs}
@@ -12,4 +12,5 @@ kept-at-spec =
     (tie.spec
     (λ c. search needs) (λ c. search needs) (λ c. search needs) (λ c. search needs) (λ c. search needs)
     (λ c. search needs) (λ c. search needs) (λ c. search needs) (λ c. search needs)
+    (λ c. search needs) (λ c. search needs) (λ c. search needs)
     (λ c. refl))
