@@ -1,10 +1,10 @@
 -- The promise on joints and folds: neighbouring lines of one path make a row exactly if they share more than one point. It is
 -- stated here, in the words of Promise and of Neighbours of listing_pairs, and proved in JointsProved.
-use Prim.Native.Nat.{ℕ, _<_}
+use Prim.Native.Nat.{ℕ, _+_, _<_}
 use mathlib.Core.Path.{_≡_}
-use mathlib.Core.Logic.{_≢_, _⊎_, _↔_}
+use mathlib.Core.Logic.{_⊎_, _↔_}
 use mathlib.Core.Bool.{Bool, true, false, _||_}
-use mathlib.Core.List.{List, []}
+use mathlib.Core.List.{List}
 use lib.Dec.{T}
 use lib.Ieee.{Float}
 use Rattle.plane.specs.PlineVertex.{pos, bulgeIsZero}
@@ -18,7 +18,7 @@ use Rattle.paths.specs.Segments.{segmentCount}
 use Rattle.listing_pairs.specs.declared.row.Row.{Row}
 use Rattle.listing_pairs.specs.declared.row.Look.the-variants.{Made}
 use Rattle.listing_pairs.specs.Look.{selfLook}
-use Rattle.listing_pairs.specs.Neighbours.{sharedVertices, onlyAt, atJoint}
+use Rattle.listing_pairs.specs.Neighbours.{onlyAt, atJoint}
 use Rattle.listing_calls.specs.Complete.{pairOf}
 use Rattle.grid.specs.Promise.{Spot, On, Epsilon, ShareMore, GridLine}
 
@@ -59,10 +59,11 @@ ThreeWays = (a b c : PlineVertex) (p q r : Spot) (e : Float) (num den : ℕ)
 abbrev pub BackPromise : Type 0
 BackPromise = (p q : Spot) → ShareMore p q q p ↔ (¬ ((p .x ≡ q .x) × (p .y ≡ q .y)))
 
--- ---- one path. Segments i < j of it are neighbours if they share a vertex by index.
+-- ---- one path. Segments i < j of it are neighbours if j is the next one, or if they are the first and the last of a closed path.
 abbrev pub Neighbours : List Float → Bool → ℕ → ℕ → Type 0
 Neighbours path closed i j =
-    (i < j) × (j < segmentCount path closed) × (sharedVertices (segmentCount path closed) closed i j ≢ [])
+    (i < j) × (j < segmentCount path closed)
+    × ((j ≡ i + 1) ⊎ ((closed ≡ true) × (i ≡ 0) × (j + 1 ≡ segmentCount path closed)))
 
 -- they make a row in a self listing
 abbrev pub MakesRow : List Float → Bool → Float → ℕ → ℕ → Type 0

@@ -1,11 +1,12 @@
 -- The proof of the promise on joints and folds: from two lines with a common end (Jointed) to the segments of a path, which share
 -- a vertex by index.
 use mathlib.Core.Path.{_≡_, refl, sym, ap, _∙_, subst}
-use mathlib.Core.Logic.{inl, inr, _≢_}
+use mathlib.Core.Logic.{_⊎_, inl, inr, _≢_}
 use mathlib.Core.Bool.{Bool, true, false, cond, _&&_, _||_, true≢false}
 use mathlib.Core.List.{List, [], _∷_, _++_}
 use Prim.Native.Nat.{ℕ, _+_, _-_, _<_}
 use native.Mathlib.Omega.{arith}
+use borrow.Author.Tests.{eq-eqb}
 use lib.Dec.{T, eqb, eqb→eq, ltb, lt→ltb, ltb→lt, not-T}
 use lib.Ieee.{Float}
 use lib.Ieee.Bits.{is-true, is-false}
@@ -148,6 +149,25 @@ module _ (path : List Float) (closed : Bool) (e : Float) (i j : ℕ) (rises : i 
       go false true x y some = let k = y tt in first (k .0) (k .1) (k .2)
       go false false x y some = absurd (some refl)
 
+-- neighbours share a vertex
+neighbours-share : (n : ℕ) (closed : Bool) (i j : ℕ) → (j ≡ i + 1) ⊎ ((closed ≡ true) × (i ≡ 0) × (j + 1 ≡ n))
+    → sharedVertices n closed i j ≢ []
+neighbours-share n closed i j (inl next) e =
+    some (ap (λ (b : Bool). cond b (j ∷ []) [] ++ cond (closed && eqb i 0 && eqb (j + 1) n) (0 ∷ []) []) (sym (eq-eqb j (i + 1) next)) ∙ e)
+  where
+    some : {k : ℕ} {l : List ℕ} → k ∷ l ≡ [] → ⊥
+    some e = let z : _≡_ {A = ℕ} 0 1 = cc in absurd (omega (arith, z))
+neighbours-share n closed i j (inr (is, first, last)) e =
+    behind (cond (eqb j (i + 1)) (j ∷ []) [])
+    (ap (λ (b : Bool). cond (eqb j (i + 1)) (j ∷ []) [] ++ cond b (0 ∷ []) []) (sym all) ∙ e)
+  where
+    all : (closed && eqb i 0 && eqb (j + 1) n) ≡ true
+    all = rw (is, eq-eqb i 0 first, eq-eqb (j + 1) n last) refl
+
+    behind : (l : List ℕ) → l ++ (0 ∷ []) ≡ [] → ⊥
+    behind [] e = let z : _≡_ {A = ℕ} 0 1 = cc in absurd (omega (arith, z))
+    behind (k ∷ l) e = let z : _≡_ {A = ℕ} 0 1 = cc in absurd (omega (arith, z))
+
 -- a pair that is at a joint makes no row
 not-silent : (b : Bool) (l : Look) (r : Row) → cond b Nothing l ≡ Made r → b ≡ false
 not-silent true l r e = let z : _≡_ {A = ℕ} 0 1 = cc in absurd (omega (arith, z))
@@ -155,7 +175,7 @@ not-silent false l r e = refl
 
 pub fold-promise : FoldPromise
 unfolding atJoint selfLook look
-fold-promise path closed e num den small i j (rises, within, some) p1 p2 q1 q2 (on-v1, on-v2, line-v) (on-u1, on-u2, line-u) =
+fold-promise path closed e num den small i j (rises, within, beside) p1 p2 q1 q2 (on-v1, on-v2, line-v) (on-u1, on-u2, line-u) =
     (s .only-there, (λ r. s .elsewhere .0 (not-silent _ _ (r .0) (r .1)), λ m. (row i j met, rw (s .elsewhere .1 m) (made m))))
   where
     n : ℕ
@@ -165,7 +185,7 @@ fold-promise path closed e num den small i j (rises, within, some) p1 p2 q1 q2 (
     met = pairOf path path e i j
 
     shares : Between path e i j (sharedVertices n closed i j)
-    shares = between path closed e i j rises within some
+    shares = between path closed e i j rises within (neighbours-share n closed i j beside)
 
     s : Seen p1 p2 q1 q2 (nearSome path e (sharedVertices n closed i j)) met
     s =
