@@ -265,8 +265,8 @@ uint64_t vj_pair(double v1x, double v1y, double v1_bulge,
  *
  * In vj_self the owner is 0. If one path is lent twice, the first is told.
  *
- * A listing needs some 212 KiB of stack: a buffer that holds rows back until it
- * is known that all fit, and three numbers for each segment of the second path.
+ * A listing needs some 244 KiB of stack: a buffer that holds rows back until it
+ * is known that all fit, and four numbers for each segment of the second path.
  */
 
 /* Every segment of the first path with every segment of the second. */
@@ -361,8 +361,8 @@ uint64_t vj_self(const double *path, size_t len, bool closed, double epsilon,
  * A call has no state, so it can start at any position: several machines can
  * share a listing if each takes a range of positions, with budgets that end at
  * the end of its range. Each call checks both paths anew, however small its
- * budget is. A page needs some 100 KiB of stack: it holds no rows back, but it
- * has three numbers for each segment of the second path.
+ * budget is. A page needs some 132 KiB of stack: it holds no rows back, but it
+ * has four numbers for each segment of the second path.
  *
  * examples/panel.c is a panel's cycle.
  */
@@ -438,7 +438,7 @@ uint64_t vj_self_page(const double *path, size_t len, bool closed,
  * to 1/2, have boxes that meet, so no such pair is lost. docs/LIMITS.md says
  * what is known of others.
  *
- * A boxed listing needs some 349 KiB of stack: what a listing needs, and the
+ * A boxed listing needs some 381 KiB of stack: what a listing needs, and the
  * second path's boxes.
  *
  * examples/boxed.c lists a coil both ways.
