@@ -9,4 +9,11 @@ unfolding workings.ofArc
 of-arc-spec = tie.close
     (tie.spec
     (λ c. search needs) (λ c. search needs) (λ c. search needs) (λ c. search needs) (λ c. search needs)
-    (λ c. cc))
+    (λ c. let p = c .before .before in
+    simp (
+      p .before .before .seg-arc-radius-and-center .ensures,
+      p .before .pos .ensures,
+      p .pos2 .ensures,
+      c .before .sub .ensures,
+      c .length .ensures,
+    )))

@@ -72,16 +72,16 @@ fits c =
     let a = s .args in
     fits-index (now (a .first)) (now (a .second)) (a .job) _ _ refl (s .pre .1 .1)
 
-returns : tie.Need-returns
-returns c =
+when-refused : tie.Need-returns
+when-refused c =
     let l = c .before .before .before .before .before .before .before in
     let k = kept (listed l) in
     let a = start k .args in
     boxed-refused (looks k) (every (a .job)) _ _ (now (a .indices)) (now (a .points)) (fits k) _ _ _ _
     (c .before .answer .given .1) (l .list-kept .ensures)
 
-returns-2 : tie.Need-returns-2
-returns-2 c =
+when-listed : tie.Need-returns-2
+when-listed c =
     let s = c .before .before in
     let t = s .before .before .before .before in
     let l = t .before .before .before .before .before .before in
@@ -102,5 +102,5 @@ list-by-boxes-spec =
     let room = enough _ _ (p .0 .few-second) long in
     let there = boxes-kept _ _ _ _ _ (p .0) room (kept b .keep .ensures) _ (b .keep-boxes .ensures) in
     (p .0, (p .1 .0, (there, p .1 .1))))
-    (λ c. search needs) (λ c. search needs) returns
-    (λ c. search needs) (λ c. search needs) (λ c. search needs) returns-2)
+    (λ c. search needs) (λ c. search needs) when-refused
+    (λ c. search needs) (λ c. search needs) (λ c. search needs) when-listed)
