@@ -199,6 +199,28 @@ run_examples() {
     say "ran ${#sources[@]} examples in C"
 }
 
+# ---- the root without products
+
+# Looks at the root's source and at its object code: no product, and no branch among the turns. Like the examples it comes when
+# nothing else runs rt.
+check_root() {
+    local start=$SECONDS library=target/staticlib/libcapi.a
+    if command -v objdump > /dev/null; then
+        make_libraries
+    else
+        [ "${CI:-}" != true ] || fail "no objdump on this machine: the object code of the root cannot be looked at"
+        say "no objdump on this machine: THE OBJECT CODE OF THE ROOT WAS NOT LOOKED AT"
+        library=
+    fi
+    # shellcheck disable=SC2086
+    .ci/root crates/floats/src $library > "$scratch/root" || {
+        cat "$scratch/root"
+        fail "the root has products, or a branch among its turns, as above"
+    }
+    say "$(cat "$scratch/root")"
+    note_time "$start"
+}
+
 # ---- the comparison
 
 # Compares the static libraries (the product's, and the one for the comparison only) with Rust, and makes the recorded list again.

@@ -3,7 +3,7 @@
 use crate::rng::Rng;
 
 pub const SIGN: u64 = 1 << 63;
-const DIGITS: u64 = (1 << 52) - 1;
+pub const DIGITS: u64 = (1 << 52) - 1;
 const INFINITY: u64 = 0x7ff0_0000_0000_0000;
 const QUIET: u64 = 0x7ff8_0000_0000_0000;
 const SMALLEST_NORMAL: u64 = 0x0010_0000_0000_0000;
@@ -109,12 +109,16 @@ pub fn is_nan(pattern: u64) -> bool {
     pattern & !SIGN > INFINITY
 }
 
-/// The digits `m` (above 0, below 2^53) at a random exponent with the parity of `m`, or the other parity if `odd` is 1. So the
-/// root of a square stays exact, and the root of a number beside a midpoint's square stays beside one.
+/// The digits `m` at a random exponent.
 fn scaled(m: u64, odd: u64, rng: &mut Rng) -> u64 {
+    scaled_to(2 + rng.below(2044), m, odd)
+}
+
+/// The digits `m` (above 0, below 2^53) at the exponent of this field or the one beside it: the one with the parity of `m`, or
+/// the other if `odd` is 1. So the root of a square stays exact, and that of a number beside a midpoint's square stays beside one.
+pub fn scaled_to(field: u64, m: u64, odd: u64) -> u64 {
     let pattern = (m as f64).to_bits();
-    let drawn = 2 + rng.below(2044);
-    let field = drawn ^ ((drawn ^ (pattern >> 52) ^ odd) & 1);
+    let field = field ^ ((field ^ (pattern >> 52) ^ odd) & 1);
     field << 52 | pattern & DIGITS
 }
 
@@ -132,17 +136,26 @@ fn midpoint(rng: &mut Rng) -> u64 {
     if rng.one_in(2) {
         return near_midpoint(rng);
     }
-    // (r + 1/2)^2 without its last quarter, cut to 53 digits, and the neighbours
-    let r = (1 << 52) | rng.below(1 << 52);
-    let (m, odd) = cut(u128::from(r) * u128::from(r + 1));
+    let (m, odd) = midpoint_digits(rng);
     scaled(m, odd, rng) - 1 + rng.below(3)
 }
 
-/// A number whose root is as near to a midpoint as a root can be, or a few times as far.
+/// (r + 1/2)^2 without its last quarter, cut to 53 digits, and whether an odd count was cut off.
+pub fn midpoint_digits(rng: &mut Rng) -> (u64, u64) {
+    let r = (1 << 52) | rng.below(1 << 52);
+    cut(u128::from(r) * u128::from(r + 1))
+}
+
+fn near_midpoint(rng: &mut Rng) -> u64 {
+    let (m, odd) = near_midpoint_digits(rng);
+    scaled(m, odd, rng)
+}
+
+/// A number whose root is as near to a midpoint as a root can be, or a few times as far; and whether an odd count was cut off.
 ///
 /// Let s = 2r + 1 and s*s = c modulo 2^55, with c = 4k + 1 and a small k. Then x = (s*s - c) / 4 has 53 digits and zeros after
 /// them, and its root is r + 1/2 less c / (4s), about c * 2^-56.
-fn near_midpoint(rng: &mut Rng) -> u64 {
+pub fn near_midpoint_digits(rng: &mut Rng) -> (u64, u64) {
     let size = 1 + rng.below(20);
     let k = 2 * rng.below(1 << size) as i64;
     let k = if rng.one_in(2) { k } else { -k };
@@ -157,9 +170,7 @@ fn near_midpoint(rng: &mut Rng) -> u64 {
     }
     s %= 1 << 54;
     let s = s.max((1 << 54) - s); // r has its full 53 digits
-    let x = ((i128::from(s) * i128::from(s) - i128::from(c)) / 4) as u128;
-    let (m, odd) = cut(x);
-    scaled(m, odd, rng)
+    cut(((i128::from(s) * i128::from(s) - i128::from(c)) / 4) as u128)
 }
 
 /// The first 53 digits of a number of 105 or 106 digits, and whether 53 were cut off, which is an odd count.

@@ -33,6 +33,7 @@ mod plane;
 mod probe;
 mod record;
 mod rng;
+mod roots;
 mod search;
 mod tally;
 #[cfg(feature = "rust-text")]
@@ -46,13 +47,17 @@ use std::path::Path;
 use std::process::ExitCode;
 
 const USAGE: &str = "\
-usage: compare check [COUNT [SEED]]  compare each float function on COUNT random inputs (default 10485760, seed 1); segments
-                                     of a path and of its view, and filled parts of rows, on the stored layouts and on a
-                                     quarter as many; each function of the plane on a quarter as many accepted ones, an
-                                     eighth of all bit patterns, and some beside the limits; each kernel and the pair
-                                     call until twice as many were answered, and on some that are refused; listings of
-                                     whole paths until as many pairs were looked at, and on chosen ones; then as compare
-                                     pages, as compare boxed, as compare joints, and as compare edges with a tenth of COUNT
+usage: compare check [COUNT [SEED]]  compare each float function on COUNT random inputs (default 10485760, seed 1), and the
+                                     root as compare roots; segments of a path and of its view, and filled parts of rows,
+                                     on the stored layouts and on a quarter as many; each function of the plane on a
+                                     quarter as many accepted ones, an eighth of all bit patterns, and some beside the
+                                     limits; each kernel and the pair call until twice as many were answered, and on some
+                                     that are refused; listings of whole paths until as many pairs were looked at, and on
+                                     chosen ones; then as compare pages, as compare boxed, as compare joints, and as
+                                     compare edges with a tenth of COUNT
+       compare roots [COUNT [SEED]]  compare the root with the machine's own on COUNT patterns (default 10485760, seed 1): at
+                                     every exponent its ends, random digits, squares of every count of digits, numbers
+                                     next to ties, and the neighbours of these; subnormals of every count of digits
        compare edges [COUNT [SEED]]  compare the kernels, the pair call and listings on COUNT inputs an edge (default 1048576,
                                      seed 1): where two numbers that are compared, by the Rust or by a shortcut of ours,
                                      are all but equal
@@ -95,6 +100,7 @@ fn main() -> ExitCode {
     let words: Vec<&str> = words.iter().map(String::as_str).collect();
     let done = match words[..] {
         ["check", ref numbers @ ..] => check(numbers),
+        ["roots", ref numbers @ ..] => roots(numbers),
         ["edges", ref numbers @ ..] => edges(numbers),
         ["pages", ref numbers @ ..] => pages(numbers),
         ["boxed", ref numbers @ ..] => boxed(numbers),
@@ -121,11 +127,21 @@ fn main() -> ExitCode {
 
 fn check(numbers: &[&str]) -> Result<(), String> {
     let (count, seed) = count_and_seed(numbers, COUNT)?;
-    let differences =
-        floats::check(count, seed) + views::check(count, seed) + check_text(count, seed);
+    let differences = floats::check(count, seed)
+        + roots::check(count, seed)
+        + views::check(count, seed)
+        + check_text(count, seed);
     match differences {
         0 => Ok(()),
         _ => Err(format!("{differences} differences")),
+    }
+}
+
+fn roots(numbers: &[&str]) -> Result<(), String> {
+    let (count, seed) = count_and_seed(numbers, COUNT)?;
+    match roots::check(count, seed) {
+        0 => Ok(()),
+        differences => Err(format!("{differences} differences")),
     }
 }
 

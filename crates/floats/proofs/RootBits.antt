@@ -119,47 +119,36 @@ parts-is b P h = go (b / 2 ^ 52) (omega arith) (parts-low b) (parts-high b) (ome
 pub low-digits : (b : ℕ) → b < 2 ^ 64 → b - b / 2 ^ 52 * 2 ^ 52 % 2 ^ 64 ≡ b % 2 ^ 52
 low-digits b h = omega arith
 
--- ---- the number whose root is taken: twice m, and twice that where e is odd
-handed-in : (m o : ℕ) → 2 ^ 52 ≤ m → m < 2 ^ 53 → o < 2 → (2 ^ 53 ≤ (m + m) * 2 ^ o) × ((m + m) * 2 ^ o < 2 ^ 55)
+-- ---- the number whose root is taken: m, and twice m where e is odd
+pub handed-in : (m o : ℕ) → 2 ^ 52 ≤ m → m < 2 ^ 53 → o < 2 → (2 ^ 52 ≤ m * 2 ^ o) × (m * 2 ^ o < 2 ^ 54)
 handed-in m zero a b l = (omega arith, omega arith)
 handed-in m (suc zero) a b l = (omega arith, omega arith)
 handed-in m (suc (suc o)) a b l = absurd (omega arith)
 
 -- as the code writes it: nothing is lost
-pub moved : (m o : ℕ) → m < 2 ^ 53 → o < 2 → (m + m) * 2 ^ o % 2 ^ 64 ≡ (m + m) * 2 ^ o
+pub moved : (m o : ℕ) → m < 2 ^ 53 → o < 2 → m * 2 ^ o % 2 ^ 64 ≡ m * 2 ^ o
 moved m zero b l = omega arith
 moved m (suc zero) b l = omega arith
 moved m (suc (suc o)) b l = absurd (omega arith)
 
-pub moved-small : (m o : ℕ) → m < 2 ^ 53 → o < 2 → (m + m) * 2 ^ o % 2 ^ 64 < 2 ^ 55
-moved-small m zero b l = omega arith
-moved-small m (suc zero) b l = omega arith
-moved-small m (suc (suc o)) b l = absurd (omega arith)
-
-pub q-small : (n q : ℕ) → n < 2 ^ 55 → q ≡ Root.digits n → q < 2 ^ 54
-unfolding Root.digits
-q-small n q l e =
-    let r : IsRoot (n * 2 ^ 53) q = subst (λ (z : ℕ). IsRoot (n * 2 ^ 53) z) (sym e) (isqrt-is (n * 2 ^ 53)) in
-    sq-lt q (2 ^ 54) (omega (arith, r .low))
-
-root-in : (n q : ℕ) → 2 ^ 53 ≤ n → n < 2 ^ 55 → IsRoot (n * 2 ^ 53) q → (2 ^ 53 ≤ q) × (q < 2 ^ 54)
-root-in n q a b r =
+root-in : (x q : ℕ) → 2 ^ 52 ≤ x → x < 2 ^ 54 → IsRoot (x * 2 ^ 54) q → (2 ^ 53 ≤ q) × (q < 2 ^ 54)
+root-in x q a b r =
     let least : 2 ^ 53 < q + 1 = sq-lt (2 ^ 53) (q + 1) (omega (arith, r .high)) in
     let most : q < 2 ^ 54 = sq-lt q (2 ^ 54) (omega (arith, r .low)) in
     (omega arith, most)
 
 -- an odd root is not exact: the number is even
-no-tie : (n q : ℕ) → q % 2 ≡ 1 → q * q ≡ n * 2 ^ 53 → ⊥
-no-tie n q o e = go (q / 2) (omega arith)
+no-tie : (x q : ℕ) → q % 2 ≡ 1 → q * q ≡ x * 2 ^ 54 → ⊥
+no-tie x q o e = go (q / 2) (omega arith)
   where
     go : (k : ℕ) → q ≡ 2 * k + 1 → ⊥
     go k s = let t : q * q ≡ (2 * k + 1) * (2 * k + 1) = ap (λ (x : ℕ). x * x) s in omega arith
 
 -- ---- X * 2 ^ (low + 2), of which `rootAt` takes the root, is the loop's number times 4 ^ g
 same-root : (l X m e z y g o : ℕ) → X * 2 ^ z ≡ m * 2 ^ y → e + z ≡ 1024 + y → e ≡ 2 * (g + 1) + o → l ≡ 1074
-    → X * 2 ^ (l + 2) ≡ (m + m) * 2 ^ o * 2 ^ 53 * (2 ^ g * 2 ^ g)
+    → X * 2 ^ (l + 2) ≡ m * 2 ^ o * 2 ^ 54 * (2 ^ g * 2 ^ g)
 same-root l X m e z y g o v p s is =
-    eq-of-mul-eq-mul-right (2 ^ z) (pow-pos z) (X * 2 ^ (l + 2)) ((m + m) * 2 ^ o * 2 ^ 53 * (2 ^ g * 2 ^ g))
+    eq-of-mul-eq-mul-right (2 ^ z) (pow-pos z) (X * 2 ^ (l + 2)) (m * 2 ^ o * 2 ^ 54 * (2 ^ g * 2 ^ g))
     (mul-right-comm X (2 ^ (l + 2)) (2 ^ z)
     ∙ ap (λ (k : ℕ). k * 2 ^ (l + 2)) v
     ∙ mul-assoc m (2 ^ y) (2 ^ (l + 2))
@@ -176,7 +165,7 @@ same-root l X m e z y g o v p s is =
         ∙ ap (λ (k : ℕ). k * 2 ^ (g + g) * 2 ^ z) (pow-add 2 54 o)
         ∙ ap (λ (k : ℕ). 2 ^ 54 * 2 ^ o * k * 2 ^ z) (pow-add 2 g g)
 
-    regroup : (O G Z : ℕ) → m * (2 ^ 54 * O * (G * G) * Z) ≡ (m + m) * O * 2 ^ 53 * (G * G) * Z
+    regroup : (O G Z : ℕ) → m * (2 ^ 54 * O * (G * G) * Z) ≡ m * O * 2 ^ 54 * (G * G) * Z
     regroup O G Z = omega arith
 
 -- ---- together
@@ -193,7 +182,7 @@ module _ (b : ℕ) (P : 0 < b) (h : b < 0x7ff0_0000_0000_0000) where
   some m z y zero e M = absurd (let k : 0 < m * 2 ^ y = mul-pos M (pow-pos y) in omega arith)
   some m z y (suc X) e M = zero-lt-suc X
 
-  root-is : (q : ℕ) → q ≡ isqrt ((Root.parts b .m + Root.parts b .m) * 2 ^ (Root.parts b .e % 2) * 2 ^ 53)
+  root-is : (q : ℕ) → q ≡ isqrt (Root.parts b .m * 2 ^ (Root.parts b .e % 2) * 2 ^ 54)
       → (Root.parts b .e / 2 - 1) * 2 ^ 52 + (q + 1) / 2 ≡ Bits.sqrt b
   unfolding Bits.sqrt F64.sqrt
   root-is q is =
@@ -203,15 +192,15 @@ module _ (b : ℕ) (P : 0 < b) (h : b < 0x7ff0_0000_0000_0000) where
       let o = e % 2 in
       let g = e / 2 - 1 in
       let w = (q + 1) / 2 in
-      let n = (m + m) * 2 ^ o in
-      let r : IsRoot (n * 2 ^ 53) q = subst (λ (z : ℕ). IsRoot (n * 2 ^ 53) z) (sym is) (isqrt-is (n * 2 ^ 53)) in
+      let x = m * 2 ^ o in
+      let r : IsRoot (x * 2 ^ 54) q = subst (λ (z : ℕ). IsRoot (x * 2 ^ 54) z) (sym is) (isqrt-is (x * 2 ^ 54)) in
       let i = handed-in m o (p .digits-low) (p .digits-high) (omega arith) in
-      let j = root-in n q (i .0) (i .1) r in
+      let j = root-in x q (i .0) (i .1) r in
       let X-pos : 0 < X = some m (p .z) (p .y) X (p .value) (lt-of-lt-of-le (lit< tt) (p .digits-low)) in
       let scaled = same-root (low binary64) X m e (p .z) (p .y) g o (p .value) (p .place) (halves e (p .e-low)) refl in
       let of-root = rootOf-count binary64 (ofBits binary64 b) X X-pos value ∙ ap (rootAt binary64) scaled in
       let rounded =
-      rootAt-val binary64 (n * 2 ^ 53) q g r (j .0) (j .1) (no-tie n q) (fine w g (omega arith) (omega (arith, p .e-high))) in
+      rootAt-val binary64 (x * 2 ^ 54) q g r (j .0) (j .1) (no-tie x q) (fine w g (omega arith) (omega (arith, p .e-high))) in
       let found = subst (λ (k : Float). HasValue k false (w * 2 ^ g) (2 ^ low binary64)) (sym of-root) rounded in
       sym (toBits-count binary64 (rootOf binary64 (ofBits binary64 b)) false (w * 2 ^ g) found
       ∙ bits-at binary64 w g (omega arith) (omega arith))
@@ -233,33 +222,32 @@ module _ (b : ℕ) (P : 0 < b) (h : b < 0x7ff0_0000_0000_0000) where
 
   -- the number whose root `rounded` takes
   abbrev pub given : Scaled → ℕ
-  given p = (p .m + p .m) * 2 ^ (p .e - p .e / 2 - p .e / 2)
+  given p = p .m * 2 ^ (p .e - p .e / 2 - p .e / 2)
 
-  given-is : (p : Scaled) → given p ≡ (p .m + p .m) * 2 ^ (p .e % 2)
-  given-is p = let last : p .e - p .e / 2 - p .e / 2 ≡ p .e % 2 = omega arith in ap (λ (x : ℕ). (p .m + p .m) * 2 ^ x) last
+  given-is : (p : Scaled) → given p ≡ p .m * 2 ^ (p .e % 2)
+  given-is p = let last : p .e - p .e / 2 - p .e / 2 ≡ p .e % 2 = omega arith in ap (λ (x : ℕ). p .m * 2 ^ x) last
 
   pub r-small : (p : Scaled) (r : ℕ) → p ≡ Root.parts b → r ≡ Root.rounded (given p) → r ≤ 2 ^ 53
-  unfolding Root.rounded
+  unfolding Root.rounded Root.digits
   r-small p r is e =
       let k = known p is in
-      let n = given p in
-      let fits : n < 2 ^ 55 =
-      subst (λ (z : ℕ). z < 2 ^ 55) (sym (given-is p)) (handed-in (p .m) (p .e % 2) (k .digits-low) (k .digits-high)
-      (omega arith) .1) in
-      half r (Root.digits n) e (q-small n (Root.digits n) fits refl)
+      let i = handed-in (p .m) (p .e % 2) (k .digits-low) (k .digits-high) (omega arith) in
+      let x = p .m * 2 ^ (p .e % 2) in
+      half (isqrt (x * 2 ^ 54)) (e ∙ ap (λ (z : ℕ). (isqrt (z * 2 ^ 54) + 1) / 2) (given-is p))
+      (root-in x _ (i .0) (i .1) (isqrt-is (x * 2 ^ 54)) .1)
     where
-      half : (r q : ℕ) → r ≡ (q + 1) / 2 → q < 2 ^ 54 → r ≤ 2 ^ 53
-      half r q e l = omega arith
+      half : (q : ℕ) → r ≡ (q + 1) / 2 → q < 2 ^ 54 → r ≤ 2 ^ 53
+      half q e l = omega arith
 
   pub pattern-is : (p : Scaled) (r : ℕ) → p ≡ Root.parts b → r ≡ Root.rounded (given p)
       → (p .e / 2 - 1) * 2 ^ 52 % 2 ^ 64 + r ≡ Bits.sqrt b
   unfolding Root.rounded Root.digits
   pattern-is p r is e =
-      let q = isqrt ((Root.parts b .m + Root.parts b .m) * 2 ^ (Root.parts b .e % 2) * 2 ^ 53) in
-      let half = e ∙ ap (λ (z : ℕ). (isqrt (z * 2 ^ 53) + 1) / 2) (given-is p) in
+      let q = isqrt (Root.parts b .m * 2 ^ (Root.parts b .e % 2) * 2 ^ 54) in
+      let half = e ∙ ap (λ (z : ℕ). (isqrt (z * 2 ^ 54) + 1) / 2) (given-is p) in
       ap (λ (z : ℕ). z + r) (fits-in (p .e) (known p is .e-high))
       ∙ ap (λ (z : ℕ). (p .e / 2 - 1) * 2 ^ 52 + z) half
-      ∙ ap (λ (p : Scaled). (p .e / 2 - 1) * 2 ^ 52 + (isqrt ((p .m + p .m) * 2 ^ (p .e % 2) * 2 ^ 53) + 1) / 2) is
+      ∙ ap (λ (p : Scaled). (p .e / 2 - 1) * 2 ^ 52 + (isqrt (p .m * 2 ^ (p .e % 2) * 2 ^ 54) + 1) / 2) is
       ∙ root-is q refl
     where
       fits-in : (e : ℕ) → e ≤ 3069 → (e / 2 - 1) * 2 ^ 52 % 2 ^ 64 ≡ (e / 2 - 1) * 2 ^ 52

@@ -1,7 +1,6 @@
 -- Laws on the definitions that only proofs need. A reader need not believe them: they are proved.
 pub mod Isqrt
 pub mod Turns
-pub mod Guess
 pub mod RootAt
 pub mod Root
 pub mod Pairs

@@ -1,2 +1,2 @@
--- How the root is found: the guess and the digits. No answer's definition names it, so a reader need not believe it.
+-- How the root is found, digit by digit. No answer's definition names it, so a reader need not believe it.
 pub mod Root

@@ -4,7 +4,6 @@ ghost use mathlib.Core.Path.{_≡_};
 ghost use Rattle.floats.specs.F64;
 
 pub mod bits;
-mod guess;
 mod root;
 
 // The magnitude: it clears the sign.

@@ -1,11 +1,10 @@
-// The square root of a number above zero. It guesses the digits; if the guess is wrong, the plain form works them out one by one.
-// The plain form only shifts, adds, subtracts and compares: a chip without a 64-bit product runs it as fast as any other.
+// The square root of a number above zero, digit by digit. It only shifts, adds, subtracts and compares: a chip without a 64-bit
+// product runs it as fast as any other.
 ghost use mathlib.Core.Path.{_≡_};
-ghost use Prim.Native.Nat.{_+_, _*_, _^_, _<_};
+ghost use Prim.Native.Nat.{_*_, _^_, _≤_, _<_};
 ghost use Rattle.floats.specs.Bits;
 ghost use Rattle.floats.specs.Workings.Root;
-ghost use Rattle.floats.specs.Laws.Turns.{Room, Sound};
-use super::guess;
+ghost use Rattle.floats.specs.Laws.Turns.{Room, Going};
 
 // A number above zero in parts: it is m * 2 ^ (e - 2098), and m has 53 digits.
 pub struct Scaled {
@@ -13,99 +12,88 @@ pub struct Scaled {
     pub e: u64,
 }
 
-// A root under way: its digits so far, the unit of its last digit, and what is left of the number, in units of half that unit.
+// A root under way. `unit` is what the next digit stands for, and what is left of the number is `rest` such units. `step` is how
+// many of them the next digit takes: with r for the digits so far, (r + unit)^2 is r^2 and 2 * r + unit units more.
 pub struct Turning {
     pub rest: u64,
-    pub root: u64,
+    pub step: u64,
     pub unit: u64,
 }
 
-// One digit more: it is 1 if enough is left of the number. (root + half)^2 is root^2 + (2 * root + half) * half.
+// A difference that would be below zero comes out at least as large as this, and no other does.
+const BELOW_ZERO: u64 = 0x8000_0000_0000_0000;
+
+// One digit more: it is 1 if enough is left for it. The next digit's unit is half of this one's.
 fn turn(s: Turning) -> Turning
     requires { ⌜ Room s ⌝ }
     ensures { λ r. ⌜ r ≡ Root.turn s ⌝ }
 {
     let half: u64 = s.unit >> 1;
-    let step: u64 = s.root + s.root + half;
-    if step <= s.rest {
-        let left: u64 = s.rest - step;
+    let low: u64 = s.step - half;
+    let left: u64 = std::num::wrapping_sub_u64(s.rest, s.step);
+    if left >= BELOW_ZERO {
         return Turning {
-            rest: left + left,
-            root: s.root + half,
+            rest: s.rest + s.rest,
+            step: low,
             unit: half,
         };
     }
     Turning {
-        rest: s.rest + s.rest,
-        root: s.root,
+        rest: left + left,
+        step: low + s.unit + s.unit,
         unit: half,
     }
 }
 
-// Six digits more.
-fn six_turns(s: Turning) -> Turning
-    requires { ⌜ Sound s ⌝ }
-    ensures { λ r. ⌜ r ≡ Root.sixTurns s ⌝ }
+// Four digits more.
+fn four_turns(s: Turning) -> Turning
+    requires { ⌜ Going 4 s ⌝ }
+    ensures { λ r. ⌜ r ≡ Root.fourTurns s ⌝ }
 {
     let s1: Turning = turn(s);
     let s2: Turning = turn(s1);
     let s3: Turning = turn(s2);
-    let s4: Turning = turn(s3);
-    let s5: Turning = turn(s4);
-    turn(s5)
+    turn(s3)
 }
 
-// The whole part of the root of n * 2 ^ 53: 54 digits from the top, each tried once. The turns stand in a row, not in a loop: the
-// compiler then makes each of them a few moves, but a loop gets a branch that cannot be predicted.
-fn digits(n: u64) -> u64
-    requires { ⌜ n < 2 ^ 55 ⌝ }
-    ensures { λ r. ⌜ r ≡ Root.digits n ⌝ }
-{
-    let s0: Turning = Turning {
-        rest: n,
-        root: 0,
-        unit: 0x40_0000_0000_0000,
-    };
-    let s1: Turning = six_turns(s0);
-    let s2: Turning = six_turns(s1);
-    let s3: Turning = six_turns(s2);
-    let s4: Turning = six_turns(s3);
-    let s5: Turning = six_turns(s4);
-    let s6: Turning = six_turns(s5);
-    let s7: Turning = six_turns(s6);
-    let s8: Turning = six_turns(s7);
-    let s9: Turning = six_turns(s8);
-    s9.root
-}
-
-// The root of n * 2 ^ 51, rounded by its last digit.
-fn plain(n: u64) -> u64
-    requires { ⌜ n < 2 ^ 55 ⌝ }
-    ensures { λ r. ⌜ r ≡ Root.rounded n ⌝ }
-{
-    (digits(n) + 1) >> 1
-}
-
-// The rounded root of m * 2 ^ (odd + 52): the guess if the test says that it is right, else the plain form.
+// The rounded root of m * 2 ^ (odd + 52): 53 digits, and 1 more in the last place if the root lies above the middle.
+//
+// The first digit is a 1, since m has all its digits; each other is tried once. The turns stand in a row, not in a loop: the
+// compiler then makes each of them a few moves, but a loop gets a branch that cannot be predicted. It is for the compiler too
+// that the first digit is read off m: with a constant in its place the turns become longer (docs/MEASURES.md).
 fn rounded(m: u64, odd: u64) -> u64
-    requires { ⌜ m < 2 ^ 53 ⌝ ∗ ⌜ odd < 2 ⌝ }
-    ensures { λ r. ⌜ r ≡ Root.rounded ((m + m) * 2 ^ odd) ⌝ }
+    requires { ⌜ 2 ^ 52 ≤ m ⌝ ∗ ⌜ m < 2 ^ 53 ⌝ ∗ ⌜ odd < 2 ⌝ }
+    ensures { λ r. ⌜ r ≡ Root.rounded (m * 2 ^ odd) ⌝ }
 {
-    let n: u64 = (m + m) << odd;
-    let g: f64 = guess::guess(m, odd);
-    // The language does not show a NaN's bits.
-    if g != g {
-        return plain(n);
+    let first: u64 = (m >> 52) << 52;
+    let half: u64 = first >> 1;
+    let left: u64 = (m << odd) - first;
+    let s0: Turning = Turning {
+        rest: left + left,
+        step: first + first + half,
+        unit: half,
+    };
+    let s1: Turning = four_turns(s0);
+    let s2: Turning = four_turns(s1);
+    let s3: Turning = four_turns(s2);
+    let s4: Turning = four_turns(s3);
+    let s5: Turning = four_turns(s4);
+    let s6: Turning = four_turns(s5);
+    let s7: Turning = four_turns(s6);
+    let s8: Turning = four_turns(s7);
+    let s9: Turning = four_turns(s8);
+    let s10: Turning = four_turns(s9);
+    let s11: Turning = four_turns(s10);
+    let s12: Turning = four_turns(s11);
+    let s13: Turning = four_turns(s12);
+    // With r for the digits, `step` is now 2 * r + 1, and `rest` is twice what is left of the number. The root lies above the middle
+    // if more than r is left: (r + 1/2)^2 is r^2 + r + 1/4, and what is left is whole.
+    let doubled: u64 = s13.step - 1;
+    let root: u64 = doubled >> 1;
+    if s13.rest <= doubled {
+        return root;
     }
-    // If g is from 1 to 2, its digits are its pattern less the pattern of 0.5.
-    let s: u64 = std::num::wrapping_sub_u64(f64::to_bits(g), 0x3fe0_0000_0000_0000);
-    if s >= 0x20_0000_0000_0000 {
-        return plain(n);
-    }
-    if guess::fits(n, s) {
-        return s;
-    }
-    plain(n)
+    root + 1
 }
 
 // The digits of a subnormal number, shifted up to 53 places.
@@ -140,9 +128,8 @@ fn parts(b: u64) -> Scaled
 
 // The pattern of the root of a pattern above zero and below infinity.
 //
-// The root of m * 2 ^ (e - 2098) is computed with one digit more than an f64 has, and that digit rounds it: a tie cannot
-// happen. An odd e gives one place to the digits. The rounded digits are added to the exponent's field, so that they carry into
-// it.
+// The root of m * 2 ^ (e - 2098) is computed to as many digits as an f64 has, and what is left rounds it: a tie cannot happen. An
+// odd e gives one place to the digits. The rounded digits are added to the exponent's field, so that they carry into it.
 pub fn sqrt(b: u64) -> u64
     requires { ⌜ 0 < b ⌝ ∗ ⌜ b < 0x7ff0_0000_0000_0000 ⌝ }
     ensures { λ r. ⌜ r ≡ Bits.sqrt b ⌝ }

@@ -14,7 +14,8 @@ sub-result c =
 rounded-requires : tie.Need-rounded-requires
 rounded-requires c κs =
     let start = c .before in
-    (known (start .args .b) (start .pre .0) (start .pre .1) _ (c .parts .ensures) .digits-high, omega arith)
+    let k = known (start .args .b) (start .pre .0) (start .pre .1) _ (c .parts .ensures) in
+    (k .digits-low, (k .digits-high, omega arith))
 
 add-result : tie.Need-add-result
 add-result c =
