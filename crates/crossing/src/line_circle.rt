@@ -2,6 +2,7 @@
 ghost use mathlib.Core.Path.{_≡_};
 ghost use Rattle.crossing.specs.LineCircle;
 ghost use Rattle.crossing.specs.Workings.FarLine;
+ghost use Rattle.crossing.specs.Workings.ThroughLine;
 use super::line_circle_intr::LineCircleIntr;
 use super::shortcuts::moderate;
 use plane::base_math::MinMax;
@@ -10,6 +11,12 @@ use plane::base_math::parametric_from_point;
 use plane::fuzzy::fuzzy_eq_eps;
 use plane::fuzzy::fuzzy_eq_zero;
 use plane::vector2::Vector2;
+
+// A guess of a root that is up to 6 % above it, times this, is below the root.
+const LOWER: f64 = 15.0 / 16.0;
+
+// Only a line nearer to the centre than this part of the radius can be found to go through the circle.
+const INSIDE: f64 = 127.0 / 128.0;
 
 // The straight line a * x + b * y + c = 0.
 pub struct Line {
@@ -99,6 +106,43 @@ fn far(c: f64, q: f64, w: f64, z: f64, s: f64) -> bool
         & (((q < w * w) & (z * w < k)) & (s < z))
 }
 
+// A quick test whether a line clearly goes through a circle: a yes is proved to mean that |c| / sqrt(q) is below the radius, and
+// not above s. w is a guess of sqrt(q) that must not be above it, and z a number below the radius and not above s. Better guesses
+// only make a yes more frequent.
+fn through(c: f64, q: f64, w: f64, z: f64, radius: f64, s: f64) -> bool
+    ensures { λ r. ⌜ ThroughLine.Through r c q radius s ⌝ }
+{
+    let k = floats::abs(c);
+    (moderate(q) & (moderate(w) & moderate(z)))
+        & (((w * w < q) & (k < z * w)) & ((z < radius) & (z <= s)))
+}
+
+// How a line and a circle with the centre (h, k) meet if the line's distance from the centre is below the radius: at two points,
+// which count as one if they are near each other. It takes no root for that distance.
+fn line_crosses(
+    p0: Vector2,
+    p1: Vector2,
+    line: Line,
+    radius: f64,
+    h: f64,
+    k: f64,
+    eps: f64,
+) -> LineCircleIntr
+    ensures { λ r. ⌜ r ≡ ThroughLine.lineCrosses p0 p1 line radius h k eps ⌝ }
+{
+    let a2 = line.a * line.a;
+    let b2 = line.b * line.b;
+    let c2 = line.c * line.c;
+    let r2 = radius * radius;
+    let inv_a2_b2 = 1.0 / (a2 + b2);
+    let x0 = -line.a * line.c * inv_a2_b2 + h;
+    let y0 = -line.b * line.c * inv_a2_b2 + k;
+    let d = r2 - c2 * inv_a2_b2;
+    // abs, since rounding can make d slightly negative.
+    let mult = floats::sqrt(floats::abs(d * inv_a2_b2));
+    two_points(p0, p1, line, x0, y0, mult, eps)
+}
+
 // How a line and a circle with the centre (h, k) meet: the plain form, with the distance of the line from the centre.
 fn line_meets_by_distance(
     p0: Vector2,
@@ -113,27 +157,23 @@ fn line_meets_by_distance(
 {
     let a2 = line.a * line.a;
     let b2 = line.b * line.b;
-    let c2 = line.c * line.c;
-    let r2 = radius * radius;
     let a2_b2 = a2 + b2;
     let shortest_dist = floats::abs(line.c) / floats::sqrt(a2_b2);
     if shortest_dist > radius + eps {
         return LineCircleIntr::NoIntersect;
     }
-    let inv_a2_b2 = 1.0 / a2_b2;
-    let x0 = -line.a * line.c * inv_a2_b2 + h;
-    let y0 = -line.b * line.c * inv_a2_b2 + k;
     if shortest_dist >= radius {
+        let inv_a2_b2 = 1.0 / a2_b2;
+        let x0 = -line.a * line.c * inv_a2_b2 + h;
+        let y0 = -line.b * line.c * inv_a2_b2 + k;
         let t = parametric_from_point(p0, p1, Vector2::new(x0, y0), eps);
         return LineCircleIntr::TangentIntersect { t0: t };
     }
-    let d = r2 - c2 * inv_a2_b2;
-    // abs, since rounding can make d slightly negative.
-    let mult = floats::sqrt(floats::abs(d * inv_a2_b2));
-    two_points(p0, p1, line, x0, y0, mult, eps)
+    line_crosses(p0, p1, line, radius, h, k, eps)
 }
 
-// How a line and a circle with the centre (h, k) meet. It takes no root if the line is far from the circle.
+// How a line and a circle with the centre (h, k) meet. It takes no root for the line's distance if the line is far from the
+// circle, or clearly goes through it.
 fn line_meets(
     p0: Vector2,
     p1: Vector2,
@@ -153,6 +193,9 @@ fn line_meets(
     let w = (g + q / g) * (513.0 / 1024.0);
     if far(line.c, q, w, s * (129.0 / 128.0), s) {
         return LineCircleIntr::NoIntersect;
+    }
+    if through(line.c, q, w * LOWER, radius * INSIDE, radius, s) {
+        return line_crosses(p0, p1, line, radius, h, k, eps);
     }
     line_meets_by_distance(p0, p1, line, radius, h, k, eps)
 }
