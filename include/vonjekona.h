@@ -41,6 +41,8 @@ double vj_max(double x, double y);
  * The square root, correctly rounded for every x, subnormal ones included: no
  * binary64 number is nearer to the exact root. The root of -0 is -0, and the
  * root of +infinity is +infinity. A NaN or a number below zero gives a NaN.
+ * It is worked out with shifts, sums, differences and comparisons: the machine
+ * makes no product, no quotient and no root for it.
  */
 double vj_sqrt(double x);
 
@@ -64,7 +66,8 @@ uint64_t vj_max_bits(uint64_t a, uint64_t b);
 
 /*
  * The pattern of the correctly rounded square root. A NaN or a number below
- * zero gives 7FF8000000000000; -0 and +infinity give themselves.
+ * zero gives 7FF8000000000000; -0 and +infinity give themselves. It is worked
+ * out as vj_sqrt is, without a product.
  */
 uint64_t vj_sqrt_bits(uint64_t b);
 
