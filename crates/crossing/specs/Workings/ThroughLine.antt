@@ -1,8 +1,8 @@
--- A line that clearly goes through a circle, without a root: c is the line's constant, which is divided by the root of q; s is the
--- sum of the radius and epsilon. This is FarLine the other way round. w and z are guesses, and the test itself shows that they
--- are good: w is not above the root, since its square is below q, and z is below the radius and not above s. If z * w is still
--- above |c|, then |c| / root is at most z. So the line's distance is neither above s nor at least the radius, and the definition
--- answers by its last case, which has no use for that root. |c| may be zero or tiny.
+-- A line that clearly goes through a circle, without a root: c is the line's constant, which is divided by the root of q; s is
+-- the sum of the radius and epsilon. This is FarLine the other way round. w and z are guesses, and the test itself shows that
+-- they are good: w is not above the root, since its square is below q, and z is below the radius and not above s. If z * w is
+-- still above |c|, then |c| / root is at most z. So the line's distance is neither above s nor at least the radius, and the
+-- definition answers by its last case, which has no use for that root. |c| may be zero or tiny.
 use mathlib.Core.Path.{_≡_, subst}
 use Prim.Native.Nat.{ℕ, _*_, _≤_, _<_}
 use native.Mathlib.Nat.{mul-le-mul-left}

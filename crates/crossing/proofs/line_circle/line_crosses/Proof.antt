@@ -10,4 +10,4 @@ line-crosses-spec =
     tie.close
     (tie.spec
     (search needs) (search needs) (search needs)
-    (λ c. simp (← c .before .before .abs .ensures, ← c .before .sqrt .ensures, ← c .two-points .ensures)))
+    (λ c. simp (c .two-points .ensures, c .before .sqrt .ensures, c .before .before .abs .ensures)))
