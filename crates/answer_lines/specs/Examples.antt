@@ -5,7 +5,7 @@ use mathlib.Core.List.{List, [], _∷_, _++_}
 use Prim.Native.Nat.{ℕ}
 use lib.ListN.{replicate}
 use lib.Ieee.{Float, nan, inf, binary64, ofBits, ofFields, toBits, odd, size, span, climb}
-use Rattle.layout_text.specs.Decimal.{decimal, decimalIn}
+use Rattle.put_text.specs.Decimal.{decimal, decimalIn}
 use Rattle.answer_lines.specs.Lines.{glyph, hex, numberText, classText, pointsText, rowText, refusedText, countText}
 use Rattle.answer_lines.specs.Lines.{rowAt, rowsText, answerText}
 

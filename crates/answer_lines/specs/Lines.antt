@@ -6,7 +6,7 @@ use mathlib.Core.List.{List, [], _∷_, _++_}
 use lib.Dec.{ltb, eqb}
 use lib.ListN.{getD}
 use lib.Ieee.{Float, nan, binary64, toBits}
-use Rattle.layout_text.specs.Decimal.{decimal}
+use Rattle.put_text.specs.Decimal.{decimal}
 
 -- ---- words
 

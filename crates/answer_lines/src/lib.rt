@@ -1,8 +1,8 @@
 // The writer: an answer as text lines. specs/Lines.antt has the text, and specs/Written.antt what the writer promises.
 ghost use Rattle.answer_lines.specs.Written.{RefusalLine, AnswerLines};
-use put::put_byte;
-use put::put_whole;
-use put::put_word;
+use put_text::put_byte;
+use put_text::put_whole;
+use put_text::put_word;
 use rows::put_counts;
 use rows::put_rows;
 

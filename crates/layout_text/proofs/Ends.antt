@@ -6,7 +6,7 @@ use mathlib.Core.List.{List}
 use borrow.Author.Tests.{lt-ltb, le-ltb}
 use lib.ListN.{length, drop}
 use lib.Ieee.{Float}
-use Rattle.layout_text.specs.Limits as limit
+use Rattle.layouts.specs.Limits as limit
 use Rattle.layout_text.specs.Workings.Reader.{broken, verticesOf, reads}
 use Rattle.layout_text.specs.Workings.Shown.{Filled, Fitting, Shaped}
 use Rattle.layout_text.specs.Read.{ReadLayout, refusal, roomless}

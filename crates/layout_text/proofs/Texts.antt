@@ -9,9 +9,10 @@ use borrow.Author.Tests.{le-ltb, lt-ltb}
 use lib.ListN.{length, drop, drop-of-length-le}
 use lib.Seq.{drop-cons}
 use lib.IntN.{ℤ, pos}
-use Rattle.layout_text.specs.Limits as limit
-use Rattle.layout_text.specs.Layout.{Vertex, magnitude}
-use Rattle.layout_text.specs.Workings.Reader.{Got, nothing, got, stuck, over, passed, other, space, newline, countOf, whole}
+use Rattle.layouts.specs.Limits as limit
+use Rattle.layouts.specs.Layout.{Vertex, magnitude, whole}
+use Rattle.layout_text.specs.Form.{bytes}
+use Rattle.layout_text.specs.Workings.Reader.{Got, nothing, got, stuck, over, passed, other, space, newline, countOf}
 use Rattle.layout_text.specs.Workings.Reader.{verticesOf, linesOf, broken, reads}
 use Rattle.layout_text.specs.Workings.Shown.{shownNumber, shownPlace, Fitting}
 use Rattle.layout_text.specs.Laws.Sound.{count-spelt}
@@ -70,7 +71,7 @@ module _ (text : List ℕ) {g : Got (List Vertex)} {r : Place} (is : shownPlace 
 
 -- ---- a text
 
-pub too-long : (text : List ℕ) → limit.bytes < length text → reads text ≡ broken
+pub too-long : (text : List ℕ) → bytes < length text → reads text ≡ broken
 unfolding reads
 too-long text h = rw (lt-ltb _ _ h)
 
@@ -78,7 +79,7 @@ module _ (text : List ℕ) where
   -- what is read up to a place: both counts; then both paths
   pub record Counts (n m at : ℕ) : Type 0 where
     pub after-n : ℕ
-    pub short : length text ≤ limit.bytes
+    pub short : length text ≤ bytes
     pub n-is : Count limit.vertices space n text (drop after-n text)
     pub m-is : Count limit.vertices newline m (drop after-n text) (drop at text)
 
@@ -87,7 +88,7 @@ module _ (text : List ℕ) where
     pub one : Over (verticesOf n (drop first text)) (drop second text)
     pub two : Over (verticesOf m (drop second text)) (drop at text)
 
-  module _ (short : length text ≤ limit.bytes) where
+  module _ (short : length text ≤ bytes) where
     lines-missing : linesOf text ≡ nothing → reads text ≡ broken
     unfolding reads
     lines-missing e = rw (le-ltb _ _ short, e)

@@ -7,9 +7,8 @@ use native.Mathlib.Omega.{arith}
 use borrow.Author.Tests.{le-ltb}
 use lib.Dec.{ltb}
 use lib.ListN.{length}
-use Rattle.layout_text.specs.Limits as limit
-use Rattle.layout_text.specs.Layout.{Layout, Within}
-use Rattle.layout_text.specs.Form.{textOf}
+use Rattle.layouts.specs.Layout.{Layout, Within}
+use Rattle.layout_text.specs.Form.{bytes, textOf}
 use Rattle.layout_text.specs.Workings.Reader.{Got, nothing, got, Taken, broken, layout, atEnd, linesOf, reads}
 use Rattle.layout_text.specs.Laws.Complete.{lines-read}
 use Rattle.layout_text.specs.Laws.Sound.{lines-spelt}
@@ -19,13 +18,13 @@ use Rattle.layout_text.specs.Laws.Long.{text-long}
 pub text-reads : (l : Layout) → Within l → reads (textOf l) ≡ layout l
 unfolding reads
 text-reads l w =
-    let short : length (textOf l) ≤ limit.bytes = omega (arith, text-long l w) in
+    let short : length (textOf l) ≤ bytes = omega (arith, text-long l w) in
     rw (le-ltb _ _ short, lines-read l w)
 
 -- no other text is accepted: a text that is read as a layout is the text of that layout, which is within the limits
 pub read-is-text : (text : List ℕ) (l : Layout) → reads text ≡ layout l → (text ≡ textOf l) × Within l
 unfolding reads
-read-is-text text l e = go (ltb limit.bytes (length text)) (linesOf text) refl e
+read-is-text text l e = go (ltb bytes (length text)) (linesOf text) refl e
   where
     unbroken : broken ≡ layout l → (text ≡ textOf l) × Within l
     unbroken e = let z : _≡_ {A = ℕ} 0 1 = cc in absurd (omega arith)

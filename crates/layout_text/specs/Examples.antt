@@ -4,8 +4,8 @@ use mathlib.Core.List.{List, [], _∷_, map}
 use Prim.Native.Nat.{ℕ}
 use lib.ListN.{replicate}
 use lib.IntN.{ℤ, pos, negsuc}
-use Rattle.layout_text.specs.Layout.{Vertex, Layout}
-use Rattle.layout_text.specs.Decimal.{decimal, decimalIn}
+use Rattle.layouts.specs.Layout.{Vertex, Layout}
+use Rattle.put_text.specs.Decimal.{decimal, decimalIn}
 use Rattle.layout_text.specs.Form.{wholeText, vertexText, verticesText, textOf}
 use Rattle.layout_text.specs.Workings.Reader.{broken, layout, kindOf, firstKind, digitsOf, positiveOf, zeroOf, countOf}
 use Rattle.layout_text.specs.Workings.Reader.{wholeOf, vertexOf, verticesOf, linesOf, reads}

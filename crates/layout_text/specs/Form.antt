@@ -5,8 +5,12 @@ use Prim.Native.Nat.{ℕ, suc}
 use mathlib.Core.List.{List, [], _∷_, _++_}
 use lib.ListN.{length}
 use lib.IntN.{ℤ, pos, negsuc}
-use Rattle.layout_text.specs.Decimal.{decimal}
-use Rattle.layout_text.specs.Layout.{Vertex, Layout}
+use Rattle.put_text.specs.Decimal.{decimal}
+use Rattle.layouts.specs.Layout.{Vertex, Layout}
+
+-- the most bytes of a text
+abbrev pub bytes : ℕ
+bytes = 16_384
 
 unfoldable pub wholeText : ℤ → List ℕ
 wholeText (pos n) = decimal n

@@ -1,15 +1,17 @@
 // The reader: a layout from its text. specs/Read.antt has what it promises, and specs/Form.antt the form of a text.
 ghost use Rattle.layout_text.specs.Read.{ReadLayout};
+use layouts::limits;
 use shape::Shape;
 use shape::shape_of;
 use vertex::fill;
 
 mod bytes;
-pub mod limits;
 mod number;
-mod shape;
-mod value;
-mod vertex;
+pub mod shape;
+pub mod vertex;
+
+// The most bytes of a text.
+pub const BYTES: usize = 16384;
 
 // The scope's number of the refusal of a text that breaks its form.
 pub const TEXT: u64 = 10;

@@ -7,13 +7,14 @@ use native.Mathlib.Omega.{arith}
 use lib.Dec.{ltb, eqb}
 use lib.ListN.{length, getD, length-append}
 use lib.Ieee.{Float, binary64, toBits}
-use Rattle.layout_text.specs.Decimal.{decimal}
-use Rattle.layout_text.specs.Laws.Long.{decimal-long}
+use Rattle.put_text.specs.Decimal.{decimal}
+use Rattle.put_text.specs.Sizes.{whole}
+use Rattle.put_text.specs.Laws.Decimal.{decimal-long}
 use Rattle.answer_lines.specs.Lines
 use Rattle.answer_lines.specs.Sizes
-use Rattle.answer_lines.specs.Laws.Put.{hex-long}
+use Rattle.answer_lines.specs.Laws.Hex.{hex-long}
 
-whole-short : (n : ℕ) → n < 2 ^ 64 → length (decimal n) ≤ Sizes.whole
+whole-short : (n : ℕ) → n < 2 ^ 64 → length (decimal n) ≤ whole
 whole-short n h = decimal-long 19 n (omega arith)
 
 float-long : (x : Float) → length (Lines.numberText x) ≡ Sizes.float

@@ -7,13 +7,13 @@ use native.Mathlib.Omega.{arith}
 use borrow.Author.Tests.{lt-ltb, le-ltb, eq-eqb, ne-eqb}
 use lib.ListN.{length}
 use lib.IntN.{ℤ, pos, negsuc}
-use Rattle.layout_text.specs.Limits as limit
-use Rattle.layout_text.specs.Layout.{Vertex, Layout, VertexWithin, EachWithin, none, more, Within, magnitude}
-use Rattle.layout_text.specs.Decimal.{decimal}
+use Rattle.layouts.specs.Limits as limit
+use Rattle.layouts.specs.Layout.{Vertex, Layout, VertexWithin, EachWithin, none, more, Within, magnitude, whole}
+use Rattle.put_text.specs.Decimal.{decimal}
 use Rattle.layout_text.specs.Form.{wholeText, vertexText, verticesText, textOf}
-use Rattle.layout_text.specs.Workings.Reader.{got, kindOf, firstKind, digitsOf, positiveOf, zeroOf, countOf, whole}
+use Rattle.layout_text.specs.Workings.Reader.{got, kindOf, firstKind, digitsOf, positiveOf, zeroOf, countOf}
 use Rattle.layout_text.specs.Workings.Reader.{wholeOf, vertexOf, verticesOf, linesOf, space, newline, minus}
-use Rattle.layout_text.specs.Laws.Decimal.{decimal-small, decimal-large, by-digits}
+use Rattle.put_text.specs.Laws.Decimal.{decimal-small, decimal-large, by-digits}
 use Rattle.layout_text.specs.Laws.Bytes.{kind-digit}
 
 -- the last digit of a number with several digits, then what follows

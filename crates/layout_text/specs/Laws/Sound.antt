@@ -9,9 +9,9 @@ use borrow.Author.Tests.{le-ltb, eqb-false}
 use lib.Dec.{T, ltb, eqb, nltb→le, eqb→eq}
 use lib.ListN.{length, drop}
 use lib.IntN.{ℤ, pos}
-use Rattle.layout_text.specs.Limits as limit
-use Rattle.layout_text.specs.Layout.{Vertex, Layout, VertexWithin, EachWithin, none, more, Within, magnitude}
-use Rattle.layout_text.specs.Decimal.{decimal}
+use Rattle.layouts.specs.Limits as limit
+use Rattle.layouts.specs.Layout.{Vertex, Layout, VertexWithin, EachWithin, none, more, Within, magnitude, whole}
+use Rattle.put_text.specs.Decimal.{decimal}
 use Rattle.layout_text.specs.Form.{wholeText, vertexText, verticesText, textOf}
 use Rattle.layout_text.specs.Workings.Reader.{
   Got,
@@ -24,10 +24,9 @@ use Rattle.layout_text.specs.Workings.Reader.{
   positiveOf,
   zeroOf,
   countOf,
-  whole,
 }
 use Rattle.layout_text.specs.Workings.Reader.{wholeOf, vertexOf, verticesOf, linesOf, space, newline, minus, other}
-use Rattle.layout_text.specs.Laws.Decimal.{decimal-small, decimal-more}
+use Rattle.put_text.specs.Laws.Decimal.{decimal-small, decimal-more}
 use Rattle.layout_text.specs.Laws.Bytes.{byteOf, byte-is, digit-byte}
 
 -- ---- steps

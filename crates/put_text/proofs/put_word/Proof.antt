@@ -1,4 +1,4 @@
--- `answer_lines::put::put_word` meets its contract. The loop's invariant: the rest of the word, put after what stands now,
+-- `put_text::put_word` meets its contract. The loop's invariant: the rest of the word, put after what stands now,
 -- gives what the whole word gives. Assumes nothing.
 use Prim.Native.Nat.{_+_, _-_, _≤_}
 use mathlib.Core.Path.{_≡_, refl, _∙_}
@@ -7,9 +7,9 @@ use native.Mathlib.Omega.{arith}
 use borrow.Author.Needs.{needs}
 use lib.ListN.{length, drop, length-set}
 use lib.Seq.{sets}
-use Rattle.answer_lines.specs.Laws.Put.{word-turn, word-end}
-use Rattle.answer_lines.proofs.put.put_word.Statement.{statement}
-use Rattle.answer_lines.proofs.put.put_word.Tie as tie
+use Rattle.put_text.specs.Laws.Put.{word-turn, word-end}
+use Rattle.put_text.proofs.put_word.Statement.{statement}
+use Rattle.put_text.proofs.put_word.Tie as tie
 
 abbrev Inv-loop : tie.InvT-loop
 Inv-loop out₀ at word i₀ out i =

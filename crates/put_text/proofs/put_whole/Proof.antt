@@ -1,10 +1,10 @@
--- `answer_lines::put::put_whole` meets its contract: a number below 2^64 has at most 20 digits. Assumes nothing.
+-- `put_text::put_whole` meets its contract: a number below 2^64 has at most 20 digits. Assumes nothing.
 use native.Mathlib.Omega.{arith}
 use borrow.Author.Needs.{needs}
-use Rattle.layout_text.specs.Laws.Long.{decimal-long}
-use Rattle.answer_lines.specs.Laws.Put.{decimal-in}
-use Rattle.answer_lines.proofs.put.put_whole.Statement.{statement}
-use Rattle.answer_lines.proofs.put.put_whole.Tie as tie
+use Rattle.put_text.specs.Laws.Decimal.{decimal-long}
+use Rattle.put_text.specs.Laws.Put.{decimal-in}
+use Rattle.put_text.proofs.put_whole.Statement.{statement}
+use Rattle.put_text.proofs.put_whole.Tie as tie
 
 put-decimal-requires : tie.Need-put-decimal-requires
 put-decimal-requires c κs =

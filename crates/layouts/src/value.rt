@@ -1,7 +1,7 @@
 // The f64 numbers that whole numbers stand for.
 ghost use mathlib.Core.Path.{_≡_};
-ghost use Rattle.layout_text.specs.Workings.Reader.{whole};
-ghost use Rattle.layout_text.specs.Numbers;
+ghost use Rattle.layouts.specs.Layout.{whole};
+ghost use Rattle.layouts.specs.Numbers;
 
 // n or -n as a float. 0 is always +0.
 pub fn coordinate(negative: bool, n: u64) -> f64

@@ -1,10 +1,10 @@
--- `layout_text::value::coordinate` meets its contract: a negative number's float is the other's, negated. Assumes nothing.
+-- `layouts::value::coordinate` meets its contract: a negative number's float is the other's, negated. Assumes nothing.
 use mathlib.Core.Path.{_∙_, ap}
 use borrow.Author.Needs.{needs}
 use lib.Ieee.{neg}
-use Rattle.layout_text.specs.Laws.Signs.{zero-value, plain-value, minus-value}
-use Rattle.layout_text.proofs.value.coordinate.Statement.{statement}
-use Rattle.layout_text.proofs.value.coordinate.Tie as tie
+use Rattle.layouts.specs.Laws.Signs.{zero-value, plain-value, minus-value}
+use Rattle.layouts.proofs.value.coordinate.Statement.{statement}
+use Rattle.layouts.proofs.value.coordinate.Tie as tie
 
 returns : tie.Need-returns
 returns c = c .before .nearest-u64-to-f64 .ensures ∙ zero-value _ (c .before .before .args .negative) (c .if1 .taken)

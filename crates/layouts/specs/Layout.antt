@@ -1,9 +1,10 @@
--- A layout of the scope's text program: two paths, whose vertices are whole numbers. It does not say how a layout is stored.
+-- A layout of the scope's programs: two paths, whose vertices are whole numbers. It does not say how a layout is stored.
 use Prim.Native.Nat.{ℕ, suc, _≤_}
+use mathlib.Core.Bool.{Bool, true, false}
 use mathlib.Core.List.{List, [], _∷_}
 use lib.ListN.{length}
-use lib.IntN.{ℤ, pos, negsuc}
-use Rattle.layout_text.specs.Limits as limit
+use lib.IntN.{ℤ, pos, negsuc, negℤ}
+use Rattle.layouts.specs.Limits as limit
 
 -- x, y, and the bulge in 65,536ths
 pub record Vertex : Type 0 where
@@ -21,6 +22,15 @@ pub record Layout : Type 0 where
 abbrev pub magnitude : ℤ → ℕ
 magnitude (pos n) = n
 magnitude (negsuc n) = suc n
+
+-- the whole number with this sign and this magnitude: n, or -n
+abbrev pub whole : Bool → ℕ → ℤ
+whole false n = pos n
+whole true n = negℤ (pos n)
+
+-- the vertex with these signs and magnitudes
+abbrev pub wholeVertex : Bool → ℕ → Bool → ℕ → Bool → ℕ → Vertex
+wholeVertex x-minus x y-minus y b-minus b = record { x = whole x-minus x; y = whole y-minus y; bulge = whole b-minus b }
 
 -- ---- the limits
 

@@ -3,7 +3,7 @@
 use mathlib.Core.List.{List, [], _∷_}
 use lib.IntN.{ℤ}
 use lib.Ieee.{Float, binary64, ofBits, ofInt, div}
-use Rattle.layout_text.specs.Layout.{Vertex}
+use Rattle.layouts.specs.Layout.{Vertex}
 
 unfoldable pub coordinate : ℤ → Float
 coordinate n = ofInt binary64 n

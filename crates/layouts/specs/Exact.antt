@@ -11,9 +11,9 @@ use lib.Ieee.{Float, nan, inf, fin, Format, binary64, prec, low, emax, up, down,
 use lib.Ieee.Fits.{down-pos}
 use lib.Ieee.Exact.{HasValue, round-exact}
 use lib.Ieee.Back.{round-whole}
-use Rattle.layout_text.specs.Limits as limit
-use Rattle.layout_text.specs.Layout.{magnitude}
-use Rattle.layout_text.specs.Numbers.{coordinate, bulge, scale}
+use Rattle.layouts.specs.Limits as limit
+use Rattle.layouts.specs.Layout.{magnitude}
+use Rattle.layouts.specs.Numbers.{coordinate, bulge, scale}
 
 abbrev pub negative : ℤ → Bool
 negative (pos n) = false

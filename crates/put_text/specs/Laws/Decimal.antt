@@ -1,13 +1,15 @@
--- Decimal digits: of a number below ten, of a larger one, and of n with one more digit after it; and an argument for all of them.
-use Prim.Native.Nat.{ℕ, zero, suc, _+_, _*_, _/_, _%_, _≤_, _<_}
+-- Decimal digits: of a number below ten, of a larger one, and of n with one more digit after it; how many there are; and an
+-- argument for all of them.
+use Prim.Native.Nat.{ℕ, zero, suc, _+_, _*_, _/_, _%_, _^_, _≤_, _<_}
 use mathlib.Core.Path.{_≡_, refl, ap, _∙_}
 use mathlib.Core.Bool.{Bool, true, false, not}
 use mathlib.Core.List.{List, [], _∷_, _++_}
-use native.Mathlib.Nat.{not-suc-le-zero}
+use native.Mathlib.Nat.{not-suc-le-zero, pow-succ'}
 use native.Mathlib.Omega.{arith}
 use borrow.Author.Tests.{lt-ltb, le-ltb}
 use lib.Dec.{T, ltb, ltb→lt, nltb→le}
-use Rattle.layout_text.specs.Decimal.{decimal, decimalIn}
+use lib.ListN.{length, length-append}
+use Rattle.put_text.specs.Decimal.{decimal, decimalIn}
 
 -- more places than n + 1 add no digit
 enough : (k j n : ℕ) → n < k → n < j → decimalIn k (ltb n 10) n ≡ decimalIn j (ltb n 10) n
@@ -39,6 +41,20 @@ decimal-more n d h g =
     let tenth : (n * 10 + d) / 10 ≡ n = omega arith in
     let last : (n * 10 + d) % 10 ≡ d = omega arith in
     decimal-large (n * 10 + d) (omega arith) ∙ rw (tenth, last)
+
+-- a number below 10 ^ (k + 1) has at most k + 1 digits
+pub decimal-long : (k n : ℕ) → n < 10 ^ suc k → length (decimal n) ≤ suc k
+decimal-long zero n h = rw (decimal-small n h) (omega arith)
+decimal-long (suc k) n h =
+    go (10 ^ suc k) (pow-succ' 10 (suc k)) (ltb n 10) (ltb→lt n 10) (nltb→le n 10) (decimal-long k (n / 10))
+  where
+    go : (p : ℕ) → 10 ^ suc (suc k) ≡ 10 * p → (small : Bool) → (T small → n < 10) → (T (not small) → 10 ≤ n)
+        → (n / 10 < p → length (decimal (n / 10)) ≤ suc k) → length (decimal n) ≤ suc (suc k)
+    go p e true small large rest = rw (decimal-small n (small tt)) (omega arith)
+    go p e false small large rest =
+        let below : n < 10 * p = rw e at h in
+        let short = rest (omega arith) in
+        rw (decimal-large n (large tt), length-append (decimal (n / 10)) ((48 + n % 10) ∷ [])) (omega arith)
 
 -- ---- an argument on the digits of m before a text: for one digit; and for more digits, from m / 10 with the last digit in the
 -- text

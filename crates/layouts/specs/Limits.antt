@@ -1,4 +1,4 @@
--- The scope's limits on texts: of a layout's numbers, and of its size. They hold however a layout is stored.
+-- The scope's limits on the numbers of a layout. They hold however a layout is stored.
 use Prim.Native.Nat.{ℕ, _*_}
 
 -- the largest magnitude of x and of y
@@ -12,10 +12,6 @@ bulge = 65_536
 -- the most vertices of a path
 abbrev pub vertices : ℕ
 vertices = 256
-
--- the most bytes of a text
-abbrev pub bytes : ℕ
-bytes = 16_384
 
 -- how many numbers a buffer has for a vertex
 abbrev pub numbersAVertex : ℕ

@@ -6,12 +6,12 @@ use native.Mathlib.Omega.{arith}
 use borrow.Author.Needs.{needs}
 use borrow.Fn.Kinds.{In}
 use borrow.Fn.PlainCycle.{Measures, is, falls, and}
-use Rattle.answer_lines.specs.Laws.Put.{small-long, large-long, put-small, put-large, last-inside}
-use Rattle.answer_lines.proofs.put.put_decimal.Reads as put-decimal
-use Rattle.answer_lines.proofs.put.put_decimal.Kinds as put-decimal-kinds
-use Rattle.answer_lines.proofs.put.+put_decimal.Lts-put_decimal as put-decimal-lts
-use Rattle.answer_lines.proofs.put.+put_decimal.{statement}
-use Rattle.answer_lines.proofs.put.+put_decimal.Tie.{close}
+use Rattle.put_text.specs.Laws.Put.{small-long, large-long, put-small, put-large, last-inside}
+use Rattle.put_text.proofs.put_decimal.Reads as put-decimal
+use Rattle.put_text.proofs.put_decimal.Kinds as put-decimal-kinds
+use Rattle.put_text.proofs.+put_decimal.Lts-put_decimal as put-decimal-lts
+use Rattle.put_text.proofs.+put_decimal.{statement}
+use Rattle.put_text.proofs.+put_decimal.Tie.{close}
 
 abbrev μ-put-decimal : Measures 1 put-decimal-kinds.ps ℕ
 μ-put-decimal κs a = a .1 .1 .0

@@ -1,5 +1,5 @@
 -- Bytes put one after the other, taken together; and the digits of a number, and how many there are.
-use Prim.Native.Nat.{ℕ, zero, suc, _+_, _-_, _/_, _%_, _^_, _≤_, _<_}
+use Prim.Native.Nat.{ℕ, suc, _+_, _/_, _%_, _^_, _≤_, _<_}
 use mathlib.Core.Path.{_≡_, refl, ap, _∙_}
 use mathlib.Core.List.{List, [], _∷_, _++_}
 use native.Mathlib.Nat.{add-zero}
@@ -7,12 +7,10 @@ use native.Mathlib.Omega.{arith}
 use native.Mathlib.Numerals.{add-one}
 use lib.ListN.{length, set, getD, drop, length-append, drop-of-length-le}
 use lib.Seq.{sets, drop-cons}
-use Rattle.layout_text.specs.Decimal.{decimal}
-use Rattle.answer_lines.specs.Lines.{glyph, hex}
-use Rattle.answer_lines.specs.Sizes.{whole}
-use Rattle.answer_lines.specs.Workings.Put.{Put, PutIn}
-use Rattle.layout_text.specs.Laws.Decimal.{decimal-small, decimal-large}
-use Rattle.layout_text.specs.Laws.Long.{decimal-long}
+use Rattle.put_text.specs.Decimal.{decimal}
+use Rattle.put_text.specs.Sizes.{whole}
+use Rattle.put_text.specs.Workings.Put.{Put, PutIn}
+use Rattle.put_text.specs.Laws.Decimal.{decimal-small, decimal-large, decimal-long}
 
 sets-append : (a b old : List ℕ) (at : ℕ) → sets (sets old at a) (at + length a) b ≡ sets old at (a ++ b)
 sets-append [] b old at = rw add-zero
@@ -56,30 +54,6 @@ pub put-large : (n : ℕ) → 10 ≤ n → {old mid : List ℕ} {at k : ℕ} →
     → Put (decimal n) old at (set mid k (48 + n % 10)) (k + 1)
 put-large n h {old} {mid} {at} {k} p = rw (decimal-large n h) (put-join p (put-one mid k (48 + n % 10)))
 
--- ---- hex digits
-
-pub hex-long : (k n : ℕ) → length (hex k n) ≡ k
-unfolding hex
-hex-long zero n = refl
-hex-long (suc k) n =
-    let rest = hex-long k (n / 16) in
-    rw (length-append (hex k (n / 16)) (glyph (n % 16) ∷ [])) (omega arith)
-
--- one digit more than n / 16 has
-pub one-more : (k n : ℕ) → 0 < k → length (hex (k - 1) n) + 1 ≡ k
-one-more k n h = let long = hex-long (k - 1) n in omega arith
-
-pub put-hex-none : (k n : ℕ) → k ≡ 0 → (old : List ℕ) (at : ℕ) → Put (hex k n) old at old at
-unfolding hex
-put-hex-none k n e old at = rw e (put-none old at)
-
-pub put-hex-more : (k n : ℕ) → 0 < k → {old mid : List ℕ} {at to : ℕ} → Put (hex (k - 1) (n / 16)) old at mid to
-    → (g : ℕ) → g ≡ glyph (n % 16) → Put (hex k n) old at (set mid to g) (to + 1)
-unfolding hex
-put-hex-more k n h {old} {mid} {at} {to} p g e =
-    let one : k ≡ suc (k - 1) = omega arith in
-    rw (one, e) (put-join p (put-one mid to (glyph (n % 16))))
-
 -- ---- the place of the last digit lies in the slice
 
 pub last-inside : {bytes old now : List ℕ} {at next : ℕ} (most : ℕ) → Put bytes old at now next → length bytes + 1 ≡ most
@@ -100,11 +74,6 @@ module _ (word out : List ℕ) (at i : ℕ) where
   word-end old h g e =
       let same : i ≡ length word = omega arith in
       record { holds = rw (drop-of-length-le word g) at e; after = ap (λ (k : ℕ). at + k) same }
-
--- ---- the place after digits
-
-pub hex-after : (k n : ℕ) {old now : List ℕ} {at next : ℕ} → Put (hex k n) old at now next → next ≡ at + k
-hex-after k n {at = at} p = p .after ∙ ap (λ (l : ℕ). at + l) (hex-long k n)
 
 -- a word of at most this many bytes
 pub word-in : (most : ℕ) {word old now : List ℕ} {at next : ℕ} → Put word old at now next → length word ≤ most

@@ -1,4 +1,4 @@
-// The limits of a layout's numbers and of its size. specs/Limits.antt has the same.
+// The limits of a layout's numbers. specs/Limits.antt has the same.
 
 // the largest magnitude of x and of y
 pub const COORDINATE: u64 = 1048576;
@@ -8,9 +8,6 @@ pub const BULGE: u64 = 65536;
 
 // the most vertices of a path
 pub const VERTICES: u64 = 256;
-
-// the most bytes of a text
-pub const BYTES: usize = 16384;
 
 // how many numbers a buffer has for a vertex
 pub const NUMBERS: usize = 3;

@@ -5,8 +5,8 @@ use mathlib.Core.Bool.{Bool, true, false, cond}
 use lib.Dec.{ltb}
 use lib.IntN.{pos}
 use lib.Ieee.{inf, Format, binary64, prec, low, emax, neg, odd, units, round, ofInt}
-use Rattle.layout_text.specs.Numbers.{coordinate}
-use Rattle.layout_text.specs.Workings.Reader.{whole}
+use Rattle.layouts.specs.Numbers.{coordinate}
+use Rattle.layouts.specs.Layout.{whole}
 
 odd-neg : (d q k l : ℕ) → neg (odd d false q k l) ≡ odd d true q k l
 unfolding odd neg
