@@ -1,8 +1,8 @@
 -- A text, part by part: if a part is missing the text breaks its form; if all are there and nothing more, it is the text of a
 -- layout.
-use Prim.Native.Nat.{ℕ, zero, suc, _≤_, _<_}
+use Prim.Native.Nat.{ℕ, _≤_, _<_}
 use mathlib.Core.Path.{_≡_, refl, sym, ap, _∙_, subst}
-use mathlib.Core.Bool.{Bool, true, false}
+use mathlib.Core.Bool.{Bool}
 use mathlib.Core.List.{List}
 use native.Mathlib.Omega.{arith}
 use borrow.Author.Tests.{le-ltb, lt-ltb}
@@ -10,7 +10,8 @@ use lib.ListN.{length, drop, drop-of-length-le}
 use lib.Seq.{drop-cons}
 use lib.IntN.{ℤ, pos}
 use Rattle.layouts.specs.Limits as limit
-use Rattle.layouts.specs.Layout.{Vertex, magnitude, whole}
+use Rattle.layouts.specs.Layout.{Vertex, whole}
+use Rattle.layouts.specs.Laws.Whole.{size-whole}
 use Rattle.layout_text.specs.Form.{bytes}
 use Rattle.layout_text.specs.Workings.Reader.{Got, nothing, got, stuck, over, passed, other, space, newline, countOf}
 use Rattle.layout_text.specs.Workings.Reader.{verticesOf, linesOf, broken, reads}
@@ -23,11 +24,6 @@ use Rattle.layout_text.specs.declared.vertex.Place.{Place}
 use Rattle.layout_text.specs.declared.vertex.Place.the-variants as Place·
 
 -- ---- a count has no minus
-
-size-whole : (negative : Bool) (n : ℕ) → magnitude (whole negative n) ≡ n
-size-whole false n = refl
-size-whole true zero = refl
-size-whole true (suc n) = refl
 
 pub record Count (most end n : ℕ) (t rest : List ℕ) : Type 0 where
   pub is : countOf most end t ≡ got (pos n) rest

@@ -1,5 +1,5 @@
 -- The reader accepts exactly the texts of the form, and it reads the text of a layout as that layout.
-use Prim.Native.Nat.{ℕ, _≤_}
+use Prim.Native.Nat.{ℕ}
 use mathlib.Core.Path.{_≡_, refl, sym, ap, _∙_}
 use mathlib.Core.Bool.{Bool, true, false, cond}
 use mathlib.Core.List.{List, [], _∷_, append-nil}
@@ -12,14 +12,13 @@ use Rattle.layout_text.specs.Form.{bytes, textOf}
 use Rattle.layout_text.specs.Workings.Reader.{Got, nothing, got, Taken, broken, layout, atEnd, linesOf, reads}
 use Rattle.layout_text.specs.Laws.Complete.{lines-read}
 use Rattle.layout_text.specs.Laws.Sound.{lines-spelt}
-use Rattle.layout_text.specs.Laws.Long.{text-long}
+use Rattle.layout_text.specs.Long.{text-short}
 
 -- no text of the form is refused: the text of a layout is read as that layout
 pub text-reads : (l : Layout) → Within l → reads (textOf l) ≡ layout l
 unfolding reads
 text-reads l w =
-    let short : length (textOf l) ≤ bytes = omega (arith, text-long l w) in
-    rw (le-ltb _ _ short, lines-read l w)
+    rw (le-ltb _ _ (text-short l w), lines-read l w)
 
 -- no other text is accepted: a text that is read as a layout is the text of that layout, which is within the limits
 pub read-is-text : (text : List ℕ) (l : Layout) → reads text ≡ layout l → (text ≡ textOf l) × Within l

@@ -23,6 +23,8 @@ unfoldable pub verticesText : List Vertex → List ℕ
 verticesText [] = []
 verticesText (v ∷ rest) = vertexText v ++ verticesText rest
 
+unfoldable pub countsText : ℕ → ℕ → List ℕ
+countsText n m = decimal n ++ 32 ∷ decimal m ++ 10 ∷ []
+
 unfoldable pub textOf : Layout → List ℕ
-textOf l =
-    decimal (length (l .first)) ++ 32 ∷ decimal (length (l .second)) ++ 10 ∷ verticesText (l .first) ++ verticesText (l .second)
+textOf l = countsText (length (l .first)) (length (l .second)) ++ verticesText (l .first) ++ verticesText (l .second)

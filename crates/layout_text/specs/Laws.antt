@@ -2,4 +2,4 @@
 pub mod Bytes
 pub mod Complete
 pub mod Sound
-pub mod Long
+pub mod Put

@@ -1,4 +1,5 @@
-// The reader: a layout from its text. specs/Read.antt has what it promises, and specs/Form.antt the form of a text.
+// Layouts as texts: the reader, and the writer of a text's lines. specs/Form.antt has the form of a text, and specs/Read.antt what
+// the reader promises.
 ghost use Rattle.layout_text.specs.Read.{ReadLayout};
 use layouts::limits;
 use shape::Shape;
@@ -7,11 +8,15 @@ use vertex::fill;
 
 mod bytes;
 mod number;
+pub mod put;
 pub mod shape;
 pub mod vertex;
 
-// The most bytes of a text.
+// the most bytes of a text
 pub const BYTES: usize = 16384;
+
+// the most bytes that the text of a layout has: `longest` of specs/Sizes.antt
+pub const LONGEST: usize = 12808;
 
 // The scope's number of the refusal of a text that breaks its form.
 pub const TEXT: u64 = 10;
