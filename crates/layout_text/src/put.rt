@@ -2,7 +2,7 @@
 ghost use Prim.Native.Nat.{_+_, _≤_};
 ghost use lib.ListN.{length};
 ghost use Rattle.layouts.specs.Limits as limit;
-ghost use Rattle.layouts.specs.Layout.{whole, wholeVertex};
+ghost use Rattle.layouts.specs.Layout.{VertexWithin, whole, wholeVertex};
 ghost use Rattle.put_text.specs.Workings.Put.{Put, PutIn};
 ghost use Rattle.layout_text.specs.Form.{wholeText, vertexText, countsText};
 ghost use Rattle.layout_text.specs.Sizes as sizes;
@@ -35,9 +35,7 @@ pub fn put_vertex(
     b_minus: bool,
     b: u64,
 ) -> usize
-    requires { ⌜ x ≤ limit.coordinate ⌝ }
-    requires { ⌜ y ≤ limit.coordinate ⌝ }
-    requires { ⌜ b ≤ limit.bulge ⌝ }
+    requires { ⌜ VertexWithin (wholeVertex «x_minus» x «y_minus» y «b_minus» b) ⌝ }
     requires { ⌜ at + sizes.vertexLine ≤ length (now out) ⌝ }
     ensures { λ r. ⌜
         PutIn sizes.vertexLine (vertexText (wholeVertex «x_minus» x «y_minus» y «b_minus» b))

@@ -3,17 +3,15 @@ use Prim.Native.Nat.{ℕ, zero, suc, _≤_}
 use mathlib.Core.Path.{_≡_, refl, ap}
 use mathlib.Core.Bool.{Bool, true, false}
 use mathlib.Core.List.{List, [], _∷_}
-use native.Mathlib.Omega.{arith}
 use lib.ListN.{length}
 use Rattle.layouts.specs.Limits as limit
-use Rattle.layouts.specs.Layout.{Vertex, whole, wholeVertex}
-use Rattle.layouts.specs.Laws.Whole.{size-whole}
+use Rattle.layouts.specs.Layout.{Vertex, VertexWithin, whole, wholeVertex}
 use Rattle.put_text.specs.Decimal.{decimal}
 use Rattle.put_text.specs.Workings.Put.{Put, PutIn}
 use Rattle.put_text.specs.Laws.Put.{put-join, word-in}
 use Rattle.layout_text.specs.Form.{wholeText, vertexText, verticesText, countsText, textOf}
 use Rattle.layout_text.specs.Sizes.{coordinate, bulge, countsLine, vertexLine}
-use Rattle.layout_text.specs.Long.{coordinate-long, bulge-long, counts-long}
+use Rattle.layout_text.specs.Long.{coordinate-long, bulge-long, vertex-long, counts-long}
 
 -- ---- a whole number
 
@@ -60,38 +58,33 @@ module _ (negative : Bool) (n : ℕ) where
   pub minus-length : negative ≡ true → (n ≡ 0 → ⊥) → length (wholeText (whole negative n)) ≡ suc (length (decimal n))
   minus-length e h = ap length (minus-text e h)
 
-pub coordinate-in : (negative : Bool) (n : ℕ) → n ≤ limit.coordinate → length (wholeText (whole negative n)) ≤ coordinate
-coordinate-in negative n h = coordinate-long (whole negative n) (omega (arith, size-whole negative n))
-
-pub bulge-in : (negative : Bool) (n : ℕ) → n ≤ limit.bulge → length (wholeText (whole negative n)) ≤ bulge
-bulge-in negative n h = bulge-long (whole negative n) (omega (arith, size-whole negative n))
-
 -- ---- text lines
 
+-- the room that each of a vertex's numbers takes at most
+pub record Parts (x-minus : Bool) (x : ℕ) (y-minus : Bool) (y : ℕ) (b-minus : Bool) (b : ℕ) : Type 0 where
+  pub x-short : length (wholeText (whole x-minus x)) ≤ coordinate
+  pub y-short : length (wholeText (whole y-minus y)) ≤ coordinate
+  pub b-short : length (wholeText (whole b-minus b)) ≤ bulge
+
+pub parts-of : (x-minus : Bool) (x : ℕ) (y-minus : Bool) (y : ℕ) (b-minus : Bool) (b : ℕ)
+    → VertexWithin (wholeVertex x-minus x y-minus y b-minus b) → Parts x-minus x y-minus y b-minus b
+parts-of x-minus x y-minus y b-minus b w =
+    record {
+      x-short = coordinate-long (whole x-minus x) (w .x-within);
+      y-short = coordinate-long (whole y-minus y) (w .y-within);
+      b-short = bulge-long (whole b-minus b) (w .bulge-within);
+    }
+
 pub vertex-put : (x-minus : Bool) (x : ℕ) (y-minus : Bool) (y : ℕ) (b-minus : Bool) (b : ℕ)
-    → x ≤ limit.coordinate → y ≤ limit.coordinate → b ≤ limit.bulge
+    → VertexWithin (wholeVertex x-minus x y-minus y b-minus b)
     → {o o1 o2 o3 o4 o5 o6 : List ℕ} {at p1 p2 p3 p4 p5 p6 : ℕ}
     → Put (wholeText (whole x-minus x)) o at o1 p1 → Put (32 ∷ []) o1 p1 o2 p2
     → Put (wholeText (whole y-minus y)) o2 p2 o3 p3 → Put (32 ∷ []) o3 p3 o4 p4
     → Put (wholeText (whole b-minus b)) o4 p4 o5 p5 → Put (10 ∷ []) o5 p5 o6 p6
     → PutIn vertexLine (vertexText (wholeVertex x-minus x y-minus y b-minus b)) o at o6 p6
 unfolding vertexText
-vertex-put x-minus x y-minus y b-minus b hx hy hb put-x gap put-y gap2 put-b end =
-    record {
-      is-put = put-join (put-join (put-join put-x (put-join gap put-y)) (put-join gap2 put-b)) end;
-      short = omega (
-        arith,
-        put-x .after,
-        gap .after,
-        put-y .after,
-        gap2 .after,
-        put-b .after,
-        end .after,
-        coordinate-in x-minus x hx,
-        coordinate-in y-minus y hy,
-        bulge-in b-minus b hb,
-      );
-    }
+vertex-put x-minus x y-minus y b-minus b w put-x gap put-y gap2 put-b end =
+    word-in vertexLine (put-join (put-join (put-join put-x (put-join gap put-y)) (put-join gap2 put-b)) end) (vertex-long _ w)
 
 pub counts-put : (n m : ℕ) → n ≤ limit.vertices → m ≤ limit.vertices
     → {o o1 o2 o3 o4 : List ℕ} {at p1 p2 p3 p4 : ℕ}

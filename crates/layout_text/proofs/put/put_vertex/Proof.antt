@@ -2,63 +2,45 @@
 -- the room. Assumes nothing.
 use native.Mathlib.Omega.{arith}
 use borrow.Author.Needs.{needs}
-use Rattle.layout_text.specs.Laws.Put.{coordinate-in, bulge-in, vertex-put}
+use Rattle.layout_text.specs.Laws.Put.{Parts, parts-of, vertex-put}
 use Rattle.layout_text.proofs.put.put_vertex.Statement.{statement}
 use Rattle.layout_text.proofs.put.put_vertex.Tie as tie
 
+parts : (c : tie.Start) → Parts (c .args .x-minus) (c .args .x) (c .args .y-minus) (c .args .y) (c .args .b-minus) (c .args .b)
+parts c = parts-of _ _ _ _ _ _ (c .pre .0)
+
 put-signed-requires : tie.Need-put-signed-requires
-put-signed-requires c κs =
-    let start = c .before .before in
-    omega (
-      arith,
-      coordinate-in (start .args .x-minus) (start .args .x) (omega arith),
-    )
+put-signed-requires c κs = omega (arith, parts (c .before .before))
 
 put-byte-requires : tie.Need-put-byte-requires
-put-byte-requires c κs =
-    let start = c .before .before .before .before .before .before in
-    omega (
-      arith,
-      coordinate-in (start .args .x-minus) (start .args .x) (omega arith),
-    )
+put-byte-requires c κs = omega (arith, parts (c .before .before .before .before .before .before))
 
 put-signed-requires-2 : tie.Need-put-signed-requires-2
-put-signed-requires-2 c κs =
-    let start = c .before .before .before .before .before .before .before .before .before .before in
-    omega (
-      arith,
-      coordinate-in (start .args .x-minus) (start .args .x) (omega arith),
-      coordinate-in (start .args .y-minus) (start .args .y) (omega arith),
-    )
+put-signed-requires-2 c κs = omega (arith, parts (c .before .before .before .before .before .before .before .before .before .before))
 
 put-byte-requires-2 : tie.Need-put-byte-requires-2
 put-byte-requires-2 c κs =
-    let start = c .before .before .before .before .before .before .before .before .before .before .before .before .before .before in
-    omega (
-      arith,
-      coordinate-in (start .args .x-minus) (start .args .x) (omega arith),
-      coordinate-in (start .args .y-minus) (start .args .y) (omega arith),
-    )
+    let second = c .before .before .before in
+    let gap = second .before .before .before .before in
+    let first = gap .before .before .before .before in
+    omega (arith, parts (first .before .before .before))
 
 put-signed-requires-3 : tie.Need-put-signed-requires-3
 put-signed-requires-3 c κs =
-    let start = c .before .before .before .before .before .before .before .before .before .before .before .before .before .before .before .before .before .before in
-    omega (
-      arith,
-      coordinate-in (start .args .x-minus) (start .args .x) (omega arith),
-      coordinate-in (start .args .y-minus) (start .args .y) (omega arith),
-      bulge-in (start .args .b-minus) (start .args .b) (omega arith),
-    )
+    let gap2 = c .before .before .before in
+    let second = gap2 .before .before .before .before in
+    let gap = second .before .before .before .before in
+    let first = gap .before .before .before .before in
+    omega (arith, parts (first .before .before .before))
 
 put-byte-requires-3 : tie.Need-put-byte-requires-3
 put-byte-requires-3 c κs =
-    let start = c .before .before .before .before .before .before .before .before .before .before .before .before .before .before .before .before .before .before .before .before .before .before in
-    omega (
-      arith,
-      coordinate-in (start .args .x-minus) (start .args .x) (omega arith),
-      coordinate-in (start .args .y-minus) (start .args .y) (omega arith),
-      bulge-in (start .args .b-minus) (start .args .b) (omega arith),
-    )
+    let third = c .before .before .before in
+    let gap2 = third .before .before .before .before in
+    let second = gap2 .before .before .before .before in
+    let gap = second .before .before .before .before in
+    let first = gap .before .before .before .before in
+    omega (arith, parts (first .before .before .before))
 
 returns : tie.Need-returns
 returns c =
@@ -69,8 +51,7 @@ returns c =
     let gap = second .before .before .before .before in
     let first = gap .before .before .before .before in
     let start = first .before .before .before in
-    vertex-put (start .args .x-minus) _ (start .args .y-minus) _ (start .args .b-minus) _
-    (start .pre .0) (start .pre .1 .0) (start .pre .1 .1 .0)
+    vertex-put (start .args .x-minus) _ (start .args .y-minus) _ (start .args .b-minus) _ (start .pre .0)
     (first .put-signed .ensures)
     (gap .put-byte .ensures)
     (second .put-signed2 .ensures)
