@@ -145,7 +145,8 @@ module _ (text : List ℕ) (n i at : ℕ) (all : Stored) (old : List Float) (k :
     store-broken e = rw (lines-broken n i _ inside (no-line text is e)) at inv
 
     pub store-line : (x-minus y-minus b-minus : Bool) (x y b next : ℕ) → r ≡ Corner·.At x-minus x y-minus y b-minus b next
-        → (vx vy vb : Float) → vx ≡ coordinate (whole x-minus x) → vy ≡ coordinate (whole y-minus y) → vb ≡ bulge (whole b-minus b)
+        → (vx vy vb : Float)
+        → vx ≡ coordinate (whole x-minus x) → vy ≡ coordinate (whole y-minus y) → vb ≡ bulge (whole b-minus b)
         → stored (verticesOf (n - (i + 1)) (drop next text)) (set (set (set old k vx) (k + 1) vy) (k + 2) vb) (k + numbersAVertex)
         ≡ all
     store-line x-minus y-minus b-minus x y b next e vx vy vb is-x is-y is-b =

@@ -24,7 +24,8 @@ put-decimal-requires-2 c κs =
 
 put-byte-requires-2 : tie.Need-put-byte-requires-2
 put-byte-requires-2 c κs =
-    let start = c .before .before .before .before .before .before .before .before .before .before .before .before .before .before in
+    let second = c .before .before .before .before .before .before .before in
+    let start = second .before .before .before .before .before .before .before in
     omega (arith, decimal-long 2 (start .args .n) (omega arith), decimal-long 2 (start .args .m) (omega arith))
 
 pub put-counts-spec : {M : Type 1} → statement M

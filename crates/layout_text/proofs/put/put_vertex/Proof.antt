@@ -16,7 +16,10 @@ put-byte-requires : tie.Need-put-byte-requires
 put-byte-requires c κs = omega (arith, parts (c .before .before .before .before .before .before))
 
 put-signed-requires-2 : tie.Need-put-signed-requires-2
-put-signed-requires-2 c κs = omega (arith, parts (c .before .before .before .before .before .before .before .before .before .before))
+put-signed-requires-2 c κs =
+    let gap = c .before .before .before in
+    let first = gap .before .before .before .before in
+    omega (arith, parts (first .before .before .before))
 
 put-byte-requires-2 : tie.Need-put-byte-requires-2
 put-byte-requires-2 c κs =
