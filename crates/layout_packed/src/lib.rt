@@ -2,5 +2,6 @@
 // the reader promises.
 pub mod limits;
 pub mod number;
+pub mod put;
 pub mod shape;
 pub mod vertex;
