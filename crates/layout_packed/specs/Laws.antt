@@ -2,4 +2,5 @@
 pub mod Groups
 pub mod Number
 pub mod Zigzag
+pub mod Long
 pub mod Put
