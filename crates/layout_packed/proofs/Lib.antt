@@ -1,0 +1,4 @@
+pub mod Groups
+pub mod CaseSays
+pub mod Vertices
+pub mod Files

@@ -1,0 +1,52 @@
+-- `layout_packed::number::more` meets its contract. The loop's invariant: what is left of the file, after the groups so far, reads
+-- as the whole does. The groups so far stay below what the next one counts, and that stays small, so nothing overflows. Assumes
+-- nothing.
+use Prim.Native.Nat.{_*_, _-_, _≤_, _<_}
+use mathlib.Core.Path.{_≡_, refl}
+use native.Mathlib.Omega.{arith}
+use borrow.Author.Needs.{needs}
+use lib.ListN.{length, drop}
+use Rattle.layout_packed.specs.Limits as written
+use Rattle.layout_packed.specs.Workings.Reader.{moreFrom}
+use Rattle.layout_packed.specs.Workings.Shown.{shownNumber}
+use Rattle.layout_packed.proofs.Groups.{share, below, at-end, too-far, at-zero, at-beyond, at-last, at-more}
+use Rattle.layout_packed.proofs.number.more.Statement.{statement}
+use Rattle.layout_packed.proofs.number.more.Tie as tie
+
+abbrev Inv-loop : tie.InvT-loop
+Inv-loop bytes start most low n₀ scale₀ i₀ n scale i =
+    (n < scale) × (scale ≤ 128 * written.coordinate)
+    × (moreFrom most start scale n i (drop i bytes) ≡ moreFrom most start 128 low i₀ (drop i₀ bytes))
+
+abbrev μ-loop : tie.MeasureT-loop
+μ-loop bytes start most low n₀ scale₀ i₀ n scale i = length bytes - i
+
+loop-holds : tie.Need-loop-holds Inv-loop μ-loop
+loop-holds c = (omega arith, omega arith, refl)
+
+-- the byte's share, with the scale of the loop
+sum-fits : tie.Need-add-sum Inv-loop μ-loop
+sum-fits c =
+    let turn = c .before .before in
+    let head = turn .before .before .before .before in
+    omega (arith, share _ (head .loop .scale) _ (turn .wide .ensures .1) (head .loop .inv .1))
+
+n-fits : tie.Need-add-n Inv-loop μ-loop
+n-fits c =
+    let turn = c .before in
+    let head = turn .before .before .before .before in
+    omega (arith, share (turn .wide .result - 128) (head .loop .scale) _ (omega arith) (head .loop .inv .1))
+
+pub more-spec : {M : Type 1} → statement M
+unfolding shownNumber
+more-spec =
+    tie.close
+    (tie.spec
+    Inv-loop μ-loop (λ c. search needs) loop-holds (λ c. search too-far)
+    (λ c. search needs) (λ c. search needs) (λ c. search at-zero)
+    (λ c. omega (arith, sum-fits c)) sum-fits (λ c. search at-beyond) (λ c. search needs) (λ c. search at-last)
+    (λ c. omega (arith, n-fits c)) n-fits (λ c. search needs) (λ c. search needs) (λ c. search needs)
+    (λ c. let turn = c .before in
+    let head = turn .before .before .before .before in
+    (below _ (turn .wide .result - 128) _ (head .loop .inv .0) (omega (arith, turn .wide .ensures .1)), search needs, search at-more))
+    (λ c. search at-end))

@@ -1,0 +1,6 @@
+-- Laws that only proofs need. A reader need not believe them: they are proved.
+pub mod Groups
+pub mod Number
+pub mod Zigzag
+pub mod Long
+pub mod Put
