@@ -1,6 +1,6 @@
--- A vertex's text line, number by number, and one turn of a loop over vertices: the text line at hand, then those left.
+-- A vertex's text line, number by number, and one turn of a loop that passes or writes vertices.
 use Prim.Native.Nat.{ℕ, suc, _+_, _-_, _≤_, _<_}
-use mathlib.Core.Path.{_≡_, refl, sym, ap, _∙_}
+use mathlib.Core.Path.{_≡_, refl, ap, _∙_}
 use mathlib.Core.Bool.{Bool}
 use mathlib.Core.List.{List, [], _∷_}
 use native.Mathlib.Omega.{arith}
@@ -25,6 +25,7 @@ use Rattle.layout_text.specs.Workings.Reader.{
 }
 use Rattle.layout_text.specs.Workings.Reader.{space, newline, wholeOf}
 use Rattle.layout_text.specs.Workings.Shown.{shownNumber, shownVertex, Filled}
+use Rattle.layout_text.specs.Laws.Lines.{no-line, a-line, lines-end, lines-broken, lines-read}
 use Rattle.layout_text.proofs.CaseSays.{no-number, a-number}
 use Rattle.layout_text.specs.declared.number.Number.{Number}
 use Rattle.layout_text.specs.declared.number.Number.the-variants as Number·
@@ -55,41 +56,6 @@ module _ (text t : List ℕ) (x : Number) (x-is : shownNumber text x ≡ wholeOf
       unfolding vertexOf
       all-three b-minus b-size after-b e =
           simp (a-number text x-is x-whole, a-number text y-is y-whole, a-number text b-is e)
-
--- ---- the line at hand
-
-module _ (text : List ℕ) {g : Got Vertex} {r : Corner} (is : shownVertex text r ≡ g) where
-  pub no-line : r ≡ Corner·.Broken → g ≡ nothing
-  unfolding shownVertex
-  no-line e = sym is ∙ ap (shownVertex text) e
-
-  pub a-line : {x-minus y-minus b-minus : Bool} {x y b next : ℕ} → r ≡ Corner·.At x-minus x y-minus y b-minus b next
-      → g ≡ got (wholeVertex x-minus x y-minus y b-minus b) (drop next text)
-  unfolding shownVertex
-  a-line e = sym is ∙ ap (shownVertex text) e
-
--- ---- the lines that are left, at i of n
-
-left : (n i : ℕ) → i < n → n - i ≡ suc (n - (i + 1))
-left n i h = omega arith
-
-none-left : (n i : ℕ) → n ≤ i → n - i ≡ 0
-none-left n i h = omega arith
-
-module _ (n i : ℕ) (t : List ℕ) where
-  pub lines-end : n ≤ i → verticesOf (n - i) t ≡ got [] t
-  unfolding verticesOf
-  lines-end h = rw (none-left n i h)
-
-  module _ (inside : i < n) where
-    pub lines-broken : vertexOf t ≡ nothing → verticesOf (n - i) t ≡ nothing
-    unfolding verticesOf
-    lines-broken e = rw (left n i inside, e)
-
-    pub lines-read : {v : Vertex} {rest : List ℕ} → vertexOf t ≡ got v rest
-        → verticesOf (n - i) t ≡ andThen (verticesOf (n - (i + 1)) rest) (λ vs r. got (v ∷ vs) r)
-    unfolding verticesOf
-    lines-read e = rw (left n i inside, e)
 
 -- ---- passing them: `all` is what is left after all lines, and i of n are passed
 
