@@ -12,37 +12,11 @@ use Rattle.layout_packed.specs.Workings.Reader.{Got, fault, got, stuck, 
 use Rattle.layout_packed.specs.Workings.Reader.{brokenAt, readsPacked}
 use Rattle.layout_packed.specs.Workings.Shown.{shownNumber, shownPlace, Fitting}
 use Rattle.layout_packed.specs.Laws.Number.{number-within}
-use Rattle.layout_packed.proofs.CaseSays.{no-number, a-number}
+use Rattle.layout_packed.specs.Laws.Said.{no-number, a-number, no-place, a-place}
 use Rattle.layout_packed.specs.declared.number.Number.{Number}
 use Rattle.layout_packed.specs.declared.number.Number.the-variants as Number·
 use Rattle.layout_packed.specs.declared.vertex.Place.{Place}
 use Rattle.layout_packed.specs.declared.vertex.Place.the-variants as Place·
-
--- ---- places
-
-stuck-fault : {A : Type 0} (g : Got A) {k : ℕ} → passed g ≡ stuck k → g ≡ fault k
-stuck-fault (fault j) {k} e = let same : j ≡ k = cc in ap fault same
-stuck-fault (got a at rest) e = let z : _≡_ {A = ℕ} 0 1 = cc in absurd (omega arith)
-
-pub record Over {A : Type 0} (g : Got A) (next : ℕ) (rest : List ℕ) : Type 0 where
-  pub a : A
-  pub is : g ≡ got a next rest
-
-over-got : {A : Type 0} (g : Got A) {next : ℕ} {rest : List ℕ} → passed g ≡ over next rest → Over g next rest
-over-got (fault k) e = let z : _≡_ {A = ℕ} 0 1 = cc in absurd (omega arith)
-over-got (got a at r) {next} {rest} e =
-    let here : at ≡ next = cc in
-    let same : r ≡ rest = cc in
-    record { a = a; is = rw (here, same) }
-
-module _ (bytes : List ℕ) (g : Got (List Vertex)) {r : Place} (is : shownPlace bytes r ≡ passed g) where
-  pub no-place : {k : ℕ} → r ≡ Place·.Fault k → g ≡ fault k
-  unfolding shownPlace
-  no-place e = stuck-fault g (sym is ∙ ap (shownPlace bytes) e)
-
-  pub a-place : {next : ℕ} → r ≡ Place·.At next → Over g next (drop next bytes)
-  unfolding shownPlace
-  a-place e = over-got g (sym is ∙ ap (shownPlace bytes) e)
 
 -- ---- a file, by what each call says of its parts
 

@@ -1,4 +1,4 @@
 pub mod Groups
-pub mod CaseSays
 pub mod Vertices
 pub mod Files
+pub mod Ends

@@ -14,7 +14,7 @@ use Rattle.layout_packed.specs.Limits as written
 use Rattle.layout_packed.specs.Workings.Reader.{Got, fault, got, andThen, Skipped, stuck, over, passed}
 use Rattle.layout_packed.specs.Workings.Reader.{numberFrom, negative, size, meant, vertexFrom, verticesFrom}
 use Rattle.layout_packed.specs.Workings.Shown.{shownNumber, shownVertex, Filled}
-use Rattle.layout_packed.proofs.CaseSays.{no-number, a-number}
+use Rattle.layout_packed.specs.Laws.Said.{no-number, a-number, no-vertex, a-vertex, vertices-end, vertices-fault, vertices-more}
 use Rattle.layout_packed.specs.declared.number.Number.{Number}
 use Rattle.layout_packed.specs.declared.number.Number.the-variants as Number·
 use Rattle.layout_packed.specs.declared.vertex.Corner.{Corner}
@@ -45,41 +45,6 @@ module _ (bytes t : List ℕ) (start : ℕ) (x : Number) (x-is : shownNumber byt
       unfolding vertexFrom meant
       all-three b-n after-b e x-minus y-minus b-minus vx vy vb x1 x2 y1 y2 b1 b2 =
           simp (a-number bytes start x-is x-whole, a-number bytes after-x y-is y-whole, a-number bytes after-y b-is e, x1, x2, y1, y2, b1, b2)
-
--- ---- the vertex at hand
-
-module _ (bytes : List ℕ) {g : Got Vertex} {r : Corner} (is : shownVertex bytes r ≡ g) where
-  pub no-vertex : {k : ℕ} → r ≡ Corner·.Fault k → g ≡ fault k
-  unfolding shownVertex
-  no-vertex e = sym is ∙ ap (shownVertex bytes) e
-
-  pub a-vertex : {x-minus y-minus b-minus : Bool} {x y b next : ℕ} → r ≡ Corner·.At x-minus x y-minus y b-minus b next
-      → g ≡ got (wholeVertex x-minus x y-minus y b-minus b) next (drop next bytes)
-  unfolding shownVertex
-  a-vertex e = sym is ∙ ap (shownVertex bytes) e
-
--- ---- the vertices that are left, at i of n
-
-left : (n i : ℕ) → i < n → n - i ≡ suc (n - (i + 1))
-left n i h = omega arith
-
-none-left : (n i : ℕ) → n ≤ i → n - i ≡ 0
-none-left n i h = omega arith
-
-module _ (n i at : ℕ) (t : List ℕ) where
-  pub vertices-end : n ≤ i → verticesFrom (n - i) at t ≡ got [] at t
-  unfolding verticesFrom
-  vertices-end h = rw (none-left n i h)
-
-  module _ (inside : i < n) where
-    pub vertices-fault : {k : ℕ} → vertexFrom at t ≡ fault k → verticesFrom (n - i) at t ≡ fault k
-    unfolding verticesFrom
-    vertices-fault e = rw (left n i inside, e)
-
-    pub vertices-more : {v : Vertex} {next : ℕ} {rest : List ℕ} → vertexFrom at t ≡ got v next rest
-        → verticesFrom (n - i) at t ≡ andThen (verticesFrom (n - (i + 1)) next rest) (λ vs k r. got (v ∷ vs) k r)
-    unfolding verticesFrom
-    vertices-more e = rw (left n i inside, e)
 
 -- ---- passing them: `all` is what is left after all vertices, and i of n are passed
 

@@ -4,3 +4,5 @@ pub mod Number
 pub mod Zigzag
 pub mod Long
 pub mod Put
+pub mod Vertices
+pub mod Said

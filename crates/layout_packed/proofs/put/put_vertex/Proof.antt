@@ -26,8 +26,15 @@ put-signed-requires-3 c κs =
     let two = c .before .before .before in
     let one = two .before .before .before .before in
     let start = one .before .before .before in
-    omega (arith, start .pre .1, sizes start, one .put-signed .ensures .after, one .put-signed .kept .0,
-    two .put-signed2 .ensures .after, two .put-signed2 .kept .0)
+    omega (
+      arith,
+      start .pre .1,
+      sizes start,
+      one .put-signed .ensures .after,
+      one .put-signed .kept .0,
+      two .put-signed2 .ensures .after,
+      two .put-signed2 .kept .0,
+    )
 
 returns : tie.Need-returns
 returns c =
