@@ -17,7 +17,7 @@ use Rattle.layout_text.specs.Workings.Reader.{Got, nothing, got, stuck, 
 use Rattle.layout_text.specs.Workings.Reader.{verticesOf, linesOf, broken, reads}
 use Rattle.layout_text.specs.Workings.Shown.{shownNumber, shownPlace, Fitting}
 use Rattle.layout_text.specs.Laws.Sound.{count-spelt}
-use Rattle.layout_text.proofs.CaseSays.{a-number}
+use Rattle.layout_text.specs.Laws.Said.{a-number}
 use Rattle.layout_text.specs.declared.number.Number.{Number}
 use Rattle.layout_text.specs.declared.number.Number.the-variants as Number·
 use Rattle.layout_text.specs.declared.vertex.Place.{Place}

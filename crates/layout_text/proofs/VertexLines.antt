@@ -25,8 +25,7 @@ use Rattle.layout_text.specs.Workings.Reader.{
 }
 use Rattle.layout_text.specs.Workings.Reader.{space, newline, wholeOf}
 use Rattle.layout_text.specs.Workings.Shown.{shownNumber, shownVertex, Filled}
-use Rattle.layout_text.specs.Laws.Lines.{no-line, a-line, lines-end, lines-broken, lines-read}
-use Rattle.layout_text.proofs.CaseSays.{no-number, a-number}
+use Rattle.layout_text.specs.Laws.Said.{no-number, a-number, no-line, a-line, lines-end, lines-broken, lines-read}
 use Rattle.layout_text.specs.declared.number.Number.{Number}
 use Rattle.layout_text.specs.declared.number.Number.the-variants as Number·
 use Rattle.layout_text.specs.declared.vertex.Corner.{Corner}

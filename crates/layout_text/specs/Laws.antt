@@ -3,4 +3,4 @@ pub mod Bytes
 pub mod Complete
 pub mod Sound
 pub mod Put
-pub mod Lines
+pub mod Said

@@ -1,17 +1,34 @@
--- A vertex's text line by the code's answer, and one turn of a loop over vertices: the text line at hand, then those left.
+-- What each case of the code's answers says of what the definition has read; and the text lines that are left, one by one. The
+-- functions here that go over vertices use it, and so can those above.
 use Prim.Native.Nat.{ℕ, suc, _+_, _-_, _≤_, _<_}
 use mathlib.Core.Path.{_≡_, sym, ap, _∙_}
 use mathlib.Core.Bool.{Bool}
 use mathlib.Core.List.{List, [], _∷_}
 use native.Mathlib.Omega.{arith}
 use lib.ListN.{drop}
-use Rattle.layouts.specs.Layout.{Vertex, wholeVertex}
+use lib.IntN.{ℤ}
+use Rattle.layouts.specs.Layout.{Vertex, whole, wholeVertex}
 use Rattle.layout_text.specs.Workings.Reader.{Got, nothing, got, andThen, vertexOf, verticesOf}
-use Rattle.layout_text.specs.Workings.Shown.{shownVertex}
+use Rattle.layout_text.specs.Workings.Shown.{shownNumber, shownVertex, Fitting, Shaped}
+use Rattle.layout_text.specs.declared.number.Number.{Number}
+use Rattle.layout_text.specs.declared.number.Number.the-variants as Number·
 use Rattle.layout_text.specs.declared.vertex.Corner.{Corner}
 use Rattle.layout_text.specs.declared.vertex.Corner.the-variants as Corner·
+use Rattle.layout_text.specs.declared.shape.Shape.{Shape}
+use Rattle.layout_text.specs.declared.shape.Shape.the-variants as Shape·
 
--- ---- the line at hand
+-- ---- a number
+
+module _ (text : List ℕ) {g : Got ℤ} {r : Number} (is : shownNumber text r ≡ g) where
+  pub no-number : r ≡ Number·.Broken → g ≡ nothing
+  unfolding shownNumber
+  no-number e = sym is ∙ ap (shownNumber text) e
+
+  pub a-number : {negative : Bool} {n next : ℕ} → r ≡ Number·.Whole negative n next → g ≡ got (whole negative n) (drop next text)
+  unfolding shownNumber
+  a-number e = sym is ∙ ap (shownNumber text) e
+
+-- ---- a vertex
 
 module _ (text : List ℕ) {g : Got Vertex} {r : Corner} (is : shownVertex text r ≡ g) where
   pub no-line : r ≡ Corner·.Broken → g ≡ nothing
@@ -23,7 +40,12 @@ module _ (text : List ℕ) {g : Got Vertex} {r : Corner} (is : shownVertex text 
   unfolding shownVertex
   a-line e = sym is ∙ ap (shownVertex text) e
 
--- ---- the lines that are left, at i of n
+-- ---- a shape
+
+pub fits-of : (text : List ℕ) {s : Shape} {n m a b : ℕ} → Shaped text s → s ≡ Shape·.Fits n m a b → Fitting text n m a b
+fits-of text shaped e = rw e at shaped
+
+-- ---- the text lines that are left, at i of n
 
 left : (n i : ℕ) → i < n → n - i ≡ suc (n - (i + 1))
 left n i h = omega arith
