@@ -6,3 +6,8 @@ pub mod Long
 pub mod Put
 pub mod Vertices
 pub mod Said
+pub mod Order
+pub mod Faults
+pub mod Apart
+pub mod Lengths
+pub mod Cut

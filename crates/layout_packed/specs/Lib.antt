@@ -3,6 +3,10 @@
 pub mod Limits
 pub mod Groups
 pub mod Packed
+pub mod Fault
 pub mod Workings
 pub mod Laws
 pub mod Read
+pub mod Exactly
+pub mod Offset
+pub mod Lengths
