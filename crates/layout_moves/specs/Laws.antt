@@ -3,3 +3,4 @@ pub mod Carried
 pub mod FromText
 pub mod FromPacked
 pub mod Ends
+pub mod Given

@@ -1,4 +1,9 @@
--- What moving a layout promises (Moves). A reader need not believe Workings and Laws.
+-- What moving a layout promises (Moves); then what is proved of it (BackAndForth, MovePromise, RoundTrip, ReadEnough). A reader
+-- need not believe Workings and Laws.
 pub mod Moves
 pub mod Workings
 pub mod Laws
+pub mod BackAndForth
+pub mod MovePromise
+pub mod RoundTrip
+pub mod ReadEnough

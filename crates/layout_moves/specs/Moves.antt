@@ -1,6 +1,6 @@
--- What moving a layout from one form to the other promises: the answer, and what the slice holds afterwards, for any input and any
--- slice. The room asked for is that of the longest layout in the form that is written: 5,636 bytes packed, 12,808 bytes of text.
--- Too little room is told before anything is looked at.
+-- What moving a layout from one form to the other promises: the answer, and what the slice holds afterwards, for any input and
+-- any slice. The room asked for is that of the longest layout in the form that is written: 5,636 bytes packed, 12,808 bytes of
+-- text. Too little room is told before anything is looked at.
 use Prim.Native.Nat.{ℕ}
 use mathlib.Core.Path.{_≡_}
 use mathlib.Core.Bool.{cond}

@@ -23,8 +23,8 @@ pub enum Moved {
     NoRoom,
 }
 
-// Writes the packed form of a text's layout to the front of `out`; the rest of `out` is unchanged. If the text breaks its form, or
-// `out` has less room than the longest packed form, nothing is written.
+// Writes the packed form of a text's layout to the front of `out`; the rest of `out` is unchanged. If the text breaks its form,
+// or `out` has less room than the longest packed form, nothing is written.
 pub fn pack_layout(text: &[u8], out: &mut [u8]) -> Moved
     ensures { λ r. ⌜ PackLayout (now (text .entry)) r (now (out .entry)) (now (out .exit)) ⌝ }
 {
@@ -41,8 +41,8 @@ pub fn pack_layout(text: &[u8], out: &mut [u8]) -> Moved
     Moved::Length(end)
 }
 
-// Writes the text of a packed file's layout to the front of `out`; the rest of `out` is unchanged. If the file breaks its form, or
-// `out` has less room than the longest text, nothing is written.
+// Writes the text of a packed file's layout to the front of `out`; the rest of `out` is unchanged. If the file breaks its form,
+// or `out` has less room than the longest text, nothing is written.
 pub fn unpack_layout(bytes: &[u8], out: &mut [u8]) -> Moved
     ensures { λ r. ⌜ UnpackLayout (now (bytes .entry)) r (now (out .entry)) (now (out .exit)) ⌝ }
 {

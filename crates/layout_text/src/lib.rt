@@ -1,5 +1,5 @@
-// Layouts as texts: the reader, and the writer of text lines. specs/Form.antt has the form of a text, and specs/Read.antt what the
-// reader promises.
+// Layouts as texts: the reader, and the writer of text lines. specs/Form.antt has the form of a text, and specs/Read.antt what
+// the reader promises.
 ghost use Rattle.layout_text.specs.Read.{ReadLayout};
 use layouts::limits;
 use shape::Shape;

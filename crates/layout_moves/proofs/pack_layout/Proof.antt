@@ -1,5 +1,5 @@
--- `layout_moves::pack_layout` meets its contract: it puts the parts of the packed form that `shape_of` has found to be there, each
--- within its share of the room. Assumes nothing.
+-- `layout_moves::pack_layout` meets its contract: it puts the parts of the packed form that `shape_of` has found to be there,
+-- each within its share of the room. Assumes nothing.
 use native.Mathlib.Omega.{arith}
 use borrow.Author.Needs.{needs}
 use denote.Ref.{now}
@@ -42,7 +42,8 @@ pack-vertices-requires-2 c κs =
     let after-n = one .before .before .before .before .before .before .before .before in
     let counts = after-n .before .before .before in
     let f = fit counts in
-    omega (arith, packed-first f (one .pack-vertices .ensures), f .n-within, f .m-within, counts .before .before .before .if1 .left)
+    let room = counts .before .before .before in
+    omega (arith, packed-first f (one .pack-vertices .ensures), f .n-within, f .m-within, room .if1 .left)
 
 returns-3 : tie.Need-returns-3
 returns-3 c =

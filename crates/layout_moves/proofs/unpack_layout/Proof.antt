@@ -36,7 +36,8 @@ unpack-vertices-requires-2 c κs =
     let one = c .before .before .before in
     let shape = one .before .before .before .before .before .before .before in
     let f = fit shape in
-    omega (arith, written-first f (one .unpack-vertices .ensures), f .n-within, f .m-within, shape .before .before .before .if1 .left)
+    let room = shape .before .before .before in
+    omega (arith, written-first f (one .unpack-vertices .ensures), f .n-within, f .m-within, room .if1 .left)
 
 returns-3 : tie.Need-returns-3
 returns-3 c =

@@ -35,7 +35,8 @@ module _ (form : List Vertex → List ℕ) where
       → stored g mid next ≡ stored (also v g) old k
   stored-one one more-is v lost p = refl
   stored-one one more-is v (found vs) {old} {mid} {k} {next} p =
-      let rest : Put (form vs) mid next (sets mid next (form vs)) (next + length (form vs)) = record { holds = refl; after = refl } in
+      let rest : Put (form vs) mid next (sets mid next (form vs)) (next + length (form vs)) =
+      record { holds = refl; after = refl } in
       let all = put-join p rest in
       rw (more-is v vs, all .holds, all .after)
 

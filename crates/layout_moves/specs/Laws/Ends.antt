@@ -43,7 +43,8 @@ module _ (room : ℕ) (given : Given) (old : List ℕ) where
     pub is-refused-at : {n k : ℕ} → given ≡ refusedAt n k → Moves room given (Moved·.RefusedAt n k) old old
     is-refused-at e = record { answer-is = rw (le-ltb _ _ enough, e); holds = rw (le-ltb _ _ enough, e) }
 
-    pub is-moved : {b now : List ℕ} {next : ℕ} → given ≡ bytes b → Put b old 0 now next → Moves room given (Moved·.Length next) old now
+    pub is-moved : {b now : List ℕ} {next : ℕ} → given ≡ bytes b → Put b old 0 now next
+        → Moves room given (Moved·.Length next) old now
     is-moved {b} {now} {next} e p =
         let long : next ≡ length b = omega (arith, p .after) in
         record { answer-is = rw (le-ltb _ _ enough, e, long); holds = rw (le-ltb _ _ enough, e) (p .holds) }

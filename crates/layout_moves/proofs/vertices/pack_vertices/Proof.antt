@@ -1,5 +1,5 @@
--- `layout_moves::vertices::pack_vertices` meets its contract. The loop's invariant: the text lines that are left, put after what stands now, give what all of them give.
--- Assumes nothing.
+-- `layout_moves::vertices::pack_vertices` meets its contract. The loop's invariant: the text lines that are left, put after
+-- what stands now, give what all of them give. Assumes nothing.
 use Prim.Native.Nat.{_+_, _*_, _-_, _≤_}
 use mathlib.Core.Path.{_≡_, refl}
 use native.Mathlib.Nat.{sub-zero}
