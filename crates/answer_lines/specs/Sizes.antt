@@ -30,6 +30,10 @@ points = pointsARow * float
 abbrev pub refusal : ℕ
 refusal = 8 + whole + 1
 
+-- the same, " at " and an offset
+abbrev pub refusalAt : ℕ
+refusalAt = 8 + whole + 4 + whole + 1
+
 -- "pairs ", a number, " rows ", a number
 abbrev pub counts : ℕ
 counts = 6 + whole + 6 + whole + 1

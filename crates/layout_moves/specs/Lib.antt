@@ -1,9 +1,11 @@
--- What moving a layout promises (Moves); then what is proved of it (BackAndForth, MovePromise, RoundTrip, ReadEnough). A reader
--- need not believe Workings and Laws.
+-- What moving a layout promises (Moves); then what is proved of it (BackAndForth, MovePromise, PackPromise, UnpackPromise,
+-- RoundTrip, ReadEnough). A reader need not believe Workings and Laws.
 pub mod Moves
 pub mod Workings
 pub mod Laws
 pub mod BackAndForth
 pub mod MovePromise
+pub mod PackPromise
+pub mod UnpackPromise
 pub mod RoundTrip
 pub mod ReadEnough

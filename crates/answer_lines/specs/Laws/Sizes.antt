@@ -57,6 +57,13 @@ pub refusal-short : (n : ℕ) → n < 2 ^ 64 → length (Lines.refusedText n) �
 unfolding Lines.refusedText
 refusal-short n h = let digits = whole-short n h in simp length-append (omega arith)
 
+pub refusal-at-short : (n k : ℕ) → n < 2 ^ 64 → k < 2 ^ 64 → length (Lines.refusedAtText n k) ≤ Sizes.refusalAt
+unfolding Lines.refusedAtText
+refusal-at-short n k h g =
+    let first = whole-short n h in
+    let second = whole-short k g in
+    simp length-append (omega arith)
+
 pub counts-short : (pairs rows : ℕ) → pairs < 2 ^ 64 → rows < 2 ^ 64 → length (Lines.countText pairs rows) ≤ Sizes.counts
 unfolding Lines.countText
 counts-short pairs rows p r =
