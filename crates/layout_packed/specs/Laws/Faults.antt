@@ -255,13 +255,18 @@ layout-spelt bytes e =
     (layout-of bytes (sf .a) (ss .a) (sn .one) (sm .one) (sf .one) (ss .one))
 
 -- what the reader answers, by what was read
+
+-- a fault is no layout
+never-layout : {P : Type 0} {k : ℕ} {l : Layout} → brokenAt k ≡ layout l → P
+never-layout e = let z : _≡_ {A = ℕ} 0 1 = cc in absurd (omega arith)
+
 pub reads-fault : (bytes : List ℕ) {k : ℕ} → readsPacked bytes ≡ brokenAt k → FaultAt bytes k
 unfolding readsPacked
 reads-fault bytes {k} e = go (layoutFrom bytes) refl e
   where
     go : (g : Got Layout) → layoutFrom bytes ≡ g → atEnd g ≡ brokenAt k → FaultAt bytes k
     go (fault j) is e = let same : j ≡ k = cc in layout-fault bytes (is ∙ ap fault same)
-    go (got l at []) is e = let z : _≡_ {A = ℕ} 0 1 = cc in absurd (omega arith)
+    go (got l at []) is e = never-layout (sym e)
     go (got l at (b ∷ rest)) is e =
         let same : at ≡ k = cc in
         let s = layout-spelt bytes (is ∙ ap (λ (j : ℕ). got l j (b ∷ rest)) same) in
@@ -272,9 +277,9 @@ unfolding readsPacked packedOf
 reads-layout bytes {l} e = go (layoutFrom bytes) refl e
   where
     go : (g : Got Layout) → layoutFrom bytes ≡ g → atEnd g ≡ layout l → (bytes ≡ packedOf l) × Within l
-    go (fault j) is e = let z : _≡_ {A = ℕ} 0 1 = cc in absurd (omega arith)
+    go (fault j) is e = never-layout e
     go (got k at []) is e =
         let same : k ≡ l = cc in
         let s = layout-spelt bytes (is ∙ ap (λ (j : Layout). got j at []) same) in
         (s .is .spelt ∙ append-nil (joined (numbersOf l)), s .within)
-    go (got k at (b ∷ rest)) is e = let z : _≡_ {A = ℕ} 0 1 = cc in absurd (omega arith)
+    go (got k at (b ∷ rest)) is e = never-layout e

@@ -17,6 +17,9 @@ use Rattle.layout_packed.specs.Laws.Groups.{groups-small, groups-large, 
 pub never : {A P : Type 0} {a : A} {k next : ℕ} {rest : List ℕ} → _≡_ {A = Got A} (fault k) (got a next rest) → P
 never e = let z : _≡_ {A = ℕ} 0 1 = cc in absurd (omega arith)
 
+pub same-fault : {A : Type 0} {k j : ℕ} → _≡_ {A = Got A} (fault j) (fault k) → k ≡ j
+same-fault e = cc
+
 -- ---- the groups of a number are read
 
 module _ (most start : ℕ) (rest : List ℕ) where
@@ -220,7 +223,7 @@ groups-apart n m r s e =
 
 more-starts : (most start : ℕ) (t : List ℕ) (scale n at : ℕ) {k : ℕ} → moreFrom most start scale n at t ≡ fault k → k ≡ start
 unfolding moreFrom
-more-starts most start [] scale n at e = cc
+more-starts most start [] scale n at e = same-fault e
 more-starts most start (b ∷ t) scale n at {k} e =
     go (ltb most scale) (ltb b 128) (eqb b 0) (ltb most (n + b * scale)) (ltb b 256)
     (more-starts most start t (scale * 128) (n + (b - 128) * scale) (at + 1)) e
@@ -236,23 +239,23 @@ more-starts most start (b ∷ t) scale n at {k} e =
         (cond byte (moreFrom most start (scale * 128) (n + (b - 128) * scale) (at + 1) t) (fault start)))
         ≡ fault k
         → k ≡ start
-    go true last padded beyond byte later e = cc
-    go false true true beyond byte later e = cc
-    go false true false true byte later e = cc
+    go true last padded beyond byte later e = same-fault e
+    go false true true beyond byte later e = same-fault e
+    go false true false true byte later e = same-fault e
     go false true false false byte later e = none e
     go false false padded beyond true later e = later e
-    go false false padded beyond false later e = cc
+    go false false padded beyond false later e = same-fault e
 
 pub number-starts : (most at : ℕ) (t : List ℕ) {k : ℕ} → numberFrom most at t ≡ fault k → k ≡ at
 unfolding numberFrom
-number-starts most at [] e = cc
+number-starts most at [] e = same-fault e
 number-starts most at (b ∷ t) {k} e = go (ltb b 128) (ltb most b) (ltb b 256) e
   where
     go : (one beyond byte : Bool)
         → cond one (cond beyond (fault at) (got b (at + 1) t)) (cond byte (moreFrom most at 128 (b - 128) (at + 1) t) (fault at))
         ≡ fault k
         → k ≡ at
-    go true true byte e = cc
+    go true true byte e = same-fault e
     go true false byte e = never (sym e)
     go false beyond true e = more-starts most at t 128 (b - 128) (at + 1) e
-    go false beyond false e = cc
+    go false beyond false e = same-fault e
