@@ -1,14 +1,12 @@
 -- A packed file, part by part: a part that is missing is the fault that is told; if all are there and nothing more, the file is a
 -- layout's.
 use Prim.Native.Nat.{ℕ, _≤_, _<_}
-use mathlib.Core.Path.{_≡_, refl, sym, ap, _∙_}
+use mathlib.Core.Path.{_≡_, ap, _∙_}
 use mathlib.Core.List.{List}
-use native.Mathlib.Omega.{arith}
 use lib.ListN.{length, drop, drop-of-length-le}
 use lib.Seq.{drop-cons}
 use Rattle.layouts.specs.Limits as limit
-use Rattle.layouts.specs.Layout.{Vertex}
-use Rattle.layout_packed.specs.Workings.Reader.{Got, fault, got, stuck, over, passed, numberFrom, verticesFrom, layoutFrom}
+use Rattle.layout_packed.specs.Workings.Reader.{fault, got, passed, numberFrom, verticesFrom, layoutFrom}
 use Rattle.layout_packed.specs.Workings.Reader.{brokenAt, readsPacked}
 use Rattle.layout_packed.specs.Workings.Shown.{shownNumber, shownPlace, Fitting}
 use Rattle.layout_packed.specs.Laws.Number.{number-within}

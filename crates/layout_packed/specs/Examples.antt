@@ -1,7 +1,7 @@
 -- Worked examples: the scope's layout in both directions, the least and the greatest numbers, and files that are refused, with the
 -- offset that is told.
 use Prim.Native.Nat.{ℕ}
-use mathlib.Core.Path.{_≡_, refl, ap}
+use mathlib.Core.Path.{_≡_, refl}
 use mathlib.Core.List.{List, [], _∷_, map}
 use native.Mathlib.Omega.{arith}
 use lib.ListN.{replicate}

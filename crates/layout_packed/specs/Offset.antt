@@ -1,6 +1,6 @@
 -- The offset that is told is that of Fault.antt: the reader tells K exactly if the fault lies at K, and it lies at one offset only.
 use Prim.Native.Nat.{ℕ, _≤_}
-use mathlib.Core.Path.{_≡_, refl, sym, ap, _∙_}
+use mathlib.Core.Path.{_≡_, refl, ap}
 use mathlib.Core.Logic.{_↔_}
 use mathlib.Core.List.{List}
 use lib.IntN.{ℤ}

@@ -1,7 +1,7 @@
 -- The reader's promise allows one result only: for the same bytes and buffers, two answers that it allows are equal, and so are
 -- the buffers afterwards. Then the promise in a caller's words.
 use Prim.Native.Nat.{ℕ}
-use mathlib.Core.Path.{_≡_, refl, sym, ap, _∙_}
+use mathlib.Core.Path.{_≡_, sym, ap, _∙_}
 use mathlib.Core.Logic.{_↔_}
 use mathlib.Core.Bool.{false}
 use mathlib.Core.List.{List}

@@ -1,5 +1,5 @@
 -- The numbers of a layout settle the layout.
-use Prim.Native.Nat.{ℕ, suc}
+use Prim.Native.Nat.{ℕ}
 use mathlib.Core.Path.{_≡_, refl, sym, ap, _∙_}
 use mathlib.Core.List.{List, [], _∷_, _++_, append-nil}
 use native.Mathlib.Omega.{arith}
@@ -7,7 +7,7 @@ use lib.ListN.{length}
 use lib.IntN.{ℤ}
 use Rattle.layouts.specs.Layout.{Vertex, Layout}
 use Rattle.layout_packed.specs.Groups.{zigzag}
-use Rattle.layout_packed.specs.Packed.{vertexNumbers, verticesNumbers, numbersOf}
+use Rattle.layout_packed.specs.Packed.{verticesNumbers, numbersOf}
 use Rattle.layout_packed.specs.Workings.Reader.{meant}
 use Rattle.layout_packed.specs.Laws.Zigzag.{meant-zigzag}
 

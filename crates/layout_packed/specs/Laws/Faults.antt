@@ -1,20 +1,20 @@
 -- The reader's faults: where it stops, the numbers before are sound and the next one is none.
-use Prim.Native.Nat.{ℕ, zero, suc, _+_, _≤_, _<_}
+use Prim.Native.Nat.{ℕ, zero, suc, _+_}
 use mathlib.Core.Path.{_≡_, refl, sym, ap, _∙_}
-use mathlib.Core.List.{List, [], _∷_, _++_, append-assoc, append-nil}
+use mathlib.Core.List.{List, [], _∷_, _++_, append-nil}
 use native.Mathlib.Omega.{arith}
-use lib.ListN.{length, length-append}
+use lib.ListN.{length}
 use Rattle.layouts.specs.Limits as limit
 use Rattle.layouts.specs.Layout.{Vertex, Layout, VertexWithin, EachWithin, none, more, Within}
 use Rattle.layout_packed.specs.Limits as written
 use Rattle.layout_packed.specs.Packed.{vertexNumbers, verticesNumbers, numbersOf, joined, packedOf}
 use Rattle.layout_packed.specs.Fault.{Sound, unread, read, NoNumber, vertexLimits, verticesLimits, limitsOf, FaultAt}
-use Rattle.layout_packed.specs.Workings.Reader.{Got, fault, got, andThen, numberFrom, meant, vertexFrom, verticesFrom, layoutFrom}
-use Rattle.layout_packed.specs.Workings.Reader.{Unpacked, brokenAt, layout, atEnd, readsPacked}
+use Rattle.layout_packed.specs.Workings.Reader.{Got, fault, got, andThen, numberFrom, vertexFrom, verticesFrom, layoutFrom}
+use Rattle.layout_packed.specs.Workings.Reader.{brokenAt, layout, atEnd, readsPacked}
 use Rattle.layout_packed.specs.Laws.Number.{never, number-read, number-starts, number-spelt}
 use Rattle.layout_packed.specs.Laws.Zigzag.{zigzag-most}
-use Rattle.layout_packed.specs.Laws.Vertices.{Both, both, carried, Joined, joined-none, joined-one, joined-join, joined-append}
-use Rattle.layout_packed.specs.Laws.Vertices.{vertex-spelt, VerticesSpelt, vertices-spelt}
+use Rattle.layout_packed.specs.Laws.Vertices.{both, carried, Joined, joined-none, joined-one, joined-join}
+use Rattle.layout_packed.specs.Laws.Vertices.{vertex-spelt, vertices-spelt}
 use Rattle.layout_packed.specs.Laws.Order.{sound-longer, sound-join}
 
 -- ---- steps

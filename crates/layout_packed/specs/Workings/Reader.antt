@@ -2,7 +2,7 @@
 -- and what remains there; or the offset of the fault. Exactly.antt proves that it accepts the packed forms of Packed.antt and no
 -- others, and reads the packed form of a layout as that layout; Fault.antt says which offset it tells otherwise.
 use Prim.Native.Nat.{ℕ, zero, suc, _+_, _*_, _-_, _/_, _%_}
-use mathlib.Core.Bool.{Bool, true, false, cond}
+use mathlib.Core.Bool.{Bool, cond}
 use mathlib.Core.List.{List, [], _∷_}
 use lib.Dec.{ltb, eqb}
 use lib.IntN.{ℤ}

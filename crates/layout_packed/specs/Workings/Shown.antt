@@ -1,7 +1,7 @@
 -- What the code's answers stand for: the code answers a place in the file, and the definitions that offset and what remains from
 -- there.
 use mathlib.Core.Path.{_≡_}
-use mathlib.Core.List.{List, [], _∷_}
+use mathlib.Core.List.{List, []}
 use Prim.Native.Nat.{ℕ, _≤_}
 use lib.ListN.{drop}
 use lib.Seq.{sets}
