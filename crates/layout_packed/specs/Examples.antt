@@ -1,5 +1,5 @@
--- Worked examples: the scope's layout in both directions, the least and the greatest numbers, and files that are refused, with the
--- offset that is told.
+-- Worked examples: the scope's layout in both directions, the least and the greatest numbers, and files that are refused,
+-- with the offset that is told.
 use Prim.Native.Nat.{ℕ}
 use mathlib.Core.Path.{_≡_, refl}
 use mathlib.Core.List.{List, [], _∷_, map}
@@ -43,8 +43,8 @@ pub nothing-read : readsPacked (0 ∷ 0 ∷ []) ≡ layout (record { first = [];
 unfolding readsPacked layoutFrom verticesFrom vertexFrom meant numberFrom moreFrom
 nothing-read = refl
 
--- the groups of 0, 1, -1, 127, 128, the largest count, and the greatest and least x and bulge: 1,048,576 has four bytes, -1,048,576
--- three
+-- the groups of 0, 1, -1, 127, 128, the largest count, and the greatest and least x and bulge: 1,048,576 has four bytes,
+-- -1,048,576 three
 abbrev numbers : List ℕ
 numbers =
     0

@@ -1,6 +1,6 @@
--- Lengths. The longest packed form of a layout has 5,636 bytes, so the limit of 8,192 bytes excludes nothing: a longer file always
--- breaks the form, and its fault lies within the first 5,637 bytes. So a program that reads no more than 8,193 bytes of a file
--- tells what the whole file would be told.
+-- Lengths. The longest packed form of a layout has 5,636 bytes, so the limit of 8,192 bytes excludes nothing: a longer file
+-- always breaks the form, and its fault lies within the first 5,637 bytes. So a program that reads no more than 8,193 bytes
+-- of a file tells what the whole file would be told.
 use Prim.Native.Nat.{ℕ, zero, suc, _≤_, _<_}
 use mathlib.Core.Path.{_≡_, refl, sym, ap, _∙_}
 use mathlib.Core.List.{List}

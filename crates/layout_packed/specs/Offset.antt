@@ -1,4 +1,5 @@
--- The offset that is told is that of Fault.antt: the reader tells K exactly if the fault lies at K, and it lies at one offset only.
+-- The offset that is told is that of Fault.antt: the reader tells K exactly if the fault lies at K, and it lies at one offset
+-- only.
 use Prim.Native.Nat.{ℕ, _≤_}
 use mathlib.Core.Path.{_≡_, refl, ap}
 use mathlib.Core.Logic.{_↔_}

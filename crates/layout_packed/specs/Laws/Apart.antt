@@ -48,7 +48,9 @@ pub numbers-apart : (l k : Layout) → numbersOf l ≡ numbersOf k → l ≡ k
 numbers-apart l k e =
     let n : length (l .first) ≡ length (k .first) = cc in
     let m : length (l .second) ≡ length (k .second) = cc in
-    let both : verticesNumbers (l .first) ++ verticesNumbers (l .second) ≡ verticesNumbers (k .first) ++ verticesNumbers (k .second) = cc in
+    let both : verticesNumbers (l .first) ++ verticesNumbers (l .second)
+    ≡ verticesNumbers (k .first) ++ verticesNumbers (k .second) =
+    cc in
     let one = vertices-apart (l .first) (k .first) (verticesNumbers (l .second)) (verticesNumbers (k .second)) n both in
     let alone = append-nil (verticesNumbers (l .second)) ∙ one .rest ∙ sym (append-nil (verticesNumbers (k .second))) in
     let two = vertices-apart (l .second) (k .second) [] [] m alone in

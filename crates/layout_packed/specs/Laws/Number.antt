@@ -192,7 +192,8 @@ module _ (most : ℕ) {m next : ℕ} {rest : List ℕ} where
     where
       go : (one : Bool) → (T one → b < 128) → (T (not one) → 128 ≤ b) → (beyond : Bool) → (T (not beyond) → b ≤ most)
           → (byte : Bool) → (T byte → b < 256)
-          → cond one (cond beyond (fault at) (got b (at + 1) t)) (cond byte (moreFrom most at 128 (b - 128) (at + 1) t) (fault at))
+          → cond one (cond beyond (fault at) (got b (at + 1) t))
+          (cond byte (moreFrom most at 128 (b - 128) (at + 1) t) (fault at))
           ≡ got m next rest
           → Spelt most at (b ∷ t) m next rest
       go true small large true within byte is e = never e

@@ -124,7 +124,8 @@ more-spelt one later =
       count = ap suc (later .count);
     }
 
-pub vertices-spelt : (n at : ℕ) (t : List ℕ) {vs : List Vertex} {next : ℕ} {rest : List ℕ} → verticesFrom n at t ≡ got vs next rest
+pub vertices-spelt : (n at : ℕ) (t : List ℕ) {vs : List Vertex} {next : ℕ} {rest : List ℕ}
+    → verticesFrom n at t ≡ got vs next rest
     → VerticesSpelt n vs at t next rest
 unfolding verticesFrom
 vertices-spelt zero at t e =

@@ -9,7 +9,8 @@ use lib.Ieee.{Float}
 use Rattle.layouts.specs.Limits as limit
 use Rattle.layouts.specs.Layout.{Vertex, wholeVertex}
 use Rattle.layouts.specs.Numbers.{pathOf}
-use Rattle.layout_packed.specs.Workings.Reader.{Got, fault, got, Skipped, stuck, over, brokenAt, layout, verticesFrom, readsPacked}
+use Rattle.layout_packed.specs.Workings.Reader.{Got, fault, got, Skipped, stuck, over, brokenAt, layout}
+use Rattle.layout_packed.specs.Workings.Reader.{verticesFrom, readsPacked}
 use Rattle.layout_packed.specs.declared.number.Number.{Number}
 use Rattle.layout_packed.specs.declared.number.Number.the-variants as Number·
 use Rattle.layout_packed.specs.declared.vertex.Corner.{Corner}

@@ -1,6 +1,6 @@
--- `layout_packed::number::more` meets its contract. The loop's invariant: what is left of the file, after the groups so far, reads
--- as the whole does. The groups so far stay below what the next one counts, and that stays small, so nothing overflows. Assumes
--- nothing.
+-- `layout_packed::number::more` meets its contract. The loop's invariant: what is left of the file, after the groups so far,
+-- reads as the whole does. The groups so far stay below what the next one counts, and that stays small, so nothing overflows.
+-- Assumes nothing.
 use Prim.Native.Nat.{_*_, _-_, _≤_, _<_}
 use mathlib.Core.Path.{_≡_, refl}
 use native.Mathlib.Omega.{arith}
@@ -79,6 +79,9 @@ more-spec =
     (λ c. omega (arith, sum-fits c)) sum-fits returns-3 (λ c. search needs) returns-4
     (λ c. omega (arith, n-fits c)) n-fits (λ c. search needs) (λ c. search needs) (λ c. search needs)
     (λ c. let turn = c .before in
-    let head = turn .before .before .before .before in
-    (below _ (turn .wide .result - 128) _ (head .loop .inv .0) (omega (arith, turn .wide .ensures .1)), search needs, search at-more))
+    let head = turn .before .before .before .before in (
+      below _ (turn .wide .result - 128) _ (head .loop .inv .0) (omega (arith, turn .wide .ensures .1)),
+      search needs,
+      search at-more,
+    ))
     (λ c. search at-end))

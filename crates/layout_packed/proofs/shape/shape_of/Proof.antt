@@ -1,5 +1,5 @@
--- `layout_packed::shape::shape_of` meets its contract: the parts that it reads one after the other are the definition's, and a part
--- that is missing is the fault. Assumes nothing.
+-- `layout_packed::shape::shape_of` meets its contract: the parts that it reads one after the other are the definition's, and
+-- a part that is missing is the fault. Assumes nothing.
 use borrow.Author.Needs.{needs}
 use Rattle.layout_packed.proofs.Files.{no-n, no-m, no-first, no-second, bytes-left, bytes-over}
 use Rattle.layout_packed.proofs.shape.shape_of.Statement.{statement}
