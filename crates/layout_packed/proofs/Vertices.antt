@@ -1,6 +1,6 @@
 -- A vertex, number by number, and one turn of a loop over vertices: the vertex at hand, then those left.
 use Prim.Native.Nat.{ℕ, suc, _+_, _-_, _≤_, _<_}
-use mathlib.Core.Path.{_≡_, refl, sym, ap, _∙_}
+use mathlib.Core.Path.{_≡_, refl, ap, _∙_}
 use mathlib.Core.Bool.{Bool}
 use mathlib.Core.List.{List, [], _∷_}
 use native.Mathlib.Omega.{arith}
@@ -14,7 +14,8 @@ use Rattle.layout_packed.specs.Limits as written
 use Rattle.layout_packed.specs.Workings.Reader.{Got, fault, got, andThen, Skipped, stuck, over, passed}
 use Rattle.layout_packed.specs.Workings.Reader.{numberFrom, negative, size, meant, vertexFrom, verticesFrom}
 use Rattle.layout_packed.specs.Workings.Shown.{shownNumber, shownVertex, Filled}
-use Rattle.layout_packed.specs.Laws.Said.{no-number, a-number, no-vertex, a-vertex, vertices-end, vertices-fault, vertices-more}
+use Rattle.layout_packed.specs.Laws.Said.{no-number, a-number, no-vertex, a-vertex}
+use Rattle.layout_packed.specs.Laws.Said.{vertices-end, vertices-fault, vertices-more}
 use Rattle.layout_packed.specs.declared.number.Number.{Number}
 use Rattle.layout_packed.specs.declared.number.Number.the-variants as Number·
 use Rattle.layout_packed.specs.declared.vertex.Corner.{Corner}
@@ -22,7 +23,8 @@ use Rattle.layout_packed.specs.declared.vertex.Corner.the-variants as Co
 
 -- ---- a vertex, by what each call says of its numbers
 
-module _ (bytes t : List ℕ) (start : ℕ) (x : Number) (x-is : shownNumber bytes start x ≡ numberFrom written.coordinate start t) where
+module _ (bytes t : List ℕ) (start : ℕ) (x : Number)
+    (x-is : shownNumber bytes start x ≡ numberFrom written.coordinate start t) where
   pub no-x : x ≡ Number·.Fault → fault start ≡ vertexFrom start t
   unfolding vertexFrom
   no-x e = simp (no-number bytes start x-is e)
@@ -40,11 +42,15 @@ module _ (bytes t : List ℕ) (start : ℕ) (x : Number) (x-is : shownNumber byt
       no-b e = simp (a-number bytes start x-is x-whole, a-number bytes after-x y-is y-whole, no-number bytes after-y b-is e)
 
       pub all-three : (b-n after-b : ℕ) → b ≡ Number·.Whole b-n after-b → (x-minus y-minus b-minus : Bool) (vx vy vb : ℕ)
-          → x-minus ≡ negative x-n → vx ≡ size x-n → y-minus ≡ negative y-n → vy ≡ size y-n → b-minus ≡ negative b-n → vb ≡ size b-n
+          → x-minus ≡ negative x-n → vx ≡ size x-n → y-minus ≡ negative y-n → vy ≡ size y-n → b-minus ≡ negative b-n
+          → vb ≡ size b-n
           → got (wholeVertex x-minus vx y-minus vy b-minus vb) after-b (drop after-b bytes) ≡ vertexFrom start t
       unfolding vertexFrom meant
       all-three b-n after-b e x-minus y-minus b-minus vx vy vb x1 x2 y1 y2 b1 b2 =
-          simp (a-number bytes start x-is x-whole, a-number bytes after-x y-is y-whole, a-number bytes after-y b-is e, x1, x2, y1, y2, b1, b2)
+          let x-got = a-number bytes start x-is x-whole in
+          let y-got = a-number bytes after-x y-is y-whole in
+          let b-got = a-number bytes after-y b-is e in
+          simp (x-got, y-got, b-got, x1, x2, y1, y2, b1, b2)
 
 -- ---- passing them: `all` is what is left after all vertices, and i of n are passed
 
@@ -100,7 +106,8 @@ module _ (bytes : List ℕ) (n i at : ℕ) (all : Stored) (old : List Float) (k 
     store-fault place e = rw (vertices-fault n i at _ inside (no-vertex bytes is e)) at inv
 
     pub store-vertex : (x-minus y-minus b-minus : Bool) (x y b next : ℕ) → r ≡ Corner·.At x-minus x y-minus y b-minus b next
-        → (vx vy vb : Float) → vx ≡ coordinate (whole x-minus x) → vy ≡ coordinate (whole y-minus y) → vb ≡ bulge (whole b-minus b)
+        → (vx vy vb : Float) → vx ≡ coordinate (whole x-minus x) → vy ≡ coordinate (whole y-minus y)
+        → vb ≡ bulge (whole b-minus b)
         → stored (verticesFrom (n - (i + 1)) next (drop next bytes)) (set (set (set old k vx) (k + 1) vy) (k + 2) vb)
         (k + numbersAVertex)
         ≡ all

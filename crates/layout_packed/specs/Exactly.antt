@@ -33,7 +33,8 @@ packed-reads l w = go (readsPacked (packedOf l)) refl
 
 -- ---- a file is refused exactly if no layout within the limits has these bytes
 
-pub refused-no-layout : (bytes : List ℕ) (k : ℕ) → readsPacked bytes ≡ brokenAt k → (l : Layout) → Within l → bytes ≡ packedOf l → ⊥
+pub refused-no-layout : (bytes : List ℕ) (k : ℕ) → readsPacked bytes ≡ brokenAt k → (l : Layout) → Within l → bytes ≡ packedOf l
+    → ⊥
 refused-no-layout bytes k e l w is =
     let both : brokenAt k ≡ layout l = sym e ∙ ap readsPacked is ∙ packed-reads l w in
     let z : _≡_ {A = ℕ} 0 1 = cc in

@@ -1,5 +1,6 @@
--- Where the fault of a file lies, told without the reader: all numbers before it are sound, each within the range of its turn; and
--- the number that is due there is not, or none is due and bytes are left. Offset.antt proves that it is the offset told.
+-- Where the fault of a file lies, told without the reader: all numbers before it are sound, each within the range of its
+-- turn; and the number that is due there is not, or none is due and bytes are left. Offset.antt proves that it is the offset
+-- told.
 use Prim.Native.Nat.{ℕ, zero, suc, _≤_, _<_}
 use mathlib.Core.Path.{_≡_}
 use mathlib.Core.List.{List, [], _∷_, _++_}

@@ -1,9 +1,9 @@
--- Lengths. The longest packed form of a layout has 5,636 bytes, so the limit of 8,192 bytes excludes nothing: a longer file always
--- breaks the form, and its fault lies within the first 5,637 bytes. So a program that reads no more than 8,193 bytes of a file
--- tells what the whole file would be told.
+-- Lengths. The longest packed form of a layout has 5,636 bytes, so the limit of 8,192 bytes excludes nothing: a longer file
+-- always breaks the form, and its fault lies within the first 5,637 bytes. So a program that reads no more than 8,193 bytes
+-- of a file tells what the whole file would be told.
 use Prim.Native.Nat.{ℕ, zero, suc, _≤_, _<_}
 use mathlib.Core.Path.{_≡_, refl, sym, ap, _∙_}
-use mathlib.Core.List.{List, [], _∷_, _++_}
+use mathlib.Core.List.{List}
 use native.Mathlib.Omega.{arith}
 use lib.ListN.{length, take, replicate, length-replicate}
 use lib.Seq.{take-all}
@@ -33,6 +33,17 @@ pub fault-early : (bytes : List ℕ) (k : ℕ) → readsPacked bytes ≡ brokenA
 fault-early bytes k e =
     let f = reads-fault bytes e in
     omega (arith, f .here, numbers-long (f .numbers) (f .sound))
+
+-- a file that is longer than is allowed is refused for its form, and its fault lies among the bytes that a program reads
+pub longer-refused : (bytes : List ℕ) → written.packedBytes < length bytes
+    → (k : ℕ) × (readsPacked bytes ≡ brokenAt k) × (k ≤ written.longest)
+longer-refused bytes h = go (readsPacked bytes) refl
+  where
+    go : (u : Unpacked) → readsPacked bytes ≡ u → (k : ℕ) × (readsPacked bytes ≡ brokenAt k) × (k ≤ written.longest)
+    go (brokenAt k) e = (k, e, fault-early bytes k e)
+    go (layout l) e =
+        let s = read-is-packed bytes l e in
+        absurd (omega (arith, ap length (s .0), longest l (s .1)))
 
 -- ---- a layout that is as long: the most vertices, and the largest numbers
 

@@ -13,7 +13,7 @@ bulge = 2 * limit.bulge
 
 -- ---- bytes
 
--- the most bytes of a packed file
+-- the most bytes of a packed file. The form alone keeps it: every layout has fewer bytes (Lengths.antt)
 abbrev pub packedBytes : ℕ
 packedBytes = 8_192
 

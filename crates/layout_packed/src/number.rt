@@ -37,7 +37,8 @@ fn more(bytes: &[u8], start: usize, most: u64, low: u64) -> Number
     requires { ⌜ low < 128 ⌝ }
     requires { ⌜ start < length (now bytes) ⌝ }
     ensures { λ r. ⌜
-        shownNumber (now (bytes .entry)) start r ≡ moreFrom most start 128 low (start + 1) (drop (start + 1) (now (bytes .entry))) ⌝ }
+        shownNumber (now (bytes .entry)) start r
+        ≡ moreFrom most start 128 low (start + 1) (drop (start + 1) (now (bytes .entry))) ⌝ }
 {
     let mut n = low;
     let mut scale: u64 = 128;

@@ -1,5 +1,5 @@
 -- The numbers of a layout settle the layout.
-use Prim.Native.Nat.{ℕ, suc}
+use Prim.Native.Nat.{ℕ}
 use mathlib.Core.Path.{_≡_, refl, sym, ap, _∙_}
 use mathlib.Core.List.{List, [], _∷_, _++_, append-nil}
 use native.Mathlib.Omega.{arith}
@@ -7,7 +7,7 @@ use lib.ListN.{length}
 use lib.IntN.{ℤ}
 use Rattle.layouts.specs.Layout.{Vertex, Layout}
 use Rattle.layout_packed.specs.Groups.{zigzag}
-use Rattle.layout_packed.specs.Packed.{vertexNumbers, verticesNumbers, numbersOf}
+use Rattle.layout_packed.specs.Packed.{verticesNumbers, numbersOf}
 use Rattle.layout_packed.specs.Workings.Reader.{meant}
 use Rattle.layout_packed.specs.Laws.Zigzag.{meant-zigzag}
 
@@ -48,7 +48,9 @@ pub numbers-apart : (l k : Layout) → numbersOf l ≡ numbersOf k → l ≡ k
 numbers-apart l k e =
     let n : length (l .first) ≡ length (k .first) = cc in
     let m : length (l .second) ≡ length (k .second) = cc in
-    let both : verticesNumbers (l .first) ++ verticesNumbers (l .second) ≡ verticesNumbers (k .first) ++ verticesNumbers (k .second) = cc in
+    let both : verticesNumbers (l .first) ++ verticesNumbers (l .second)
+    ≡ verticesNumbers (k .first) ++ verticesNumbers (k .second) =
+    cc in
     let one = vertices-apart (l .first) (k .first) (verticesNumbers (l .second)) (verticesNumbers (k .second)) n both in
     let alone = append-nil (verticesNumbers (l .second)) ∙ one .rest ∙ sym (append-nil (verticesNumbers (k .second))) in
     let two = vertices-apart (l .second) (k .second) [] [] m alone in

@@ -1,20 +1,20 @@
 -- The reader's faults: where it stops, the numbers before are sound and the next one is none.
-use Prim.Native.Nat.{ℕ, zero, suc, _+_, _≤_, _<_}
+use Prim.Native.Nat.{ℕ, zero, suc, _+_}
 use mathlib.Core.Path.{_≡_, refl, sym, ap, _∙_}
-use mathlib.Core.List.{List, [], _∷_, _++_, append-assoc, append-nil}
+use mathlib.Core.List.{List, [], _∷_, _++_, append-nil}
 use native.Mathlib.Omega.{arith}
-use lib.ListN.{length, length-append}
+use lib.ListN.{length}
 use Rattle.layouts.specs.Limits as limit
 use Rattle.layouts.specs.Layout.{Vertex, Layout, VertexWithin, EachWithin, none, more, Within}
 use Rattle.layout_packed.specs.Limits as written
 use Rattle.layout_packed.specs.Packed.{vertexNumbers, verticesNumbers, numbersOf, joined, packedOf}
 use Rattle.layout_packed.specs.Fault.{Sound, unread, read, NoNumber, vertexLimits, verticesLimits, limitsOf, FaultAt}
-use Rattle.layout_packed.specs.Workings.Reader.{Got, fault, got, andThen, numberFrom, meant, vertexFrom, verticesFrom, layoutFrom}
-use Rattle.layout_packed.specs.Workings.Reader.{Unpacked, brokenAt, layout, atEnd, readsPacked}
+use Rattle.layout_packed.specs.Workings.Reader.{Got, fault, got, andThen, numberFrom, vertexFrom, verticesFrom, layoutFrom}
+use Rattle.layout_packed.specs.Workings.Reader.{brokenAt, layout, atEnd, readsPacked}
 use Rattle.layout_packed.specs.Laws.Number.{never, number-read, number-starts, number-spelt}
 use Rattle.layout_packed.specs.Laws.Zigzag.{zigzag-most}
-use Rattle.layout_packed.specs.Laws.Vertices.{Both, both, carried, Joined, joined-none, joined-one, joined-join, joined-append}
-use Rattle.layout_packed.specs.Laws.Vertices.{vertex-spelt, VerticesSpelt, vertices-spelt}
+use Rattle.layout_packed.specs.Laws.Vertices.{both, carried, Joined, joined-none, joined-one, joined-join}
+use Rattle.layout_packed.specs.Laws.Vertices.{vertex-spelt, vertices-spelt}
 use Rattle.layout_packed.specs.Laws.Order.{sound-longer, sound-join}
 
 -- ---- steps
@@ -255,13 +255,18 @@ layout-spelt bytes e =
     (layout-of bytes (sf .a) (ss .a) (sn .one) (sm .one) (sf .one) (ss .one))
 
 -- what the reader answers, by what was read
+
+-- a fault is no layout
+never-layout : {P : Type 0} {k : ℕ} {l : Layout} → brokenAt k ≡ layout l → P
+never-layout e = let z : _≡_ {A = ℕ} 0 1 = cc in absurd (omega arith)
+
 pub reads-fault : (bytes : List ℕ) {k : ℕ} → readsPacked bytes ≡ brokenAt k → FaultAt bytes k
 unfolding readsPacked
 reads-fault bytes {k} e = go (layoutFrom bytes) refl e
   where
     go : (g : Got Layout) → layoutFrom bytes ≡ g → atEnd g ≡ brokenAt k → FaultAt bytes k
     go (fault j) is e = let same : j ≡ k = cc in layout-fault bytes (is ∙ ap fault same)
-    go (got l at []) is e = let z : _≡_ {A = ℕ} 0 1 = cc in absurd (omega arith)
+    go (got l at []) is e = never-layout (sym e)
     go (got l at (b ∷ rest)) is e =
         let same : at ≡ k = cc in
         let s = layout-spelt bytes (is ∙ ap (λ (j : ℕ). got l j (b ∷ rest)) same) in
@@ -272,9 +277,9 @@ unfolding readsPacked packedOf
 reads-layout bytes {l} e = go (layoutFrom bytes) refl e
   where
     go : (g : Got Layout) → layoutFrom bytes ≡ g → atEnd g ≡ layout l → (bytes ≡ packedOf l) × Within l
-    go (fault j) is e = let z : _≡_ {A = ℕ} 0 1 = cc in absurd (omega arith)
+    go (fault j) is e = never-layout e
     go (got k at []) is e =
         let same : k ≡ l = cc in
         let s = layout-spelt bytes (is ∙ ap (λ (j : Layout). got j at []) same) in
         (s .is .spelt ∙ append-nil (joined (numbersOf l)), s .within)
-    go (got k at (b ∷ rest)) is e = let z : _≡_ {A = ℕ} 0 1 = cc in absurd (omega arith)
+    go (got k at (b ∷ rest)) is e = never-layout e

@@ -1,12 +1,12 @@
 -- Numbers: the groups of a number within its range are read as that number, and what is read is the groups of such a number. So
 -- no number's groups start with those of another.
-use Prim.Native.Nat.{ℕ, zero, suc, _+_, _*_, _-_, _/_, _%_, _≤_, _<_}
+use Prim.Native.Nat.{ℕ, suc, _+_, _*_, _-_, _/_, _%_, _≤_, _<_}
 use mathlib.Core.Path.{_≡_, refl, sym, ap, _∙_, subst}
 use mathlib.Core.Bool.{Bool, true, false, not, cond}
 use mathlib.Core.List.{List, [], _∷_, _++_}
 use native.Mathlib.Nat.{pos-of-ne-zero, mul-le-mul-right}
 use native.Mathlib.Omega.{arith}
-use lib.Dec.{T, ltb, eqb, ltb→lt, nltb→le, eqb→eq}
+use lib.Dec.{T, ltb, eqb, ltb→lt, nltb→le}
 use lib.ListN.{length}
 use borrow.Author.Tests.{eqb-false, lt-ltb, le-ltb, ne-eqb}
 use Rattle.layout_packed.specs.Groups.{groupsOf}
@@ -16,6 +16,9 @@ use Rattle.layout_packed.specs.Laws.Groups.{groups-small, groups-large, 
 -- `fault` is never `got`
 pub never : {A P : Type 0} {a : A} {k next : ℕ} {rest : List ℕ} → _≡_ {A = Got A} (fault k) (got a next rest) → P
 never e = let z : _≡_ {A = ℕ} 0 1 = cc in absurd (omega arith)
+
+pub same-fault : {A : Type 0} {k j : ℕ} → _≡_ {A = Got A} (fault j) (fault k) → k ≡ j
+same-fault e = cc
 
 -- ---- the groups of a number are read
 
@@ -189,7 +192,8 @@ module _ (most : ℕ) {m next : ℕ} {rest : List ℕ} where
     where
       go : (one : Bool) → (T one → b < 128) → (T (not one) → 128 ≤ b) → (beyond : Bool) → (T (not beyond) → b ≤ most)
           → (byte : Bool) → (T byte → b < 256)
-          → cond one (cond beyond (fault at) (got b (at + 1) t)) (cond byte (moreFrom most at 128 (b - 128) (at + 1) t) (fault at))
+          → cond one (cond beyond (fault at) (got b (at + 1) t))
+          (cond byte (moreFrom most at 128 (b - 128) (at + 1) t) (fault at))
           ≡ got m next rest
           → Spelt most at (b ∷ t) m next rest
       go true small large true within byte is e = never e
@@ -220,7 +224,7 @@ groups-apart n m r s e =
 
 more-starts : (most start : ℕ) (t : List ℕ) (scale n at : ℕ) {k : ℕ} → moreFrom most start scale n at t ≡ fault k → k ≡ start
 unfolding moreFrom
-more-starts most start [] scale n at e = cc
+more-starts most start [] scale n at e = same-fault e
 more-starts most start (b ∷ t) scale n at {k} e =
     go (ltb most scale) (ltb b 128) (eqb b 0) (ltb most (n + b * scale)) (ltb b 256)
     (more-starts most start t (scale * 128) (n + (b - 128) * scale) (at + 1)) e
@@ -236,23 +240,23 @@ more-starts most start (b ∷ t) scale n at {k} e =
         (cond byte (moreFrom most start (scale * 128) (n + (b - 128) * scale) (at + 1) t) (fault start)))
         ≡ fault k
         → k ≡ start
-    go true last padded beyond byte later e = cc
-    go false true true beyond byte later e = cc
-    go false true false true byte later e = cc
+    go true last padded beyond byte later e = same-fault e
+    go false true true beyond byte later e = same-fault e
+    go false true false true byte later e = same-fault e
     go false true false false byte later e = none e
     go false false padded beyond true later e = later e
-    go false false padded beyond false later e = cc
+    go false false padded beyond false later e = same-fault e
 
 pub number-starts : (most at : ℕ) (t : List ℕ) {k : ℕ} → numberFrom most at t ≡ fault k → k ≡ at
 unfolding numberFrom
-number-starts most at [] e = cc
+number-starts most at [] e = same-fault e
 number-starts most at (b ∷ t) {k} e = go (ltb b 128) (ltb most b) (ltb b 256) e
   where
     go : (one beyond byte : Bool)
         → cond one (cond beyond (fault at) (got b (at + 1) t)) (cond byte (moreFrom most at 128 (b - 128) (at + 1) t) (fault at))
         ≡ fault k
         → k ≡ at
-    go true true byte e = cc
+    go true true byte e = same-fault e
     go true false byte e = never (sym e)
     go false beyond true e = more-starts most at t 128 (b - 128) (at + 1) e
-    go false beyond false e = cc
+    go false beyond false e = same-fault e

@@ -10,7 +10,7 @@ use Rattle.put_text.specs.Workings.Put.{Put, PutIn}
 use Rattle.put_text.specs.Laws.Put.{put-join}
 use Rattle.layout_packed.specs.Groups.{groupsOf}
 use Rattle.layout_packed.specs.Packed.{joined}
-use Rattle.layout_packed.specs.Laws.Groups.{groups-small, groups-large, groups-long, by-groups}
+use Rattle.layout_packed.specs.Laws.Groups.{groups-small, groups-large, groups-long}
 
 pub groups-one : (n : ℕ) → n < 128 → length (groupsOf n) ≡ 1
 groups-one n h = rw (groups-small n h)

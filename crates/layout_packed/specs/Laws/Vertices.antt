@@ -1,15 +1,15 @@
 -- Vertices: what is read is the groups of the numbers of vertices within the limits.
-use Prim.Native.Nat.{ℕ, zero, suc, _+_, _≤_}
+use Prim.Native.Nat.{ℕ, zero, suc, _+_}
 use mathlib.Core.Path.{_≡_, refl, sym, ap, _∙_, subst}
 use mathlib.Core.List.{List, [], _∷_, _++_, append-assoc, append-nil}
 use native.Mathlib.Omega.{arith}
 use lib.ListN.{length, length-append}
 use Rattle.layouts.specs.Limits as limit
-use Rattle.layouts.specs.Layout.{Vertex, Layout, VertexWithin, EachWithin, none, more, Within}
+use Rattle.layouts.specs.Layout.{Vertex, VertexWithin, EachWithin, none, more}
 use Rattle.layout_packed.specs.Limits as written
 use Rattle.layout_packed.specs.Groups.{groupsOf}
-use Rattle.layout_packed.specs.Packed.{vertexNumbers, verticesNumbers, numbersOf, joined, packedOf}
-use Rattle.layout_packed.specs.Workings.Reader.{Got, fault, got, andThen, numberFrom, meant, vertexFrom, verticesFrom, layoutFrom}
+use Rattle.layout_packed.specs.Packed.{vertexNumbers, verticesNumbers, joined}
+use Rattle.layout_packed.specs.Workings.Reader.{Got, fault, got, andThen, numberFrom, meant, vertexFrom, verticesFrom}
 use Rattle.layout_packed.specs.Laws.Number.{never, Spelt, number-spelt}
 use Rattle.layout_packed.specs.Laws.Zigzag.{zigzag-meant, meant-most}
 
@@ -124,7 +124,8 @@ more-spelt one later =
       count = ap suc (later .count);
     }
 
-pub vertices-spelt : (n at : ℕ) (t : List ℕ) {vs : List Vertex} {next : ℕ} {rest : List ℕ} → verticesFrom n at t ≡ got vs next rest
+pub vertices-spelt : (n at : ℕ) (t : List ℕ) {vs : List Vertex} {next : ℕ} {rest : List ℕ}
+    → verticesFrom n at t ≡ got vs next rest
     → VerticesSpelt n vs at t next rest
 unfolding verticesFrom
 vertices-spelt zero at t e =

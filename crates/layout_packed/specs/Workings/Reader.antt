@@ -1,8 +1,9 @@
--- The reader, as a function of the remaining bytes and of the offset at which they start: what it has read, the offset after that,
--- and what remains there; or the offset of the fault. Exactly.antt proves that it accepts the packed forms of Packed.antt and no
--- others, and reads the packed form of a layout as that layout; Fault.antt says which offset it tells otherwise.
+-- The reader, as a function of the remaining bytes and of the offset at which they start: what it has read, the offset after
+-- that, and what remains there; or the offset of the fault. Exactly.antt proves that it accepts the packed forms of
+-- Packed.antt and no others, and reads the packed form of a layout as that layout; Fault.antt says which offset it tells
+-- otherwise.
 use Prim.Native.Nat.{ℕ, zero, suc, _+_, _*_, _-_, _/_, _%_}
-use mathlib.Core.Bool.{Bool, true, false, cond}
+use mathlib.Core.Bool.{Bool, cond}
 use mathlib.Core.List.{List, [], _∷_}
 use lib.Dec.{ltb, eqb}
 use lib.IntN.{ℤ}
@@ -31,8 +32,8 @@ passed (got a at rest) = over at rest
 
 -- ---- numbers of at most `most`
 
--- The groups that follow in a number that starts at `start`: n is what the groups before them give, and `scale` is what a 1 of the
--- next one counts. The last group is not 0, so a number that goes on is at least `scale`.
+-- The groups that follow in a number that starts at `start`: n is what the groups before them give, and `scale` is what a 1
+-- of the next one counts. The last group is not 0, so a number that goes on is at least `scale`.
 unfoldable pub moreFrom : ℕ → ℕ → ℕ → ℕ → ℕ → List ℕ → Got ℕ
 moreFrom most start scale n at [] = fault start
 moreFrom most start scale n at (b ∷ rest) =

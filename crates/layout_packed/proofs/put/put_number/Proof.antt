@@ -1,5 +1,5 @@
--- `layout_packed::put::put_number` meets its contract. The loop's invariant: to put the groups that are left after what stands now
--- is to put all of them, and there is room for them. Assumes nothing.
+-- `layout_packed::put::put_number` meets its contract. The loop's invariant: to put the groups that are left after what
+-- stands now is to put all of them, and there is room for them. Assumes nothing.
 use Prim.Native.Nat.{ℕ, _+_, _≤_}
 use mathlib.Core.Path.{_≡_, refl, _∙_}
 use mathlib.Core.List.{List}

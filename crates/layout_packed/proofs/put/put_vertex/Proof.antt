@@ -42,7 +42,8 @@ returns c =
     let two = three .before .before .before .before in
     let one = two .before .before .before .before in
     let start = one .before .before .before in
-    put-three _ _ _ _ (omega (arith, sizes start)) (one .put-signed .ensures) (two .put-signed2 .ensures) (three .put-signed3 .ensures)
+    put-three _ _ _ _ (omega (arith, sizes start)) (one .put-signed .ensures) (two .put-signed2 .ensures)
+    (three .put-signed3 .ensures)
 
 pub put-vertex-spec : {M : Type 1} → statement M
 put-vertex-spec =

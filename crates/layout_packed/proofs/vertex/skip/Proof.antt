@@ -1,5 +1,5 @@
--- `layout_packed::vertex::skip` meets its contract. The loop's invariant: after the vertices that are left stands what stands after
--- all. Assumes nothing.
+-- `layout_packed::vertex::skip` meets its contract. The loop's invariant: after the vertices that are left stands what stands
+-- after all. Assumes nothing.
 use Prim.Native.Nat.{_-_}
 use mathlib.Core.Path.{_≡_}
 use native.Mathlib.Nat.{sub-zero}
