@@ -6,10 +6,11 @@ use lib.ListN.{length}
 use lib.IntN.{ℤ}
 use Rattle.layouts.specs.Limits as limit
 use Rattle.layouts.specs.Layout.{magnitude, whole, wholeVertex, VertexWithin}
+use Rattle.layouts.specs.Laws.Whole.{size-whole}
 use Rattle.layout_packed.specs.Limits as written
 use Rattle.layout_packed.specs.Groups.{groupsOf, zigzag}
 use Rattle.layout_packed.specs.Laws.Groups.{groups-long}
-use Rattle.layout_packed.specs.Laws.Zigzag.{zigzag-most, magnitude-whole}
+use Rattle.layout_packed.specs.Laws.Zigzag.{zigzag-most}
 
 pub count-long : (n : ℕ) → n ≤ limit.vertices → length (groupsOf n) ≤ written.countBytes
 count-long n h = groups-long 1 n (omega arith)
@@ -41,9 +42,9 @@ pub sizes-of : (x-minus : Bool) (x : ℕ) (y-minus : Bool) (y : ℕ) (b-minus : 
     → Sizes x-minus x y-minus y b-minus b
 sizes-of x-minus x y-minus y b-minus b w =
     record {
-      x-most = omega (arith, magnitude-whole x-minus x, w .x-within);
-      y-most = omega (arith, magnitude-whole y-minus y, w .y-within);
-      b-most = omega (arith, magnitude-whole b-minus b, w .bulge-within);
+      x-most = omega (arith, size-whole x-minus x, w .x-within);
+      y-most = omega (arith, size-whole y-minus y, w .y-within);
+      b-most = omega (arith, size-whole b-minus b, w .bulge-within);
       x-bytes = coordinate-short (whole x-minus x) (w .x-within);
       y-bytes = coordinate-short (whole y-minus y) (w .y-within);
       b-bytes = bulge-short (whole b-minus b) (w .bulge-within);

@@ -70,8 +70,3 @@ most-zigzag (negsuc n) m h = omega arith
 
 pub meant-most : (n m : ℕ) → n ≤ 2 * m → magnitude (meant n) ≤ m
 meant-most n m h = most-zigzag (meant n) m (omega (arith, zigzag-meant n))
-
-pub magnitude-whole : (minus : Bool) (n : ℕ) → magnitude (whole minus n) ≡ n
-magnitude-whole false n = refl
-magnitude-whole true zero = refl
-magnitude-whole true (suc n) = refl
