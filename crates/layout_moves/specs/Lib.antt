@@ -1,5 +1,5 @@
 -- What moving a layout promises (Moves); then what is proved of it (BackAndForth, MovePromise, PackPromise, UnpackPromise,
--- RoundTrip, ReadEnough). A reader need not believe Workings and Laws.
+-- RoundTrip, ReadEnough, Examples). A reader need not believe Workings and Laws.
 pub mod Moves
 pub mod Workings
 pub mod Laws
@@ -9,3 +9,4 @@ pub mod PackPromise
 pub mod UnpackPromise
 pub mod RoundTrip
 pub mod ReadEnough
+pub mod Examples
