@@ -6,8 +6,8 @@ use Prim.Native.Nat.{ℕ}
 use lib.ListN.{replicate}
 use lib.Ieee.{Float, nan, inf, binary64, ofBits, ofFields, toBits, odd, size, span, climb}
 use Rattle.put_text.specs.Decimal.{decimal, decimalIn}
-use Rattle.answer_lines.specs.Lines.{glyph, hex, numberText, classText, pointsText, rowText, refusedText, refusedAtText, countText}
-use Rattle.answer_lines.specs.Lines.{rowAt, rowsText, answerText}
+use Rattle.answer_lines.specs.Lines.{glyph, hex, numberText, classText, pointsText, rowText}
+use Rattle.answer_lines.specs.Lines.{refusedText, refusedAtText, countText, rowAt, rowsText, answerText}
 
 -- "refused 10" and a newline
 abbrev refusedLine : List ℕ

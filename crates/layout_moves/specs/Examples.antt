@@ -31,8 +31,8 @@ unfolding pack reads linesOf verticesOf vertexOf wholeOf countOf zeroOf positive
 is-packed = refl
 
 pub is-unpacked : unpack scopeFile ≡ bytes scopeText
-unfolding unpack readsPacked layoutFrom verticesFrom vertexFrom numberFrom moreFrom meant textOf countsText verticesText vertexText
-    wholeText decimal decimalIn
+unfolding unpack readsPacked layoutFrom verticesFrom vertexFrom numberFrom moreFrom meant textOf countsText verticesText
+    vertexText wholeText decimal decimalIn
 is-unpacked = refl
 
 -- "2 2" without its newline
