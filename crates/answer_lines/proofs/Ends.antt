@@ -7,9 +7,9 @@ use native.Mathlib.Omega.{arith}
 use lib.ListN.{length}
 use lib.Ieee.{Float}
 use Rattle.answer_lines.specs.Lines.{rowAt, rowsText}
-use Rattle.answer_lines.specs.Workings.Put.{Put}
+use Rattle.put_text.specs.Workings.Put.{Put}
 use Rattle.answer_lines.specs.Written.{Lines}
-use Rattle.answer_lines.specs.Laws.Put.{put-none, put-join}
+use Rattle.put_text.specs.Laws.Put.{put-none, put-join}
 use Rattle.answer_lines.specs.declared.Written.the-variants as Written·
 
 -- ---- rows

@@ -5,9 +5,9 @@ use mathlib.Core.List.{List, [], _∷_, _++_}
 use Prim.Native.Nat.{ℕ}
 use lib.ListN.{replicate}
 use lib.Ieee.{Float, nan, inf, binary64, ofBits, ofFields, toBits, odd, size, span, climb}
-use Rattle.layout_text.specs.Decimal.{decimal, decimalIn}
-use Rattle.answer_lines.specs.Lines.{glyph, hex, numberText, classText, pointsText, rowText, refusedText, countText}
-use Rattle.answer_lines.specs.Lines.{rowAt, rowsText, answerText}
+use Rattle.put_text.specs.Decimal.{decimal, decimalIn}
+use Rattle.answer_lines.specs.Lines.{glyph, hex, numberText, classText, pointsText, rowText}
+use Rattle.answer_lines.specs.Lines.{refusedText, refusedAtText, countText, rowAt, rowsText, answerText}
 
 -- "refused 10" and a newline
 abbrev refusedLine : List ℕ
@@ -18,6 +18,16 @@ refusedLine =
 pub refused-ten : refusedText 10 ≡ refusedLine
 unfolding refusedText decimal decimalIn
 refused-ten = refl
+
+-- "refused 18 at 5636" and a newline
+abbrev refusedAtLine : List ℕ
+refusedAtLine =
+    114 ∷ 101 ∷ 102 ∷ 117 ∷ 115 ∷ 101 ∷ 100 ∷ 32 ∷ 49 ∷ 56 ∷ 32 ∷ 97 ∷ 116 ∷ 32 ∷ 53 ∷ 54 ∷ 51 ∷ 54 ∷ 10
+    ∷ []
+
+pub refused-eighteen : refusedAtText 18 5636 ≡ refusedAtLine
+unfolding refusedAtText decimal decimalIn
+refused-eighteen = refl
 
 abbrev two : Float
 two = ofBits binary64 0x4000_0000_0000_0000

@@ -1,4 +1,4 @@
 -- Laws that only proofs need. A reader need not believe them: they are proved.
-pub mod Put
+pub mod Hex
 pub mod Lines
 pub mod Sizes

@@ -6,7 +6,7 @@ use mathlib.Core.List.{List, [], _∷_, _++_}
 use lib.Dec.{ltb, eqb}
 use lib.ListN.{getD}
 use lib.Ieee.{Float, nan, binary64, toBits}
-use Rattle.layout_text.specs.Decimal.{decimal}
+use Rattle.put_text.specs.Decimal.{decimal}
 
 -- ---- words
 
@@ -19,6 +19,10 @@ newline = 10 ∷ []
 -- "refused "
 abbrev pub refusedWord : List ℕ
 refusedWord = 114 ∷ 101 ∷ 102 ∷ 117 ∷ 115 ∷ 101 ∷ 100 ∷ 32 ∷ []
+
+-- " at "
+abbrev pub atWord : List ℕ
+atWord = 32 ∷ 97 ∷ 116 ∷ 32 ∷ []
 
 -- "pairs "
 abbrev pub pairsWord : List ℕ
@@ -103,6 +107,10 @@ rowText i j class x1 y1 x2 y2 =
 
 unfoldable pub refusedText : ℕ → List ℕ
 refusedText n = refusedWord ++ decimal n ++ newline
+
+-- a refusal with the offset of the fault
+unfoldable pub refusedAtText : ℕ → ℕ → List ℕ
+refusedAtText n k = refusedWord ++ decimal n ++ atWord ++ decimal k ++ newline
 
 unfoldable pub countText : ℕ → ℕ → List ℕ
 countText pairs rows = pairsWord ++ decimal pairs ++ rowsWord ++ decimal rows ++ newline

@@ -10,17 +10,21 @@ use borrow.Author.Tests.{le-ltb, lt-leb}
 use lib.ListN.{length, getD, drop}
 use lib.Seq.{sets-eq}
 use lib.Ieee.{Float}
-use Rattle.answer_lines.specs.Lines.{indicesARow, pointsARow, refusedText, countText, rowText, answerText}
+use Rattle.answer_lines.specs.Lines.{indicesARow, pointsARow, refusedText, refusedAtText, countText, rowText, answerText}
 use Rattle.answer_lines.specs.Sizes as sizes
 use Rattle.answer_lines.specs.Sizes.{line, roomFor}
-use Rattle.answer_lines.specs.Written.{Lines, RefusalLine, AnswerLines}
+use Rattle.answer_lines.specs.Written.{Lines, RefusalLine, RefusalAtLine, AnswerLines}
 use Rattle.answer_lines.specs.declared.Written.{Written}
 use Rattle.answer_lines.specs.declared.Written.the-variants as Written·
-use Rattle.answer_lines.specs.Laws.Sizes.{refusal-short, counts-short, row-short, answer-short}
+use Rattle.answer_lines.specs.Laws.Sizes.{refusal-short, refusal-at-short, counts-short, row-short, answer-short}
 
--- ---- text lines, with their newlines: a refusal has at most 29 bytes, the counts at most 53, a row at most 118
+-- ---- text lines, with their newlines: a refusal has at most 29 bytes, one with an offset at most 53, as the counts have, and a
+-- row at most 118
 pub refusal-line : (n : ℕ) → n < 2 ^ 64 → length (refusedText n) ≤ sizes.refusal
 refusal-line = refusal-short
+
+pub refusal-at-line : (n k : ℕ) → n < 2 ^ 64 → k < 2 ^ 64 → length (refusedAtText n k) ≤ sizes.refusalAt
+refusal-at-line = refusal-at-short
 
 pub counts-line : (pairs rows : ℕ) → pairs < 2 ^ 64 → rows < 2 ^ 64 → length (countText pairs rows) ≤ sizes.counts
 counts-line = counts-short
@@ -32,6 +36,9 @@ row-line = row-short
 -- ---- answers: at most 128 bytes for each text line
 pub refusal-fits : (n : ℕ) → n < 2 ^ 64 → length (refusedText n) ≤ line
 refusal-fits n h = omega (arith, refusal-line n h)
+
+pub refusal-at-fits : (n k : ℕ) → n < 2 ^ 64 → k < 2 ^ 64 → length (refusedAtText n k) ≤ line
+refusal-at-fits n k h g = omega (arith, refusal-at-line n k h g)
 
 pub answer-fits : (pairs rows : ℕ) (index : List ℕ) (points : List Float)
     → pairs < 2 ^ 64 → rows < 2 ^ 64 → ((k : ℕ) → getD index k 0 < 2 ^ 64)
@@ -62,6 +69,12 @@ pub refusal-whole : (n : ℕ) (r : Written) (old now : List ℕ) → n < 2 ^ 64 
 refusal-whole n r old now h room l =
     let k : Lines false false (refusedText n) r old now = rw (le-ltb (length old) line room) at l in
     lines-whole (refusedText n) r old now k (omega (arith, refusal-fits n h))
+
+pub refusal-at-whole : (n k : ℕ) (r : Written) (old now : List ℕ) → n < 2 ^ 64 → k < 2 ^ 64 → line ≤ length old
+    → RefusalAtLine n k r old now → Whole (refusedAtText n k) r old now
+refusal-at-whole n k r old now h g room l =
+    let kept : Lines false false (refusedAtText n k) r old now = rw (le-ltb (length old) line room) at l in
+    lines-whole (refusedAtText n k) r old now kept (omega (arith, refusal-at-fits n k h g))
 
 pub answer-whole : (pairs rows : ℕ) (index : List ℕ) (points : List Float) (r : Written) (old now : List ℕ)
     → pairs < 2 ^ 64 → rows < 2 ^ 64 → ((k : ℕ) → getD index k 0 < 2 ^ 64)

@@ -1,6 +1,7 @@
 -- How much room a text line needs, and how many bytes its parts have at most. The contracts of src/ use these sizes; LINE of
 -- src/lib.rt is `line`. Room.antt proves them for the text of every answer.
 use Prim.Native.Nat.{ℕ, _+_, _*_}
+use Rattle.put_text.specs.Sizes.{whole}
 use Rattle.answer_lines.specs.Lines.{pointsARow}
 
 -- how many bytes of room a text line needs
@@ -10,10 +11,6 @@ line = 128
 -- the room for the text line with the counts and this many rows
 abbrev pub roomFor : ℕ → ℕ
 roomFor rows = (rows + 1) * line
-
--- a number below 2^64, in decimal digits
-abbrev pub whole : ℕ
-whole = 20
 
 -- a space and a float's bits, in hex digits
 abbrev pub float : ℕ
@@ -32,6 +29,10 @@ points = pointsARow * float
 -- "refused " and a number
 abbrev pub refusal : ℕ
 refusal = 8 + whole + 1
+
+-- the same, " at " and an offset
+abbrev pub refusalAt : ℕ
+refusalAt = 8 + whole + 4 + whole + 1
 
 -- "pairs ", a number, " rows ", a number
 abbrev pub counts : ℕ

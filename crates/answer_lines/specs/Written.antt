@@ -9,7 +9,7 @@ use lib.Dec.{leb, ltb}
 use lib.ListN.{length}
 use lib.Seq.{sets}
 use lib.Ieee.{Float}
-use Rattle.answer_lines.specs.Lines.{indicesARow, pointsARow, refusedText, answerText}
+use Rattle.answer_lines.specs.Lines.{indicesARow, pointsARow, refusedText, refusedAtText, answerText}
 use Rattle.answer_lines.specs.Sizes.{line}
 use Rattle.answer_lines.specs.declared.Written.{Written}
 use Rattle.answer_lines.specs.declared.Written.the-variants as Written·
@@ -22,6 +22,10 @@ pub record Lines (rowless roomless : Bool) (bytes : List ℕ) (r : Written) (old
 -- a refusal's text line
 abbrev pub RefusalLine : ℕ → Written → List ℕ → List ℕ → Type 0
 RefusalLine number r old now = Lines false (ltb (length old) line) (refusedText number) r old now
+
+-- a refusal's text line with the offset of the fault
+abbrev pub RefusalAtLine : ℕ → ℕ → Written → List ℕ → List ℕ → Type 0
+RefusalAtLine number place r old now = Lines false (ltb (length old) line) (refusedAtText number place) r old now
 
 -- the counts and the rows
 abbrev pub AnswerLines : ℕ → ℕ → List ℕ → List Float → Written → List ℕ → List ℕ → Type 0

@@ -1,8 +1,8 @@
 // The writer: an answer as text lines. specs/Lines.antt has the text, and specs/Written.antt what the writer promises.
-ghost use Rattle.answer_lines.specs.Written.{RefusalLine, AnswerLines};
-use put::put_byte;
-use put::put_whole;
-use put::put_word;
+ghost use Rattle.answer_lines.specs.Written.{RefusalLine, RefusalAtLine, AnswerLines};
+use put_text::put_byte;
+use put_text::put_whole;
+use put_text::put_word;
 use rows::put_counts;
 use rows::put_rows;
 
@@ -35,6 +35,21 @@ pub fn write_refusal(number: u64, out: &mut [u8]) -> Written
     let b = put_whole(out, a, number);
     let c = put_byte(out, b, b'\n');
     Written::Length(c)
+}
+
+// Writes the text line of a refusal that tells the offset of the fault.
+pub fn write_refusal_at(number: u64, place: usize, out: &mut [u8]) -> Written
+    ensures { λ r. ⌜ RefusalAtLine number place r (now (out .entry)) (now (out .exit)) ⌝ }
+{
+    if out.len() < LINE {
+        return Written::NoRoom;
+    }
+    let a = put_word(out, 0, b"refused ");
+    let b = put_whole(out, a, number);
+    let c = put_word(out, b, b" at ");
+    let d = put_whole(out, c, place as u64);
+    let e = put_byte(out, d, b'\n');
+    Written::Length(e)
 }
 
 // Writes the text line with the counts and one for each row.

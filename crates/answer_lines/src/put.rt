@@ -1,56 +1,12 @@
-// Puts bytes into a lent slice from a place on. Each function answers the place after what it put.
+// Puts the bits of a float into a lent slice from a place on. Each function answers the place after what it put.
 ghost use mathlib.Core.Path.{_≡_};
-ghost use mathlib.Core.List.{[], _∷_};
 ghost use Prim.Native.Nat.{_+_, _≤_, _<_};
 ghost use lib.ListN.{length};
 ghost use lib.Ieee.{binary64, toBits};
-ghost use Rattle.layout_text.specs.Decimal.{decimal};
+ghost use Rattle.put_text.specs.Workings.Put.{Put, PutIn};
 ghost use Rattle.answer_lines.specs.Lines as lines;
-ghost use Rattle.answer_lines.specs.Workings.Put.{Put, PutIn};
 ghost use Rattle.answer_lines.specs.Sizes as sizes;
-
-// A byte.
-pub fn put_byte(out: &mut [u8], at: usize, b: u8) -> usize
-    requires { ⌜ at < length (now out) ⌝ }
-    ensures { λ r. ⌜ Put (b ∷ []) (now (out .entry)) at (now (out .exit)) r ⌝ }
-{
-    out[at] = b;
-    at + 1
-}
-
-// A word.
-pub fn put_word(out: &mut [u8], at: usize, word: &[u8]) -> usize
-    requires { ⌜ at + length (now word) ≤ length (now out) ⌝ }
-    ensures { λ r. ⌜ Put (now (word .entry)) (now (out .entry)) at (now (out .exit)) r ⌝ }
-{
-    let mut i = 0;
-    while i < word.len() {
-        out[at + i] = word[i];
-        i += 1;
-    }
-    at + i
-}
-
-// A number in decimal digits, at most 20 of them.
-pub fn put_whole(out: &mut [u8], at: usize, n: u64) -> usize
-    requires { ⌜ at + sizes.whole ≤ length (now out) ⌝ }
-    ensures { λ r. ⌜ PutIn sizes.whole (decimal n) (now (out .entry)) at (now (out .exit)) r ⌝ }
-{
-    put_decimal(out, at, n)
-}
-
-fn put_decimal(out: &mut [u8], at: usize, n: u64) -> usize
-    requires { ⌜ at + length (decimal n) ≤ length (now out) ⌝ }
-    ensures { λ r. ⌜ Put (decimal n) (now (out .entry)) at (now (out .exit)) r ⌝ }
-{
-    if n < 10 {
-        out[at] = 48 + n as u8;
-        return at + 1;
-    }
-    let next = put_decimal(out, at, n / 10);
-    out[next] = 48 + (n % 10) as u8;
-    next + 1
-}
+use put_text::put_byte;
 
 // The last k hex digits of a number.
 fn put_hex(out: &mut [u8], at: usize, k: usize, n: u64) -> usize

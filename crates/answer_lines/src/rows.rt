@@ -2,14 +2,14 @@
 ghost use Prim.Native.Nat.{_+_, _*_, _≤_};
 ghost use lib.ListN.{length};
 ghost use Rattle.answer_lines.specs.Lines as lines;
-ghost use Rattle.answer_lines.specs.Workings.Put.{Put, PutIn};
+ghost use Rattle.put_text.specs.Workings.Put.{Put, PutIn};
 ghost use Rattle.answer_lines.specs.Sizes as sizes;
 use super::INDICES;
 use super::POINTS;
-use super::put::put_byte;
 use super::put::put_number;
-use super::put::put_whole;
-use super::put::put_word;
+use put_text::put_byte;
+use put_text::put_whole;
+use put_text::put_word;
 
 // The name of a class.
 fn put_class(out: &mut [u8], at: usize, class: u64) -> usize

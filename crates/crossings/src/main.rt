@@ -1,11 +1,10 @@
 // Lists where the two paths of a layout meet: it reads the layout's text from standard input and writes the listing's text to
 // standard output. If a read or a write fails, it says so in one text line on standard error.
 use answer_lines::Written;
-use layout_text::limits;
 
 fn main() {
     // one byte more than a text may have, so that a longer text is noticed
-    let mut text = [0u8; limits::BYTES + 1];
+    let mut text = [0u8; layout_text::BYTES + 1];
     let input = streams::read_full(&mut text);
     if input.failed {
         io::write_all(

@@ -6,7 +6,7 @@ use mathlib.Core.List.{List}
 use lib.Dec.{ltb}
 use lib.Ieee.{Float, binary64, ofBits}
 use lib.ListN.{length, replicate}
-use Rattle.layout_text.specs.Numbers.{pathOf}
+use Rattle.layouts.specs.Numbers.{pathOf}
 use Rattle.layout_text.specs.Read.{refusal}
 use Rattle.layout_text.specs.Workings.Reader.{Taken, broken, layout, reads}
 use Rattle.answer_lines.specs.declared.Written.{Written}

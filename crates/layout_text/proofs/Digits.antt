@@ -10,7 +10,8 @@ use lib.Dec.{eqb, ltb}
 use lib.ListN.{length, drop, getD, drop-of-length-le}
 use lib.Seq.{drop-cons}
 use lib.IntN.{ℤ}
-use Rattle.layout_text.specs.Workings.Reader.{Got, nothing, got, other, kindOf, firstKind, digitsOf, whole}
+use Rattle.layouts.specs.Layout.{whole}
+use Rattle.layout_text.specs.Workings.Reader.{Got, nothing, got, other, kindOf, firstKind, digitsOf}
 
 -- `all` is what the whole reads as; the digits so far are n, and k is what the call said of the byte at i
 module _ (text : List ℕ) (negative : Bool) (most end n i : ℕ) (all : Got ℤ)

@@ -6,7 +6,7 @@ use mathlib.Core.List.{List}
 use borrow.Author.Tests.{lt-ltb, le-ltb}
 use lib.ListN.{length, drop}
 use lib.Ieee.{Float}
-use Rattle.layout_text.specs.Limits as limit
+use Rattle.layouts.specs.Limits as limit
 use Rattle.layout_text.specs.Workings.Reader.{broken, verticesOf, reads}
 use Rattle.layout_text.specs.Workings.Shown.{Filled, Fitting, Shaped}
 use Rattle.layout_text.specs.Read.{ReadLayout, refusal, roomless}
@@ -47,6 +47,3 @@ module _ (text : List ℕ) (first second : List Float) where
             first-holds = rw (roomy, fit .is) (wrote-first (fit .first) _ (fit .first-read));
             second-holds = rw (roomy, fit .is) (wrote-second (fit .second) _ (fit .second-read));
           }
-
-pub fits-of : (text : List ℕ) {s : Shape} {n m a b : ℕ} → Shaped text s → s ≡ Shape·.Fits n m a b → Fitting text n m a b
-fits-of text shaped e = rw e at shaped

@@ -1,32 +1,29 @@
 -- A text, part by part: if a part is missing the text breaks its form; if all are there and nothing more, it is the text of a
 -- layout.
-use Prim.Native.Nat.{ℕ, zero, suc, _≤_, _<_}
+use Prim.Native.Nat.{ℕ, _≤_, _<_}
 use mathlib.Core.Path.{_≡_, refl, sym, ap, _∙_, subst}
-use mathlib.Core.Bool.{Bool, true, false}
+use mathlib.Core.Bool.{Bool}
 use mathlib.Core.List.{List}
 use native.Mathlib.Omega.{arith}
 use borrow.Author.Tests.{le-ltb, lt-ltb}
 use lib.ListN.{length, drop, drop-of-length-le}
 use lib.Seq.{drop-cons}
 use lib.IntN.{ℤ, pos}
-use Rattle.layout_text.specs.Limits as limit
-use Rattle.layout_text.specs.Layout.{Vertex, magnitude}
-use Rattle.layout_text.specs.Workings.Reader.{Got, nothing, got, stuck, over, passed, other, space, newline, countOf, whole}
+use Rattle.layouts.specs.Limits as limit
+use Rattle.layouts.specs.Layout.{Vertex, whole}
+use Rattle.layouts.specs.Laws.Whole.{size-whole}
+use Rattle.layout_text.specs.Form.{bytes}
+use Rattle.layout_text.specs.Workings.Reader.{Got, nothing, got, stuck, over, passed, other, space, newline, countOf}
 use Rattle.layout_text.specs.Workings.Reader.{verticesOf, linesOf, broken, reads}
 use Rattle.layout_text.specs.Workings.Shown.{shownNumber, shownPlace, Fitting}
 use Rattle.layout_text.specs.Laws.Sound.{count-spelt}
-use Rattle.layout_text.proofs.CaseSays.{a-number}
+use Rattle.layout_text.specs.Laws.Said.{a-number}
 use Rattle.layout_text.specs.declared.number.Number.{Number}
 use Rattle.layout_text.specs.declared.number.Number.the-variants as Number·
 use Rattle.layout_text.specs.declared.vertex.Place.{Place}
 use Rattle.layout_text.specs.declared.vertex.Place.the-variants as Place·
 
 -- ---- a count has no minus
-
-size-whole : (negative : Bool) (n : ℕ) → magnitude (whole negative n) ≡ n
-size-whole false n = refl
-size-whole true zero = refl
-size-whole true (suc n) = refl
 
 pub record Count (most end n : ℕ) (t rest : List ℕ) : Type 0 where
   pub is : countOf most end t ≡ got (pos n) rest
@@ -70,7 +67,7 @@ module _ (text : List ℕ) {g : Got (List Vertex)} {r : Place} (is : shownPlace 
 
 -- ---- a text
 
-pub too-long : (text : List ℕ) → limit.bytes < length text → reads text ≡ broken
+pub too-long : (text : List ℕ) → bytes < length text → reads text ≡ broken
 unfolding reads
 too-long text h = rw (lt-ltb _ _ h)
 
@@ -78,7 +75,7 @@ module _ (text : List ℕ) where
   -- what is read up to a place: both counts; then both paths
   pub record Counts (n m at : ℕ) : Type 0 where
     pub after-n : ℕ
-    pub short : length text ≤ limit.bytes
+    pub short : length text ≤ bytes
     pub n-is : Count limit.vertices space n text (drop after-n text)
     pub m-is : Count limit.vertices newline m (drop after-n text) (drop at text)
 
@@ -87,7 +84,7 @@ module _ (text : List ℕ) where
     pub one : Over (verticesOf n (drop first text)) (drop second text)
     pub two : Over (verticesOf m (drop second text)) (drop at text)
 
-  module _ (short : length text ≤ limit.bytes) where
+  module _ (short : length text ≤ bytes) where
     lines-missing : linesOf text ≡ nothing → reads text ≡ broken
     unfolding reads
     lines-missing e = rw (le-ltb _ _ short, e)

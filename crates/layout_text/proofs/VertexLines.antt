@@ -1,16 +1,16 @@
--- A vertex's text line, number by number, and one turn of a loop over vertices: the text line at hand, then those left.
+-- A vertex's text line, number by number, and one turn of a loop that passes or writes vertices.
 use Prim.Native.Nat.{ℕ, suc, _+_, _-_, _≤_, _<_}
-use mathlib.Core.Path.{_≡_, refl, sym, ap, _∙_}
+use mathlib.Core.Path.{_≡_, refl, ap, _∙_}
 use mathlib.Core.Bool.{Bool}
 use mathlib.Core.List.{List, [], _∷_}
 use native.Mathlib.Omega.{arith}
 use lib.ListN.{drop, set}
 use lib.Seq.{sets}
 use lib.Ieee.{Float}
-use Rattle.layout_text.specs.Limits as limit
-use Rattle.layout_text.specs.Limits.{numbersAVertex}
-use Rattle.layout_text.specs.Layout.{Vertex}
-use Rattle.layout_text.specs.Numbers.{coordinate, bulge, pathOf}
+use Rattle.layouts.specs.Limits as limit
+use Rattle.layouts.specs.Limits.{numbersAVertex}
+use Rattle.layouts.specs.Layout.{Vertex, whole, wholeVertex}
+use Rattle.layouts.specs.Numbers.{coordinate, bulge, pathOf}
 use Rattle.layout_text.specs.Workings.Reader.{
   Got,
   nothing,
@@ -22,11 +22,10 @@ use Rattle.layout_text.specs.Workings.Reader.{
   andThen,
   vertexOf,
   verticesOf,
-  whole,
 }
 use Rattle.layout_text.specs.Workings.Reader.{space, newline, wholeOf}
-use Rattle.layout_text.specs.Workings.Shown.{shownNumber, shownVertex, numbersOf, Filled}
-use Rattle.layout_text.proofs.CaseSays.{no-number, a-number}
+use Rattle.layout_text.specs.Workings.Shown.{shownNumber, shownVertex, Filled}
+use Rattle.layout_text.specs.Laws.Said.{no-number, a-number, no-line, a-line, lines-end, lines-broken, lines-read}
 use Rattle.layout_text.specs.declared.number.Number.{Number}
 use Rattle.layout_text.specs.declared.number.Number.the-variants as Number·
 use Rattle.layout_text.specs.declared.vertex.Corner.{Corner}
@@ -35,80 +34,27 @@ use Rattle.layout_text.specs.declared.vertex.Corner.the-variants as Corn
 -- ---- a vertex's text line, by what each call says of its numbers
 
 module _ (text t : List ℕ) (x : Number) (x-is : shownNumber text x ≡ wholeOf limit.coordinate space t) where
-  pub no-x : x ≡ Number·.Broken → nothing ≡ numbersOf (vertexOf t)
-  unfolding vertexOf numbersOf
+  pub no-x : x ≡ Number·.Broken → nothing ≡ vertexOf t
+  unfolding vertexOf
   no-x e = simp (no-number text x-is e)
 
   module _ (x-minus : Bool) (x-size after-x : ℕ) (x-whole : x ≡ Number·.Whole x-minus x-size after-x) (y : Number)
       (y-is : shownNumber text y ≡ wholeOf limit.coordinate space (drop after-x text)) where
-    pub no-y : y ≡ Number·.Broken → nothing ≡ numbersOf (vertexOf t)
-    unfolding vertexOf numbersOf
+    pub no-y : y ≡ Number·.Broken → nothing ≡ vertexOf t
+    unfolding vertexOf
     no-y e = simp (a-number text x-is x-whole, no-number text y-is e)
 
     module _ (y-minus : Bool) (y-size after-y : ℕ) (y-whole : y ≡ Number·.Whole y-minus y-size after-y) (b : Number)
         (b-is : shownNumber text b ≡ wholeOf limit.bulge newline (drop after-y text)) where
-      pub no-b : b ≡ Number·.Broken → nothing ≡ numbersOf (vertexOf t)
-      unfolding vertexOf numbersOf
+      pub no-b : b ≡ Number·.Broken → nothing ≡ vertexOf t
+      unfolding vertexOf
       no-b e = simp (a-number text x-is x-whole, a-number text y-is y-whole, no-number text b-is e)
 
-      pub all-three : (b-minus : Bool) (b-size after-b : ℕ) → b ≡ Number·.Whole b-minus b-size after-b → (vx vy vb : Float)
-          → vx ≡ coordinate (whole x-minus x-size) → vy ≡ coordinate (whole y-minus y-size) → vb ≡ bulge (whole b-minus b-size)
-          → got (vx ∷ vy ∷ vb ∷ []) (drop after-b text) ≡ numbersOf (vertexOf t)
-      unfolding vertexOf numbersOf
-      all-three b-minus b-size after-b e vx vy vb is-x is-y is-b =
-          simp (a-number text x-is x-whole, a-number text y-is y-whole, a-number text b-is e, is-x, is-y, is-b)
-
--- ---- the line at hand
-
--- the vertex of a line that was read
-pub record Line (g : Got Vertex) (numbers : List Float) (rest : List ℕ) : Type 0 where
-  pub v : Vertex
-  pub is : g ≡ got v rest
-  pub numbered : numbers ≡ pathOf (v ∷ [])
-
-line-of : (g : Got Vertex) {numbers : List Float} {rest : List ℕ} → got numbers rest ≡ numbersOf g → Line g numbers rest
-unfolding numbersOf
-line-of nothing e = let z : _≡_ {A = ℕ} 0 1 = cc in absurd (omega arith)
-line-of (got v r) {numbers} {rest} e =
-    let same : r ≡ rest = cc in
-    record { v = v; is = rw same; numbered = cc }
-
-no-line-of : (g : Got Vertex) → nothing ≡ numbersOf g → g ≡ nothing
-unfolding numbersOf
-no-line-of nothing e = refl
-no-line-of (got v r) e = let z : _≡_ {A = ℕ} 0 1 = cc in absurd (omega arith)
-
-module _ (text : List ℕ) {g : Got Vertex} {r : Corner} (is : shownVertex text r ≡ numbersOf g) where
-  pub no-line : r ≡ Corner·.Broken → g ≡ nothing
-  unfolding shownVertex
-  no-line e = no-line-of g (ap (shownVertex text) (sym e) ∙ is)
-
-  pub a-line : {x y b : Float} {next : ℕ} → r ≡ Corner·.At x y b next → Line g (x ∷ y ∷ b ∷ []) (drop next text)
-  unfolding shownVertex
-  a-line e = line-of g (ap (shownVertex text) (sym e) ∙ is)
-
--- ---- the lines that are left, at i of n
-
-left : (n i : ℕ) → i < n → n - i ≡ suc (n - (i + 1))
-left n i h = omega arith
-
-none-left : (n i : ℕ) → n ≤ i → n - i ≡ 0
-none-left n i h = omega arith
-
-module _ (n i : ℕ) (t : List ℕ) where
-  pub lines-end : n ≤ i → verticesOf (n - i) t ≡ got [] t
-  unfolding verticesOf
-  lines-end h = rw (none-left n i h)
-
-  module _ (inside : i < n) where
-    pub lines-broken : vertexOf t ≡ nothing → verticesOf (n - i) t ≡ nothing
-    unfolding verticesOf
-    lines-broken e = rw (left n i inside, e)
-
-    pub lines-read : {v : Vertex} {rest : List ℕ} → vertexOf t ≡ got v rest
-        → verticesOf (n - i) t ≡ andThen (verticesOf (n - (i + 1)) rest) (λ vs r. got (v ∷ vs) r)
-    unfolding verticesOf
-    lines-read e = rw (left n i inside, e)
+      pub all-three : (b-minus : Bool) (b-size after-b : ℕ) → b ≡ Number·.Whole b-minus b-size after-b
+          → got (wholeVertex x-minus x-size y-minus y-size b-minus b-size) (drop after-b text) ≡ vertexOf t
+      unfolding vertexOf
+      all-three b-minus b-size after-b e =
+          simp (a-number text x-is x-whole, a-number text y-is y-whole, a-number text b-is e)
 
 -- ---- passing them: `all` is what is left after all lines, and i of n are passed
 
@@ -120,15 +66,15 @@ module _ (text : List ℕ) (n i at : ℕ) (all : Skipped) (inv : passed (vertice
   pub pass-end : n ≤ i → over (drop at text) ≡ all
   pass-end h = rw (lines-end n i _ h) at inv
 
-  module _ (inside : i < n) (r : Corner) (is : shownVertex text r ≡ numbersOf (vertexOf (drop at text))) where
+  module _ (inside : i < n) (r : Corner) (is : shownVertex text r ≡ vertexOf (drop at text)) where
     pub pass-broken : r ≡ Corner·.Broken → stuck ≡ all
     pass-broken e = rw (lines-broken n i _ inside (no-line text is e)) at inv
 
-    pub pass-line : (x y b : Float) (next : ℕ) → r ≡ Corner·.At x y b next
+    pub pass-line : (x-minus y-minus b-minus : Bool) (x y b next : ℕ) → r ≡ Corner·.At x-minus x y-minus y b-minus b next
         → passed (verticesOf (n - (i + 1)) (drop next text)) ≡ all
-    pass-line x y b next e =
-        let line = a-line text is e in
-        after-passed (line .v) (verticesOf (n - (i + 1)) (drop next text)) ∙ rw (lines-read n i _ inside (line .is)) at inv
+    pass-line x-minus y-minus b-minus x y b next e =
+        after-passed (wholeVertex x-minus x y-minus y b-minus b) (verticesOf (n - (i + 1)) (drop next text))
+        ∙ rw (lines-read n i _ inside (a-line text is e)) at inv
 
 -- ---- writing them
 
@@ -159,19 +105,22 @@ module _ (text : List ℕ) (n i at : ℕ) (all : Stored) (old : List Float) (k :
   pub store-end : n ≤ i → holds old ≡ all
   store-end h = rw (lines-end n i _ h) at inv
 
-  module _ (inside : i < n) (r : Corner) (is : shownVertex text r ≡ numbersOf (vertexOf (drop at text))) where
+  module _ (inside : i < n) (r : Corner) (is : shownVertex text r ≡ vertexOf (drop at text)) where
     pub store-broken : r ≡ Corner·.Broken → gone ≡ all
     store-broken e = rw (lines-broken n i _ inside (no-line text is e)) at inv
 
-    pub store-line : (x y b : Float) (next : ℕ) → r ≡ Corner·.At x y b next
-        → stored (verticesOf (n - (i + 1)) (drop next text)) (set (set (set old k x) (k + 1) y) (k + 2) b) (k + numbersAVertex)
+    pub store-line : (x-minus y-minus b-minus : Bool) (x y b next : ℕ) → r ≡ Corner·.At x-minus x y-minus y b-minus b next
+        → (vx vy vb : Float)
+        → vx ≡ coordinate (whole x-minus x) → vy ≡ coordinate (whole y-minus y) → vb ≡ bulge (whole b-minus b)
+        → stored (verticesOf (n - (i + 1)) (drop next text)) (set (set (set old k vx) (k + 1) vy) (k + 2) vb) (k + numbersAVertex)
         ≡ all
-    store-line x y b next e =
-        let line = a-line text is e in
+    store-line x-minus y-minus b-minus x y b next e vx vy vb is-x is-y is-b =
+        let v = wholeVertex x-minus x y-minus y b-minus b in
         let three : k + numbersAVertex ≡ suc (suc (suc k)) = omega arith in
-        let written = three-set old k x y b ∙ ap (sets old k) (line .numbered) in
-        rw (written, three) (after-stored (line .v) (verticesOf (n - (i + 1)) (drop next text)) old k)
-        ∙ rw (lines-read n i _ inside (line .is)) at inv
+        let numbered : vx ∷ vy ∷ vb ∷ [] ≡ pathOf (v ∷ []) = rw (is-x, is-y, is-b) in
+        let written = three-set old k vx vy vb ∙ ap (sets old k) numbered in
+        rw (written, three) (after-stored v (verticesOf (n - (i + 1)) (drop next text)) old k)
+        ∙ rw (lines-read n i _ inside (a-line text is e)) at inv
 
 pub filled-broken : (h : Got (List Vertex)) (old now : List Float) → gone ≡ stored h old 0 → Filled h old now
 filled-broken h old now s vs rest is =

@@ -1,31 +1,30 @@
 -- The reader accepts exactly the texts of the form, and it reads the text of a layout as that layout.
-use Prim.Native.Nat.{ℕ, _≤_}
+use Prim.Native.Nat.{ℕ, suc, _≤_, _<_}
 use mathlib.Core.Path.{_≡_, refl, sym, ap, _∙_}
-use mathlib.Core.Bool.{Bool, true, false, cond}
+use mathlib.Core.Bool.{Bool, true, false, not, cond}
 use mathlib.Core.List.{List, [], _∷_, append-nil}
 use native.Mathlib.Omega.{arith}
-use borrow.Author.Tests.{le-ltb}
-use lib.Dec.{ltb}
-use lib.ListN.{length}
-use Rattle.layout_text.specs.Limits as limit
-use Rattle.layout_text.specs.Layout.{Layout, Within}
-use Rattle.layout_text.specs.Form.{textOf}
+use borrow.Author.Tests.{lt-ltb, le-ltb}
+use lib.Dec.{T, ltb, ltb→lt, nltb→le}
+use lib.ListN.{length, take}
+use lib.Seq.{length-take-le, take-all}
+use Rattle.layouts.specs.Layout.{Layout, Within}
+use Rattle.layout_text.specs.Form.{bytes, textOf}
 use Rattle.layout_text.specs.Workings.Reader.{Got, nothing, got, Taken, broken, layout, atEnd, linesOf, reads}
 use Rattle.layout_text.specs.Laws.Complete.{lines-read}
 use Rattle.layout_text.specs.Laws.Sound.{lines-spelt}
-use Rattle.layout_text.specs.Laws.Long.{text-long}
+use Rattle.layout_text.specs.Long.{text-short}
 
 -- no text of the form is refused: the text of a layout is read as that layout
 pub text-reads : (l : Layout) → Within l → reads (textOf l) ≡ layout l
 unfolding reads
 text-reads l w =
-    let short : length (textOf l) ≤ limit.bytes = omega (arith, text-long l w) in
-    rw (le-ltb _ _ short, lines-read l w)
+    rw (le-ltb _ _ (text-short l w), lines-read l w)
 
 -- no other text is accepted: a text that is read as a layout is the text of that layout, which is within the limits
 pub read-is-text : (text : List ℕ) (l : Layout) → reads text ≡ layout l → (text ≡ textOf l) × Within l
 unfolding reads
-read-is-text text l e = go (ltb limit.bytes (length text)) (linesOf text) refl e
+read-is-text text l e = go (ltb bytes (length text)) (linesOf text) refl e
   where
     unbroken : broken ≡ layout l → (text ≡ textOf l) × Within l
     unbroken e = let z : _≡_ {A = ℕ} 0 1 = cc in absurd (omega arith)
@@ -58,3 +57,19 @@ no-text-refused text none = go (reads text) refl
     go : (t : Taken) → reads text ≡ t → t ≡ broken
     go broken e = refl
     go (layout l) e = let s = read-is-text text l e in absurd (none l (s .1) (s .0))
+
+-- ---- a program that reads one byte more than a text may have is told what the whole text would be told
+
+pub read-enough : (text : List ℕ) → reads (take (suc bytes) text) ≡ reads text
+unfolding reads
+read-enough text = go (ltb bytes (length text)) (ltb→lt bytes (length text)) (nltb→le bytes (length text))
+  where
+    go : (long : Bool) → (T long → bytes < length text) → (T (not long) → length text ≤ bytes)
+        → reads (take (suc bytes) text) ≡ reads text
+    go true more less =
+        let cut : length (take (suc bytes) text) ≡ suc bytes = length-take-le (suc bytes) text (more tt) in
+        let over : bytes < length (take (suc bytes) text) = omega arith in
+        rw (lt-ltb _ _ over, lt-ltb _ _ (more tt))
+    go false more less =
+        let short = less tt in
+        ap reads (take-all (suc bytes) text (omega arith))

@@ -4,9 +4,9 @@ use mathlib.Core.List.{List, [], _∷_, map}
 use Prim.Native.Nat.{ℕ}
 use lib.ListN.{replicate}
 use lib.IntN.{ℤ, pos, negsuc}
-use Rattle.layout_text.specs.Layout.{Vertex, Layout}
-use Rattle.layout_text.specs.Decimal.{decimal, decimalIn}
-use Rattle.layout_text.specs.Form.{wholeText, vertexText, verticesText, textOf}
+use Rattle.layouts.specs.Layout.{Vertex, Layout}
+use Rattle.put_text.specs.Decimal.{decimal, decimalIn}
+use Rattle.layout_text.specs.Form.{wholeText, vertexText, verticesText, countsText, textOf}
 use Rattle.layout_text.specs.Workings.Reader.{broken, layout, kindOf, firstKind, digitsOf, positiveOf, zeroOf, countOf}
 use Rattle.layout_text.specs.Workings.Reader.{wholeOf, vertexOf, verticesOf, linesOf, reads}
 
@@ -33,7 +33,7 @@ scopeText =
     ∷ []
 
 pub is-text : textOf scope ≡ scopeText
-unfolding textOf verticesText vertexText wholeText decimal decimalIn
+unfolding textOf countsText verticesText vertexText wholeText decimal decimalIn
 is-text = refl
 
 pub is-read : reads scopeText ≡ layout scope
@@ -58,7 +58,7 @@ greatestText =
     ∷ []
 
 pub greatest-text : textOf (record { first = []; second = greatest ∷ [] }) ≡ greatestText
-unfolding textOf verticesText vertexText wholeText decimal decimalIn
+unfolding textOf countsText verticesText vertexText wholeText decimal decimalIn
 greatest-text = refl
 
 pub greatest-read : reads greatestText ≡ layout (record { first = []; second = greatest ∷ [] })

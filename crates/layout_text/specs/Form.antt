@@ -5,8 +5,12 @@ use Prim.Native.Nat.{ℕ, suc}
 use mathlib.Core.List.{List, [], _∷_, _++_}
 use lib.ListN.{length}
 use lib.IntN.{ℤ, pos, negsuc}
-use Rattle.layout_text.specs.Decimal.{decimal}
-use Rattle.layout_text.specs.Layout.{Vertex, Layout}
+use Rattle.put_text.specs.Decimal.{decimal}
+use Rattle.layouts.specs.Layout.{Vertex, Layout}
+
+-- the most bytes of a text
+abbrev pub bytes : ℕ
+bytes = 16_384
 
 unfoldable pub wholeText : ℤ → List ℕ
 wholeText (pos n) = decimal n
@@ -19,6 +23,8 @@ unfoldable pub verticesText : List Vertex → List ℕ
 verticesText [] = []
 verticesText (v ∷ rest) = vertexText v ++ verticesText rest
 
+unfoldable pub countsText : ℕ → ℕ → List ℕ
+countsText n m = decimal n ++ 32 ∷ decimal m ++ 10 ∷ []
+
 unfoldable pub textOf : Layout → List ℕ
-textOf l =
-    decimal (length (l .first)) ++ 32 ∷ decimal (length (l .second)) ++ 10 ∷ verticesText (l .first) ++ verticesText (l .second)
+textOf l = countsText (length (l .first)) (length (l .second)) ++ verticesText (l .first) ++ verticesText (l .second)

@@ -1,7 +1,6 @@
 -- Laws that only proofs need. A reader need not believe them: they are proved.
-pub mod Decimal
 pub mod Bytes
 pub mod Complete
 pub mod Sound
-pub mod Long
-pub mod Signs
+pub mod Put
+pub mod Said

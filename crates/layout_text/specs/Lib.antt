@@ -1,14 +1,11 @@
--- A layout (Layout), its limits and its text (Form), its floats (Numbers), and what the reader promises (Read); then what is
--- proved of them (Exactly, Exact, ReaderPromise, Examples). A reader need not believe Workings and Laws.
-pub mod Limits
-pub mod Layout
-pub mod Decimal
+-- The text of a layout (Form), its sizes, and what the reader promises (Read); then what is proved of them (Exactly, Long,
+-- ReaderPromise, Examples). A reader need not believe Workings and Laws.
 pub mod Form
-pub mod Numbers
+pub mod Sizes
 pub mod Examples
 pub mod Workings
 pub mod Laws
+pub mod Long
 pub mod Exactly
 pub mod Read
-pub mod Exact
 pub mod ReaderPromise

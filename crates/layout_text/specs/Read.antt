@@ -7,8 +7,8 @@ use lib.Dec.{ltb}
 use lib.ListN.{length}
 use lib.Seq.{sets}
 use lib.Ieee.{Float}
-use Rattle.layout_text.specs.Limits as limit
-use Rattle.layout_text.specs.Numbers.{pathOf}
+use Rattle.layouts.specs.Limits as limit
+use Rattle.layouts.specs.Numbers.{pathOf}
 use Rattle.layout_text.specs.Workings.Reader.{Taken, broken, layout, reads}
 use Rattle.layout_text.specs.declared.Reading.{Reading}
 use Rattle.layout_text.specs.declared.Reading.the-variants as Reading·

@@ -9,9 +9,9 @@ use native.Mathlib.Omega.{arith}
 use lib.ListN.{length}
 use lib.Seq.{sets}
 use lib.Ieee.{Float}
-use Rattle.layout_text.specs.Layout.{Layout, Within}
+use Rattle.layouts.specs.Layout.{Layout, Within}
 use Rattle.layout_text.specs.Form.{textOf}
-use Rattle.layout_text.specs.Numbers.{pathOf}
+use Rattle.layouts.specs.Numbers.{pathOf}
 use Rattle.layout_text.specs.Workings.Reader.{Taken, broken, layout, reads}
 use Rattle.layout_text.specs.Read.{ReadLayout, refusal, roomless, answerOf}
 use Rattle.layout_text.specs.Exactly.{text-reads, refused-no-text, no-text-refused}

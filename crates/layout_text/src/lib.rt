@@ -1,15 +1,22 @@
-// The reader: a layout from its text. specs/Read.antt has what it promises, and specs/Form.antt the form of a text.
+// Layouts as texts: the reader, and the writer of text lines. specs/Form.antt has the form of a text, and specs/Read.antt what
+// the reader promises.
 ghost use Rattle.layout_text.specs.Read.{ReadLayout};
+use layouts::limits;
 use shape::Shape;
 use shape::shape_of;
 use vertex::fill;
 
 mod bytes;
-pub mod limits;
 mod number;
-mod shape;
-mod value;
-mod vertex;
+pub mod put;
+pub mod shape;
+pub mod vertex;
+
+// the most bytes of a text
+pub const BYTES: usize = 16384;
+
+// the most bytes that the text of a layout has: `longest` of specs/Sizes.antt
+pub const LONGEST: usize = 12808;
 
 // The scope's number of the refusal of a text that breaks its form.
 pub const TEXT: u64 = 10;

@@ -3,7 +3,7 @@ ghost use mathlib.Core.Path.{_≡_};
 ghost use mathlib.Core.Bool.{true, false};
 ghost use Prim.Native.Nat.{_≤_, _<_};
 ghost use lib.ListN.{drop};
-ghost use Rattle.layout_text.specs.Limits as limit;
+ghost use Rattle.layouts.specs.Limits as limit;
 ghost use Rattle.layout_text.specs.Workings.Reader.{digitsOf, positiveOf, zeroOf, countOf, wholeOf, other};
 ghost use Rattle.layout_text.specs.Workings.Shown.{shownNumber};
 use super::bytes;

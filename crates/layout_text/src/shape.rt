@@ -1,11 +1,12 @@
 // Reads a whole text once before anything is written.
 ghost use Rattle.layout_text.specs.Workings.Shown.{Shaped};
+use super::BYTES;
 use super::bytes;
-use super::limits;
 use super::number;
 use super::number::Number;
 use super::vertex;
 use super::vertex::Place;
+use layouts::limits;
 
 // The two counts and where each path's vertices start. Or the text breaks its form.
 pub enum Shape {
@@ -17,7 +18,7 @@ pub enum Shape {
 pub fn shape_of(text: &[u8]) -> Shape
     ensures { λ r. ⌜ Shaped (now (text .entry)) r ⌝ }
 {
-    if text.len() > limits::BYTES {
+    if text.len() > BYTES {
         return Shape::Broken;
     }
     let Number::Whole(_, n, after_n) = number::count(text, 0, limits::VERTICES, bytes::SPACE) else {

@@ -2,19 +2,19 @@
 ghost use mathlib.Core.Path.{_≡_};
 ghost use Prim.Native.Nat.{_≤_, _*_};
 ghost use lib.ListN.{drop, length};
-ghost use Rattle.layout_text.specs.Limits as limit;
+ghost use Rattle.layouts.specs.Limits as limit;
 ghost use Rattle.layout_text.specs.Workings.Reader.{vertexOf, verticesOf, passed};
-ghost use Rattle.layout_text.specs.Workings.Shown.{shownVertex, shownPlace, numbersOf, Filled};
+ghost use Rattle.layout_text.specs.Workings.Shown.{shownVertex, shownPlace, Filled};
 use super::bytes;
-use super::limits;
 use super::number;
 use super::number::Number;
-use super::value;
+use layouts::limits;
+use layouts::value;
 
-// A vertex: its three numbers, and the place after it. Or there is none.
+// A vertex: the sign (whether it is negative) and the magnitude of x, y and the bulge, and the place after it. Or there is none.
 pub enum Corner {
     Broken,
-    At(f64, f64, f64, usize),
+    At(bool, u64, bool, u64, bool, u64, usize),
 }
 
 // A place in the text. Or the text breaks its form before it.
@@ -24,8 +24,8 @@ pub enum Place {
 }
 
 // The vertex whose text line starts at `start`.
-fn vertex(text: &[u8], start: usize) -> Corner
-    ensures { λ r. ⌜ shownVertex (now (text .entry)) r ≡ numbersOf (vertexOf (drop start (now (text .entry)))) ⌝ }
+pub fn vertex(text: &[u8], start: usize) -> Corner
+    ensures { λ r. ⌜ shownVertex (now (text .entry)) r ≡ vertexOf (drop start (now (text .entry))) ⌝ }
 {
     let Number::Whole(x_minus, x, after_x) = number::whole(
         text,
@@ -51,12 +51,7 @@ fn vertex(text: &[u8], start: usize) -> Corner
     ) else {
         return Corner::Broken;
     };
-    Corner::At(
-        value::coordinate(x_minus, x),
-        value::coordinate(y_minus, y),
-        value::bulge(b_minus, b),
-        after_b,
-    )
+    Corner::At(x_minus, x, y_minus, y, b_minus, b, after_b)
 }
 
 // The place after n vertices.
@@ -71,7 +66,7 @@ pub fn skip(text: &[u8], start: usize, n: u64) -> Place
             Corner::Broken => {
                 return Place::Broken;
             }
-            Corner::At(_, _, _, next) => {
+            Corner::At(_, _, _, _, _, _, next) => {
                 at = next;
             }
         }
@@ -94,10 +89,10 @@ pub fn fill(text: &[u8], start: usize, n: u64, out: &mut [f64])
             Corner::Broken => {
                 return;
             }
-            Corner::At(x, y, b, next) => {
-                out[to] = x;
-                out[to + 1] = y;
-                out[to + 2] = b;
+            Corner::At(x_minus, x, y_minus, y, b_minus, b, next) => {
+                out[to] = value::coordinate(x_minus, x);
+                out[to + 1] = value::coordinate(y_minus, y);
+                out[to + 2] = value::bulge(b_minus, b);
                 at = next;
             }
         }

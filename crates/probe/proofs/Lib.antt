@@ -1,2 +1,3 @@
 mod ByView
 mod Written
+pub mod Tellings

@@ -3,7 +3,7 @@
 use borrow.Author.Needs.{needs}
 use borrow.Author.Tests.{lt-ltb, le-ltb, le-leb, lt-leb}
 use Rattle.answer_lines.specs.Lines.{answerText}
-use Rattle.answer_lines.specs.Laws.Put.{put-join}
+use Rattle.put_text.specs.Laws.Put.{put-join}
 use Rattle.answer_lines.proofs.Ends.{no-rows, no-room, written}
 use Rattle.answer_lines.proofs.write_answer.Statement.{statement}
 use Rattle.answer_lines.proofs.write_answer.Tie as tie

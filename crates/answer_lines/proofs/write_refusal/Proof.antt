@@ -3,7 +3,7 @@ use mathlib.Core.Path.{refl}
 use borrow.Author.Needs.{needs}
 use borrow.Author.Tests.{lt-ltb, le-ltb}
 use Rattle.answer_lines.specs.Lines.{refusedText}
-use Rattle.answer_lines.specs.Laws.Put.{put-join}
+use Rattle.put_text.specs.Laws.Put.{put-join}
 use Rattle.answer_lines.proofs.Ends.{no-room, written}
 use Rattle.answer_lines.proofs.write_refusal.Statement.{statement}
 use Rattle.answer_lines.proofs.write_refusal.Tie as tie

@@ -7,13 +7,14 @@ use native.Mathlib.Omega.{arith}
 use lib.Dec.{ltb, eqb}
 use lib.ListN.{length, getD, length-append}
 use lib.Ieee.{Float, binary64, toBits}
-use Rattle.layout_text.specs.Decimal.{decimal}
-use Rattle.layout_text.specs.Laws.Long.{decimal-long}
+use Rattle.put_text.specs.Decimal.{decimal}
+use Rattle.put_text.specs.Sizes.{whole}
+use Rattle.put_text.specs.Laws.Decimal.{decimal-long}
 use Rattle.answer_lines.specs.Lines
 use Rattle.answer_lines.specs.Sizes
-use Rattle.answer_lines.specs.Laws.Put.{hex-long}
+use Rattle.answer_lines.specs.Laws.Hex.{hex-long}
 
-whole-short : (n : ℕ) → n < 2 ^ 64 → length (decimal n) ≤ Sizes.whole
+whole-short : (n : ℕ) → n < 2 ^ 64 → length (decimal n) ≤ whole
 whole-short n h = decimal-long 19 n (omega arith)
 
 float-long : (x : Float) → length (Lines.numberText x) ≡ Sizes.float
@@ -55,6 +56,13 @@ points-short class x1 y1 x2 y2 = go (ltb class 1) (ltb class 3) (ltb class 6)
 pub refusal-short : (n : ℕ) → n < 2 ^ 64 → length (Lines.refusedText n) ≤ Sizes.refusal
 unfolding Lines.refusedText
 refusal-short n h = let digits = whole-short n h in simp length-append (omega arith)
+
+pub refusal-at-short : (n k : ℕ) → n < 2 ^ 64 → k < 2 ^ 64 → length (Lines.refusedAtText n k) ≤ Sizes.refusalAt
+unfolding Lines.refusedAtText
+refusal-at-short n k h g =
+    let first = whole-short n h in
+    let second = whole-short k g in
+    simp length-append (omega arith)
 
 pub counts-short : (pairs rows : ℕ) → pairs < 2 ^ 64 → rows < 2 ^ 64 → length (Lines.countText pairs rows) ≤ Sizes.counts
 unfolding Lines.countText

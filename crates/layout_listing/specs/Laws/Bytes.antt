@@ -7,7 +7,7 @@ use Prim.Native.Nat.{ℕ, _*_, _^_, _≤_}
 use native.Mathlib.Omega.{arith}
 use lib.Ieee.{Float}
 use lib.ListN.{length, length-replicate}
-use Rattle.layout_text.specs.Numbers.{pathOf}
+use Rattle.layouts.specs.Numbers.{pathOf}
 use Rattle.layout_text.specs.Read.{refusal}
 use Rattle.layout_text.specs.Workings.Reader.{Taken, broken, layout}
 use Rattle.answer_lines.specs.Sizes.{roomFor}

@@ -10,10 +10,10 @@ use lib.Dec.{ltb}
 use lib.Ieee.{Float, binary64, ofBits}
 use lib.ListN.{length, replicate, length-replicate, take, drop}
 use lib.Seq.{sets, sets-eq, length-sets, take-at}
-use Rattle.layout_text.specs.Limits as limit
-use Rattle.layout_text.specs.Limits.{numbersAVertex}
-use Rattle.layout_text.specs.Layout.{Vertex, Layout}
-use Rattle.layout_text.specs.Numbers.{pathOf}
+use Rattle.layouts.specs.Limits as limit
+use Rattle.layouts.specs.Limits.{numbersAVertex}
+use Rattle.layouts.specs.Layout.{Vertex, Layout}
+use Rattle.layouts.specs.Numbers.{pathOf}
 use Rattle.layout_text.specs.Workings.Reader.{Taken, broken, layout, reads}
 use Rattle.layout_text.specs.Exactly.{read-is-text}
 use Rattle.layout_text.specs.Read as read

@@ -5,9 +5,9 @@ use mathlib.Core.List.{List, [], _∷_}
 use Prim.Native.Nat.{_*_}
 use native.Mathlib.Omega.{arith}
 use lib.ListN.{length}
-use Rattle.layout_text.specs.Limits.{numbersAVertex}
-use Rattle.layout_text.specs.Layout.{Vertex}
-use Rattle.layout_text.specs.Numbers.{pathOf}
+use Rattle.layouts.specs.Limits.{numbersAVertex}
+use Rattle.layouts.specs.Layout.{Vertex}
+use Rattle.layouts.specs.Numbers.{pathOf}
 use Rattle.answer_lines.specs.Lines as lines_of
 use Rattle.paths.specs.Path.{vertexCount}
 use Rattle.listing_pairs.specs.Row as row_of

@@ -3,7 +3,8 @@ use native.Mathlib.Omega.{arith}
 use borrow.Author.Needs.{needs}
 use denote.Ref.{now}
 use Rattle.layout_text.specs.Workings.Shown.{Fitting}
-use Rattle.layout_text.proofs.Ends.{first-short, second-short, form-broken, both-written, fits-of}
+use Rattle.layout_text.specs.Laws.Said.{fits-of}
+use Rattle.layout_text.proofs.Ends.{first-short, second-short, form-broken, both-written}
 use Rattle.layout_text.proofs.read_layout.Statement.{statement}
 use Rattle.layout_text.proofs.read_layout.Tie as tie
 

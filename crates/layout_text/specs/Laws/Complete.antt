@@ -7,13 +7,13 @@ use native.Mathlib.Omega.{arith}
 use borrow.Author.Tests.{lt-ltb, le-ltb, eq-eqb, ne-eqb}
 use lib.ListN.{length}
 use lib.IntN.{ℤ, pos, negsuc}
-use Rattle.layout_text.specs.Limits as limit
-use Rattle.layout_text.specs.Layout.{Vertex, Layout, VertexWithin, EachWithin, none, more, Within, magnitude}
-use Rattle.layout_text.specs.Decimal.{decimal}
-use Rattle.layout_text.specs.Form.{wholeText, vertexText, verticesText, textOf}
-use Rattle.layout_text.specs.Workings.Reader.{got, kindOf, firstKind, digitsOf, positiveOf, zeroOf, countOf, whole}
+use Rattle.layouts.specs.Limits as limit
+use Rattle.layouts.specs.Layout.{Vertex, Layout, VertexWithin, EachWithin, none, more, Within, magnitude, whole}
+use Rattle.put_text.specs.Decimal.{decimal}
+use Rattle.layout_text.specs.Form.{wholeText, vertexText, verticesText, countsText, textOf}
+use Rattle.layout_text.specs.Workings.Reader.{got, kindOf, firstKind, digitsOf, positiveOf, zeroOf, countOf}
 use Rattle.layout_text.specs.Workings.Reader.{wholeOf, vertexOf, verticesOf, linesOf, space, newline, minus}
-use Rattle.layout_text.specs.Laws.Decimal.{decimal-small, decimal-large, by-digits}
+use Rattle.put_text.specs.Laws.Decimal.{decimal-small, decimal-large, by-digits}
 use Rattle.layout_text.specs.Laws.Bytes.{kind-digit}
 
 -- the last digit of a number with several digits, then what follows
@@ -110,6 +110,12 @@ is-newline : kindOf 10 ≡ newline
 unfolding kindOf
 is-newline = refl
 
+-- the text line with the counts, then what follows
+pub counts-then : (n m : ℕ) (t : List ℕ) → countsText n m ++ t ≡ decimal n ++ (32 ∷ (decimal m ++ (10 ∷ t)))
+unfolding countsText
+counts-then n m t =
+    append-assoc (decimal n ++ (32 ∷ decimal m)) (10 ∷ []) t ∙ append-assoc (decimal n) (32 ∷ decimal m) (10 ∷ t)
+
 pub vertex-read : (v : Vertex) (t : List ℕ) → VertexWithin v → vertexOf (vertexText v ++ t) ≡ got v t
 unfolding vertexOf vertexText
 vertex-read v t w =
@@ -136,4 +142,4 @@ lines-read l w =
     let m-read = count-read limit.vertices newline 10 is-newline (omega arith) (length (l .second)) lines (w .second-count) in
     let first-read = vertices-read (l .first) (verticesText (l .second)) (w .first-each) in
     let second-read = rw (append-nil (verticesText (l .second))) at (vertices-read (l .second) [] (w .second-each)) in
-    simp (append-assoc, n-read, m-read, first-read, second-read)
+    simp append-assoc (simp (counts-then, n-read, m-read, first-read, second-read))

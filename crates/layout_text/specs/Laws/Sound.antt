@@ -9,9 +9,9 @@ use borrow.Author.Tests.{le-ltb, eqb-false}
 use lib.Dec.{T, ltb, eqb, nltb→le, eqb→eq}
 use lib.ListN.{length, drop}
 use lib.IntN.{ℤ, pos}
-use Rattle.layout_text.specs.Limits as limit
-use Rattle.layout_text.specs.Layout.{Vertex, Layout, VertexWithin, EachWithin, none, more, Within, magnitude}
-use Rattle.layout_text.specs.Decimal.{decimal}
+use Rattle.layouts.specs.Limits as limit
+use Rattle.layouts.specs.Layout.{Vertex, Layout, VertexWithin, EachWithin, none, more, Within, magnitude, whole}
+use Rattle.put_text.specs.Decimal.{decimal}
 use Rattle.layout_text.specs.Form.{wholeText, vertexText, verticesText, textOf}
 use Rattle.layout_text.specs.Workings.Reader.{
   Got,
@@ -24,11 +24,11 @@ use Rattle.layout_text.specs.Workings.Reader.{
   positiveOf,
   zeroOf,
   countOf,
-  whole,
 }
 use Rattle.layout_text.specs.Workings.Reader.{wholeOf, vertexOf, verticesOf, linesOf, space, newline, minus, other}
-use Rattle.layout_text.specs.Laws.Decimal.{decimal-small, decimal-more}
+use Rattle.put_text.specs.Laws.Decimal.{decimal-small, decimal-more}
 use Rattle.layout_text.specs.Laws.Bytes.{byteOf, byte-is, digit-byte}
+use Rattle.layout_text.specs.Laws.Complete.{counts-then}
 
 -- ---- steps
 
@@ -300,7 +300,9 @@ layout-text text t1 t2 t3 rest n m first second cn cm lf ls =
     let one = ap (λ (l : List ℕ). decimal (magnitude n) ++ (32 ∷ l)) (cm .0) in
     let lines = lf .spelt ∙ ap (λ (l : List ℕ). verticesText first ++ l) (ls .spelt) in
     let two = ap (λ (l : List ℕ). decimal (magnitude n) ++ (32 ∷ (decimal (magnitude m) ++ (10 ∷ l)))) lines in (
-      cn .0 ∙ one ∙ two ∙ rw (lf .count, ls .count) (simp append-assoc),
+      cn .0 ∙ one ∙ two ∙ sym (
+          rw (lf .count, ls .count)
+          (simp append-assoc (counts-then (magnitude n) (magnitude m) (verticesText first ++ (verticesText second ++ rest))))),
       record {
         first-count = rw (lf .count) (cn .1);
         second-count = rw (ls .count) (cm .1);

@@ -5,9 +5,10 @@ use mathlib.Core.Bool.{Bool, true, false, cond}
 use mathlib.Core.List.{List, [], _∷_}
 use lib.Dec.{ltb, eqb}
 use lib.ListN.{length, drop}
-use lib.IntN.{ℤ, pos, negℤ}
-use Rattle.layout_text.specs.Limits as limit
-use Rattle.layout_text.specs.Layout.{Vertex, Layout, magnitude}
+use lib.IntN.{ℤ, pos}
+use Rattle.layouts.specs.Limits as limit
+use Rattle.layouts.specs.Layout.{Vertex, Layout, magnitude, whole}
+use Rattle.layout_text.specs.Form.{bytes}
 
 -- ---- what was read, and what remains
 
@@ -27,13 +28,6 @@ pub data Skipped : Type 0 where
 abbrev pub passed : {A : Type 0} → Got A → Skipped
 passed nothing = stuck
 passed (got a rest) = over rest
-
--- ---- numbers
-
--- n, or -n
-abbrev pub whole : Bool → ℕ → ℤ
-whole false n = pos n
-whole true n = negℤ (pos n)
 
 -- ---- bytes
 
@@ -136,4 +130,4 @@ linesOf text =
     got (record { first = first; second = second }) r4
 
 unfoldable pub reads : List ℕ → Taken
-reads text = cond (ltb limit.bytes (length text)) broken (atEnd (linesOf text))
+reads text = cond (ltb bytes (length text)) broken (atEnd (linesOf text))

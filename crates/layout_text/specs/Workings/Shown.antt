@@ -1,13 +1,13 @@
 -- What the code's answers stand for: the code answers a place in the text, and the definitions what remains of the text from
 -- there.
 use mathlib.Core.Path.{_≡_}
-use mathlib.Core.List.{List, [], _∷_}
+use mathlib.Core.List.{List, []}
 use Prim.Native.Nat.{ℕ, _≤_}
 use lib.ListN.{drop}
 use lib.Seq.{sets}
 use lib.IntN.{ℤ}
 use lib.Ieee.{Float}
-use Rattle.layout_text.specs.Layout.{Vertex}
+use Rattle.layouts.specs.Layout.{Vertex, whole, wholeVertex}
 use Rattle.layout_text.specs.Workings.Reader.{
   Got,
   nothing,
@@ -19,9 +19,8 @@ use Rattle.layout_text.specs.Workings.Reader.{
   layout,
   verticesOf,
   reads,
-  whole,
 }
-use Rattle.layout_text.specs.Numbers.{pathOf}
+use Rattle.layouts.specs.Numbers.{pathOf}
 use Rattle.layout_text.specs.declared.number.Number.{Number}
 use Rattle.layout_text.specs.declared.number.Number.the-variants as Number·
 use Rattle.layout_text.specs.declared.vertex.Corner.{Corner}
@@ -30,20 +29,16 @@ use Rattle.layout_text.specs.declared.vertex.Place.{Place}
 use Rattle.layout_text.specs.declared.vertex.Place.the-variants as Place·
 use Rattle.layout_text.specs.declared.shape.Shape.{Shape}
 use Rattle.layout_text.specs.declared.shape.Shape.the-variants as Shape·
-use Rattle.layout_text.specs.Limits as limit
+use Rattle.layouts.specs.Limits as limit
 
 unfoldable pub shownNumber : List ℕ → Number → Got ℤ
 shownNumber text Number·.Broken = nothing
 shownNumber text (Number·.Whole negative n next) = got (whole negative n) (drop next text)
 
-unfoldable pub shownVertex : List ℕ → Corner → Got (List Float)
+unfoldable pub shownVertex : List ℕ → Corner → Got Vertex
 shownVertex text Corner·.Broken = nothing
-shownVertex text (Corner·.At x y b next) = got (x ∷ y ∷ b ∷ []) (drop next text)
-
--- a vertex's three numbers
-unfoldable pub numbersOf : Got Vertex → Got (List Float)
-numbersOf nothing = nothing
-numbersOf (got v rest) = got (pathOf (v ∷ [])) rest
+shownVertex text (Corner·.At x-minus x y-minus y b-minus b next) =
+    got (wholeVertex x-minus x y-minus y b-minus b) (drop next text)
 
 unfoldable pub shownPlace : List ℕ → Place → Skipped
 shownPlace text Place·.Broken = stuck

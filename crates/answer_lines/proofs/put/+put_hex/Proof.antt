@@ -6,7 +6,8 @@ use native.Mathlib.Omega.{arith}
 use borrow.Author.Needs.{needs}
 use borrow.Fn.Kinds.{In}
 use borrow.Fn.PlainCycle.{Measures, is, falls, and}
-use Rattle.answer_lines.specs.Laws.Put.{put-hex-none, put-hex-more, last-inside, one-more}
+use Rattle.put_text.specs.Laws.Put.{last-inside}
+use Rattle.answer_lines.specs.Laws.Hex.{put-hex-none, put-hex-more, one-more}
 use Rattle.answer_lines.proofs.put.put_hex.Reads as put-hex
 use Rattle.answer_lines.proofs.put.put_hex.Kinds as put-hex-kinds
 use Rattle.answer_lines.proofs.put.+put_hex.Lts-put_hex as put-hex-lts

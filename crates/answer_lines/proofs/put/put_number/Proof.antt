@@ -2,7 +2,8 @@
 use native.Mathlib.Omega.{arith}
 use borrow.Author.Needs.{needs}
 use Rattle.answer_lines.specs.Lines.{numberText}
-use Rattle.answer_lines.specs.Laws.Put.{put-join, hex-after}
+use Rattle.put_text.specs.Laws.Put.{put-join}
+use Rattle.answer_lines.specs.Laws.Hex.{hex-after}
 use Rattle.answer_lines.proofs.put.put_number.Statement.{statement}
 use Rattle.answer_lines.proofs.put.put_number.Tie as tie
 

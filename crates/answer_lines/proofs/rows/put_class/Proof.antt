@@ -10,8 +10,8 @@ use lib.Dec.{lit≤}
 use lib.ListN.{length}
 use Rattle.answer_lines.specs.Lines.{classText}
 use Rattle.answer_lines.specs.Sizes.{name}
-use Rattle.answer_lines.specs.Workings.Put.{Put, PutIn}
-use Rattle.answer_lines.specs.Laws.Put.{word-in}
+use Rattle.put_text.specs.Workings.Put.{Put, PutIn}
+use Rattle.put_text.specs.Laws.Put.{word-in}
 use Rattle.answer_lines.proofs.rows.put_class.Statement.{statement}
 use Rattle.answer_lines.proofs.rows.put_class.Tie as tie
 

@@ -4,7 +4,7 @@ use native.Mathlib.Omega.{arith}
 use borrow.Author.Needs.{needs}
 use borrow.Author.Tests.{lt-ltb, le-ltb}
 use Rattle.answer_lines.specs.Lines.{pointsText}
-use Rattle.answer_lines.specs.Laws.Put.{put-none, in-join, within}
+use Rattle.put_text.specs.Laws.Put.{put-none, in-join, within}
 use Rattle.answer_lines.proofs.rows.put_points.Statement.{statement}
 use Rattle.answer_lines.proofs.rows.put_points.Tie as tie
 

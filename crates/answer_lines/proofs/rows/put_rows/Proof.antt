@@ -9,7 +9,7 @@ use borrow.Author.Needs.{needs}
 use lib.ListN.{length}
 use Rattle.answer_lines.specs.Sizes.{line}
 use Rattle.answer_lines.specs.Lines.{rowAt, rowsText}
-use Rattle.answer_lines.specs.Workings.Put.{Put}
+use Rattle.put_text.specs.Workings.Put.{Put}
 use Rattle.answer_lines.proofs.Ends.{rows-end, rows-more}
 use Rattle.answer_lines.proofs.rows.put_rows.Statement.{statement}
 use Rattle.answer_lines.proofs.rows.put_rows.Tie as tie

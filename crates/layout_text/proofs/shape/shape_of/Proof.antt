@@ -3,7 +3,7 @@
 use native.Mathlib.Omega.{arith}
 use borrow.Author.Needs.{needs}
 use denote.Ref.{now}
-use Rattle.layout_text.proofs.CaseSays.{no-number}
+use Rattle.layout_text.specs.Laws.Said.{no-number}
 use Rattle.layout_text.proofs.Texts.{Counts, Paths, counted, no-place, a-place, too-long, no-count, no-count-2, no-first}
 use Rattle.layout_text.proofs.Texts.{no-second, text-left, text-over}
 use Rattle.layout_text.proofs.shape.shape_of.Statement.{statement}

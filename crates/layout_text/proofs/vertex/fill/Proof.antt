@@ -6,7 +6,7 @@ use native.Mathlib.Nat.{sub-zero}
 use native.Mathlib.Omega.{arith}
 use borrow.Author.Needs.{needs}
 use lib.ListN.{length, drop, length-set}
-use Rattle.layout_text.specs.Limits.{numbersAVertex}
+use Rattle.layouts.specs.Limits.{numbersAVertex}
 use Rattle.layout_text.specs.Workings.Reader.{verticesOf}
 use Rattle.layout_text.proofs.VertexLines.{stored, store-broken, store-line, store-end, filled-broken, filled-end}
 use Rattle.layout_text.proofs.vertex.fill.Statement.{statement}
@@ -29,8 +29,8 @@ fill-spec =
     (tie.spec
     Inv-loop μ-loop loop-holds (λ c. search needs) (λ c. search needs) (λ c. search needs)
     (λ c. filled-broken _ _ _ (search store-broken))
-    (λ c. search needs) (λ c. search needs) (λ c. search needs) (λ c. search needs) (λ c. search needs)
-    (λ c. simp length-set (omega arith)) (λ c. search needs) (λ c. search needs)
+    (λ c. search needs) (λ c. search needs) (λ c. search needs) (λ c. search needs) (λ c. search needs) (λ c. search needs)
+    (λ c. search needs) (λ c. simp length-set (omega arith)) (λ c. search needs) (λ c. search needs) (λ c. search needs)
     (λ c. simp length-set (omega arith)) (λ c. search needs) (λ c. search needs) (λ c. search needs)
     (λ c. (omega arith, simp length-set (search needs), search store-line)) (λ c. search needs)
     (λ c. filled-end _ _ _ (search store-end)))

@@ -14,4 +14,4 @@ vertex-spec =
     (λ c. search needs) (λ c. search needs) (λ c. search needs) (λ c. search no-x)
     (λ c. search needs) (λ c. search needs) (λ c. search needs) (λ c. search no-y)
     (λ c. search needs) (λ c. search needs) (λ c. search needs) (λ c. search no-b)
-    (λ c. search needs) (λ c. search needs) (λ c. search needs) (λ c. search all-three))
+    (λ c. search all-three))

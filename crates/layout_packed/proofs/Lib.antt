@@ -1,0 +1,4 @@
+pub mod Groups
+pub mod Vertices
+pub mod Files
+pub mod Ends

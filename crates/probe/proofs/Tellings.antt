@@ -1,0 +1,52 @@
+-- The ends of the calls on layouts: there is no place for the two numbers, or the function's answer is told.
+use Prim.Native.Nat.{ℕ, _≤_, _<_}
+use mathlib.Core.Path.{_≡_, refl, ap, _∙_}
+use mathlib.Core.List.{List}
+use borrow.Author.Tests.{lt-ltb, le-ltb}
+use lib.ListN.{length, set}
+use lib.Ieee.{Float}
+use Rattle.layout_packed.specs.Read.{ReadPacked}
+use Rattle.layout_packed.specs.declared.Unpacking.{Unpacking}
+use Rattle.layout_moves.specs.Moves.{Given, Moves}
+use Rattle.layout_moves.specs.declared.Moved.{Moved}
+use Rattle.probe.specs.Told.{noRoom, places, Telling, tells, ofMoved, ofUnpacking, wordOf, toldOf}
+use Rattle.probe.specs.Told.{Told, MoveTold, ReadTold}
+
+-- two numbers written to the front are those told
+pub two-told : {t : Telling} {word a b : ℕ} (old : List ℕ) → t ≡ tells word a b → Told t word old (set (set old 0 a) 1 b)
+two-told old e = rw e (record { word-is = refl; holds = refl })
+
+module _ (room : ℕ) (given : Given) (out told : List ℕ) where
+  pub untold : length told < places → MoveTold room given noRoom out out told told
+  untold h = record { word-is = rw (lt-ltb _ _ h); out-holds = rw (lt-ltb _ _ h); told-holds = rw (lt-ltb _ _ h) }
+
+  pub moved-told : places ≤ length told → {r : Moved} {word : ℕ} {out′ told′ : List ℕ} → Moves room given r out out′
+      → Told (ofMoved r) word told told′
+      → MoveTold room given word out out′ told told′
+  moved-told h m t =
+      record {
+        word-is = rw (le-ltb _ _ h) (t .word-is ∙ ap (λ (r : Moved). wordOf (ofMoved r)) (m .answer-is));
+        out-holds = rw (le-ltb _ _ h) (m .holds);
+        told-holds = rw (le-ltb _ _ h) (t .holds ∙ ap (λ (r : Moved). toldOf (ofMoved r) told) (m .answer-is));
+      }
+
+module _ (bytes : List ℕ) (first second : List Float) (told : List ℕ) where
+  pub unread : length told < places → ReadTold bytes noRoom first first second second told told
+  unread h =
+      record {
+        word-is = rw (lt-ltb _ _ h);
+        first-holds = rw (lt-ltb _ _ h);
+        second-holds = rw (lt-ltb _ _ h);
+        told-holds = rw (lt-ltb _ _ h);
+      }
+
+  pub read-told : places ≤ length told → {r : Unpacking} {word : ℕ} {first′ second′ : List Float} {told′ : List ℕ}
+      → ReadPacked bytes r first first′ second second′ → Told (ofUnpacking r) word told told′
+      → ReadTold bytes word first first′ second second′ told told′
+  read-told h m t =
+      record {
+        word-is = rw (le-ltb _ _ h) (t .word-is ∙ ap (λ (r : Unpacking). wordOf (ofUnpacking r)) (m .answer-is));
+        first-holds = rw (le-ltb _ _ h) (m .first-holds);
+        second-holds = rw (le-ltb _ _ h) (m .second-holds);
+        told-holds = rw (le-ltb _ _ h) (t .holds ∙ ap (λ (r : Unpacking). toldOf (ofUnpacking r) told) (m .answer-is));
+      }
