@@ -13,6 +13,7 @@ mod clock;
 mod crossing;
 mod expected;
 mod floats;
+mod form;
 #[cfg(feature = "rust-text")]
 mod inputs;
 #[cfg(feature = "rust-text")]
@@ -21,6 +22,7 @@ mod joints;
 mod lent;
 #[cfg(feature = "rust-text")]
 mod listings;
+mod met;
 #[cfg_attr(not(feature = "rust-text"), allow(dead_code))]
 mod numbers;
 #[cfg(feature = "rust-text")]
@@ -31,6 +33,7 @@ mod partings;
 mod plane;
 #[cfg_attr(not(feature = "rust-text"), allow(dead_code))]
 mod probe;
+mod program;
 mod record;
 mod rng;
 mod search;
