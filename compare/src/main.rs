@@ -25,6 +25,7 @@ mod listings;
 mod met;
 #[cfg_attr(not(feature = "rust-text"), allow(dead_code))]
 mod numbers;
+mod packed;
 #[cfg(feature = "rust-text")]
 mod pages;
 #[cfg(feature = "rust-text")]
@@ -102,6 +103,7 @@ fn main() -> ExitCode {
         ["pages", ref numbers @ ..] => pages(numbers),
         ["boxed", ref numbers @ ..] => boxed(numbers),
         ["joints", ref numbers @ ..] => joints(numbers),
+        ["packed", ref numbers @ ..] => packed(numbers),
         ["search", ref numbers @ ..] => search(numbers),
         ["arcs", "climb", ref numbers @ ..] => climb_arcs(numbers),
         ["arcs", "cures", ref numbers @ ..] => cure_arcs(numbers),
@@ -124,8 +126,10 @@ fn main() -> ExitCode {
 
 fn check(numbers: &[&str]) -> Result<(), String> {
     let (count, seed) = count_and_seed(numbers, COUNT)?;
-    let differences =
-        floats::check(count, seed) + views::check(count, seed) + check_text(count, seed);
+    let differences = floats::check(count, seed)
+        + views::check(count, seed)
+        + packed::check(count / 4, seed)
+        + check_text(count, seed);
     match differences {
         0 => Ok(()),
         _ => Err(format!("{differences} differences")),
@@ -159,6 +163,14 @@ fn boxed(numbers: &[&str]) -> Result<(), String> {
 fn joints(numbers: &[&str]) -> Result<(), String> {
     let (count, seed) = count_and_seed(numbers, COUNT)?;
     match check_joints(count, seed) {
+        0 => Ok(()),
+        differences => Err(format!("{differences} differences")),
+    }
+}
+
+fn packed(numbers: &[&str]) -> Result<(), String> {
+    let (count, seed) = count_and_seed(numbers, COUNT)?;
+    match packed::check(count, seed) {
         0 => Ok(()),
         differences => Err(format!("{differences} differences")),
     }
