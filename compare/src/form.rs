@@ -31,6 +31,7 @@ impl Sheet {
         format!("{} {}\n{lines}", first.len(), second.len()).into_bytes()
     }
 
+    #[cfg(feature = "rust-text")]
     pub fn map(self, each: impl FnMut(Vec<Place>) -> Vec<Place>) -> Sheet {
         Sheet {
             paths: self.paths.map(each),

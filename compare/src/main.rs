@@ -52,11 +52,12 @@ use std::process::ExitCode;
 const USAGE: &str = "\
 usage: compare check [COUNT [SEED]]  compare each float function on COUNT random inputs (default 10485760, seed 1); segments
                                      of a path and of its view, and filled parts of rows, on the stored layouts and on a
-                                     quarter as many; each function of the plane on a quarter as many accepted ones, an
-                                     eighth of all bit patterns, and some beside the limits; each kernel and the pair
-                                     call until twice as many were answered, and on some that are refused; listings of
-                                     whole paths until as many pairs were looked at, and on chosen ones; then as compare
-                                     pages, as compare boxed, as compare joints, and as compare edges with a tenth of COUNT
+                                     quarter as many; as compare packed with a quarter of COUNT; each function of the plane
+                                     on a quarter as many accepted ones, an eighth of all bit patterns, and some beside the
+                                     limits; each kernel and the pair call until twice as many were answered, and on some
+                                     that are refused; listings of whole paths until as many pairs were looked at, and on
+                                     chosen ones; then as compare pages, as compare boxed, as compare joints, and as compare
+                                     edges with a tenth of COUNT
        compare edges [COUNT [SEED]]  compare the kernels, the pair call and listings on COUNT inputs an edge (default 1048576,
                                      seed 1): where two numbers that are compared, by the Rust or by a shortcut of ours,
                                      are all but equal
@@ -67,6 +68,12 @@ usage: compare check [COUNT [SEED]]  compare each float function on COUNT random
        compare joints [COUNT [SEED]] compare self listings where neighbours meet, full, paged and boxed: every short path on a
                                      small grid, if COUNT is at least 1048576, and COUNT / 512 drawn ones (default 10485760,
                                      seed 1)
+       compare packed [COUNT [SEED]] compare the moves of layouts between text and packed form: on chosen texts and files, on
+                                     COUNT / 10 drawn layouts both ways, and on as many damaged files (default 10485760,
+                                     seed 1)
+       compare movers FOLDER [COUNT [SEED]]
+                                     hold the programs pack and unpack of a folder to the model, on chosen inputs and on COUNT
+                                     drawn and damaged ones (default 2048, seed 1)
        compare search [COUNT [SEED]] try to break what is promised of lines on the grid, on COUNT pairs (default 25165824,
                                      seed 1)
        compare arcs [COUNT [SEED]]   count how often touching segments with arcs are missed, and how far from each other
@@ -80,10 +87,12 @@ usage: compare check [COUNT [SEED]]  compare each float function on COUNT random
                                      hold the text program to a model on COUNT texts (default 3072, seed 1), of the right
                                      form and damaged, and on small ones with every damage of a byte
        compare layouts FOLDER        write the model's output NAME.out for each text NAME.txt there
+       compare packed-layouts FOLDER write packed/NAME.packed for each text NAME.txt of the form there, and packed/NAME.expected
+                                     for each packed/NAME.packed that is no layout
        compare record FILE           write the recorded list for the program replay
        compare bench [PART...]       nanoseconds of processor time a call or a pair, ours beside the machine's own and the Rust's,
                                      the least of five rounds or more by turns; all parts, or some of: floats calls listings
-                                     pages boxed";
+                                     pages boxed packed";
 
 const COUNT: u64 = 10 << 20;
 const ON_AN_EDGE: u64 = 1 << 20;
@@ -91,8 +100,9 @@ const SEARCHED: u64 = 24 << 20;
 const SEARCHED_ARCS: u64 = 11 << 20;
 const CLIMBED: u64 = 1 << 20;
 const TEXTS: u64 = 3072;
+const MOVED: u64 = 2048;
 const SEED: u64 = 1;
-const BENCHES: [&str; 5] = ["floats", "calls", "listings", "pages", "boxed"];
+const BENCHES: [&str; 6] = ["floats", "calls", "listings", "pages", "boxed", "packed"];
 
 fn main() -> ExitCode {
     let words: Vec<String> = env::args().skip(1).collect();
@@ -104,6 +114,8 @@ fn main() -> ExitCode {
         ["boxed", ref numbers @ ..] => boxed(numbers),
         ["joints", ref numbers @ ..] => joints(numbers),
         ["packed", ref numbers @ ..] => packed(numbers),
+        ["movers", folder, ref numbers @ ..] => movers(Path::new(folder), numbers),
+        ["packed-layouts", folder] => packed_layouts(Path::new(folder)),
         ["search", ref numbers @ ..] => search(numbers),
         ["arcs", "climb", ref numbers @ ..] => climb_arcs(numbers),
         ["arcs", "cures", ref numbers @ ..] => cure_arcs(numbers),
@@ -176,6 +188,20 @@ fn packed(numbers: &[&str]) -> Result<(), String> {
     }
 }
 
+fn movers(folder: &Path, numbers: &[&str]) -> Result<(), String> {
+    let (count, seed) = count_and_seed(numbers, MOVED)?;
+    match packed::check_programs(folder, count, seed)? {
+        0 => Ok(()),
+        differences => Err(format!("{differences} differences")),
+    }
+}
+
+fn packed_layouts(folder: &Path) -> Result<(), String> {
+    let packed::Written { packed, refused } = packed::write(folder)?;
+    println!("{packed} packed layouts, {refused} files that are refused");
+    Ok(())
+}
+
 fn search(numbers: &[&str]) -> Result<(), String> {
     let (count, seed) = count_and_seed(numbers, SEARCHED)?;
     match search::run(count, seed) {
@@ -220,6 +246,7 @@ fn time(parts: &[&str]) -> Result<(), String> {
             "listings" => time_listings(),
             "pages" => time_pages(),
             "boxed" => time_boxed(),
+            "packed" => packed::bench()?,
             _ => return Err(USAGE.to_string()),
         }
     }

@@ -2,18 +2,25 @@
 //! text, and packed to numbers; refusals with their offsets, and every place of the lent slices. It needs no Rust text.
 
 mod ask;
+mod bench;
 mod damage;
 mod draw;
 mod examples;
 mod kinds;
 mod lent;
 mod model;
+mod movers;
 mod plain;
 mod run;
 #[cfg(test)]
 mod stand_in;
+mod stored;
 #[cfg(test)]
 mod tests;
+
+pub use bench::run as bench;
+pub use movers::check as check_programs;
+pub use stored::{write, Written};
 
 use run::Run;
 

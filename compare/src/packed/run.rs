@@ -624,7 +624,7 @@ fn touched(unchanged: bool) -> Option<String> {
 }
 
 /// The first bytes, to be read by a person.
-fn front(bytes: &[u8]) -> String {
+pub fn front(bytes: &[u8]) -> String {
     const MOST: usize = 40;
     let dots = if bytes.len() > MOST { ".." } else { "" };
     format!("{:02x?}{dots}", &bytes[..bytes.len().min(MOST)])
