@@ -63,7 +63,7 @@ prove_changed() {
         .ci/trials $changed > "$scratch/trials" 2>&1 &
         trials=$!
     fi
-    quietly rt check capi probe crossings || fail "the product is not proved"
+    quietly rt check capi probe crossings pack unpack || fail "the product is not proved"
     if can_compare; then make_libraries; fi
     quietly rt check &
     rest=$!
@@ -132,6 +132,9 @@ check_stored() {
     check_replay crates/replay
     check_layouts target/bin/crossings layouts
     check_streams target/bin/crossings layouts/two_coils.txt layouts/two_coils.out
+    check_packed target/bin/pack target/bin/unpack layouts
+    check_streams target/bin/pack layouts/two_coils.txt layouts/packed/two_coils.packed
+    check_streams target/bin/unpack layouts/packed/two_coils.packed layouts/two_coils.txt
     [ -n "$quick" ] || check_replaying
     note_time "$start"
 }
@@ -157,6 +160,54 @@ check_layouts() {
     done
     [ ${#texts[@]} = ${#answers[@]} ] || fail "there are answers in $2 without a text"
     say "ran ${#texts[@]} stored layouts"
+}
+
+# Runs the two programs that move layouts on the stored texts and packed files, and compares all that they write. A text of the
+# form has its packed form in packed/: each is moved to the other, and there and back, also if a listing refuses the layout. A
+# text that breaks the form has none, and pack says on standard error what the text program answers. Every other packed file is
+# broken, and beside it stands what unpack says. It needs no Rust.
+check_packed() {
+    local pack=$1 unpack=$2 texts=("$3"/*.txt) files=("$3"/packed/*.packed) says=("$3"/packed/*.expected)
+    local text file moved=0 refused=0 broken=0
+    [ -f "${texts[0]}" ] || fail "no layouts are stored"
+    for text in "${texts[@]}"; do
+        file=${text##*/}
+        file=$3/packed/${file%.txt}.packed
+        if [ "$(cat "${text%.txt}.out")" = "refused 10" ]; then
+            check_mover "$pack" "$text" /dev/null "${text%.txt}.out"
+            [ ! -e "$file" ] || fail "$file is there, and its text breaks the form"
+            refused=$((refused + 1))
+        else
+            [ -e "$file" ] || fail "$file is not there"
+            check_mover "$pack" "$text" "$file" /dev/null
+            check_mover "$unpack" "$file" "$text" /dev/null
+            check_back "$pack" "$unpack" "$text"
+            check_back "$unpack" "$pack" "$file"
+            moved=$((moved + 1))
+        fi
+    done
+    for file in "${files[@]}"; do
+        [ -e "${file%.packed}.expected" ] || continue
+        check_mover "$unpack" "$file" /dev/null "${file%.packed}.expected"
+        broken=$((broken + 1))
+    done
+    [ "$moved" -gt 0 ] && [ "$refused" -gt 0 ] && [ "$broken" -gt 0 ] || fail "of some sort nothing is stored in $3"
+    [ "${#files[@]}" = $((moved + broken)) ] || fail "there are packed files in $3 without a text, or with one too many"
+    [ "${#says[@]}" = "$broken" ] || fail "there are refusals in $3 without a packed file"
+    say "moved $moved stored layouts to packed and back; refused $refused texts and $broken packed files"
+}
+
+# Runs a program on a file, and compares its standard output and its standard error with two others.
+check_mover() {
+    "$1" < "$2" > "$scratch/output" 2> "$scratch/error" || fail "$1 failed on $2"
+    cmp "$scratch/output" "$3" || fail "$1 does not write $3 to standard output for $2"
+    cmp "$scratch/error" "$4" || fail "$1 does not write $4 to standard error for $2"
+}
+
+# Two programs one after the other give a file back.
+check_back() {
+    "$1" < "$3" | "$2" > "$scratch/back" || fail "$1 and $2 failed on $3"
+    cmp "$scratch/back" "$3" || fail "$1 and then $2 do not give $3 back"
 }
 
 # Where a program cannot read or write it says so, and a signal takes nothing from its answer.
@@ -273,10 +324,10 @@ make_libraries() {
     done
 }
 
-# The comparison itself, two runs at a time. The quick gate takes a tenth of the inputs, but all texts: they are few, and some
-# kinds of them are rare.
+# The comparison itself, two runs at a time. The quick gate takes a tenth of the inputs, but all texts and packed files that go
+# through programs: they are few, and some kinds of them are rare.
 run_comparison() {
-    local compare=$1 inputs=10485760 pairs=4194304 arcs=11534336 texts=3072 check
+    local compare=$1 inputs=10485760 pairs=4194304 arcs=11534336 texts=3072 movers=2048 check
     if [ -n "$quick" ]; then
         inputs=$((inputs / 10)) pairs=$((pairs / 10)) arcs=$((arcs / 10))
     fi
@@ -286,6 +337,7 @@ run_comparison() {
     search_arcs "$compare" "$arcs"
     quietly "$compare" record "$scratch/list" || fail "compare record failed"
     check_list "$scratch/list" crates/replay/stdin
+    compare_movers "$compare" "$movers"
     compare_texts "$compare" "$texts"
     wait "$check" || {
         cat "$scratch/check"
@@ -317,6 +369,16 @@ compare_texts() {
     for answer in layouts/*.out; do
         cmp "$scratch/$answer" "$answer" || fail "$answer is not what 'compare layouts' writes"
     done
+}
+
+# Compares the two programs that move layouts with a model, and makes the stored packed files again. It needs no Rust text.
+compare_movers() {
+    "$1" movers target/bin "$2" || fail "pack or unpack and their model differ"
+    mkdir -p "$scratch/moved/packed"
+    cp layouts/*.txt "$scratch/moved"
+    cp layouts/packed/broken_*.packed "$scratch/moved/packed"
+    quietly "$1" packed-layouts "$scratch/moved" || fail "compare packed-layouts failed"
+    diff -r "$scratch/moved/packed" layouts/packed || fail "layouts/packed is not what 'compare packed-layouts' writes"
 }
 
 # The stored list must be the one that is made here. Without the Rust text only its first part can be made: the answers of the

@@ -13,6 +13,7 @@ mod clock;
 mod crossing;
 mod expected;
 mod floats;
+mod form;
 #[cfg(feature = "rust-text")]
 mod inputs;
 #[cfg(feature = "rust-text")]
@@ -21,8 +22,10 @@ mod joints;
 mod lent;
 #[cfg(feature = "rust-text")]
 mod listings;
+mod met;
 #[cfg_attr(not(feature = "rust-text"), allow(dead_code))]
 mod numbers;
+mod packed;
 #[cfg(feature = "rust-text")]
 mod pages;
 #[cfg(feature = "rust-text")]
@@ -31,6 +34,7 @@ mod partings;
 mod plane;
 #[cfg_attr(not(feature = "rust-text"), allow(dead_code))]
 mod probe;
+mod program;
 mod record;
 mod rng;
 mod roots;
@@ -49,8 +53,8 @@ use std::process::ExitCode;
 const USAGE: &str = "\
 usage: compare check [COUNT [SEED]]  compare each float function on COUNT random inputs (default 10485760, seed 1), and the
                                      root as compare roots; segments of a path and of its view, and filled parts of rows,
-                                     on the stored layouts and on a quarter as many; each function of the plane on a
-                                     quarter as many accepted ones, an eighth of all bit patterns, and some beside the
+                                     on the stored layouts and on a quarter as many; as compare packed with a quarter of
+                                     COUNT; each function of the plane on a quarter as many accepted ones, an eighth of all bit patterns, and some beside the
                                      limits; each kernel and the pair call until twice as many were answered, and on some
                                      that are refused; listings of whole paths until as many pairs were looked at, and on
                                      chosen ones; then as compare pages, as compare boxed, as compare joints, and as
@@ -68,6 +72,12 @@ usage: compare check [COUNT [SEED]]  compare each float function on COUNT random
        compare joints [COUNT [SEED]] compare self listings where neighbours meet, full, paged and boxed: every short path on a
                                      small grid, if COUNT is at least 1048576, and COUNT / 512 drawn ones (default 10485760,
                                      seed 1)
+       compare packed [COUNT [SEED]] compare the moves of layouts between text and packed form: on chosen texts and files, on
+                                     COUNT / 10 drawn layouts both ways, and on as many damaged files (default 10485760,
+                                     seed 1)
+       compare movers FOLDER [COUNT [SEED]]
+                                     hold the programs pack and unpack of a folder to the model, on chosen inputs and on COUNT
+                                     drawn and damaged ones (default 2048, seed 1)
        compare search [COUNT [SEED]] try to break what is promised of lines on the grid, on COUNT pairs (default 25165824,
                                      seed 1)
        compare arcs [COUNT [SEED]]   count how often touching segments with arcs are missed, and how far from each other
@@ -81,10 +91,12 @@ usage: compare check [COUNT [SEED]]  compare each float function on COUNT random
                                      hold the text program to a model on COUNT texts (default 3072, seed 1), of the right
                                      form and damaged, and on small ones with every damage of a byte
        compare layouts FOLDER        write the model's output NAME.out for each text NAME.txt there
+       compare packed-layouts FOLDER write packed/NAME.packed for each text NAME.txt of the form there, and packed/NAME.expected
+                                     for each packed/NAME.packed that is no layout
        compare record FILE           write the recorded list for the program replay
        compare bench [PART...]       nanoseconds of processor time a call or a pair, ours beside the machine's own and the Rust's,
                                      the least of five rounds or more by turns; all parts, or some of: floats calls listings
-                                     pages boxed";
+                                     pages boxed packed";
 
 const COUNT: u64 = 10 << 20;
 const ON_AN_EDGE: u64 = 1 << 20;
@@ -92,8 +104,9 @@ const SEARCHED: u64 = 24 << 20;
 const SEARCHED_ARCS: u64 = 11 << 20;
 const CLIMBED: u64 = 1 << 20;
 const TEXTS: u64 = 3072;
+const MOVED: u64 = 2048;
 const SEED: u64 = 1;
-const BENCHES: [&str; 5] = ["floats", "calls", "listings", "pages", "boxed"];
+const BENCHES: [&str; 6] = ["floats", "calls", "listings", "pages", "boxed", "packed"];
 
 fn main() -> ExitCode {
     let words: Vec<String> = env::args().skip(1).collect();
@@ -105,6 +118,9 @@ fn main() -> ExitCode {
         ["pages", ref numbers @ ..] => pages(numbers),
         ["boxed", ref numbers @ ..] => boxed(numbers),
         ["joints", ref numbers @ ..] => joints(numbers),
+        ["packed", ref numbers @ ..] => packed(numbers),
+        ["movers", folder, ref numbers @ ..] => movers(Path::new(folder), numbers),
+        ["packed-layouts", folder] => packed_layouts(Path::new(folder)),
         ["search", ref numbers @ ..] => search(numbers),
         ["arcs", "climb", ref numbers @ ..] => climb_arcs(numbers),
         ["arcs", "cures", ref numbers @ ..] => cure_arcs(numbers),
@@ -130,6 +146,7 @@ fn check(numbers: &[&str]) -> Result<(), String> {
     let differences = floats::check(count, seed)
         + roots::check(count, seed)
         + views::check(count, seed)
+        + packed::check(count / 4, seed)
         + check_text(count, seed);
     match differences {
         0 => Ok(()),
@@ -177,6 +194,28 @@ fn joints(numbers: &[&str]) -> Result<(), String> {
     }
 }
 
+fn packed(numbers: &[&str]) -> Result<(), String> {
+    let (count, seed) = count_and_seed(numbers, COUNT)?;
+    match packed::check(count, seed) {
+        0 => Ok(()),
+        differences => Err(format!("{differences} differences")),
+    }
+}
+
+fn movers(folder: &Path, numbers: &[&str]) -> Result<(), String> {
+    let (count, seed) = count_and_seed(numbers, MOVED)?;
+    match packed::check_programs(folder, count, seed)? {
+        0 => Ok(()),
+        differences => Err(format!("{differences} differences")),
+    }
+}
+
+fn packed_layouts(folder: &Path) -> Result<(), String> {
+    let packed::Written { packed, refused } = packed::write(folder)?;
+    println!("{packed} packed layouts, {refused} files that are refused");
+    Ok(())
+}
+
 fn search(numbers: &[&str]) -> Result<(), String> {
     let (count, seed) = count_and_seed(numbers, SEARCHED)?;
     match search::run(count, seed) {
@@ -221,6 +260,7 @@ fn time(parts: &[&str]) -> Result<(), String> {
             "listings" => time_listings(),
             "pages" => time_pages(),
             "boxed" => time_boxed(),
+            "packed" => packed::bench()?,
             _ => return Err(USAGE.to_string()),
         }
     }

@@ -5,7 +5,6 @@ pub mod ask;
 mod bench;
 mod chain;
 mod kinds;
-pub mod met;
 pub mod model;
 mod score;
 mod small;

@@ -1,25 +1,24 @@
 //! The text program compared with a model that is written here from the scope's prose, over the listing's model and so over the
 //! Rust's pair function: its whole output for texts of the right form and for damaged ones.
 
-mod damage;
 mod draw;
 #[cfg(test)]
 mod examples;
 mod kinds;
 mod model;
-mod program;
 mod score;
 mod sheet;
 mod stored;
+mod verdict;
 
 pub use stored::write;
 
-use damage::{lengthened, replaced, swapped, DAMAGES, FORM, OTHERS};
 use draw::{longest, small, Kind, KINDS};
-use model::MOST_BYTES;
-use program::{Program, Way};
 use score::Score;
 
+use crate::form::damage::{lengthened, replaced, swapped, DAMAGES, FORM, OTHERS};
+use crate::form::MOST_BYTES;
+use crate::program::{Program, Way};
 use crate::rng::Rng;
 
 /// Small texts with each byte of the form.

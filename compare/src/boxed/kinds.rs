@@ -7,7 +7,7 @@ use super::seen::{GAPS, SIDES, SORTS};
 use crate::crossing::faults::{INFINITE, NOT_A_NUMBER};
 use crate::listings::layout::Call;
 use crate::listings::lent::Old;
-use crate::pages::met::Met;
+use crate::met::Met;
 
 /// The kinds that a call must meet: only a full run has the largest listing of one path.
 pub fn kinds(call: Call, full: bool) -> Met<Case> {

@@ -12,7 +12,7 @@ use crate::listings::model::{Listed, Path};
 use crate::listings::orders::Orders;
 use crate::listings::score::CLASSES;
 use crate::listings::sites::{Short, Sites};
-use crate::pages::met::Met;
+use crate::met::Met;
 
 const SHOWN: u64 = 5;
 

@@ -21,11 +21,6 @@ impl Rng {
             -1.0
         }
     }
-
-    /// One of the choices.
-    pub fn pick<T: Copy>(&mut self, choices: &[T]) -> T {
-        choices[self.below(choices.len() as u64) as usize]
-    }
 }
 
 /// The largest magnitude of a coordinate.

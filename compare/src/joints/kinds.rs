@@ -2,7 +2,7 @@
 
 use super::joint::{Joint, Link, GAPS, LINKS, SORTS};
 use crate::listings::score::CLASSES;
-use crate::pages::met::Met;
+use crate::met::Met;
 
 /// The Rust's tolerance where no other is given.
 const DEFAULT: f64 = 1e-8;

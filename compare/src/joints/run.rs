@@ -12,8 +12,8 @@ use crate::listings::layout::{Call, Layout};
 use crate::listings::lent::{Expected, Lent, LentPath, Old, Room};
 use crate::listings::model::{row_room, Listed, Listing};
 use crate::listings::FULL;
+use crate::met::Met;
 use crate::pages::ask::room_of;
-use crate::pages::met::Met;
 use crate::pages::model::Pages;
 use crate::rng::Rng;
 

@@ -2,11 +2,11 @@
 //! slices. They are compared with the listing: the model's, and the one that the full call gives.
 
 use super::ask::{Asked, Style};
-use super::met::Met;
 use super::score::{Known, Score};
 use crate::listings::layout::Call;
 use crate::listings::lent::{is_row, Lent, Old, Room};
 use crate::listings::model::Row;
+use crate::met::Met;
 use crate::rng::Rng;
 
 /// Rows as they stand in lent slices.

@@ -1,11 +1,11 @@
 //! Kinds of call that a run must have met. They are read from the call itself, not from how it was drawn.
 
 use super::ask::{Asked, BEYOND_ALL, COUNTS};
-use super::met::Met;
 use super::model::{Page, Pages, BEYOND, NO_BUDGET, NO_ROW_FITS};
 use crate::crossing::faults::{Fault, INFINITE, NOT_A_NUMBER};
 use crate::listings::lent::Old;
 use crate::listings::model::Path;
+use crate::met::Met;
 
 /// A call as it was made. A plain copy of what is needed, so that a kind's test borrows nothing.
 pub struct Case {

@@ -4,7 +4,6 @@
 use super::ask::{Asked, COUNTS};
 use super::chain::{self, Chained};
 use super::kinds::{kinds, Case};
-use super::met::Met;
 use super::model::{Page, Pages};
 use super::Ours;
 use crate::crossing::faults::Fault;
@@ -14,6 +13,7 @@ use crate::listings::model::{Listed, Path};
 use crate::listings::orders::Orders;
 use crate::listings::score::CLASSES;
 use crate::listings::sites::{Short, Sites};
+use crate::met::Met;
 
 const SHOWN: u64 = 5;
 

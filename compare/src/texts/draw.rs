@@ -1,7 +1,7 @@
 //! Texts of the right form: random layouts, and layouts with chosen sizes, numbers and rows.
 
-use super::model::{BULGE, COORDINATE, MOST_VERTICES};
-use super::sheet::{bulge, straightened, nearest, number, of_numbers, sign, whole, Place, Sheet};
+use super::sheet::{bulge, nearest, number, of_numbers, sign, straightened, whole};
+use crate::form::{Place, Sheet, BULGE, COORDINATE, MOST_VERTICES};
 use crate::inputs::Vertex;
 use crate::listings::draw;
 use crate::listings::shapes::{crossed, on_grid};

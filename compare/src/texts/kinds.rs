@@ -1,7 +1,8 @@
 //! Kinds of text that a run must have met. They are read from the text and its answer, not from how it was drawn.
 
-use super::model::{paths, Answer, BULGE, CLASSES, COORDINATE, MOST_BYTES, MOST_ROWS};
+use super::model::{paths, Answer, CLASSES, MOST_ROWS};
 use crate::crossing::faults::{Fault, Item};
+use crate::form::{BULGE, COORDINATE, MOST_BYTES};
 use crate::listings::layout::Drawn;
 
 pub struct Case<'a> {

@@ -1,15 +1,11 @@
-//! The text program as in the scope's prose: what a text must look like, and what is printed. The listing's model says which rows
-//! there are, and what else is refused.
+//! The text program as in the scope's prose: what is printed for a text. Its form says which layout a text has; the listing's
+//! model says which rows there are, and what else is refused.
 
+use crate::form;
 use crate::listings::layout::Drawn;
 use crate::listings::model::{Listed, Listing, Row, Rows};
 use crate::numbers::hex;
 
-pub const MOST_BYTES: usize = 16_384;
-pub const MOST_VERTICES: i64 = 256;
-pub const COORDINATE: i64 = 1_048_576;
-/// In 65,536ths.
-pub const BULGE: i64 = 65_536;
 pub const MOST_ROWS: usize = 512;
 const EPSILON: f64 = 1.0 / 1024.0;
 const BROKEN: u64 = 10;
@@ -77,53 +73,7 @@ fn line(row: &Row) -> String {
 
 /// The two paths of a text, or none if it breaks its form.
 pub fn paths(text: &[u8]) -> Option<[Drawn; 2]> {
-    if text.len() > MOST_BYTES {
-        return None;
-    }
-    // every line has its newline, and nothing follows the last one
-    let lines = text.strip_suffix(b"\n")?;
-    let mut lines = lines.split(|byte| *byte == b'\n');
-    let counts = numbers::<2>(lines.next()?)?;
-    if counts.iter().any(|n| !(0..=MOST_VERTICES).contains(n)) {
-        return None;
-    }
-    let vertices: Vec<[i64; 3]> = lines.map(vertex).collect::<Option<_>>()?;
-    let [first, second] = counts.map(|n| n as usize);
-    if vertices.len() != first + second {
-        return None;
-    }
-    let (first, second) = vertices.split_at(first);
-    Some([first, second].map(drawn))
-}
-
-fn vertex(line: &[u8]) -> Option<[i64; 3]> {
-    let vertex: [i64; 3] = numbers(line)?;
-    let [x, y, bulge] = vertex.map(i64::abs);
-    (x <= COORDINATE && y <= COORDINATE && bulge <= BULGE).then_some(vertex)
-}
-
-/// This many whole numbers, with one space between.
-fn numbers<const N: usize>(line: &[u8]) -> Option<[i64; N]> {
-    let words = line.split(|byte| *byte == b' ');
-    let numbers: Vec<i64> = words.map(number).collect::<Option<_>>()?;
-    numbers.try_into().ok()
-}
-
-/// Digits, with or without a minus before them: no leading zero, and no minus zero. None if it is too long for every limit.
-fn number(word: &[u8]) -> Option<i64> {
-    const MOST_DIGITS: usize = 15;
-    let (digits, sign) = match word.strip_prefix(b"-") {
-        Some(digits) => (digits, -1),
-        None => (word, 1),
-    };
-    let zero = digits == b"0" && sign == 1;
-    let begins = digits.first().is_some_and(|byte| *byte != b'0');
-    let is_number = digits.iter().all(u8::is_ascii_digit) && digits.len() <= MOST_DIGITS;
-    if !is_number || !(zero || begins) {
-        return None;
-    }
-    let worth = |sum: i64, byte: &u8| 10 * sum + i64::from(byte - b'0');
-    Some(sign * digits.iter().fold(0, worth))
+    form::sheet(text).map(|sheet| sheet.paths.map(|path| drawn(&path)))
 }
 
 /// An open path.

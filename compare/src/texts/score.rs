@@ -3,7 +3,8 @@
 
 use super::kinds::{Case, Kinds};
 use super::model::{answer, CLASSES};
-use super::program::{judge, Program, Verdict, Way};
+use super::verdict::{judge, Verdict};
+use crate::program::{Printed, Program, Way};
 
 const SHOWN: u64 = 5;
 /// The refusals that a text can get.
@@ -93,11 +94,12 @@ impl Score {
     pub fn compare(&mut self, group: usize, text: &[u8], way: Way) -> Result<(), String> {
         let answer = answer(text);
         let expected = answer.printed();
-        let printed = self.program.run(text, way)?;
-        match judge(&printed, &expected) {
+        let Printed { output, error } = self.program.run(text, way)?;
+        match judge(&output, &expected) {
+            _ if !error.is_empty() => self.differ(group, text, &error, ""),
             Verdict::Same => {}
             Verdict::SameNumbers => self.other_zeros += 1,
-            Verdict::Different => self.differ(group, text, &printed, &expected),
+            Verdict::Different => self.differ(group, text, &output, &expected),
         }
         let refused = answer.refused();
         self.groups[group].count(refused);

@@ -1,37 +1,8 @@
-//! Layouts in whole numbers, as in a text.
+//! Parts of layouts in whole numbers, as in a text.
 
-use super::model::{BULGE, COORDINATE};
+use crate::form::{Place, BULGE, COORDINATE};
 use crate::inputs::Vertex;
 use crate::rng::Rng;
-
-/// x, y, and the bulge in 65,536ths.
-pub type Place = [i64; 3];
-
-#[derive(Clone, Default)]
-pub struct Sheet {
-    pub paths: [Vec<Place>; 2],
-}
-
-impl Sheet {
-    pub fn new(first: Vec<Place>, second: Vec<Place>) -> Sheet {
-        Sheet {
-            paths: [first, second],
-        }
-    }
-
-    pub fn text(&self) -> Vec<u8> {
-        let [first, second] = &self.paths;
-        let lines = first.iter().chain(second);
-        let lines: String = lines.map(|[x, y, b]| format!("{x} {y} {b}\n")).collect();
-        format!("{} {}\n{lines}", first.len(), second.len()).into_bytes()
-    }
-
-    pub fn map(self, each: impl FnMut(Vec<Place>) -> Vec<Place>) -> Sheet {
-        Sheet {
-            paths: self.paths.map(each),
-        }
-    }
-}
 
 /// A whole number, at most `most` in magnitude.
 pub fn number(most: i64, rng: &mut Rng) -> i64 {

@@ -2,7 +2,7 @@
 
 use std::ops::Range;
 
-use super::model::{BULGE, COORDINATE, MOST_VERTICES};
+use super::{BULGE, COORDINATE, MOST_VERTICES};
 use crate::rng::Rng;
 
 pub struct Damage {
