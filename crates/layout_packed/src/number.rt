@@ -14,7 +14,7 @@ pub enum Number {
 }
 
 // The number that starts at `start`.
-pub fn number_at(bytes: &[u8], start: usize, most: u64) -> Number
+pub(crate) fn number_at(bytes: &[u8], start: usize, most: u64) -> Number
     requires { ⌜ most ≤ written.coordinate ⌝ }
     ensures { λ r. ⌜ shownNumber (now (bytes .entry)) start r ≡ numberFrom most start (drop start (now (bytes .entry))) ⌝ }
 {

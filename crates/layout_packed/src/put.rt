@@ -11,7 +11,7 @@ ghost use Rattle.layout_packed.specs.Packed.{joined, vertexNumbers};
 use put_text::put_byte;
 
 // A number's groups.
-pub fn put_number(out: &mut [u8], at: usize, n: u64) -> usize
+fn put_number(out: &mut [u8], at: usize, n: u64) -> usize
     requires { ⌜ at + length (groupsOf n) ≤ length (now out) ⌝ }
     ensures { λ r. ⌜ Put (groupsOf n) (now (out .entry)) at (now (out .exit)) r ⌝ }
 {
@@ -48,7 +48,7 @@ fn zigzagged(negative: bool, n: u64) -> u64
 }
 
 // A coordinate or bulge, n or -n.
-pub fn put_signed(out: &mut [u8], at: usize, negative: bool, n: u64) -> usize
+fn put_signed(out: &mut [u8], at: usize, negative: bool, n: u64) -> usize
     requires { ⌜ n ≤ limit.coordinate ⌝ }
     requires { ⌜ at + length (groupsOf (zigzag (whole negative n))) ≤ length (now out) ⌝ }
     ensures { λ r. ⌜ Put (groupsOf (zigzag (whole negative n))) (now (out .entry)) at (now (out .exit)) r ⌝ }

@@ -63,7 +63,7 @@ fn size(n: u64) -> u64
 }
 
 // The place after n vertices.
-pub fn skip(bytes: &[u8], start: usize, n: u64) -> Place
+pub(crate) fn skip(bytes: &[u8], start: usize, n: u64) -> Place
     ensures { λ r. ⌜ shownPlace (now (bytes .entry)) r ≡ passed (verticesFrom n start (drop start (now (bytes .entry)))) ⌝ }
 {
     let mut at = start;
@@ -84,7 +84,7 @@ pub fn skip(bytes: &[u8], start: usize, n: u64) -> Place
 }
 
 // Writes n vertices, three floats each, to the front of `out`, if the file has all of them.
-pub fn fill(bytes: &[u8], start: usize, n: u64, out: &mut [f64])
+pub(crate) fn fill(bytes: &[u8], start: usize, n: u64, out: &mut [f64])
     requires { ⌜ n * limit.numbersAVertex ≤ length (now out) ⌝ }
     ensures { λ _. ⌜ Filled (verticesFrom n start (drop start (now (bytes .entry)))) (now (out .entry)) (now (out .exit)) ⌝ }
 {

@@ -55,7 +55,7 @@ pub fn vertex(text: &[u8], start: usize) -> Corner
 }
 
 // The place after n vertices.
-pub fn skip(text: &[u8], start: usize, n: u64) -> Place
+pub(crate) fn skip(text: &[u8], start: usize, n: u64) -> Place
     ensures { λ r. ⌜ shownPlace (now (text .entry)) r ≡ passed (verticesOf n (drop start (now (text .entry)))) ⌝ }
 {
     let mut at = start;
@@ -76,7 +76,7 @@ pub fn skip(text: &[u8], start: usize, n: u64) -> Place
 }
 
 // Writes n vertices, three numbers each, to the front of `out`, if the text has all of them.
-pub fn fill(text: &[u8], start: usize, n: u64, out: &mut [f64])
+pub(crate) fn fill(text: &[u8], start: usize, n: u64, out: &mut [f64])
     requires { ⌜ n * limit.numbersAVertex ≤ length (now out) ⌝ }
     ensures { λ _. ⌜ Filled (verticesOf n (drop start (now (text .entry)))) (now (out .entry)) (now (out .exit)) ⌝ }
 {

@@ -42,11 +42,18 @@ pub fn put_decimal(out: &mut [u8], at: usize, n: u64) -> usize
     requires { ⌜ at + length (decimal n) ≤ length (now out) ⌝ }
     ensures { λ r. ⌜ Put (decimal n) (now (out .entry)) at (now (out .exit)) r ⌝ }
 {
+    put_digits(out, at, n)
+}
+
+fn put_digits(out: &mut [u8], at: usize, n: u64) -> usize
+    requires { ⌜ at + length (decimal n) ≤ length (now out) ⌝ }
+    ensures { λ r. ⌜ Put (decimal n) (now (out .entry)) at (now (out .exit)) r ⌝ }
+{
     if n < 10 {
         out[at] = 48 + n as u8;
         return at + 1;
     }
-    let next = put_decimal(out, at, n / 10);
+    let next = put_digits(out, at, n / 10);
     out[next] = 48 + (n % 10) as u8;
     next + 1
 }
