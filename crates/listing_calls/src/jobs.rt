@@ -56,13 +56,14 @@ pub(crate) fn mutual_job(
         own: false,
         closed: false,
         boxed: boxed,
+        whole: false,
         epsilon: epsilon,
     }
 }
 
-// The segments of one path with each other; in a boxed listing those whose boxes meet.
-pub(crate) fn self_job(path: &[f64], closed: bool, boxed: bool, epsilon: f64) -> Job
-    ensures { λ r. ⌜ r ≡ Jobs.selfJob (now (path .entry)) closed boxed epsilon ⌝ }
+// The segments of one path with each other; in a boxed listing those whose boxes meet. A page is not `whole`.
+pub(crate) fn self_job(path: &[f64], closed: bool, boxed: bool, whole: bool, epsilon: f64) -> Job
+    ensures { λ r. ⌜ r ≡ Jobs.selfJob (now (path .entry)) closed boxed whole epsilon ⌝ }
 {
     let n = segments::segment_count(path, closed);
     Job {
@@ -71,6 +72,7 @@ pub(crate) fn self_job(path: &[f64], closed: bool, boxed: bool, epsilon: f64) ->
         own: true,
         closed: closed,
         boxed: boxed,
+        whole: whole,
         epsilon: epsilon,
     }
 }
