@@ -1,5 +1,5 @@
-//! The functions of `plane`, the segments of a path, and the filled part of rows, as crate `probe` exports them. They are only
-//! for the comparison: no header of the product declares them.
+//! The functions of `plane`, the segments of a path, the filled part of rows, and the moves of layouts, as crate `probe` exports
+//! them. They are only for the comparison: no header of the product declares them.
 
 // Each call is safe: it takes and gives numbers, accepts any of them, and always returns.
 unsafe extern "C" {
@@ -89,6 +89,34 @@ mod raw {
             out: *mut f64,
             room: usize,
         ) -> usize;
+        #[rustfmt::skip]
+        pub fn vjp_pack_layout(
+            text: *const u8,
+            bytes: usize,
+            out: *mut u8,
+            room: usize,
+            told: *mut u64,
+            places: usize,
+        ) -> u64;
+        #[rustfmt::skip]
+        pub fn vjp_unpack_layout(
+            file: *const u8,
+            bytes: usize,
+            out: *mut u8,
+            room: usize,
+            told: *mut u64,
+            places: usize,
+        ) -> u64;
+        pub fn vjp_read_packed(
+            file: *const u8,
+            bytes: usize,
+            first: *mut f64,
+            first_room: usize,
+            second: *mut f64,
+            second_room: usize,
+            told: *mut u64,
+            places: usize,
+        ) -> u64;
     }
 }
 
@@ -148,4 +176,39 @@ pub fn vjp_view_segment_count(path: &[f64], closed: bool) -> usize {
 pub fn vjp_filled(points: &[f64], rows: usize, out: &mut [f64]) -> usize {
     let (start, room) = (out.as_mut_ptr(), out.len());
     unsafe { raw::vjp_filled(points.as_ptr(), points.len(), rows, start, room) }
+}
+
+/// A text; its packed form goes into the slice, and what is told into two places.
+pub fn vjp_pack_layout(text: &[u8], out: &mut [u8], told: &mut [u64]) -> u64 {
+    let (start, room) = (out.as_mut_ptr(), out.len());
+    let (places, count) = (told.as_mut_ptr(), told.len());
+    unsafe { raw::vjp_pack_layout(text.as_ptr(), text.len(), start, room, places, count) }
+}
+
+/// A packed file; its text goes into the slice.
+pub fn vjp_unpack_layout(file: &[u8], out: &mut [u8], told: &mut [u64]) -> u64 {
+    let (start, room) = (out.as_mut_ptr(), out.len());
+    let (places, count) = (told.as_mut_ptr(), told.len());
+    unsafe { raw::vjp_unpack_layout(file.as_ptr(), file.len(), start, room, places, count) }
+}
+
+/// A packed file; the numbers of its two paths go into two slices.
+pub fn vjp_read_packed(
+    file: &[u8],
+    first: &mut [f64],
+    second: &mut [f64],
+    told: &mut [u64],
+) -> u64 {
+    unsafe {
+        raw::vjp_read_packed(
+            file.as_ptr(),
+            file.len(),
+            first.as_mut_ptr(),
+            first.len(),
+            second.as_mut_ptr(),
+            second.len(),
+            told.as_mut_ptr(),
+            told.len(),
+        )
+    }
 }

@@ -34,6 +34,8 @@ fn files(folder: &Path) -> std::io::Result<Vec<PathBuf>> {
     for entry in fs::read_dir(folder)? {
         files.push(entry?.path());
     }
+    // packed layouts have a folder of their own
+    files.retain(|file| file.is_file());
     files.sort();
     Ok(files)
 }
