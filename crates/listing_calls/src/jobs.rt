@@ -56,14 +56,13 @@ pub(crate) fn mutual_job(
         own: false,
         closed: false,
         boxed: boxed,
-        whole: false,
         epsilon: epsilon,
     }
 }
 
-// The segments of one path with each other; in a boxed listing those whose boxes meet. A page is not `whole`.
-pub(crate) fn self_job(path: &[f64], closed: bool, boxed: bool, whole: bool, epsilon: f64) -> Job
-    ensures { λ r. ⌜ r ≡ Jobs.selfJob (now (path .entry)) closed boxed whole epsilon ⌝ }
+// The segments of one path with each other; in a boxed listing those whose boxes meet.
+pub(crate) fn self_job(path: &[f64], closed: bool, boxed: bool, epsilon: f64) -> Job
+    ensures { λ r. ⌜ r ≡ Jobs.selfJob (now (path .entry)) closed boxed epsilon ⌝ }
 {
     let n = segments::segment_count(path, closed);
     Job {
@@ -72,7 +71,6 @@ pub(crate) fn self_job(path: &[f64], closed: bool, boxed: bool, whole: bool, eps
         own: true,
         closed: closed,
         boxed: boxed,
-        whole: whole,
         epsilon: epsilon,
     }
 }

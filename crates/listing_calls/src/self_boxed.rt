@@ -23,7 +23,7 @@ pub fn self_boxed(
     let checked = jobs::check_self(path, closed, epsilon);
     match checked {
         Checked::Fine => {
-            let job = jobs::self_job(path, closed, true, true, epsilon);
+            let job = jobs::self_job(path, closed, true, epsilon);
             boxed::list_boxed(path, path, job, boxes, indices, points)
         }
         Checked::Bad(fault) => ListingAnswer::Refused(fault),

@@ -22,7 +22,7 @@ pub fn self_listing(
     let checked = jobs::check_self(path, closed, epsilon);
     match checked {
         Checked::Fine => {
-            let job = jobs::self_job(path, closed, false, true, epsilon);
+            let job = jobs::self_job(path, closed, false, epsilon);
             buffer::list(path, path, job, indices, points)
         }
         Checked::Bad(fault) => ListingAnswer::Refused(fault),

@@ -25,7 +25,7 @@ pub fn self_page(
     let checked = jobs::check_self(path, closed, epsilon);
     match checked {
         Checked::Fine => {
-            let job = jobs::self_job(path, closed, false, false, epsilon);
+            let job = jobs::self_job(path, closed, false, epsilon);
             page::page(path, path, job, position, budget, indices, points)
         }
         Checked::Bad(fault) => PageAnswer::Refused(fault),

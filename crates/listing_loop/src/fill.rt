@@ -10,8 +10,8 @@ ghost use Rattle.listing_pairs.specs.Workings.Keeping;
 ghost use Rattle.listing_pairs.specs.Workings.Ready;
 ghost use Rattle.listing_loop.specs.Workings.Filling as filling;
 use super::run::box_for;
-use super::run::kept_for;
 use super::run::next_run;
+use fast_pair::kept::kept_of;
 use listing_pairs::look;
 use listing_pairs::order;
 use listing_pairs::order::Job;
@@ -82,7 +82,7 @@ pub fn fill(
     let mut looked = 0;
     while i < job.n {
         let v = segments::segment_from(first, i);
-        let v_kept = kept_for(v, kept, job, i);
+        let v_kept = kept_of(v.v1, v.v2, job.epsilon);
         let v_box = box_for(v, v_kept, job);
         let to = job.m;
         let start = j;

@@ -12,9 +12,7 @@ use boxes::bounds::box_with;
 use boxes::next::next_apart;
 use boxes::next::next_by_groups;
 use fast_pair::kept::Kept;
-use fast_pair::kept::kept_of;
 use listing_pairs::keeping;
-use listing_pairs::keeping::kept_at;
 use listing_pairs::order::Job;
 use paths::path::Segment;
 
@@ -22,17 +20,6 @@ use paths::path::Segment;
 pub struct Run {
     pub from: usize,
     pub to: usize,
-}
-
-// What is kept of v, which is segment i of the first path: it stands among what is kept, or is computed.
-pub(crate) fn kept_for(v: Segment, kept: &[f64], job: Job, i: usize) -> Kept
-    requires { ⌜ Runs.KeptFor v (now kept) job i ⌝ }
-    ensures { λ r. ⌜ r ≡ Keeping.ofSegment v (job .epsilon) ⌝ }
-{
-    if job.whole {
-        return kept_at(kept, i);
-    }
-    kept_of(v.v1, v.v2, job.epsilon)
 }
 
 // The box of v, of which `v_kept` is kept: a boxed listing goes by it. In any other it has no effect.

@@ -37,7 +37,7 @@ fn fill_from(
     points: &mut [f64],
 ) -> Filling
     requires { ⌜ Ready.Ready (now first) (now second) job ⌝ }
-    requires { ⌜ (job .boxed ≡ false) × (job .whole ≡ false) ⌝ }
+    requires { ⌜ job .boxed ≡ false ⌝ }
     requires { ⌜ spot .i ≤ job .n ⌝ }
     requires { ⌜ (room * row_of.indicesARow ≤ length (now indices)) × (room * row_of.pointsARow ≤ length (now points)) ⌝ }
     ensures { λ r. ⌜
@@ -72,7 +72,7 @@ pub fn page(
     points: &mut [f64],
 ) -> PageAnswer
     requires { ⌜ Ready.Ready (now first) (now second) job ⌝ }
-    requires { ⌜ (job .boxed ≡ false) × (job .whole ≡ false) ⌝ }
+    requires { ⌜ job .boxed ≡ false ⌝ }
     ensures { λ r. ⌜
         Outcome.Leaves (outcome_of.paged (Ready.lookBy (now (first .entry)) (now (second .entry)) job) (job_of.every job)
         position budget (now (indices .entry)) (now (points .entry)))

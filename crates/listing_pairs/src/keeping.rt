@@ -106,7 +106,7 @@ pub fn keep_reached(second: &[f64], job: Job, i: usize, j: usize, budget: usize,
 }
 
 // What is kept of segment j.
-pub fn kept_at(kept: &[f64], j: usize) -> Kept
+pub(crate) fn kept_at(kept: &[f64], j: usize) -> Kept
     requires { ⌜ (j + 1) * Keeping.numbersKept ≤ length (now kept) ⌝ }
     ensures { λ r. ⌜ r ≡ Keeping.keptAt (now (kept .entry)) j ⌝ }
 {

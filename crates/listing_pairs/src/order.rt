@@ -7,15 +7,13 @@ ghost use Rattle.listing_pairs.specs.Workings.Position;
 use super::sizes::less;
 
 // What a listing works on: n segments of the first path, m of the second, and epsilon. In a self listing (`own`) both are the
-// same path. A boxed listing looks at a pair only if the boxes of its segments meet. If `whole`, what is kept of the second path's
-// segments is kept of all, and both are the same path, so it is kept of the first path's too.
+// same path. A boxed listing looks at a pair only if the boxes of its segments meet.
 pub struct Job {
     pub n: usize,
     pub m: usize,
     pub own: bool,
     pub closed: bool,
     pub boxed: bool,
-    pub whole: bool,
     pub epsilon: f64,
 }
 

@@ -55,9 +55,9 @@ pub two-paths : (first : List Float) (firstClosed : Bool) (second : List Float) 
 two-paths first firstClosed second secondClosed boxed epsilon j is own =
     absurd (true≢false (sym own ∙ ap (λ (k : Job). k .own) is))
 
-pub one-path : (path : List Float) (closed boxed whole : Bool) (epsilon : Float) (j : Job) → j ≡ selfJob path closed boxed whole epsilon
+pub one-path : (path : List Float) (closed boxed : Bool) (epsilon : Float) (j : Job) → j ≡ selfJob path closed boxed epsilon
     → OwnPath path path j
-one-path path closed boxed whole epsilon j is own = (refl, ap (λ (k : Job). k .n) is ∙ sym (ap (λ (k : Job). k .m) is))
+one-path path closed boxed epsilon j is own = (refl, ap (λ (k : Job). k .n) is ∙ sym (ap (λ (k : Job). k .m) is))
 
 -- the pairs are skipped, or left out
 left-out : (first second : List Float) (epsilon : Float) (f : ℕ → ℕ → Look) (ps : List Pair)
@@ -111,13 +111,13 @@ module _ (path : List Float) (closed : Bool) (epsilon : Float) (b₀ : List Floa
   one = index path epsilon (segmentCount path closed)
 
   pub self-boxed : (b : List Float) (i : List ℕ) (p : List Float) (r : ListingAnswer) → checkSelf path closed epsilon ≡ Fine
-      → (j : Job) → j ≡ own-job path closed epsilon true true
+      → (j : Job) → j ≡ own-job path closed epsilon true
       → LeavesBoxed (boxed (lookBy path path j) (every j) (indexFor path path j) b₀ i₀ p₀) r b i p
       → LeavesBoxed (selfBoxed path closed epsilon b₀ i₀ p₀) r b i p
   unfolding selfBoxed checkSelf lookOn selfLook
   self-boxed b i p r e j is h =
       let k : LeavesBoxed (boxed (boxedLook path path epsilon (selfLook path closed epsilon)) own (one ++ []) b₀ i₀ p₀) r b i p =
-      rw (is, self-every (own-job path closed epsilon true true) refl refl) at h in
+      rw (is, self-every (own-job path closed epsilon true) refl refl) at h in
       let l : LeavesBoxed (boxed (boxedLook path path epsilon (selfLook path closed epsilon)) own one b₀ i₀ p₀) r b i p =
       rw (append-nil one) at k in
       rw (boxed-fine its (selfLook path closed epsilon) (boxedPairs path path epsilon own) one b₀ i₀ p₀ e)

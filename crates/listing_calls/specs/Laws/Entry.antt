@@ -1,7 +1,7 @@
 -- From the checks of a listing or a page to its outcome: the chain of calls is the list of checks; if they are fine, every pair
 -- of the job is fine for the pair call; and the outcome is that of checked paths, or the refusal of the first fault.
 use mathlib.Core.Path.{_≡_, refl, sym, ap, _∙_}
-use mathlib.Core.Bool.{Bool, false, true≢false}
+use mathlib.Core.Bool.{Bool, false}
 use mathlib.Core.List.{List, [], _∷_, _++_}
 use Prim.Native.Nat.{ℕ}
 use lib.Ieee.{Float}
@@ -119,14 +119,10 @@ module _ (first : List Float) (firstClosed : Bool) (second : List Float) (second
 
     pub mutual-ready : {boxed : Bool} (j : Job) → j ≡ job boxed → Ready first second j
     mutual-ready {boxed} j is =
-        rw is (paths-ready first second firstClosed secondClosed (job boxed) eps (inner .1) (outer .1) refl refl
-        (λ e. absurd (true≢false (sym e))))
+        rw is (paths-ready first second firstClosed secondClosed (job boxed) eps (inner .1) (outer .1) refl refl)
 
     pub mutual-plain : (j : Job) → j ≡ job false → j .boxed ≡ false
     mutual-plain j is = ap (λ (k : Job). k .boxed) is
-
-    pub mutual-part : (j : Job) → j ≡ job false → j .whole ≡ false
-    mutual-part j is = ap (λ (k : Job). k .whole) is
 
     module _ (j : Job) (is : j ≡ job false) (i₀ i : List ℕ) (p₀ p : List Float) where
       pub mutual-listed : (r : ListingAnswer) → Leaves (listed (lookBy first second j) (every j) i₀ p₀) r i p
@@ -164,8 +160,8 @@ module _ (path : List Float) (closed : Bool) (epsilon : Float) where
   abbrev its : List Checked
   its = selfChecks path closed epsilon
 
-  abbrev pub own-job : Bool → Bool → Job
-  own-job boxed whole = selfJob path closed boxed whole epsilon
+  abbrev pub own-job : Bool → Job
+  own-job boxed = selfJob path closed boxed epsilon
 
   abbrev g : ℕ → ℕ → Look
   g = selfLook path closed epsilon
@@ -189,22 +185,19 @@ module _ (path : List Float) (closed : Bool) (epsilon : Float) where
     self-eps : Each.epsilon epsilon ≡ Fine
     self-eps = later-fine (Each.epsilon epsilon) (shape path 0) .0 (whole .0) .0
 
-    pub self-ready : {boxed all : Bool} (j : Job) → j ≡ own-job boxed all → Ready path path j
-    self-ready {boxed} {all} j is =
-        rw is (paths-ready path path closed closed (own-job boxed all) self-eps (whole .1) (whole .1) refl refl (λ e. (refl, refl)))
+    pub self-ready : {boxed : Bool} (j : Job) → j ≡ own-job boxed → Ready path path j
+    self-ready {boxed} j is =
+        rw is (paths-ready path path closed closed (own-job boxed) self-eps (whole .1) (whole .1) refl refl)
 
-    pub self-plain : {all : Bool} (j : Job) → j ≡ own-job false all → j .boxed ≡ false
-    self-plain {all} j is = ap (λ (k : Job). k .boxed) is
+    pub self-plain : (j : Job) → j ≡ own-job false → j .boxed ≡ false
+    self-plain j is = ap (λ (k : Job). k .boxed) is
 
-    pub self-part : (j : Job) → j ≡ own-job false false → j .whole ≡ false
-    self-part j is = ap (λ (k : Job). k .whole) is
-
-    module _ {all : Bool} (j : Job) (is : j ≡ own-job false all) (i₀ i : List ℕ) (p₀ p : List Float) where
+    module _ (j : Job) (is : j ≡ own-job false) (i₀ i : List ℕ) (p₀ p : List Float) where
       pub self-listed : (r : ListingAnswer) → Leaves (listed (lookBy path path j) (every j) i₀ p₀) r i p
           → Leaves (selfListing path closed epsilon i₀ p₀) r i p
       unfolding selfListing checkSelf lookOn selfLook
       self-listed r h =
-          let k : Leaves (listed g own i₀ p₀) r i p = rw (is, self-every (own-job false all) refl refl) at h in
+          let k : Leaves (listed g own i₀ p₀) r i p = rw (is, self-every (own-job false) refl refl) at h in
           rw (listing-fine its g own i₀ p₀ e) k
 
       pub self-paged : (r : PageAnswer) (position budget : ℕ)
@@ -212,7 +205,7 @@ module _ (path : List Float) (closed : Bool) (epsilon : Float) where
           → Leaves (selfPage path closed epsilon position budget i₀ p₀) r i p
       unfolding selfPage checkSelf lookOn selfLook
       self-paged r position budget h =
-          let k : Leaves (paged g own position budget i₀ p₀) r i p = rw (is, self-every (own-job false all) refl refl) at h in
+          let k : Leaves (paged g own position budget i₀ p₀) r i p = rw (is, self-every (own-job false) refl refl) at h in
           rw (page-fine its g own position budget i₀ p₀ e) k
 
   module _ (x : Fault) (i₀ : List ℕ) (p₀ : List Float) (e : checkSelf path closed epsilon ≡ Bad x) where

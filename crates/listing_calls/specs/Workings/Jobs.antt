@@ -13,18 +13,16 @@ mutualJob first firstClosed second secondClosed boxed epsilon =
       own = false;
       closed = false;
       boxed = boxed;
-      whole = false;
       epsilon = epsilon;
     }
 
-abbrev pub selfJob : List Float → Bool → Bool → Bool → Float → Job
-selfJob path closed boxed whole epsilon =
+abbrev pub selfJob : List Float → Bool → Bool → Float → Job
+selfJob path closed boxed epsilon =
     record {
       n = segmentCount path closed;
       m = segmentCount path closed;
       own = true;
       closed = closed;
       boxed = boxed;
-      whole = whole;
       epsilon = epsilon;
     }

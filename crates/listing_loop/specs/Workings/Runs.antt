@@ -4,10 +4,9 @@ use mathlib.Core.Path.{_≡_, refl, sym, ap, _∙_}
 use mathlib.Core.Bool.{Bool, true, false, cond, not, true≢false}
 use mathlib.Core.Logic.{_⊎_, inl, inr}
 use mathlib.Core.List.{List}
-use Prim.Native.Nat.{ℕ, _+_, _*_, _≤_, _<_}
+use Prim.Native.Nat.{ℕ, _≤_, _<_}
 use native.Mathlib.Omega.{arith}
 use lib.Ieee.{Float}
-use lib.ListN.{length}
 use Rattle.floats.specs.Ops.{f0}
 use Rattle.paths.specs.declared.path.Segment.{Segment}
 use Rattle.paths.specs.Segments.{segmentFrom}
@@ -22,7 +21,7 @@ use Rattle.listing_pairs.specs.declared.order.Job.{Job}
 use Rattle.listing_pairs.specs.Boxed.{boxesMeet}
 use Rattle.listing_pairs.specs.Laws.Order.{lt-or-le}
 use Rattle.listing_pairs.specs.Workings.Ready.{eachLook, boxedLook, lookBy}
-use Rattle.listing_pairs.specs.Workings.Keeping.{ofSegment, numbersKept, keptAt, AllKept, boxesKept, BoxesKept}
+use Rattle.listing_pairs.specs.Workings.Keeping.{boxesKept, BoxesKept}
 use Rattle.listing_loop.specs.declared.run.Run.{Run}
 
 -- the box of v in a boxed listing, and any box in others
@@ -31,18 +30,6 @@ anyBox = record { «least_x» = f0; «least_y» = f0; «greatest_x» = f0; «gre
 
 unfoldable pub boxFor : Segment → Job → Box
 boxFor v job = cond (job .boxed) (boxOf (v .v1) (v .v2) (job .epsilon)) anyBox
-
--- what is kept of v stands in the place of segment i, if it is kept of the first path's segments
-abbrev pub KeptFor : Segment → List Float → Job → ℕ → Type 0
-KeptFor v kept job i =
-    job .whole ≡ true → ((i + 1) * numbersKept ≤ length kept) × (keptAt kept i ≡ ofSegment v (job .epsilon))
-
-pub kept-for : (first kept : List Float) (job : Job) (i : ℕ) (v : Segment)
-    → (job .whole ≡ true → AllKept first kept (job .epsilon) (job .n)) → i < job .n → v ≡ segmentFrom first i
-    → KeptFor v kept job i
-kept-for first kept job i v all below is whole =
-    let k = all whole i below in
-    (k .room, k .is ∙ ap (λ (s : Segment). ofSegment s (job .epsilon)) (sym is))
 
 -- the first index whose box meets b, up to the next whose box does not
 abbrev pub meetingRun : List Float → Box → ℕ → ℕ → Run

@@ -249,30 +249,17 @@ pub record BoxesKept (second kept : List Float) (job : Job) : Type 0 where
 pub record Ready (first second kept : List Float) (job : Job) (i j budget : ℕ) : Type 0 where
   pub pairs : paths.Ready first second job
   pub keeps : KeptFor second kept (job .epsilon) (take budget (job_of.left job i j))
-  pub firsts : job .whole ≡ true → AllKept first kept (job .epsilon) (job .n)
   pub boxes : job .boxed ≡ true → BoxesKept second kept job
 
 -- every pair can be looked at
 pub record AllReady (first second kept : List Float) (job : Job) : Type 0 where
   pub pairs : paths.Ready first second job
   pub keeps : AllKept second kept (job .epsilon) (job .m)
-  pub firsts : job .whole ≡ true → AllKept first kept (job .epsilon) (job .n)
   pub boxes : job .boxed ≡ true → BoxesKept second kept job
 
 -- a listing that is not boxed needs no boxes
 pub no-boxes : {second kept : List Float} {job : Job} → job .boxed ≡ false → job .boxed ≡ true → BoxesKept second kept job
 no-boxes f e = absurd (true≢false (sym e ∙ f))
-
--- what is kept of the second path's segments is kept of the first path's, if both are one path
-pub kept-of-both : {first second kept : List Float} {job : Job} → paths.Ready first second job
-    → AllKept second kept (job .epsilon) (job .m) → job .whole ≡ true → AllKept first kept (job .epsilon) (job .n)
-kept-of-both {first} {second} {kept} {job} ready keeps whole i below =
-    let both = ready .same whole in
-    rw (both .0) (keeps i (omega (arith, below, both .1)))
-
-pub not-whole : {first kept : List Float} (job : Job) → job .whole ≡ false → job .whole ≡ true
-    → AllKept first kept (job .epsilon) (job .n)
-not-whole job f e = absurd (true≢false (sym e ∙ f))
 
 -- ---- after a call of `keep`
 -- what is kept of each of its segments stands in its place

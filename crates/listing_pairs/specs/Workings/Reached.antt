@@ -32,8 +32,6 @@ use Rattle.listing_pairs.specs.Workings.Keeping.{
   keepBoxes,
   BoxesKept,
   no-boxes,
-  kept-of-both,
-  not-whole,
   kept-inside,
   kept-still,
   boxes-grouped,
@@ -95,7 +93,6 @@ all-ready {first} {second} {kept} {job} h i j budget =
     record {
       pairs = h .pairs;
       keeps = all-kept second kept (job .epsilon) job (h .keeps) i j budget;
-      firsts = h .firsts;
       boxes = h .boxes;
     }
 
@@ -103,10 +100,11 @@ all-ready {first} {second} {kept} {job} h i j budget =
 pub kept-ready : (first second l kept : List Float) (job : Job) → paths.Ready first second job → job .boxed ≡ false
     → job .m * numbersKept ≤ length l → kept ≡ keep second 0 (job .m) (job .epsilon) l → AllReady first second kept job
 kept-ready first second l kept job ready plain room e =
-    record { pairs = ready; keeps = all; firsts = kept-of-both ready all; boxes = no-boxes plain }
-  where
-    all : AllKept second kept (job .epsilon) (job .m)
-    all j b = rw e (kept-inside second l 0 (job .m) (job .epsilon) room j (omega arith) b)
+    record {
+      pairs = ready;
+      keeps = λ j b. rw e (kept-inside second l 0 (job .m) (job .epsilon) room j (omega arith) b);
+      boxes = no-boxes plain;
+    }
 
 -- and after the boxes were stored behind them
 module _ (first second l front : List Float) (job : Job) (ready : paths.Ready first second job)
@@ -131,15 +129,11 @@ module _ (first second l front : List Float) (job : Job) (ready : paths.Ready fi
           is = boxes-are second front (job .epsilon) (job .m) front-room;
         })
 
-    all : AllKept second kept (job .epsilon) (job .m)
-    all = rw f (still-kept second front (job .epsilon) (job .m) front-room (ready .few-second) front-kept)
-
     pub boxes-ready : AllReady first second kept job
     boxes-ready =
         record {
           pairs = ready;
-          keeps = all;
-          firsts = kept-of-both ready all;
+          keeps = rw f (still-kept second front (job .epsilon) (job .m) front-room (ready .few-second) front-kept);
           boxes = λ t. boxes-kept;
         }
 
@@ -405,12 +399,7 @@ module _ (second : List Float) (job : Job) (i j budget : ℕ) (l : List Float) {
       (sym (ap (λ (n : ℕ). isHere job i n budget) counted) ∙ test))
 
 pub reached-ready : (first second l kept : List Float) (job : Job) (i j budget : ℕ) → paths.Ready first second job
-    → job .boxed ≡ false → job .whole ≡ false → job .m * numbersKept ≤ length l → kept ≡ keepReached second job i j budget l
+    → job .boxed ≡ false → job .m * numbersKept ≤ length l → kept ≡ keepReached second job i j budget l
     → Ready first second kept job i j budget
-reached-ready first second l kept job i j budget ready plain part room e =
-    record {
-      pairs = ready;
-      keeps = rw e (reached-kept second l job room i j budget);
-      firsts = not-whole job part;
-      boxes = no-boxes plain;
-    }
+reached-ready first second l kept job i j budget ready plain room e =
+    record { pairs = ready; keeps = rw e (reached-kept second l job room i j budget); boxes = no-boxes plain }

@@ -95,16 +95,11 @@ pub record SegmentReady (v : Segment) (second : List Float) (job : Job) : Type 0
   pub m-within : job .m ≤ vertexCount second
   pub fine : (j : ℕ) → j < job .m → PairFine v (segmentFrom second j) (job .epsilon)
 
--- a whole listing of one path has it twice
-abbrev pub OnePath : List Float → List Float → Job → Type 0
-OnePath first second job = job .whole ≡ true → (first ≡ second) × (job .n ≡ job .m)
-
 pub record Ready (first second : List Float) (job : Job) : Type 0 where
   pub n-within : job .n ≤ vertexCount first
   pub m-within : job .m ≤ vertexCount second
   pub few : job .n ≤ mostVertices
   pub few-second : job .m ≤ mostVertices
-  pub same : OnePath first second job
   pub fine : (i j : ℕ) → i < job .n → j < job .m → PairFine (segmentFrom first i) (segmentFrom second j) (job .epsilon)
 
 pub at-segment : (v : Segment) (first second : List Float) (job : Job) (i : ℕ) → Ready first second job → i < job .n
@@ -131,15 +126,14 @@ pair-fine v u epsilon e fv fu = look-fine (v .v1) (v .v2) (u .v1) (u .v2) epsilo
 -- if both paths are fine, every pair is
 pub paths-ready : (first second : List Float) (firstClosed secondClosed : Bool) (job : Job)
     → Each.epsilon (job .epsilon) ≡ Fine → PathFine first firstClosed → PathFine second secondClosed
-    → job .n ≡ segmentCount first firstClosed → job .m ≡ segmentCount second secondClosed → OnePath first second job
+    → job .n ≡ segmentCount first firstClosed → job .m ≡ segmentCount second secondClosed
     → Ready first second job
-paths-ready first second firstClosed secondClosed job e fv fu n m same =
+paths-ready first second firstClosed secondClosed job e fv fu n m =
     record {
       n-within = omega (arith, n, count-within first firstClosed);
       m-within = omega (arith, m, count-within second secondClosed);
       few = omega (arith, n, few-segments first firstClosed);
       few-second = omega (arith, m, few-segments second secondClosed);
-      same = same;
       fine = λ i j h l.
           pair-fine (segmentFrom first i) (segmentFrom second j) (job .epsilon) e
           (segment-fine first firstClosed fv i (omega (arith, h, n)))

@@ -5,7 +5,7 @@ use borrow.Author.Needs.{needs}
 use denote.Ref.{now}
 use Rattle.checks.specs.declared.fault.Checked.the-variants.{Fine}
 use Rattle.listing_calls.specs.Listing.{checkMutual}
-use Rattle.listing_calls.specs.Laws.Entry.{mutual-ready, mutual-plain, mutual-part, mutual-paged, mutual-page-refused}
+use Rattle.listing_calls.specs.Laws.Entry.{mutual-ready, mutual-plain, mutual-paged, mutual-page-refused}
 use Rattle.listing_calls.proofs.mutual_page.mutual_page.Statement.{statement}
 use Rattle.listing_calls.proofs.mutual_page.mutual_page.Tie as tie
 
@@ -22,7 +22,7 @@ page-requires : tie.Need-page-requires
 page-requires c κs =
     let j = c .before .before in
     let done = fine (j .before) in
-    (mutual-ready _ _ _ _ _ done _ (j .mutual-job .ensures), (mutual-plain _ _ _ _ _ done _ (j .mutual-job .ensures), mutual-part _ _ _ _ _ done _ (j .mutual-job .ensures)))
+    (mutual-ready _ _ _ _ _ done _ (j .mutual-job .ensures), mutual-plain _ _ _ _ _ done _ (j .mutual-job .ensures))
 
 returns : tie.Need-returns
 returns c =

@@ -22,7 +22,7 @@ fine c = sym (c .before .before .check-self .ensures) ∙ c .enum-told .given .1
 list-boxed-requires : tie.Need-list-boxed-requires
 list-boxed-requires c κs =
     let j = c .before .before .before in
-    (self-ready _ _ _ (fine (j .before)) _ (j .self-job .ensures), entry.one-path _ _ _ _ _ _ (j .self-job .ensures))
+    (self-ready _ _ _ (fine (j .before)) _ (j .self-job .ensures), entry.one-path _ _ _ _ _ (j .self-job .ensures))
 
 returns : tie.Need-returns
 returns c =

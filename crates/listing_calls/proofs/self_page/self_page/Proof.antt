@@ -5,7 +5,7 @@ use borrow.Author.Needs.{needs}
 use denote.Ref.{now}
 use Rattle.checks.specs.declared.fault.Checked.the-variants.{Fine}
 use Rattle.listing_calls.specs.Listing.{checkSelf}
-use Rattle.listing_calls.specs.Laws.Entry.{self-ready, self-plain, self-part, self-paged, self-page-refused}
+use Rattle.listing_calls.specs.Laws.Entry.{self-ready, self-plain, self-paged, self-page-refused}
 use Rattle.listing_calls.proofs.self_page.self_page.Statement.{statement}
 use Rattle.listing_calls.proofs.self_page.self_page.Tie as tie
 
@@ -22,7 +22,7 @@ page-requires : tie.Need-page-requires
 page-requires c κs =
     let j = c .before .before in
     let done = fine (j .before) in
-    (self-ready _ _ _ done _ (j .self-job .ensures), (self-plain _ _ _ done _ (j .self-job .ensures), self-part _ _ _ done _ (j .self-job .ensures)))
+    (self-ready _ _ _ done _ (j .self-job .ensures), self-plain _ _ _ done _ (j .self-job .ensures))
 
 returns : tie.Need-returns
 returns c =

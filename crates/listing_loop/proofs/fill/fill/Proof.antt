@@ -11,7 +11,7 @@ use lib.Ieee.{Float}
 use Rattle.listing_pairs.specs.Workings.Job as job_of
 use Rattle.listing_pairs.specs.Workings.Ready.{lookBy, at-segment, look-on}
 use Rattle.listing_loop.specs.Workings.Filling.{EndsWithin, so-ends}
-use Rattle.listing_loop.specs.Workings.Runs.{Runs, next-runs, kept-for}
+use Rattle.listing_loop.specs.Workings.Runs.{Runs, next-runs}
 use Rattle.listing_loop.specs.Laws.Loop.{mostPairs, State, starts, few, ends, next-i, spent, kept-here, skips}
 use Rattle.listing_loop.specs.Laws.Loop.{looks, makes, stops, skips-over}
 use Rattle.listing_loop.proofs.fill.fill.Statement.{statement}
@@ -210,11 +210,6 @@ loop2-holds c =
     let none : o .loop .budget - (o .loop .j - o .loop .j) ≡ o .loop .budget = omega arith in
     (omega arith, omega arith, λ x y s. rw none s)
 
-kept-for-requires : tie.Need-kept-for-requires Inv-loop3 μ-loop3 Inv-loop2 μ-loop2 Inv-loop μ-loop
-kept-for-requires c κs =
-    let o = c .before .before .before in
-    kept-for _ _ (start o .args .job) _ _ (start o .pre .0 .firsts) (c .before .if1 .taken) (c .segment-from .ensures)
-
 next-run-requires : tie.Need-next-run-requires Inv-loop3 μ-loop3 Inv-loop2 μ-loop2 Inv-loop μ-loop
 next-run-requires c κs =
     let m = c .before in
@@ -256,7 +251,7 @@ look-requires c κs =
       at-segment _ _ _ _ _ (h .pairs) (inside m) (b .before .before .segment-from .ensures),
       (
         kept-here (inner l) (inside m) (below c) (less c) (allowed c),
-        (b .before .kept-for .ensures, (within, omega (arith, inside m, h .pairs .few))),
+        (b .before .kept-of .ensures, (within, omega (arith, inside m, h .pairs .few))),
       ),
     )
 
@@ -402,7 +397,7 @@ fill-spec =
     tie.close
     (tie.spec
     Inv-loop3 μ-loop3 Inv-loop2 μ-loop2 Inv-loop μ-loop loop-holds
-    (λ c. search needs) kept-for-requires (λ c. search needs) (λ c. search needs)
+    (λ c. search needs) (λ c. search needs) (λ c. search needs) (λ c. search needs)
     loop2-holds next-run-requires loop3-holds loop2-less loop2-again look-requires
     (λ c. search needs) (λ c. search needs) (λ c. search needs) loop3-again
     (λ c. search needs) add-looked (λ c. search needs) (λ c. search needs) loop3-again-2 (λ c. search needs)

@@ -31,7 +31,7 @@ fill-requires c κs =
     let k = c .before .before .before .before in
     let s = k .before .before .before .before .before .before in
     let h = s .pre in (
-      reached-ready _ _ _ _ _ _ _ _ (h .0) (h .1 .0 .0) (h .1 .0 .1) (omega (arith, long, h .0 .few-second)) (k .keep-reached .ensures),
+      reached-ready _ _ _ _ _ _ _ _ (h .0) (h .1 .0) (omega (arith, long, h .0 .few-second)) (k .keep-reached .ensures),
       (h .1 .1 .0, (omega arith, h .1 .1 .1)),
     )
 
