@@ -206,7 +206,7 @@ pub fn list(
         (now (indices .entry)) (now (points .entry)))
         r (now (indices .exit)) (now (points .exit)) ⌝ }
 {
-    // for each segment that a path may have: 96 KiB
+    // for each segment that a path may have: 128 KiB
     let mut kept = [0.0f64; path::VERTICES * keeping::NUMBERS];
     keeping::keep(second, 0, job.m, job.epsilon, &mut kept);
     list_kept(first, second, &kept, job, indices, points)

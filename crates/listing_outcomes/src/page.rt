@@ -46,7 +46,7 @@ fn fill_from(
         room budget)
         r (now (indices .entry)) (now (indices .exit)) (now (points .entry)) (now (points .exit)) ⌝ }
 {
-    // for each segment that a path may have: 96 KiB
+    // for each segment that a path may have: 128 KiB
     let mut kept = [0.0f64; path::VERTICES * keeping::NUMBERS];
     keeping::keep_reached(second, job, spot.i, spot.j, budget, &mut kept);
     let part = Part {
