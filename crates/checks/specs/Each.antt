@@ -8,7 +8,7 @@ use Rattle.checks.specs.declared.fault.Item.the-variants.{Epsilon}
 use Rattle.checks.specs.declared.fault.Place.{Place}
 use Rattle.checks.specs.declared.fault.Checked.{Checked}
 use Rattle.checks.specs.Fault.{at, refuse, later}
-use Rattle.checks.specs.Number.{isInfinite, notFinite, beyond, outside}
+use Rattle.checks.specs.Number.{isInfinite, notFinite, beyond, outside, noTrace}
 use Rattle.checks.specs.Limit
 use Rattle.checks.specs.Refusal
 
@@ -39,6 +39,10 @@ radius r p = finiteThen r (outside Limit.radiusLeast Limit.radiusMost r) Refusal
 -- a coordinate of a circle's centre: 11, 12, then 9
 unfoldable pub center : Float → Place → Checked
 center x p = finiteThen x (beyond Limit.center x) Refusal.circle p
+
+-- a trace: 11, 12, then 15
+unfoldable pub trace : Float → Place → Checked
+trace x p = finiteThen x (noTrace x) Refusal.trace p
 
 -- an arc's chord length: 5. A NaN is not below the limit and would pass; Chord.antt proves that no NaN is checked here.
 unfoldable pub chord : Float → Place → Checked

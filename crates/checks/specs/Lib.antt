@@ -9,6 +9,7 @@ pub mod Arc
 pub mod Exactly
 pub mod RefusalTable
 pub mod Edges
+pub mod Traces
 pub mod First
 pub mod FirstFault
 pub mod Lists

@@ -30,3 +30,7 @@ radiusMost = ofBits binary64 0x42e0_0000_0000_0000
 -- 2^48: the most that a coordinate of a circle's centre may be in magnitude
 abbrev pub center : Float
 center = ofBits binary64 0x42f0_0000_0000_0000
+
+-- 255: the most that a trace may be
+abbrev pub traceMost : Float
+traceMost = ofBits binary64 0x406f_e000_0000_0000

@@ -34,7 +34,7 @@ rows = 8
 abbrev pub circle : ℕ
 circle = 9
 
--- a coordinate, bulge or radius is NaN; it is infinite
+-- a coordinate, bulge, radius or trace is NaN; it is infinite
 abbrev pub nan : ℕ
 nan = 11
 
@@ -48,6 +48,10 @@ position = 13
 -- a page's budget is 0
 abbrev pub budget : ℕ
 budget = 14
+
+-- a trace is no whole number from 0 to 255
+abbrev pub trace : ℕ
+trace = 15
 
 -- a boxed listing's index of boxes does not fit
 abbrev pub boxes : ℕ

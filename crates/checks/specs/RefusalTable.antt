@@ -1,17 +1,17 @@
 -- The scope's table, for one number: which refusal each check gives, and exactly when. x is the number and p its place, which the
 -- fault has. Exactly.antt says what `Gives` means: the first test that says yes decides.
 use mathlib.Core.Path.{_≡_, sym, _∙_}
-use mathlib.Core.Bool.{Bool, _||_}
+use mathlib.Core.Bool.{Bool, not, _||_}
 use mathlib.Core.List.{List, [], _∷_}
 use Prim.Native.Nat.{ℕ}
 use lib.Ieee.{Float, isNan}
-use Rattle.floats.specs.Ops.{_≺_, _≻_}
+use Rattle.floats.specs.Ops.{_≺_, _≻_, f0}
 use Rattle.floats.specs.F64
 use Rattle.checks.specs.declared.fault.Item.the-variants.{Epsilon}
 use Rattle.checks.specs.declared.fault.Place.{Place}
 use Rattle.checks.specs.Fault.{at, refuse}
 use Rattle.checks.specs.Exactly.{Test, test, Gives, tested, gives}
-use Rattle.checks.specs.Number.{isInfinite, notFinite, beyond}
+use Rattle.checks.specs.Number.{isInfinite, notFinite, beyond, isWhole, noTrace}
 use Rattle.checks.specs.Each
 use Rattle.checks.specs.Limit
 use Rattle.checks.specs.Laws.Later.{fine-right, later-assoc}
@@ -62,6 +62,13 @@ module _ (x : Float) (p : Place) where
   pub center : Gives (Each.center x p) p (test 11 (isNan x) ∷ test 12 (isInfinite x) ∷ test 9 (F64.abs x ≻ Limit.center) ∷ [])
   unfolding Each.center beyond
   center = then 9 _
+
+  -- 15: a trace is below 0, above 255, or not whole
+  pub trace : Gives (Each.trace x p) p
+      (test 11 (isNan x) ∷ test 12 (isInfinite x)
+      ∷ test 15 (((x ≺ f0) || (x ≻ Limit.traceMost)) || not (isWhole x)) ∷ [])
+  unfolding Each.trace noTrace
+  trace = then 15 _
 
   -- 5: an arc's computed chord length is below 2^-40 (a NaN is not below it)
   pub chord : Gives (Each.chord x p) p (test 5 (x ≺ Limit.chordLeast) ∷ [])

@@ -23,7 +23,8 @@ pub fn finite(x: f64, place: Place) -> Checked
 fn finite_then(x: f64, bad: bool, number: u64, place: Place) -> Checked
     ensures { λ r. ⌜ r ≡ Each.finiteThen x bad number place ⌝ }
 {
-    later(finite(x, place), refuse(bad, number, place))
+    let a = finite(x, place);
+    later(a, refuse(bad, number, place))
 }
 
 // Refusal 4 if epsilon is a NaN, infinite, below 2^-40 or above 1/2. A call has one epsilon, so its place is always the same.
@@ -75,6 +76,13 @@ pub fn center(x: f64, place: Place) -> Checked
     ensures { λ r. ⌜ r ≡ Each.center x place ⌝ }
 {
     finite_then(x, number::beyond(limit::CENTER, x), refusal::CIRCLE, place)
+}
+
+// A trace: refusal 11 if it is a NaN, 12 if it is infinite, then 15 if it is no whole number from 0 to 255. -0 passes as 0.
+pub fn trace(x: f64, place: Place) -> Checked
+    ensures { λ r. ⌜ r ≡ Each.trace x place ⌝ }
+{
+    finite_then(x, number::no_trace(x), refusal::TRACE, place)
 }
 
 // An arc's chord length, as the caller computed it: refusal 5 if it is below 2^-40. A NaN is not below and passes.

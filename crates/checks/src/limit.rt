@@ -24,3 +24,6 @@ pub const RADIUS_MOST: f64 = 140737488355328.0;
 
 // 2^48: the most that a coordinate of a circle's centre may be in magnitude
 pub const CENTER: f64 = 281474976710656.0;
+
+// the most that a trace may be
+pub const TRACE_MOST: f64 = 255.0;

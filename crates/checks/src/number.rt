@@ -3,6 +3,10 @@ ghost use mathlib.Core.Path.{_≡_};
 ghost use lib.Ieee.{isNan};
 ghost use Rattle.checks.specs.Number;
 ghost use Rattle.checks.specs.Workings.Inside;
+use super::limit;
+
+// 2^52: from here to 2^53 the floats are the whole numbers
+const WHOLE: f64 = 4503599627370496.0;
 
 // Whether x is a NaN.
 pub fn is_nan(x: f64) -> bool
@@ -38,6 +42,14 @@ pub fn outside(least: f64, most: f64, x: f64) -> bool
     ensures { λ r. ⌜ r ≡ Number.outside least most x ⌝ }
 {
     (x < least) | (x > most)
+}
+
+// Whether x is no whole number from 0 to 255. A NaN is none, and -0 is 0.
+pub fn no_trace(x: f64) -> bool
+    ensures { λ r. ⌜ r ≡ Number.noTrace x ⌝ }
+{
+    // The sum is rounded to a whole number. So 2^52 can be added and taken away again, and x stays the same, only if x is whole.
+    outside(0.0, limit::TRACE_MOST, x) | (x + WHOLE - WHOLE != x)
 }
 
 // Whether x is a number and at most `most` in magnitude, by comparisons alone.

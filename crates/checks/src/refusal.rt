@@ -25,7 +25,7 @@ pub const ROWS: u64 = 8;
 // a circle's radius is out of its range, or a coordinate of its centre is too large
 pub const CIRCLE: u64 = 9;
 
-// a coordinate, bulge or radius is NaN; it is infinite
+// a coordinate, bulge, radius or trace is NaN; it is infinite
 pub const NAN: u64 = 11;
 
 pub const INFINITE: u64 = 12;
@@ -35,6 +35,9 @@ pub const POSITION: u64 = 13;
 
 // a page's budget is 0
 pub const BUDGET: u64 = 14;
+
+// a trace is no whole number from 0 to 255
+pub const TRACE: u64 = 15;
 
 // a boxed listing's index of boxes does not fit
 pub const BOXES: u64 = 17;

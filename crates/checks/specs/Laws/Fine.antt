@@ -11,11 +11,11 @@ use lib.Ieee.Bits.{is-false}
 use lib.Ieee.Scale.{finite}
 use Rattle.float_laws.specs.Chains as chains
 use Rattle.float_laws.specs.Chains.{finite-real, le-not-lt}
-use Rattle.floats.specs.Ops.{_≺_, _≻_, _≼_}
+use Rattle.floats.specs.Ops.{_≺_, _≻_, _≼_, f0}
 use Rattle.floats.specs.F64
 use Rattle.checks.specs.declared.fault.Place.{Place}
 use Rattle.checks.specs.declared.fault.Checked.the-variants.{Fine}
-use Rattle.checks.specs.Number.{isInfinite}
+use Rattle.checks.specs.Number.{isInfinite, outside, isWhole, noTrace}
 use Rattle.checks.specs.Each
 use Rattle.checks.specs.Limit
 use Rattle.checks.specs.RefusalTable
@@ -103,6 +103,13 @@ not-short least (inf s) l = (λ h r. not-below (inf s) least r l .0 h, λ h. not
 not-short least (fin s m e) l =
     (λ h r. not-below (fin s m e) least r l .0 h, λ h. not-below (fin s m e) least refl l .1 (h refl))
 
+-- neither a NaN nor an infinity is a trace
+trace-number : (x : Float) → noTrace x ≡ false → (isNan x || isInfinite x) ≡ false
+unfolding noTrace isWhole isNan isInfinite
+trace-number nan h = absurd (true≢false (neither (outside f0 Limit.traceMost nan) true .0 h .1))
+trace-number (inf s) h = absurd (true≢false (neither (outside f0 Limit.traceMost (inf s)) true .0 h .1))
+trace-number (fin s m e) h = refl
+
 one-no : (a : Bool) (n : ℕ) → AllNo (test n a ∷ []) ↔ (a ≡ false)
 one-no a n = (λ h. h .0, λ h. (h, tt))
 
@@ -131,6 +138,11 @@ module _ (x : Float) (p : Place) where
   pub center-fine : (Each.center x p ≡ Fine) ↔ Within Limit.center x
   unfolding ofBits isNan
   center-fine = Iff·trans (RefusalTable.center x p .fine) (Iff·trans (three-no _ _ _ 11 12 9) (within Limit.center x refl))
+
+  pub trace-fine : (Each.trace x p ≡ Fine) ↔ (noTrace x ≡ false)
+  unfolding noTrace
+  trace-fine = Iff·trans (RefusalTable.trace x p .fine)
+      (Iff·trans (three-no _ _ _ 11 12 15) (λ h. h .1, λ h. (trace-number x h, h)))
 
   pub chord-fine : (Each.chord x p ≡ Fine) ↔ (isNan x ≡ false → T (Limit.chordLeast ≼ x))
   unfolding ofBits isNan
