@@ -1,7 +1,10 @@
 //! Finds the Rust text: in the folder that CAVALIER_SRC names, or else beside the repository. A relative path starts at the root
-//! of the repository.
+//! of the repository. The text stays as it is; of the pair function a copy with a log is made.
+
+mod insertions;
 
 use std::env;
+use std::fs;
 use std::path::PathBuf;
 use std::process::exit;
 
@@ -11,8 +14,9 @@ const FILES: [&str; 6] = [
     "src/core/math/line_circle_intersect.rs",
     "src/core/math/circle_circle_intersect.rs",
     "src/polyline/pline_seg.rs",
-    "src/polyline/pline_seg_intersect.rs",
+    PAIRS,
 ];
+const PAIRS: &str = "src/polyline/pline_seg_intersect.rs";
 
 fn main() {
     println!("cargo:rerun-if-env-changed=CAVALIER_SRC");
@@ -28,4 +32,11 @@ fn main() {
         }
     }
     println!("cargo:rustc-env=RUST_TEXT={}", text.display());
+    let pairs = fs::read_to_string(text.join(PAIRS)).expect("the file is there");
+    let copy = insertions::noted(&pairs).unwrap_or_else(|why| {
+        eprintln!("no log can be put into {PAIRS}: {why}");
+        exit(1);
+    });
+    let out = PathBuf::from(env::var_os("OUT_DIR").expect("cargo sets it"));
+    fs::write(out.join("pairs_with_log.rs"), copy).expect("cargo's own folder can be written to");
 }

@@ -71,6 +71,25 @@ mod raw {
             out: *mut f64,
             room: usize,
         ) -> u64;
+        pub fn vj_pair_findings(
+            v1x: f64,
+            v1y: f64,
+            v1_bulge: f64,
+            v2x: f64,
+            v2y: f64,
+            v2_bulge: f64,
+            u1x: f64,
+            u1y: f64,
+            u1_bulge: f64,
+            u2x: f64,
+            u2y: f64,
+            u2_bulge: f64,
+            epsilon: f64,
+            out: *mut f64,
+            room: usize,
+            findings: *mut u64,
+            findings_room: usize,
+        ) -> u64;
         pub fn vj_mutual(
             first: *const f64,
             first_len: usize,
@@ -194,6 +213,19 @@ pub fn vj_pair(n: [f64; 13], out: &mut [f64]) -> u64 {
     let [a, b, c, d, e, f, g, h, i, j, k, l, epsilon] = n;
     let (start, room) = (out.as_mut_ptr(), out.len());
     unsafe { raw::vj_pair(a, b, c, d, e, f, g, h, i, j, k, l, epsilon, start, room) }
+}
+
+/// The same, with what was found of each computed point in a second slice.
+#[cfg(feature = "rust-text")]
+pub fn vj_pair_findings(n: [f64; 13], out: &mut [f64], findings: &mut [u64]) -> u64 {
+    let [a, b, c, d, e, f, g, h, i, j, k, l, epsilon] = n;
+    let (start, room) = (out.as_mut_ptr(), out.len());
+    let (found, found_room) = (findings.as_mut_ptr(), findings.len());
+    unsafe {
+        raw::vj_pair_findings(
+            a, b, c, d, e, f, g, h, i, j, k, l, epsilon, start, room, found, found_room,
+        )
+    }
 }
 
 /// What a listing writes into: three whole numbers a row, four floats a row, and its counts.

@@ -4,27 +4,29 @@ mod bench;
 mod calls;
 mod edges;
 pub mod faults;
-mod limits;
+pub mod limits;
 mod score;
 mod sites;
 pub mod sorts;
 #[cfg(test)]
 mod tests;
 
-pub use bench::run as bench;
+pub use bench::{of_sheet, run as bench};
 pub use calls::{of_segments, Call, CALLS};
 pub use edges::check as check_edges;
+pub use edges::Way;
 pub use limits::specials;
 use score::Score;
 pub use score::NO_ROOM;
-use sites::Sites;
+pub use sites::Sites;
 
 use crate::inputs::values::epsilon;
 use crate::inputs::{Kind, Pair};
 use crate::numbers::Numbers;
 use crate::rng::Rng;
 
-const PAIRS: usize = 3;
+/// The pair call's number in the list of calls.
+pub const PAIRS: usize = 3;
 const KINDS: [&str; 4] = [
     ", two lines",
     ", line and arc",

@@ -12,6 +12,8 @@ mod clock;
 #[cfg(feature = "rust-text")]
 mod crossing;
 mod expected;
+#[cfg(feature = "rust-text")]
+mod findings;
 mod floats;
 mod form;
 #[cfg(feature = "rust-text")]
@@ -57,8 +59,8 @@ usage: compare check [COUNT [SEED]]  compare each float function on COUNT random
                                      COUNT; each function of the plane on a quarter as many accepted ones, an eighth of all bit patterns, and some beside the
                                      limits; each kernel and the pair call until twice as many were answered, and on some
                                      that are refused; listings of whole paths until as many pairs were looked at, and on
-                                     chosen ones; then as compare pages, as compare boxed, as compare joints, and as
-                                     compare edges with a tenth of COUNT
+                                     chosen ones; then as compare pages, as compare boxed, as compare joints, as compare
+                                     findings, and as compare edges with a tenth of COUNT
        compare roots [COUNT [SEED]]  compare the root with the machine's own on COUNT patterns (default 10485760, seed 1): at
                                      every exponent its ends, random digits, squares of every count of digits, numbers
                                      next to ties, and the neighbours of these; subnormals of every count of digits
@@ -72,6 +74,10 @@ usage: compare check [COUNT [SEED]]  compare each float function on COUNT random
        compare joints [COUNT [SEED]] compare self listings where neighbours meet, full, paged and boxed: every short path on a
                                      small grid, if COUNT is at least 1048576, and COUNT / 512 drawn ones (default 10485760,
                                      seed 1)
+       compare findings [COUNT [SEED]]
+                                     compare the pair call with findings: on COUNT / 4 pairs, on damaged ones, and on at least
+                                     as many made for rare cells, until each value came up a thousand times in each branch
+                                     (default 10485760, seed 1; fewer times with a smaller COUNT)
        compare packed [COUNT [SEED]] compare the moves of layouts between text and packed form: on chosen texts and files, on
                                      COUNT / 10 drawn layouts both ways, and on as many damaged files (default 10485760,
                                      seed 1)
@@ -95,8 +101,8 @@ usage: compare check [COUNT [SEED]]  compare each float function on COUNT random
                                      for each packed/NAME.packed that is no layout
        compare record FILE           write the recorded list for the program replay
        compare bench [PART...]       nanoseconds of processor time a call or a pair, ours beside the machine's own and the Rust's,
-                                     the least of five rounds or more by turns; all parts, or some of: floats calls listings
-                                     pages boxed packed";
+                                     the least of five rounds or more by turns; all parts, or some of: floats calls findings
+                                     listings pages boxed packed";
 
 const COUNT: u64 = 10 << 20;
 const ON_AN_EDGE: u64 = 1 << 20;
@@ -106,7 +112,9 @@ const CLIMBED: u64 = 1 << 20;
 const TEXTS: u64 = 3072;
 const MOVED: u64 = 2048;
 const SEED: u64 = 1;
-const BENCHES: [&str; 6] = ["floats", "calls", "listings", "pages", "boxed", "packed"];
+const BENCHES: [&str; 7] = [
+    "floats", "calls", "findings", "listings", "pages", "boxed", "packed",
+];
 
 fn main() -> ExitCode {
     let words: Vec<String> = env::args().skip(1).collect();
@@ -118,6 +126,7 @@ fn main() -> ExitCode {
         ["pages", ref numbers @ ..] => pages(numbers),
         ["boxed", ref numbers @ ..] => boxed(numbers),
         ["joints", ref numbers @ ..] => joints(numbers),
+        ["findings", ref numbers @ ..] => findings(numbers),
         ["packed", ref numbers @ ..] => packed(numbers),
         ["movers", folder, ref numbers @ ..] => movers(Path::new(folder), numbers),
         ["packed-layouts", folder] => packed_layouts(Path::new(folder)),
@@ -194,6 +203,14 @@ fn joints(numbers: &[&str]) -> Result<(), String> {
     }
 }
 
+fn findings(numbers: &[&str]) -> Result<(), String> {
+    let (count, seed) = count_and_seed(numbers, COUNT)?;
+    match check_findings(count, seed) {
+        0 => Ok(()),
+        differences => Err(format!("{differences} differences")),
+    }
+}
+
 fn packed(numbers: &[&str]) -> Result<(), String> {
     let (count, seed) = count_and_seed(numbers, COUNT)?;
     match packed::check(count, seed) {
@@ -257,6 +274,7 @@ fn time(parts: &[&str]) -> Result<(), String> {
         match *part {
             "floats" => bench::run(),
             "calls" => time_calls(),
+            "findings" => time_findings(),
             "listings" => time_listings(),
             "pages" => time_pages(),
             "boxed" => time_boxed(),
@@ -290,6 +308,7 @@ fn check_text(count: u64, seed: u64) -> u64 {
         + check_pages(count, seed)
         + check_boxed(count, seed)
         + check_joints(count, seed)
+        + check_findings(count, seed)
         + check_edges(count / 10, seed)
 }
 
@@ -311,6 +330,17 @@ fn check_boxed(count: u64, seed: u64) -> u64 {
 #[cfg(feature = "rust-text")]
 fn check_joints(count: u64, seed: u64) -> u64 {
     joints::check(count, seed)
+}
+
+#[cfg(feature = "rust-text")]
+fn check_findings(count: u64, seed: u64) -> u64 {
+    findings::check(count, seed)
+}
+
+#[cfg(not(feature = "rust-text"))]
+fn check_findings(_count: u64, _seed: u64) -> u64 {
+    println!("rust text not compiled in: nothing was compared with it");
+    0
 }
 
 #[cfg(not(feature = "rust-text"))]
@@ -347,6 +377,14 @@ fn check_joints(_count: u64, _seed: u64) -> u64 {
 fn time_calls() {
     crossing::bench();
 }
+
+#[cfg(feature = "rust-text")]
+fn time_findings() {
+    findings::bench();
+}
+
+#[cfg(not(feature = "rust-text"))]
+fn time_findings() {}
 
 #[cfg(feature = "rust-text")]
 fn time_listings() {

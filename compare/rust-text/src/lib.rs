@@ -1,7 +1,12 @@
 //! The Rust text of cavalier_contours 0.9.0 that is at hand, compiled unchanged, in modules with the names that it uses itself.
 //!
-//! `stand_ins` has what the text imports and does not contain.
+//! `stand_ins` has what the text imports and does not contain. `polyline::with_log` has the pair function again, as a copy that
+//! notes in `log` what it does; nothing else uses it.
 
+#[cfg(test)]
+#[path = "../insertions.rs"]
+mod insertions;
+pub mod log;
 mod stand_ins;
 
 pub mod core {
@@ -52,6 +57,16 @@ pub mod polyline {
             env!("RUST_TEXT"),
             "/src/polyline/pline_seg_intersect.rs"
         ));
+    }
+
+    pub mod with_log {
+        use super::{pline_seg, PlineVertex};
+        #[allow(unused_parens)] // some that the text has are an argument's now
+        mod pline_seg_intersect {
+            include!(concat!(env!("OUT_DIR"), "/pairs_with_log.rs"));
+        }
+
+        pub use pline_seg_intersect::{pline_seg_intr, PlineSegIntr};
     }
 
     pub use crate::stand_ins::pline_vertex::PlineVertex;

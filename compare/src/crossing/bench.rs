@@ -54,7 +54,7 @@ fn timed(row: Row, call: &Call, inputs: &[Numbers]) {
 }
 
 /// Half of the pairs are random. In the other half, the second segment is the one of the other path that is nearest to the first.
-fn of_sheet(sheet: &Sheet, epsilon: f64, rng: &mut Rng) -> Vec<Numbers> {
+pub fn of_sheet(sheet: &Sheet, epsilon: f64, rng: &mut Rng) -> Vec<Numbers> {
     let [first, second] = sheet.segments(1024, rng);
     let mut inputs = Vec::new();
     while inputs.len() < INPUTS {

@@ -20,7 +20,7 @@ use crate::inputs::values::epsilon;
 use crate::listings;
 use crate::numbers::{Numbers, MOST};
 use crate::rng::Rng;
-use way::Way;
+pub use way::Way;
 
 /// An input is beside an edge if the two numbers differ by at most this part of the edge's size: some 1e-9.
 const NEAR: f64 = 1.0 / (1u64 << 30) as f64;

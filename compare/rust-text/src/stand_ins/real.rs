@@ -3,7 +3,8 @@
 use super::fuzzy::{FuzzyEq, FuzzyOrd};
 use super::num_traits;
 
-pub trait Real: num_traits::real::Real + FuzzyEq + FuzzyOrd + std::fmt::Debug {
+/// What it is as an f64 is for the log alone.
+pub trait Real: num_traits::real::Real + FuzzyEq + FuzzyOrd + std::fmt::Debug + Into<f64> {
     fn two() -> Self;
     fn four() -> Self;
     fn pi() -> Self;
