@@ -228,6 +228,61 @@ uint64_t vj_pair(double v1x, double v1y, double v1_bulge,
                            double epsilon, double *out, size_t room);
 
 /*
+ * The pair call with findings: why a point counted. It checks and answers as
+ * vj_pair does, with the same word and the same values in out, and tells of each
+ * computed point what was found for each segment. A computed point is one that
+ * the Rust works out, from the line and the arc's circle or from the two circles;
+ * it then tests whether the point lies in the arc's sweep, the wedge that the arc
+ * spans around its centre. The caller lends `findings_room` words from `findings`
+ * on, and four are written:
+ *
+ *   findings[0]   the first computed point, for v
+ *   findings[1]   the first computed point, for u
+ *   findings[2]   the second computed point, for v
+ *   findings[3]   the second computed point, for u
+ *
+ * each one of these, of which 1 to 4 are the first rule that said yes:
+ *
+ *   VJ_OUTSIDE 0       outside the sweep: no rule said yes
+ *   VJ_NEAR_CENTRE 1   nearer to the arc's centre than epsilon
+ *   VJ_INSIDE 2        between the two edges of the sweep, or on one
+ *   VJ_NEAR_START 3    near the ray from the centre through the segment's first
+ *                      vertex, of a clockwise arc too
+ *   VJ_NEAR_END 4      near the ray from the centre through its second vertex
+ *   VJ_END_POINT 5     the point counted, and an end of a segment stands in the
+ *                      answer in its place; of two circles that are tangent, or
+ *                      a line tangent to a circle, an end was the answer before
+ *                      the point was tested
+ *   VJ_NOT_TESTED 6    the Rust does not come to this test; there is no such
+ *                      point; or the segment is a line
+ *
+ * Two lines, segments whose kernel finds nothing, and arcs of one circle have 6
+ * four times: arcs of one circle compute no point, their ends are compared. A
+ * point of a line beyond its ends, by more than epsilon, is not tested. Of two
+ * arcs u is tested only if v said yes. A point that did not count keeps its
+ * findings though ends of segments are the answer. Where the answer's two points
+ * are put in the order of the second segment, the findings are exchanged with
+ * them. If all findings of a point for its arcs are 1 to 4, the point stands in
+ * the answer. A point of the answer that is none of the four vertices is such a
+ * point, if one of the segments is an arc. VJ_NO_ROOM if out_room or
+ * findings_room is below 4; that and a refusal write to neither.
+ */
+#define VJ_OUTSIDE 0
+#define VJ_NEAR_CENTRE 1
+#define VJ_INSIDE 2
+#define VJ_NEAR_START 3
+#define VJ_NEAR_END 4
+#define VJ_END_POINT 5
+#define VJ_NOT_TESTED 6
+
+uint64_t vj_pair_findings(double v1x, double v1y, double v1_bulge,
+                          double v2x, double v2y, double v2_bulge,
+                          double u1x, double u1y, double u1_bulge,
+                          double u2x, double u2y, double u2_bulge,
+                          double epsilon, double *out, size_t out_room,
+                          uint64_t *findings, size_t findings_room);
+
+/*
  * Listings of whole paths. A path is lent as `len` binary64 numbers from `path`
  * on, and a flag that says whether it is closed. Each vertex has three numbers:
  * x, y and the bulge of the segment that starts there. n vertices have n - 1

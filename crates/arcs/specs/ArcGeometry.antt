@@ -8,6 +8,7 @@ use Rattle.plane.specs.declared.vector2.Vector2.{Vector2}
 use Rattle.plane.specs.declared.pline_vertex.PlineVertex.{PlineVertex}
 use Rattle.plane.specs.declared.pline_seg.ArcRadiusCenter.{ArcRadiusCenter}
 use Rattle.arcs.specs.declared.arc_geometry.ArcGeometry.{ArcGeometry}
+use Rattle.arcs.specs.declared.sweep_finding.SweepFinding.{SweepFinding}
 use Rattle.arcs.specs.ArcSweep as sweep
 
 -- lines 93-109
@@ -29,6 +30,10 @@ ofSegment v1 v2 circle epsilon = new (circle .center) (pos v1) (pos v2) (bulgeIs
 -- lines 112-114
 unfoldable pub sweeps : ArcGeometry → Vector2 → Bool
 sweeps self point = sweep.contains (self .sweep) point
+
+-- request 7: the same with the rule that says yes
+unfoldable pub finding : ArcGeometry → Vector2 → SweepFinding
+finding self point = sweep.finding (self .sweep) point
 
 -- lines 117-123
 unfoldable pub pointLiesOnArc : ArcGeometry → Vector2 → Bool

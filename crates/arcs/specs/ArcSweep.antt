@@ -1,12 +1,12 @@
 -- The sweep of an arc: `ArcSweep` of pline_seg_intersect.rs, line for line. Read the two side by side.
-use mathlib.Core.Bool.{Bool, true, cond, _&&_, _||_}
+use mathlib.Core.Bool.{Bool, true, false, cond, _&&_, _||_}
 use lib.Ieee.{Float}
 use Rattle.floats.specs.Ops.{_⊗_, _≺_, _≼_, _≽_, f0}
 use Rattle.plane.specs.Vector2 as vector2
 use Rattle.plane.specs.declared.vector2.Vector2.{Vector2}
 use Rattle.arcs.specs.declared.arc_sweep.ArcSweep.{ArcSweep}
-use Rattle.arcs.specs.declared.arc_sweep.SweepFinding.{SweepFinding}
-use Rattle.arcs.specs.declared.arc_sweep.SweepFinding.the-variants.{Outside, NearCenter, Inside, NearStart, NearEnd}
+use Rattle.arcs.specs.declared.sweep_finding.SweepFinding.{SweepFinding}
+use Rattle.arcs.specs.declared.sweep_finding.SweepFinding.the-variants.{Outside, NearCenter, Inside, NearStart, NearEnd}
 
 -- lines 31-50
 unfoldable pub new : Vector2 → Vector2 → Vector2 → Bool → Float → ArcSweep
@@ -46,8 +46,8 @@ contains self point =
     (beside (self .«start_vector») pointVector startCross (self .«start_fuzzy_limit»)
     || beside (self .«end_vector») pointVector endCross (self .«end_fuzzy_limit»)))
 
--- Not in the Rust: the same rules in the same order, and which rule says yes. Laws/Sweep proves that `contains` says yes exactly
--- if this is not Outside.
+-- Request 7: the same rules in the same order, and the first that says yes. The code asks only this; Outside.antt proves that it
+-- is Outside exactly if the Rust's test `contains` is false.
 unfoldable pub finding : ArcSweep → Vector2 → SweepFinding
 finding self point =
     let pointVector = vector2.sub point (self .center) in
@@ -62,3 +62,11 @@ finding self point =
     (cond (beside (self .«end_vector») pointVector endCross (self .«end_fuzzy_limit»))
     NearEnd
     Outside)))
+
+-- a rule says yes, so the point counts
+abbrev pub isYes : SweepFinding → Bool
+isYes Outside = false
+isYes NearCenter = true
+isYes Inside = true
+isYes NearStart = true
+isYes NearEnd = true

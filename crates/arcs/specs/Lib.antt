@@ -5,5 +5,6 @@ pub mod ArcGeometry
 pub mod LineAndArc
 pub mod TwoArcs
 pub mod OneCircle
+pub mod Outside
 pub mod Workings
 pub mod Laws

@@ -3,6 +3,7 @@ ghost use mathlib.Core.Path.{_≡_};
 ghost use Rattle.arcs.specs.ArcGeometry as geometry;
 ghost use Rattle.arcs.specs.Workings.Ends;
 use super::arc_sweep::ArcSweep;
+use super::sweep_finding::SweepFinding;
 use plane::base_math::dist_squared;
 use plane::pline_seg::ArcRadiusCenter;
 use plane::pline_vertex::PlineVertex;
@@ -59,11 +60,11 @@ impl ArcGeometry {
         )
     }
 
-    // Whether the point is in the arc's sweep, at any distance from the centre.
-    pub fn sweeps(self, point: Vector2) -> bool
-        ensures { λ r. ⌜ r ≡ geometry.sweeps self point ⌝ }
+    // Whether the point is in the arc's sweep, at any distance from the centre, and by which rule.
+    pub fn finding(self, point: Vector2) -> SweepFinding
+        ensures { λ r. ⌜ r ≡ geometry.finding self point ⌝ }
     {
-        self.sweep.contains(point)
+        self.sweep.finding(point)
     }
 
     // Whether the point lies on the arc: its distance from the centre is the radius, within epsilon, and it is in the sweep.
@@ -76,7 +77,7 @@ impl ArcGeometry {
             & ((self.radius_lower_bound < 0.0)
                 | (distance_squared > self.radius_lower_bound_squared))
         {
-            return self.sweeps(point);
+            return self.finding(point).is_yes();
         }
         false
     }

@@ -1,6 +1,7 @@
 // The sweep of an arc: the wedge that the arc spans, seen from its centre.
 ghost use mathlib.Core.Path.{_≡_};
 ghost use Rattle.arcs.specs.ArcSweep as sweep;
+use super::sweep_finding::SweepFinding;
 use plane::vector2::Vector2;
 
 // A wedge around a centre, from one direction to another, clockwise if `is_clockwise` says so. The limits say how far beside its
@@ -13,20 +14,6 @@ pub struct ArcSweep {
     pub epsilon_squared: f64,
     pub start_fuzzy_limit: f64,
     pub end_fuzzy_limit: f64,
-}
-
-// Where a point lies for a sweep: outside, or inside by the first rule that says yes.
-pub enum SweepFinding {
-    // No rule says yes.
-    Outside,
-    // Nearer to the centre than epsilon, where the point has no clear direction.
-    NearCenter,
-    // Between the two edges, or on one of them.
-    Inside,
-    // Beside the edge at the arc's start, by less than epsilon.
-    NearStart,
-    // Beside the edge at the arc's end, by less than epsilon.
-    NearEnd,
 }
 
 impl ArcSweep {
@@ -84,20 +71,6 @@ impl ArcSweep {
             return SweepFinding::NearEnd;
         }
         SweepFinding::Outside
-    }
-
-    // Whether the point is in the sweep, by any rule.
-    pub fn contains(self, point: Vector2) -> bool
-        ensures { λ r. ⌜ r ≡ sweep.contains self point ⌝ }
-    {
-        let finding = self.finding(point);
-        match finding {
-            SweepFinding::Outside => false,
-            SweepFinding::NearCenter => true,
-            SweepFinding::Inside => true,
-            SweepFinding::NearStart => true,
-            SweepFinding::NearEnd => true,
-        }
     }
 }
 

@@ -7,4 +7,5 @@ pub mod circle;
 pub mod line_and_arc;
 pub mod one_circle;
 pub mod pline_seg_intr;
+pub mod sweep_finding;
 pub mod two_arcs;

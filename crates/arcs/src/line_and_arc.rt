@@ -39,7 +39,7 @@ pub fn point_in_sweep(
         return PointInSweep::Nothing;
     }
     let p = point_from_parametric(p0, p1, t);
-    if arc_geometry.sweeps(p) {
+    if arc_geometry.finding(p).is_yes() {
         return PointInSweep::At(p);
     }
     PointInSweep::Nothing
@@ -72,7 +72,12 @@ pub fn tangent_line_arc(
 }
 
 // One crossing: at an end of the line that lies on the arc, else at the given point.
-fn one_line_arc(point: Vector2, p0: Vector2, p1: Vector2, arc_geometry: ArcGeometry) -> PlineSegIntr
+pub fn one_line_arc(
+    point: Vector2,
+    p0: Vector2,
+    p1: Vector2,
+    arc_geometry: ArcGeometry,
+) -> PlineSegIntr
     ensures { λ r. ⌜ r ≡ LineAndArc.oneLineArc point p0 p1 «arc_geometry» ⌝ }
 {
     if arc_geometry.point_lies_on_arc(p0) {

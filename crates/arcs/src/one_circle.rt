@@ -70,8 +70,8 @@ fn by_sweeps(
 ) -> PlineSegIntr
     ensures { λ r. ⌜ r ≡ OneCircle.bySweeps v1 v2 u1 u2 «same_direction_arcs» «arc1_sweep» «arc2_sweep» arc2 ⌝ }
 {
-    let arc2_starts_in_arc1 = arc1_sweep.contains(arc2.start);
-    let arc2_ends_in_arc1 = arc1_sweep.contains(arc2.end);
+    let arc2_starts_in_arc1 = arc1_sweep.finding(arc2.start).is_yes();
+    let arc2_ends_in_arc1 = arc1_sweep.finding(arc2.end).is_yes();
     if arc2_starts_in_arc1 {
         if arc2_ends_in_arc1 {
             return PlineSegIntr::OverlappingArcs {
@@ -84,7 +84,7 @@ fn by_sweeps(
     if arc2_ends_in_arc1 {
         return overlap_by_direction(same_direction_arcs, v1, u2, u1, v1);
     }
-    if arc2_sweep.contains(v1) {
+    if arc2_sweep.finding(v1).is_yes() {
         return overlap_by_direction(same_direction_arcs, v1, v2, v2, v1);
     }
     PlineSegIntr::NoIntersect

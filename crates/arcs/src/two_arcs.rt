@@ -18,8 +18,8 @@ pub enum Slot {
 fn both_sweep(arc1: ArcGeometry, arc2: ArcGeometry, point: Vector2) -> bool
     ensures { λ r. ⌜ r ≡ TwoArcs.bothSweep arc1 arc2 point ⌝ }
 {
-    if arc1.sweeps(point) {
-        return arc2.sweeps(point);
+    if arc1.finding(point).is_yes() {
+        return arc2.finding(point).is_yes();
     }
     false
 }
@@ -103,7 +103,7 @@ fn add_if_on_arc(
 }
 
 // The ends of each arc that lie on the other, at most two of them, in the order u1, u2, v1, v2.
-fn collect_end_points(
+pub fn collect_end_points(
     v1: Vector2,
     v2: Vector2,
     u1: Vector2,
@@ -154,7 +154,7 @@ fn ends_for_both(end_pt1: Vector2, end_pt2: Vector2, point1: Vector2) -> PlineSe
 }
 
 // Both points of the circles lie on both arcs: the answer is these two, with the slots' end points in their places.
-fn two_in_sweep(first: Slot, second: Slot, point1: Vector2, point2: Vector2) -> PlineSegIntr
+pub fn two_in_sweep(first: Slot, second: Slot, point1: Vector2, point2: Vector2) -> PlineSegIntr
     ensures { λ r. ⌜ r ≡ TwoArcs.twoInSweep first second point1 point2 ⌝ }
 {
     match first {
@@ -170,7 +170,7 @@ fn two_in_sweep(first: Slot, second: Slot, point1: Vector2, point2: Vector2) -> 
 }
 
 // At most one point of the circles lies on both arcs: the answer is the slots' end points if there are any, else `otherwise`.
-fn ends_or(first: Slot, second: Slot, otherwise: PlineSegIntr) -> PlineSegIntr
+pub fn ends_or(first: Slot, second: Slot, otherwise: PlineSegIntr) -> PlineSegIntr
     ensures { λ r. ⌜ r ≡ TwoArcs.endsOr first second otherwise ⌝ }
 {
     match first {

@@ -1,2 +1,3 @@
 mod Ends
 mod ListingEnds
+mod FindingsEnds

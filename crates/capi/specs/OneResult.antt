@@ -5,7 +5,9 @@ use mathlib.Core.Path.{_≡_, sym, _∙_}
 use mathlib.Core.List.{List}
 use lib.Ieee.{Float}
 use Rattle.listing_outcomes.specs.Outcome.{Outcome}
+use Rattle.findings.specs.declared.reported.FindingsAnswer.{FindingsAnswer}
 use Rattle.capi.specs.Handed.{Handed}
+use Rattle.capi.specs.HandedFindings.{HandedFindings}
 use Rattle.listing_outcomes.specs.BoxedOutcome.{BoxedOutcome}
 use Rattle.capi.specs.HandedListing.{Counted, HandedOver, HandedBoxed}
 use Rattle.answers.specs.declared.padded.PaddedAnswer.{PaddedAnswer}
@@ -13,6 +15,10 @@ use Rattle.answers.specs.declared.padded.PaddedAnswer.{PaddedAnswer}
 pub handed-one-result : {f : PaddedAnswer} {r s : ℕ} {old a b : List Float} → Handed f r old a → Handed f s old b
     → (r ≡ s) × (a ≡ b)
 handed-one-result p q = (p .code-is ∙ sym (q .code-is), p .holds ∙ sym (q .holds))
+
+pub findings-one-result : {told : FindingsAnswer} {r s : ℕ} {old a b : List Float} {oldFindings f g : List ℕ}
+    → HandedFindings told r old a oldFindings f → HandedFindings told s old b oldFindings g → (r ≡ s) × (a ≡ b) × (f ≡ g)
+findings-one-result p q = (p .code-is ∙ sym (q .code-is), p .holds ∙ sym (q .holds), p .tells ∙ sym (q .tells))
 
 pub counted-one-result : {A : Type 0} {places : ℕ} {count : A → Counted} {o : Outcome A} {r s : ℕ}
     {c₀ c d i₀ i j : List ℕ} {p₀ p q : List Float}

@@ -29,6 +29,8 @@ use Rattle.crossing.specs.declared.line_line_intersect.LineLineAnswer.the-varia
 use Rattle.crossing.specs.declared.line_circle_intersect.LineCircleAnswer.the-variants as ofLineAndCircle
 use Rattle.crossing.specs.declared.circle_circle_intersect.CircleCircleAnswer.the-variants as ofCircles
 use Rattle.crossing.specs.declared.pline_seg_intersect.PlineSegAnswer.the-variants as ofPairs
+use Rattle.findings.specs.Report.{reported, plineSegFindings}
+use Rattle.findings.specs.declared.reported.FindingsAnswer.the-variants as ofFindings
 use Rattle.listing_pairs.specs.declared.row.Row.{Row}
 use Rattle.listing_outcomes.specs.declared.answer.ListingAnswer.the-variants as listings
 use Rattle.listing_outcomes.specs.declared.answer.PageAnswer.the-variants as pages
@@ -84,6 +86,13 @@ unfolding pairs.plineSegIntr calls.checkPlineSeg
 pline-seg v1 v2 u1 u2 eps =
     of-checked ofPairs.Refused ofPairs.Met (record { faults = λ f g e. cc; kinds = λ f i e. no-number cc })
     (calls.checkPlineSeg v1 v2 u1 u2 eps) (plineSeg v1 v2 u1 u2 eps) (search smalls depth 30)
+
+pub pline-seg-findings : (v1 v2 u1 u2 : PlineVertex) (eps : Float) (f : Fault)
+    → plineSegFindings v1 v2 u1 u2 eps ≡ ofFindings.Refused f → Shown f
+unfolding plineSegFindings calls.checkPlineSeg
+pline-seg-findings v1 v2 u1 u2 eps =
+    of-checked ofFindings.Refused ofFindings.Met (record { faults = λ f g e. cc; kinds = λ f i e. no-number cc })
+    (calls.checkPlineSeg v1 v2 u1 u2 eps) (reported v1 v2 u1 u2 eps) (search smalls depth 30)
 
 -- ---- listings, boxed or not, and pages
 module _ {A : Type 0} (refused : Fault → A) (same : (f g : Fault) → refused f ≡ refused g → f ≡ g) where

@@ -2,7 +2,8 @@
 // calls are here: each is the function of its name in `floats` or `floats::bits`, with that function's contract. The other
 // calls put their answers into lent slices and promise `Handed`, `HandedListing` or `HandedPage`: `calls` has those of the
 // three kernels and `vj_pair`, which is `fast_pair::pair::pline_seg_intr`; `listing` has the listings, `page` their pages, and
-// `boxed` the boxed listings, which promise `HandedBoxed`.
+// `boxed` the boxed listings, which promise `HandedBoxed`; `pair_findings` has the pair call with findings, which promises
+// `HandedFindings`.
 ghost use mathlib.Core.Path.{_≡_};
 ghost use Rattle.floats.specs.F64;
 ghost use Rattle.floats.specs.Bits;
@@ -12,6 +13,7 @@ pub mod calls;
 pub mod hand_over;
 pub mod listing;
 pub mod page;
+pub mod pair_findings;
 
 // The absolute value.
 #[no_mangle]

@@ -1,5 +1,5 @@
--- The three kernels, the pair over them, and the four calls with their refusals; then what is proved of the calls (from
--- SameAnswer on). A reader need not believe Workings and Laws.
+-- The three kernels, the pair over them, and the four calls with their refusals. What is proved of the calls stands in
+-- `answers`. A reader need not believe Workings.
 pub mod LineLine
 pub mod LineCircle
 pub mod CircleCircle
@@ -12,9 +12,4 @@ pub mod LineLineIntersect
 pub mod LineCircleIntersect
 pub mod CircleCircleIntersect
 pub mod PlineSegIntersect
-pub mod SameAnswer
-pub mod Refusals
-pub mod Chords
-pub mod Bulges
 pub mod Workings
-pub mod Laws

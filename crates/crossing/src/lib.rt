@@ -11,6 +11,7 @@ pub mod line_circle_intr;
 mod line_line;
 pub mod line_line_intersect;
 pub mod line_line_intr;
+pub mod pair_kernel;
 mod pline_seg;
 pub mod pline_seg_intersect;
 pub mod shortcuts;

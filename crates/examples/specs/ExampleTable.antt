@@ -16,41 +16,41 @@ use Rattle.crossing.specs.PlineSegIntersect as pairs
 
 -- ---- numbers, points and vertices
 -- 0 to 5, -1, -2, 1/2, 1/4, 1/8
-abbrev n0 : Float
+abbrev pub n0 : Float
 n0 = ofBits binary64 0x0000_0000_0000_0000
 
-abbrev n1 : Float
+abbrev pub n1 : Float
 n1 = ofBits binary64 0x3ff0_0000_0000_0000
 
-abbrev n2 : Float
+abbrev pub n2 : Float
 n2 = ofBits binary64 0x4000_0000_0000_0000
 
-abbrev n3 : Float
+abbrev pub n3 : Float
 n3 = ofBits binary64 0x4008_0000_0000_0000
 
-abbrev n4 : Float
+abbrev pub n4 : Float
 n4 = ofBits binary64 0x4010_0000_0000_0000
 
-abbrev n5 : Float
+abbrev pub n5 : Float
 n5 = ofBits binary64 0x4014_0000_0000_0000
 
-abbrev m1 : Float
+abbrev pub m1 : Float
 m1 = ofBits binary64 0xbff0_0000_0000_0000
 
-abbrev m2 : Float
+abbrev pub m2 : Float
 m2 = ofBits binary64 0xc000_0000_0000_0000
 
-abbrev half : Float
+abbrev pub half : Float
 half = ofBits binary64 0x3fe0_0000_0000_0000
 
-abbrev quarter : Float
+abbrev pub quarter : Float
 quarter = ofBits binary64 0x3fd0_0000_0000_0000
 
-abbrev eighth : Float
+abbrev pub eighth : Float
 eighth = ofBits binary64 0x3fc0_0000_0000_0000
 
 -- 1e-5
-abbrev eps : Float
+abbrev pub eps : Float
 eps = ofBits binary64 0x3ee4_f8b5_88e3_68f1
 
 -- 1,048,576 and the next float; the next float above 1
@@ -67,10 +67,10 @@ abbrev pt : Float → Float → Vector2
 pt x y = record { x = x; y = y }
 
 -- a vertex where a line starts, and one where an arc with this bulge starts
-abbrev at : Float → Float → PlineVertex
+abbrev pub at : Float → Float → PlineVertex
 at x y = record { x = x; y = y; bulge = n0 }
 
-abbrev arcAt : Float → Float → Float → PlineVertex
+abbrev pub arcAt : Float → Float → Float → PlineVertex
 arcAt x y bulge = record { x = x; y = y; bulge = bulge }
 
 -- ---- entries

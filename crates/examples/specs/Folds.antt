@@ -43,19 +43,11 @@ use Rattle.listing_pairs.specs.declared.row.Look.the-variants.{Nothing, Made}
 use Rattle.listing_pairs.specs.Row.{lookOf}
 use Rattle.listing_pairs.specs.Neighbours.{onlyAt, atJoint}
 use Rattle.listing_pairs.specs.Look.{selfLook}
+use Rattle.examples.specs.ExampleTable.{n0, n5, eps}
 
--- ---- numbers: 0, 5, 10, and 1e-5
-abbrev n0 : Float
-n0 = ofBits binary64 0x0000_0000_0000_0000
-
-abbrev n5 : Float
-n5 = ofBits binary64 0x4014_0000_0000_0000
-
+-- ---- one more number: 10
 abbrev n10 : Float
 n10 = ofBits binary64 0x4024_0000_0000_0000
-
-abbrev eps : Float
-eps = ofBits binary64 0x3ee4_f8b5_88e3_68f1
 
 -- ---- paths of lines: (0, 0), (10, 0), and then
 abbrev fold : List Float

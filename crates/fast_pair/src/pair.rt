@@ -1,5 +1,6 @@
 // How two segments meet, with quick tests first: for a listing, which has checked the numbers and keeps some numbers of each
 // segment; and as the pair call, which checks its numbers itself.
+ghost use mathlib.Core.Bool.{true};
 ghost use mathlib.Core.Path.{_≡_};
 ghost use Rattle.checks.specs.Calls;
 ghost use Rattle.checks.specs.declared.fault.Checked.the-variants.{Fine};
@@ -7,6 +8,7 @@ ghost use Rattle.crossing.specs.PlineSeg;
 ghost use Rattle.crossing.specs.PlineSegIntersect;
 ghost use Rattle.fast_pair.specs.Workings.ClearlyApart;
 ghost use Rattle.fast_pair.specs.Workings.Kept as workings;
+ghost use Rattle.plane.specs.PlineVertex.{bulgeIsZero};
 use super::all_fine::pair_fine;
 use super::circles::circles_apart;
 use super::kept::Kept;
@@ -15,8 +17,12 @@ use super::line::line_beside;
 use super::lines::lines_apart;
 use arcs::circle::circle_if_arc;
 use arcs::pline_seg_intr::PlineSegIntr;
+use checks::arc;
 use checks::calls::check_pline_seg;
+use checks::chain;
+use checks::each;
 use checks::fault::Checked;
+use checks::fault::later;
 use crossing::pline_seg_intersect::PlineSegAnswer;
 use crossing::pline_seg_intersect::pline_seg_after_checks;
 use plane::pline_vertex::PlineVertex;
@@ -103,6 +109,51 @@ fn pline_seg_once(
     let circle1 = circle_if_arc(v1, v2);
     let circle2 = circle_if_arc(u1, u2);
     pline_seg_after_checks(v1, v2, circle1, u1, u2, circle2, pos_equal_eps)
+}
+
+// How two lines meet, for the pair call with findings. It shares no function with the pair call that has one caller there: with
+// two, the compiler would not put it in place, and the pair call would take half as long again (docs/MEASURES.md).
+pub fn line_pair(
+    v1: PlineVertex,
+    v2: PlineVertex,
+    u1: PlineVertex,
+    u2: PlineVertex,
+    pos_equal_eps: f64,
+) -> PlineSegIntr
+    requires { ⌜ Calls.checkPlineSeg v1 v2 u1 u2 «pos_equal_eps» ≡ Fine ⌝ }
+    requires { ⌜ bulgeIsZero v1 ≡ true ⌝ }
+    requires { ⌜ bulgeIsZero u1 ≡ true ⌝ }
+    ensures { λ r. ⌜ r ≡ PlineSeg.plineSeg v1 v2 u1 u2 «pos_equal_eps» ⌝ }
+{
+    if lines_apart(v1.pos(), v2.pos(), u1.pos(), u2.pos(), pos_equal_eps) {
+        return PlineSegIntr::NoIntersect;
+    }
+    let circle1 = circle_if_arc(v1, v2);
+    let circle2 = circle_if_arc(u1, u2);
+    pline_seg_after_checks(v1, v2, circle1, u1, u2, circle2, pos_equal_eps)
+}
+
+// What the check of a pair's numbers finds, by the quick test first. Behind it stands the chain of `check_pline_seg` itself, for
+// the same reason as in `line_pair`: the pair call has that in place.
+pub fn pair_checked(
+    v1: PlineVertex,
+    v2: PlineVertex,
+    u1: PlineVertex,
+    u2: PlineVertex,
+    pos_equal_eps: f64,
+) -> Checked
+    ensures { λ r. ⌜ r ≡ Calls.checkPlineSeg v1 v2 u1 u2 «pos_equal_eps» ⌝ }
+{
+    if pair_fine(v1, v2, u1, u2, pos_equal_eps) {
+        return Checked::Fine;
+    }
+    let a0 = each::epsilon(pos_equal_eps);
+    let a1 = chain::vertex_after(a0, v1.x, v1.y, v1.bulge, 0, 0);
+    let a2 = chain::point_after(a1, v2.x, v2.y, 0, 1);
+    let a3 = chain::vertex_after(a2, u1.x, u1.y, u1.bulge, 1, 0);
+    let a4 = chain::point_after(a3, u2.x, u2.y, 1, 1);
+    let a5 = later(a4, arc::arc_chord(v1, v2, 0, 0));
+    later(a5, arc::arc_chord(u1, u2, 1, 0))
 }
 
 // The pair call number by number, for numbers that the quick test leaves open. It has no quick test of the segments, so that the

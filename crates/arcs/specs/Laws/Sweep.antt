@@ -1,21 +1,15 @@
 -- The sweep test as the Rust writes it, and the finding: the test says yes exactly if the finding names a rule.
-use mathlib.Core.Path.{_≡_, refl}
+use mathlib.Core.Path.{_≡_, refl, sym, ap, _∙_}
 use mathlib.Core.Bool.{Bool, true, false, cond, _||_}
 use Rattle.floats.specs.Ops.{_≺_}
 use Rattle.plane.specs.Vector2 as vector2
 use Rattle.plane.specs.declared.vector2.Vector2.{Vector2}
 use Rattle.arcs.specs.declared.arc_sweep.ArcSweep.{ArcSweep}
-use Rattle.arcs.specs.declared.arc_sweep.SweepFinding.{SweepFinding}
-use Rattle.arcs.specs.declared.arc_sweep.SweepFinding.the-variants.{Outside, NearCenter, Inside, NearStart, NearEnd}
-use Rattle.arcs.specs.ArcSweep.{contains, finding, exactlyWithinSweep, beside}
-
--- a rule said yes
-abbrev pub isYes : SweepFinding → Bool
-isYes Outside = false
-isYes NearCenter = true
-isYes Inside = true
-isYes NearStart = true
-isYes NearEnd = true
+use Rattle.arcs.specs.declared.sweep_finding.SweepFinding.{SweepFinding}
+use Rattle.arcs.specs.declared.sweep_finding.SweepFinding.the-variants.{Outside, NearCenter, Inside, NearStart, NearEnd}
+use Rattle.arcs.specs.ArcSweep.{contains, finding, isYes, exactlyWithinSweep, beside}
+use Rattle.arcs.specs.ArcGeometry as geometry
+use Rattle.arcs.specs.declared.arc_geometry.ArcGeometry.{ArcGeometry}
 
 -- four rules tried in order, whatever each says
 in-order : (center inside start end : Bool)
@@ -37,3 +31,16 @@ contains-is-yes self point =
     (exactlyWithinSweep (self .«is_clockwise») startCross endCross)
     (beside (self .«start_vector») pointVector startCross (self .«start_fuzzy_limit»))
     (beside (self .«end_vector») pointVector endCross (self .«end_fuzzy_limit»))
+
+pub sweeps-is-yes : (self : ArcGeometry) (point : Vector2) → geometry.sweeps self point ≡ isYes (geometry.finding self point)
+unfolding geometry.sweeps geometry.finding
+sweeps-is-yes self point = contains-is-yes (self .sweep) point
+
+-- so a yes, worked out from the finding, is the Rust's test
+pub yes-of : (self : ArcGeometry) (point : Vector2) (f : SweepFinding) (counts : Bool) → f ≡ geometry.finding self point
+    → counts ≡ isYes f → counts ≡ geometry.sweeps self point
+yes-of self point f counts e is = is ∙ ap isYes e ∙ sym (sweeps-is-yes self point)
+
+pub yes-in : (self : ArcSweep) (point : Vector2) (f : SweepFinding) (counts : Bool) → f ≡ finding self point → counts ≡ isYes f
+    → counts ≡ contains self point
+yes-in self point f counts e is = is ∙ ap isYes e ∙ sym (contains-is-yes self point)

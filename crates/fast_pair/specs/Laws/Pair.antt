@@ -117,3 +117,11 @@ apart-line-pair v1 v2 u1 u2 eps e-fits h =
     go true true l x y t f = f t
     go true false l x y t f = absurd t
     go false b l x y t f = absurd t
+
+-- two lines, by their positions
+pub apart-two-lines : (v1 v2 u1 u2 : PlineVertex) (p1 p2 q1 q2 : Vector2) (eps : Float) → T (fits binary64 eps)
+    → bulgeIsZero v1 ≡ true → bulgeIsZero u1 ≡ true → p1 ≡ pos v1 → p2 ≡ pos v2 → q1 ≡ pos u1 → q2 ≡ pos u2
+    → T (linesApart p1 p2 q1 q2 eps) → plineSeg v1 v2 u1 u2 eps ≡ NoIntersect
+unfolding plineSeg
+apart-two-lines v1 v2 u1 u2 p1 p2 q1 q2 eps e-fits ev eu e1 e2 e3 e4 h =
+    simp (ev, eu, ← e1, ← e2, ← e3, ← e4) (apart-lines p1 p2 q1 q2 eps e-fits h)

@@ -2,6 +2,7 @@
 -- calls and tests before it.
 use borrow.Author.Needs.{needs}
 use Rattle.arcs.specs.ArcGeometry.{pointLiesOnArc}
+use Rattle.arcs.specs.Laws.Sweep.{yes-of}
 use Rattle.arcs.proofs.arc_geometry.ArcGeometry.point_lies_on_arc.Statement.{statement}
 use Rattle.arcs.proofs.arc_geometry.ArcGeometry.point_lies_on_arc.Tie as tie
 
@@ -10,7 +11,11 @@ unfolding pointLiesOnArc
 point-lies-on-arc-spec =
     tie.close
     (tie.spec
-    (search needs) (search needs)
-    (λ c. let p = c .before in
-    simp (← p .before .before .before .before .dist-squared .ensures, p .if1 .taken, ← c .sweeps .ensures))
+    (search needs) (search needs) (search needs)
+    (λ c. let p = c .before .before in
+    simp (
+      ← p .before .before .before .before .dist-squared .ensures,
+      p .if1 .taken,
+      ← yes-of _ _ _ _ (c .before .finding .ensures) (c .is-yes .ensures),
+    ))
     (λ c. simp (← c .before .before .before .before .dist-squared .ensures, c .if1 .left)))

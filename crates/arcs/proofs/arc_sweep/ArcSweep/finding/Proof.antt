@@ -5,8 +5,8 @@ use mathlib.Core.Bool.{cond}
 use borrow.Author.Needs.{needs}
 use Rattle.arcs.specs.ArcSweep.{finding, exactlyWithinSweep, beside}
 use Rattle.float_laws.specs.Branches.{branches}
-use Rattle.arcs.specs.declared.arc_sweep.SweepFinding.{SweepFinding}
-use Rattle.arcs.specs.declared.arc_sweep.SweepFinding.the-variants.{Outside, Inside, NearStart, NearEnd}
+use Rattle.arcs.specs.declared.sweep_finding.SweepFinding.{SweepFinding}
+use Rattle.arcs.specs.declared.sweep_finding.SweepFinding.the-variants.{Outside, Inside, NearStart, NearEnd}
 use Rattle.arcs.proofs.arc_sweep.ArcSweep.finding.Statement.{statement}
 use Rattle.arcs.proofs.arc_sweep.ArcSweep.finding.Tie as tie
 

@@ -1,0 +1,1 @@
+// What is proved of the findings of a pair, as theorems in specs/. There is no code here.
