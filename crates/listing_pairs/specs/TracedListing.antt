@@ -1,18 +1,24 @@
 -- The rule of traces, for any `look` and any list of pairs: what is listed by traces is what is listed of the pairs kept to those
--- not of one trace, and so many are looked at. A page of it goes by the positions of the whole list. If no two are of one trace,
--- as when all traces are 0, nothing is passed over.
-use mathlib.Core.Path.{_≡_, refl, sym, ap, _∙_}
-use mathlib.Core.Bool.{Bool, true, false, cond, not, _&&_, true≢false}
-use mathlib.Core.List.{List, [], _∷_}
-use Prim.Native.Nat.{ℕ}
-use lib.Ieee.{Float}
+-- not of one trace, and so many are looked at. If all traces of the first path are 0, nothing is passed over.
+use mathlib.Core.Path.{_≡_, refl, sym, ap, fun-ext, _∙_}
+use mathlib.Core.Bool.{Bool, true, false, cond, not, _&&_, _||_, true≢false}
+use mathlib.Core.List.{List}
+use mathlib.Core.Logic.{_⊎_, inl, inr}
+use Prim.Native.Nat.{ℕ, _+_, _*_, _≤_, _<_}
+use native.Mathlib.Omega.{arith}
+use lib.Dec.{T}
+use lib.ListN.{length, List·getD-eq-default}
+use lib.Ieee.{Float, nan, le, lt, ofBits}
+use Rattle.float_laws.specs.Chains.{le-not-lt}
 use Rattle.floats.specs.Ops.{_≈_, _≻_, f0}
+use Rattle.paths.specs.Path.{numbersAVertex, vertexCount, number, trace}
 use Rattle.paths.specs.Segments.{segmentFrom}
 use Rattle.listing_pairs.specs.declared.row.Look.{Look}
 use Rattle.listing_pairs.specs.declared.row.Look.the-variants.{Skipped}
 use Rattle.listing_pairs.specs.Order.{Pair}
 use Rattle.listing_pairs.specs.Rows.{rowsOf, lookedAt}
 use Rattle.listing_pairs.specs.Traces.{sameTrace, oneTrace, traced, tracedPairs}
+use Rattle.listing_pairs.specs.Laws.Order.{lt-or-le}
 use Rattle.listing_pairs.specs.Laws.Skipped.{Skips, skipped-rows, skipped-looked}
 
 module _ (first second : List Float) (f : ℕ → ℕ → Look) where
@@ -61,3 +67,42 @@ module _ (first second : List Float) (f : ℕ → ℕ → Look) where
     pub not-of-one : oneTrace first second (record { i = i; j = j }) ≡ false → traced first second f i j ≡ f i j
     unfolding traced
     not-of-one e = ap (λ (b : Bool). cond b Skipped (f i j)) e
+
+-- ---- all traces of a path are 0, by value
+abbrev pub AllZero : List Float → Type 0
+AllZero path = (i : ℕ) → i < vertexCount path → (trace path i ≈ f0) ≡ true
+
+-- what is 0 is not above 0
+not-above : (x : Float) → (x ≈ f0) ≡ true → (x ≻ f0) ≡ false
+unfolding le
+not-above x e = denied (x ≻ f0) (le-not-lt x f0 (either (lt x f0) (x ≈ f0) e))
+  where
+    either : (a b : Bool) → b ≡ true → T (a || b)
+    either true b e = tt
+    either false true e = tt
+    either false false e = absurd (true≢false (sym e))
+
+    denied : (b : Bool) → T (not b) → b ≡ false
+    denied true h = absurd h
+    denied false h = refl
+
+nan-not-above : (nan ≻ f0) ≡ false
+unfolding lt ofBits
+nan-not-above = refl
+
+-- beyond the last vertex there is no number, so nothing above 0
+none-above : (path : List Float) → AllZero path → (i : ℕ) → (segmentFrom path i .trace ≻ f0) ≡ false
+unfolding segmentFrom trace
+none-above path zero i = go (lt-or-le i (vertexCount path))
+  where
+    gone : (k : ℕ) → length path ≤ k → number path k ≡ nan
+    gone k h = List·getD-eq-default path nan h
+
+    go : (i < vertexCount path) ⊎ (vertexCount path ≤ i) → (trace path i ≻ f0) ≡ false
+    go (inl within) = not-above (trace path i) (zero i within)
+    go (inr beyond) = ap (λ (x : Float). x ≻ f0) (gone (i * numbersAVertex + 3) (omega (arith, beyond))) ∙ nan-not-above
+
+-- then the rule changes nothing
+pub all-zero : (first second : List Float) (f : ℕ → ℕ → Look) → AllZero first → traced first second f ≡ f
+all-zero first second f zero =
+    fun-ext (λ i. fun-ext (λ j. no-trace first second f i j (none-above first zero i)))
