@@ -108,16 +108,16 @@ module _ (bytes : List ℕ) (n i at : ℕ) (all : Stored) (old : List Float) (k 
     store-fault place e = rw (vertices-fault n i at _ inside (no-vertex bytes is e)) at inv
 
     pub store-vertex : (x-minus y-minus b-minus : Bool) (x y b next : ℕ) → r ≡ Corner·.At x-minus x y-minus y b-minus b next
-        → (vx vy vb : Float) → vx ≡ coordinate (whole x-minus x) → vy ≡ coordinate (whole y-minus y)
-        → vb ≡ bulge (whole b-minus b)
+        → (vx vy vb vt : Float) → vx ≡ coordinate (whole x-minus x) → vy ≡ coordinate (whole y-minus y)
+        → vb ≡ bulge (whole b-minus b) → vt ≡ trace
         → stored (verticesFrom (n - (i + 1)) next (drop next bytes))
-        (set (set (set (set old k vx) (k + 1) vy) (k + 2) vb) (k + 3) trace) (k + numbersAVertex)
+        (set (set (set (set old k vx) (k + 1) vy) (k + 2) vb) (k + 3) vt) (k + numbersAVertex)
         ≡ all
-    store-vertex x-minus y-minus b-minus x y b next e vx vy vb ex ey eb =
+    store-vertex x-minus y-minus b-minus x y b next e vx vy vb vt ex ey eb et =
         let v = wholeVertex x-minus x y-minus y b-minus b in
         let four : k + numbersAVertex ≡ suc (suc (suc (suc k))) = omega arith in
-        let written : set (set (set (set old k vx) (k + 1) vy) (k + 2) vb) (k + 3) trace ≡ sets old k (pathOf (v ∷ [])) =
-        four-set old k vx vy vb trace ∙ rw (ex, ey, eb) in
+        let written : set (set (set (set old k vx) (k + 1) vy) (k + 2) vb) (k + 3) vt ≡ sets old k (pathOf (v ∷ [])) =
+        four-set old k vx vy vb vt ∙ rw (ex, ey, eb, et) in
         rw (written, four) (after-stored v (verticesFrom (n - (i + 1)) next (drop next bytes)) old k)
         ∙ rw (vertices-more n i at _ inside (a-vertex bytes is e)) at inv
 

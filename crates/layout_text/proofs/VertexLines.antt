@@ -112,16 +112,16 @@ module _ (text : List ℕ) (n i at : ℕ) (all : Stored) (old : List Float) (k :
     store-broken e = rw (lines-broken n i _ inside (no-line text is e)) at inv
 
     pub store-line : (x-minus y-minus b-minus : Bool) (x y b next : ℕ) → r ≡ Corner·.At x-minus x y-minus y b-minus b next
-        → (vx vy vb : Float)
-        → vx ≡ coordinate (whole x-minus x) → vy ≡ coordinate (whole y-minus y) → vb ≡ bulge (whole b-minus b)
-        → stored (verticesOf (n - (i + 1)) (drop next text)) (set (set (set (set old k vx) (k + 1) vy) (k + 2) vb) (k + 3) trace)
+        → (vx vy vb vt : Float)
+        → vx ≡ coordinate (whole x-minus x) → vy ≡ coordinate (whole y-minus y) → vb ≡ bulge (whole b-minus b) → vt ≡ trace
+        → stored (verticesOf (n - (i + 1)) (drop next text)) (set (set (set (set old k vx) (k + 1) vy) (k + 2) vb) (k + 3) vt)
         (k + numbersAVertex)
         ≡ all
-    store-line x-minus y-minus b-minus x y b next e vx vy vb is-x is-y is-b =
+    store-line x-minus y-minus b-minus x y b next e vx vy vb vt is-x is-y is-b is-t =
         let v = wholeVertex x-minus x y-minus y b-minus b in
         let four : k + numbersAVertex ≡ suc (suc (suc (suc k))) = omega arith in
-        let numbered : vx ∷ vy ∷ vb ∷ trace ∷ [] ≡ pathOf (v ∷ []) = rw (is-x, is-y, is-b) in
-        let written = four-set old k vx vy vb trace ∙ ap (sets old k) numbered in
+        let numbered : vx ∷ vy ∷ vb ∷ vt ∷ [] ≡ pathOf (v ∷ []) = rw (is-x, is-y, is-b, is-t) in
+        let written = four-set old k vx vy vb vt ∙ ap (sets old k) numbered in
         rw (written, four) (after-stored v (verticesOf (n - (i + 1)) (drop next text)) old k)
         ∙ rw (lines-read n i _ inside (a-line text is e)) at inv
 
