@@ -5,7 +5,9 @@ ghost use mathlib.Core.Bool.{true};
 ghost use Prim.Native.Nat.{_≤_, _<_};
 ghost use Rattle.paths.specs.Path;
 ghost use Rattle.boxes.specs.Workings.Next;
+ghost use Rattle.floats.specs.Ops.{_≻_, f0};
 ghost use Rattle.listing_pairs.specs.Workings.Keeping;
+ghost use Rattle.listing_pairs.specs.Workings.Tracks;
 ghost use Rattle.listing_loop.specs.Workings.Runs;
 use boxes::bounds::Box;
 use boxes::bounds::box_with;
@@ -14,6 +16,8 @@ use boxes::next::next_by_groups;
 use fast_pair::kept::Kept;
 use listing_pairs::keeping;
 use listing_pairs::order::Job;
+use listing_pairs::sizes::lesser;
+use listing_pairs::tracks::past_group;
 use paths::path;
 use paths::path::Segment;
 
@@ -53,17 +57,25 @@ fn run_of_boxes(kept: &[f64], v_box: Box, job: Job, j: usize, end: usize) -> Run
     Run { from: j, to: end }
 }
 
-// The first vertex from j on and before `end` that has another trace; `end` if there is none.
-fn next_other(path: &[f64], trace: f64, j: usize, end: usize) -> usize
-    requires { ⌜ (j ≤ end) × (end ≤ Path.vertexCount (now path)) ⌝ }
-    ensures { λ r. ⌜ r ≡ Next.first (Runs.other (now (path .entry)) trace) j end ⌝ }
+// The first vertex from j on and before `end` that has another trace than this one, which is above 0; `end` if there is none. A
+// group of which this trace is kept is passed over whole.
+fn next_other_by_groups(path: &[f64], kept: &[f64], trace: f64, j: usize, end: usize) -> usize
+    requires { ⌜ (j ≤ end) × (end ≤ Path.vertexCount (now path)) × (end ≤ Path.mostVertices) ⌝ }
+    requires { ⌜ Tracks.Tracked (now path) (now kept) ⌝ }
+    requires { ⌜ (trace ≻ f0) ≡ true ⌝ }
+    ensures { λ r. ⌜ r ≡ Next.first (Tracks.other (now (path .entry)) trace) j end ⌝ }
 {
     let mut k = j;
     while k < end {
-        if !(trace == path::trace(path, k)) {
-            return k;
+        let past = past_group(kept, trace, k);
+        if k < past {
+            k = lesser(past, end);
+        } else {
+            if !(trace == path::trace(path, k)) {
+                return k;
+            }
+            k += 1;
         }
-        k += 1;
     }
     end
 }
@@ -71,7 +83,7 @@ fn next_other(path: &[f64], trace: f64, j: usize, end: usize) -> usize
 // The first vertex from j on and before `end` that has this trace; `end` if there is none.
 fn next_same(path: &[f64], trace: f64, j: usize, end: usize) -> usize
     requires { ⌜ (j ≤ end) × (end ≤ Path.vertexCount (now path)) ⌝ }
-    ensures { λ r. ⌜ r ≡ Next.first (Runs.same (now (path .entry)) trace) j end ⌝ }
+    ensures { λ r. ⌜ r ≡ Next.first (Tracks.same (now (path .entry)) trace) j end ⌝ }
 {
     let mut k = j;
     while k < end {
@@ -97,12 +109,13 @@ pub(crate) fn next_run(
     requires { ⌜ (job .boxed ≡ true → Next.GroupedTwice (now kept) Keeping.boxesKept (job .m)) ⌝ }
     requires { ⌜ (j ≤ end) × (end ≤ job .m) × (job .m ≤ Path.mostVertices) ⌝ }
     requires { ⌜ job .m ≤ Path.vertexCount (now second) ⌝ }
+    requires { ⌜ Tracks.Tracked (now second) (now kept) ⌝ }
     ensures { λ r. ⌜ r ≡ Runs.nextRun (now (second .entry)) (now (kept .entry)) «v_box» trace job j end ⌝ }
 {
     let all = run_of_boxes(kept, v_box, job, j, end);
     if trace > 0.0 {
         let stop = all.to;
-        let from = next_other(second, trace, all.from, stop);
+        let from = next_other_by_groups(second, kept, trace, all.from, stop);
         let to = next_same(second, trace, from, stop);
         return Run { from: from, to: to };
     }

@@ -1,15 +1,13 @@
 -- The rule of traces, for any `look` and any list of pairs: what is listed by traces is what is listed of the pairs kept to those
 -- not of one trace, and so many are looked at. If all traces of the first path are 0, nothing is passed over.
-use mathlib.Core.Path.{_≡_, refl, sym, ap, fun-ext, _∙_}
-use mathlib.Core.Bool.{Bool, true, false, cond, not, _&&_, _||_, true≢false}
+use mathlib.Core.Path.{_≡_, refl, ap, fun-ext, _∙_}
+use mathlib.Core.Bool.{Bool, true, false, cond, not, _&&_}
 use mathlib.Core.List.{List}
 use mathlib.Core.Logic.{_⊎_, inl, inr}
 use Prim.Native.Nat.{ℕ, _+_, _*_, _≤_, _<_}
 use native.Mathlib.Omega.{arith}
-use lib.Dec.{T}
 use lib.ListN.{length, List·getD-eq-default}
-use lib.Ieee.{Float, nan, le, lt, ofBits}
-use Rattle.float_laws.specs.Chains.{le-not-lt}
+use lib.Ieee.{Float, nan}
 use Rattle.floats.specs.Ops.{_≈_, _≻_, f0}
 use Rattle.paths.specs.Path.{numbersAVertex, vertexCount, number, trace}
 use Rattle.paths.specs.Segments.{segmentFrom}
@@ -19,6 +17,7 @@ use Rattle.listing_pairs.specs.Order.{Pair}
 use Rattle.listing_pairs.specs.Rows.{rowsOf, lookedAt}
 use Rattle.listing_pairs.specs.Traces.{sameTrace, oneTrace, traced, tracedPairs}
 use Rattle.listing_pairs.specs.Laws.Order.{lt-or-le}
+use Rattle.listing_pairs.specs.Laws.Zero.{not-above, nan-not-above}
 use Rattle.listing_pairs.specs.Laws.Skipped.{Skips, skipped-rows, skipped-looked}
 
 module _ (first second : List Float) (f : ℕ → ℕ → Look) where
@@ -71,24 +70,6 @@ module _ (first second : List Float) (f : ℕ → ℕ → Look) where
 -- ---- all traces of a path are 0, by value
 abbrev pub AllZero : List Float → Type 0
 AllZero path = (i : ℕ) → i < vertexCount path → (trace path i ≈ f0) ≡ true
-
--- what is 0 is not above 0
-not-above : (x : Float) → (x ≈ f0) ≡ true → (x ≻ f0) ≡ false
-unfolding le
-not-above x e = denied (x ≻ f0) (le-not-lt x f0 (either (lt x f0) (x ≈ f0) e))
-  where
-    either : (a b : Bool) → b ≡ true → T (a || b)
-    either true b e = tt
-    either false true e = tt
-    either false false e = absurd (true≢false (sym e))
-
-    denied : (b : Bool) → T (not b) → b ≡ false
-    denied true h = absurd h
-    denied false h = refl
-
-nan-not-above : (nan ≻ f0) ≡ false
-unfolding lt ofBits
-nan-not-above = refl
 
 -- beyond the last vertex there is no number, so nothing above 0
 none-above : (path : List Float) → AllZero path → (i : ℕ) → (segmentFrom path i .trace ≻ f0) ≡ false

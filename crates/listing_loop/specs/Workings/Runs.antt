@@ -24,6 +24,7 @@ use Rattle.listing_pairs.specs.Boxed.{boxesMeet}
 use Rattle.listing_pairs.specs.Laws.Order.{lt-or-le}
 use Rattle.listing_pairs.specs.Workings.Ready.{eachLook, boxedLook, lookBy}
 use Rattle.listing_pairs.specs.Workings.Keeping.{boxesKept, BoxesKept}
+use Rattle.listing_pairs.specs.Workings.Tracks.{same, other}
 use Rattle.listing_loop.specs.declared.run.Run.{Run}
 
 -- the box of v in a boxed listing, and any box in others
@@ -43,12 +44,6 @@ unfoldable pub runOfBoxes : List Float → Box → Job → ℕ → ℕ → Run
 runOfBoxes kept b job j end = cond (job .boxed) (meetingRun kept b j end) (record { from = j; to = end })
 
 -- ---- by traces: the first index of another trace than t, up to the next of the same
-abbrev pub same : List Float → Float → ℕ → Bool
-same path t k = t ≈ trace path k
-
-abbrev pub other : List Float → Float → ℕ → Bool
-other path t k = not (same path t k)
-
 abbrev pub otherRun : List Float → Float → Run → Run
 otherRun second t r =
     let from = first (other second t) (r .from) (r .to) in

@@ -223,7 +223,7 @@ next-run-requires c κs =
           omega (arith, end-inside m, job_of.to-within (s .args .job) (outer m .loop .i)),
           h .pairs .few-second,
         ),
-        h .pairs .m-within,
+        (h .pairs .m-within, h .tracks),
       ),
     )
 

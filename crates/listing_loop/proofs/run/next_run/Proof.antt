@@ -22,12 +22,14 @@ next-run-spec =
     (tie.spec
     (λ c κs. let p = c .before .before .pre in (p .0, p .1 .0))
     (λ c κs. let w = within (c .before) in
-    (w .0, omega (arith, w .1, c .before .before .before .before .pre)))
+    let p = c .before .before .before .before .pre in
+    ((w .0, omega (arith, w .1, p .1 .0, p .1 .1 .0), omega (arith, w .1, p .1 .0)), (p .1 .1 .1, c .if1 .taken)))
     (λ c κs. let b = c .before .before in
     let w = within b in
-    let f = first-is _ _ _ _ (w .0) (c .next-other .ensures) in
-    (f .high, omega (arith, w .1, b .before .before .before .pre)))
+    let f = first-is _ _ _ _ (w .0) (c .next-other-by-groups .ensures) in
+    let p = b .before .before .before .pre in
+    (f .high, omega (arith, w .1, p .1 .0, p .1 .1 .0)))
     (λ c. let t = c .before .before in
     holds _ _ _ _ (t .if1 .taken)
-    (other-of _ _ _ _ _ _ (t .before .run-of-boxes .ensures) (c .before .next-other .ensures) (c .next-same .ensures)))
+    (other-of _ _ _ _ _ _ (t .before .run-of-boxes .ensures) (c .before .next-other-by-groups .ensures) (c .next-same .ensures)))
     (λ c. fails _ _ _ _ (c .if1 .left) (c .before .run-of-boxes .ensures)))

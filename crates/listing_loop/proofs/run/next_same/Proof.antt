@@ -6,7 +6,7 @@ use borrow.Author.Needs.{needs}
 use lib.Ieee.{Float}
 use Rattle.floats.specs.Ops.{_≈_}
 use Rattle.boxes.specs.Workings.Next.{Finding, finding-starts, finding-here, finding-on, finding-ends}
-use Rattle.listing_loop.specs.Workings.Runs.{same}
+use Rattle.listing_pairs.specs.Workings.Tracks.{same}
 use Rattle.listing_loop.proofs.run.next_same.Statement.{statement}
 use Rattle.listing_loop.proofs.run.next_same.Tie as tie
 

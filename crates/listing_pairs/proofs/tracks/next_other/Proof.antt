@@ -1,4 +1,4 @@
--- `listing_loop::run::next_other` meets its contract: what was passed has the trace, and what it stops at has not.
+-- `listing_pairs::tracks::next_other` meets its contract: what was passed has the trace, and what it stops at has not.
 use mathlib.Core.Path.{ap}
 use mathlib.Core.Bool.{not}
 use Prim.Native.Nat.{_-_}
@@ -7,9 +7,9 @@ use borrow.Author.Needs.{needs}
 use lib.Ieee.{Float}
 use Rattle.floats.specs.Ops.{_≈_}
 use Rattle.boxes.specs.Workings.Next.{Finding, finding-starts, finding-here, finding-on, finding-ends}
-use Rattle.listing_loop.specs.Workings.Runs.{other}
-use Rattle.listing_loop.proofs.run.next_other.Statement.{statement}
-use Rattle.listing_loop.proofs.run.next_other.Tie as tie
+use Rattle.listing_pairs.specs.Workings.Tracks.{other}
+use Rattle.listing_pairs.proofs.tracks.next_other.Statement.{statement}
+use Rattle.listing_pairs.proofs.tracks.next_other.Tie as tie
 
 abbrev Inv-loop : tie.InvT-loop
 Inv-loop path trace j end k₀ k = Finding (other path trace) j end k
