@@ -179,7 +179,33 @@ le-trans x y z h g = not-below x z (le-numbers x y h .0) (le-numbers y z g .1) (
     go false e = e
     go true e = absurd (not-both y z g (lt-le z x y (subst T (sym e) tt) h))
 
--- what is equal to y is equal to what y is equal to
+-- ---- equality: of a number with itself, both ways, and over a third
+pub eq-self : (x : Float) → isNan x ≡ false → T (eq x x)
+unfolding eq isNan
+eq-self nan h = absurd (true≢false h)
+eq-self (inf true) h = tt
+eq-self (inf false) h = tt
+eq-self (fin s m e) h =
+    let E = down-pos e in
+    eq-diff (fin s m e) (fin s m e) _ _ _ _ _ _ E E (written-diff s m e) (written-diff s m e) .1 refl
+
+pub eq-sym : (x y : Float) → T (eq x y) → T (eq y x)
+unfolding eq
+eq-sym nan y h = absurd h
+eq-sym (inf s) nan h = absurd h
+eq-sym (inf true) (inf true) h = tt
+eq-sym (inf true) (inf false) h = absurd h
+eq-sym (inf false) (inf true) h = absurd h
+eq-sym (inf false) (inf false) h = tt
+eq-sym (inf s) (fin t n d) h = absurd h
+eq-sym (fin s m e) nan h = absurd h
+eq-sym (fin s m e) (inf t) h = absurd h
+eq-sym (fin s m e) (fin t n d) h =
+    let E = down-pos e in
+    let D = down-pos d in
+    eq-diff (fin t n d) (fin s m e) _ _ _ _ _ _ D E (written-diff t n d) (written-diff s m e) .1
+    (sym (eq-diff (fin s m e) (fin t n d) _ _ _ _ _ _ E D (written-diff s m e) (written-diff t n d) .0 h))
+
 pub eq-trans : (x y z : Float) → T (eq x y) → T (eq y z) → T (eq x z)
 unfolding eq
 eq-trans nan y z h g = absurd h

@@ -18,6 +18,7 @@ use listing_pairs::keeping;
 use listing_pairs::order::Job;
 use listing_pairs::sizes::lesser;
 use listing_pairs::tracks::past_group;
+use listing_pairs::tracks::past_others;
 use paths::path;
 use paths::path::Segment;
 
@@ -80,17 +81,24 @@ fn next_other_by_groups(path: &[f64], kept: &[f64], trace: f64, j: usize, end: u
     end
 }
 
-// The first vertex from j on and before `end` that has this trace; `end` if there is none.
-fn next_same(path: &[f64], trace: f64, j: usize, end: usize) -> usize
-    requires { ⌜ (j ≤ end) × (end ≤ Path.vertexCount (now path)) ⌝ }
+// The first vertex from j on and before `end` that has this trace; `end` if there is none. A group of which another trace is kept
+// is passed over whole.
+fn next_same_by_groups(path: &[f64], kept: &[f64], trace: f64, j: usize, end: usize) -> usize
+    requires { ⌜ (j ≤ end) × (end ≤ Path.vertexCount (now path)) × (end ≤ Path.mostVertices) ⌝ }
+    requires { ⌜ Tracks.Tracked (now path) (now kept) ⌝ }
     ensures { λ r. ⌜ r ≡ Next.first (Tracks.same (now (path .entry)) trace) j end ⌝ }
 {
     let mut k = j;
     while k < end {
-        if trace == path::trace(path, k) {
-            return k;
+        let past = past_others(kept, trace, k);
+        if k < past {
+            k = lesser(past, end);
+        } else {
+            if trace == path::trace(path, k) {
+                return k;
+            }
+            k += 1;
         }
-        k += 1;
     }
     end
 }
@@ -116,7 +124,7 @@ pub(crate) fn next_run(
     if trace > 0.0 {
         let stop = all.to;
         let from = next_other_by_groups(second, kept, trace, all.from, stop);
-        let to = next_same(second, trace, from, stop);
+        let to = next_same_by_groups(second, kept, trace, from, stop);
         return Run { from: from, to: to };
     }
     all

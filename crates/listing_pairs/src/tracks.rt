@@ -70,3 +70,17 @@ pub fn past_group(kept: &[f64], trace: f64, k: usize) -> usize
     }
     k
 }
+
+// The vertex after the group of vertex k, if all of the group have one trace above 0, and not this one; else k.
+pub fn past_others(kept: &[f64], trace: f64, k: usize) -> usize
+    requires { ⌜ k < Path.mostVertices ⌝ }
+    requires { ⌜ tracks.tracesKept + tracks.mostGroups ≤ length (now kept) ⌝ }
+    ensures { λ r. ⌜ r ≡ tracks.pastOthers (now (kept .entry)) trace k ⌝ }
+{
+    let g = k / index::GROUP;
+    let other = kept[keeping::TRACES + g];
+    if (other > 0.0) & !(trace == other) {
+        return (g + 1) * index::GROUP;
+    }
+    k
+}

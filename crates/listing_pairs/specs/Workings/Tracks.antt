@@ -1,7 +1,7 @@
 -- What is kept of groups of segments for the traces: the trace of each group whose segments all have it, and 0 of any other. If a
 -- trace above 0 is the kept one, every segment of the group has it.
 use mathlib.Core.Path.{_≡_, refl, sym, ap, subst, _∙_}
-use mathlib.Core.Bool.{Bool, true, false, cond, not, true≢false}
+use mathlib.Core.Bool.{Bool, true, false, cond, not, _&&_, _||_, true≢false}
 use mathlib.Core.Logic.{_⊎_, inl, inr}
 use mathlib.Core.List.{List}
 use Prim.Native.Nat.{ℕ, zero, suc, _+_, _*_, _/_, _≤_, _<_}
@@ -10,10 +10,10 @@ use native.Mathlib.Numerals.{add-one}
 use native.Mathlib.Omega.{arith}
 use borrow.Author.Tests.{ltb-true, ltb-false}
 use lib.Dec.{T, ltb}
-use lib.Ieee.{Float, nan}
+use lib.Ieee.{Float, nan, le}
 use lib.ListN.{length, getD, set, replicate, getD-replicate, length-replicate, length-set}
 use lib.Seq.{getD-set-same, getD-set-other}
-use Rattle.float_laws.specs.Chains.{eq-trans}
+use Rattle.float_laws.specs.Chains.{le-numbers, eq-self, eq-sym, eq-trans}
 use Rattle.floats.specs.Ops.{_≈_, _≻_, f0}
 use Rattle.paths.specs.Path.{mostVertices, trace}
 use Rattle.boxes.specs.Groups.{groupSize}
@@ -61,6 +61,13 @@ pastGroup kept t k =
     let g = k / groupSize in
     cond (t ≈ getD kept (tracesKept + g) nan) ((g + 1) * groupSize) k
 
+-- the vertex after the group of k, if another trace above 0 is kept of it; else k
+unfoldable pub pastOthers : List Float → Float → ℕ → ℕ
+pastOthers kept t k =
+    let g = k / groupSize in
+    let u = getD kept (tracesKept + g) nan in
+    cond ((u ≻ f0) && not (t ≈ u)) ((g + 1) * groupSize) k
+
 -- ---- what the loop needs: a trace above 0 that is kept of a group is that of its segments
 pub record Tracked (path kept : List Float) : Type 0 where
   pub room : tracesKept + mostGroups ≤ length kept
@@ -74,6 +81,18 @@ holds false h = absurd h
 
 both : (x y z : Float) → (x ≈ y) ≡ true → (y ≈ z) ≡ true → (x ≈ z) ≡ true
 both x y z h g = holds (x ≈ z) (eq-trans x y z (subst T (sym h) tt) (subst T (sym g) tt))
+
+turned : (x y : Float) → (x ≈ y) ≡ true → (y ≈ x) ≡ true
+turned x y h = holds (y ≈ x) (eq-sym x y (subst T (sym h) tt))
+
+-- what is above 0 is a number, so equal to itself
+itself : (x : Float) → (x ≻ f0) ≡ true → (x ≈ x) ≡ true
+unfolding le
+itself x h = holds (x ≈ x) (eq-self x (le-numbers f0 x (left (x ≻ f0) (f0 ≈ x) h) .1))
+  where
+    left : (a b : Bool) → a ≡ true → T (a || b)
+    left true b e = tt
+    left false b e = absurd (true≢false (sym e))
 
 pub group-has : (path : List Float) (g : ℕ) (t : Float) → (t ≈ groupTrace path g) ≡ true → (t ≻ f0) ≡ true
     → (k : ℕ) → g * groupSize ≤ k → k < g * groupSize + groupSize → same path t k ≡ true
@@ -236,3 +255,27 @@ past-clear path kept t k tracked above few h low high = go (t ≈ getD kept (tra
     go true e below =
         ap not (tracked .is g t (omega (arith, few)) e above h (omega (arith, low)) (omega (arith, below)))
     go false e below = absurd (omega (arith, low, below))
+
+-- or another
+pub others-clear : (path kept : List Float) (t : Float) (k : ℕ) → Tracked path kept → k < mostVertices
+    → (h : ℕ) → k ≤ h → h < pastOthers kept t k → same path t h ≡ false
+unfolding pastOthers
+others-clear path kept t k tracked few h low high = go (u ≻ f0) refl (t ≈ u) refl high
+  where
+    g : ℕ
+    g = k / groupSize
+
+    u : Float
+    u = getD kept (tracesKept + g) nan
+
+    denies : (b : Bool) → (b ≡ true → ⊥) → b ≡ false
+    denies true h = absurd (h refl)
+    denies false h = refl
+
+    go : (a : Bool) → (u ≻ f0) ≡ a → (b : Bool) → (t ≈ u) ≡ b → h < cond (a && not b) ((g + 1) * groupSize) k
+        → same path t h ≡ false
+    go true e false f below =
+        let all = tracked .is g u (omega (arith, few)) (itself u e) e h (omega (arith, low)) (omega (arith, below)) in
+        denies (same path t h) (λ is. true≢false (sym (both t (trace path h) u is (turned u (trace path h) all)) ∙ f))
+    go true e true f below = absurd (omega (arith, low, below))
+    go false e b f below = absurd (omega (arith, low, below))

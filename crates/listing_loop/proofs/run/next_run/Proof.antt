@@ -28,8 +28,8 @@ next-run-spec =
     let w = within b in
     let f = first-is _ _ _ _ (w .0) (c .next-other-by-groups .ensures) in
     let p = b .before .before .before .pre in
-    (f .high, omega (arith, w .1, p .1 .0, p .1 .1 .0)))
+    ((f .high, omega (arith, w .1, p .1 .0, p .1 .1 .0), omega (arith, w .1, p .1 .0)), p .1 .1 .1))
     (λ c. let t = c .before .before in
     holds _ _ _ _ (t .if1 .taken)
-    (other-of _ _ _ _ _ _ (t .before .run-of-boxes .ensures) (c .before .next-other-by-groups .ensures) (c .next-same .ensures)))
+    (other-of _ _ _ _ _ _ (t .before .run-of-boxes .ensures) (c .before .next-other-by-groups .ensures) (c .next-same-by-groups .ensures)))
     (λ c. fails _ _ _ _ (c .if1 .left) (c .before .run-of-boxes .ensures)))
