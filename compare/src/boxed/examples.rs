@@ -31,10 +31,10 @@ const REFUSED_17: u64 = 0xc_0111;
 
 impl Example {
     fn layout(&self) -> Layout {
-        let [first, second] = self.paths.each_ref().map(|path| Drawn {
-            numbers: path.concat(),
-            closed: false,
-        });
+        let [first, second] = self
+            .paths
+            .each_ref()
+            .map(|path| Drawn::of(path.iter().copied(), false));
         Layout {
             first,
             second,

@@ -5,12 +5,12 @@ use super::model::Pages;
 use super::stand_in::{self, STAND_IN};
 use super::*;
 use crate::crossing::faults::Fault;
+use crate::listings::stand_in::{OF_CHECKS, OF_PAIRS};
 
 const INPUTS: u64 = 1 << 17;
 
 fn drawn(points: &[[f64; 2]], closed: bool) -> Drawn {
-    let numbers = points.iter().flat_map(|[x, y]| [*x, *y, 0.0]).collect();
-    Drawn { numbers, closed }
+    Drawn::of(points.iter().map(|[x, y]| [*x, *y, 0.0]), closed)
 }
 
 /// Two segments with three: of the pairs at 0 to 5, those at 0 and 2 meet.
@@ -86,6 +86,28 @@ fn run(defect: &'static str) -> Run {
 #[test]
 fn a_right_stand_in_passes() {
     assert_eq!(run("").report(), 0);
+}
+
+/// Pairs of one trace, as they are passed and checked, and counted in positions, budgets and counts.
+#[test]
+fn wrong_traces_are_found() {
+    let others = [
+        "pairs of one trace are counted",
+        "pairs of one trace have no position",
+        "the budget is without pairs of one trace",
+        "passed without pairs of one trace",
+        "the next position without pairs of one trace",
+        "all pairs without those of one trace",
+        "all pairs without those of one trace passed",
+        "stops before a pair of one trace that meets",
+        "stops before pairs of one trace if no row is left",
+        "stops before pairs of one trace",
+        "pairs of one trace at the page's end are left",
+        "pairs of one trace behind the page are passed",
+    ];
+    for defect in OF_PAIRS.into_iter().chain(OF_CHECKS).chain(others) {
+        assert!(!run(defect).goes_on(), "not found: {defect}");
+    }
 }
 
 #[test]
