@@ -75,8 +75,8 @@ impl Run {
         }
     }
 
-    /// Each path as it is drawn, and with epsilons beside the distances of its points; one in two again with traces. Folds with
-    /// each of some traces.
+    /// Each path as it is drawn, with epsilons beside the distances of its points, and with traces. Folds with each of some
+    /// traces.
     pub fn drawn(&mut self, paths: u64) {
         self.once(&draw::fold());
         for layout in traces::folds() {
@@ -91,10 +91,8 @@ impl Run {
             for layout in beside(&layout, &mut self.rng) {
                 self.once(&layout);
             }
-            if self.rng.one_in(2) {
-                let again = traces::traced(&layout, &mut self.rng);
-                self.once(&again);
-            }
+            let again = traces::traced(&layout, &mut self.rng);
+            self.once(&again);
         }
     }
 

@@ -10,6 +10,7 @@ use crate::capi::Rows;
 use crate::crossing::faults::{Fault, Item, Place, NO_TRACE};
 use crate::crossing::NO_ROOM;
 use crate::pages::model::in_order;
+use crate::vertex::{TRACE, VERTEX};
 
 /// Whether the stand-in has a defect, by its name.
 pub type Is<'a> = &'a dyn Fn(&str) -> bool;
@@ -64,9 +65,8 @@ pub const OF_CHECKS: [&str; 25] = [
     "the bulge's item for a trace",
 ];
 
-/// The place of a vertex's trace among its numbers.
 fn trace(path: Path, vertex: usize) -> f64 {
-    path.numbers[4 * vertex + 3]
+    path.numbers[VERTEX * vertex + TRACE]
 }
 
 /// Whether a pair is passed over.

@@ -29,9 +29,16 @@ pub fn run() {
     }
     head("a page of one pair, 4,096 lines by 4,096, beside the checks");
     let pairs = (VERTICES * VERTICES) as u64;
-    one_pair("the first pair", mutual, 0);
-    one_pair("a pair in the middle", mutual, pairs / 2);
-    one_pair("the last pair", mutual, pairs - 1);
+    for (name, position) in [
+        ("the first pair", 0),
+        ("a pair in the middle", pairs / 2),
+        ("the last pair", pairs - 1),
+    ] {
+        one_pair(name, mutual, position);
+        for (name, traced) in with_traces(&layout) {
+            beside(name, traced.listed(Call::Mutual), mutual, position);
+        }
+    }
     let pairs = (VERTICES * (VERTICES - 1) / 2) as u64;
     let own = layout.listed(Call::Own);
     one_pair("the first pair of one path by itself", own, 0);
@@ -103,6 +110,25 @@ fn all_pages(listed: Listed, epsilon: f64, budget: u64, rows: usize, lent: &mut 
         }
     }
     assert_eq!(found, rows as u64, "the pages have other rows");
+}
+
+/// A page of one pair with traces, beside the same with all traces 0.
+fn beside(name: &str, traced: Listed, listed: Listed, position: u64) {
+    let (mut lent, mut lent_too) = (Lent::new(1), Lent::new(1));
+    let call = |listed: Listed, lent: &mut Lent| {
+        let span = Span {
+            position,
+            budget: 1,
+        };
+        let answer = ours(listed, EPSILONS[1], span, lent.slices());
+        assert_eq!(black_box(answer), 0);
+    };
+    let row = Row::new(name).epsilon(EPSILONS[1]).of(1);
+    row.timed(
+        A_ROUND,
+        || call(traced, &mut lent),
+        || call(listed, &mut lent_too),
+    );
 }
 
 fn one_pair(name: &str, listed: Listed, position: u64) {

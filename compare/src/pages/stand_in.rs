@@ -260,12 +260,13 @@ fn write(given: &Given, Span { position, budget }: Span, lent: Rows) {
         let over = &given.over[from as usize..to as usize];
         over.iter().filter(|over| **over).count() as u64
     };
+    // of the budget, if pairs of one trace spend nothing
+    let mut spent = 0;
     while at < end {
         let over = given.over[at as usize];
         let full = rows.len() == room;
-        let spent = at - position - of_one_trace(position, at);
         let stops = match () {
-            _ if is("the budget is without pairs of one trace") => spent == budget,
+            _ if is("the budget is without pairs of one trace") => spent == budget && !over,
             _ if is("stops before a pair of one trace that meets") => {
                 full && given.row_over[at as usize]
             }
@@ -276,6 +277,7 @@ fn write(given: &Given, Span { position, budget }: Span, lent: Rows) {
         if stops {
             break;
         }
+        spent += u64::from(!over);
         let pair = given.pairs[at as usize];
         let row = given.row[at as usize].map(|at| &all_rows[at]);
         let lost = is("the first pair's row is lost") && at == position && position > 0;

@@ -75,6 +75,36 @@ fn pages_of_one_path_by_hand() {
     assert_eq!(page(&faulty, 7, 0, 0), Err(0x104));
 }
 
+/// The first layout in tracks: of the pairs at 0 to 5, those at 0, 2 and 4 are of one trace.
+#[test]
+fn pages_with_traces_by_hand() {
+    let mut layout = layout();
+    let give = |drawn: &mut Drawn, traces: &[f64]| {
+        let each = drawn.traces().zip(traces);
+        each.for_each(|(trace, given)| *trace = *given);
+    };
+    give(&mut layout.first, &[1.0, 2.0, 1.0]);
+    give(&mut layout.second, &[1.0, 2.0, 1.0, 2.0]);
+    let pages = Pages::new(layout.listed(Call::Mutual), layout.epsilon);
+    assert_eq!(
+        (pages.all(), pages.looked_at(), pages.rows().len()),
+        (6, 3, 0)
+    );
+    assert_eq!(page(&pages, 0, 1, 1), Ok(vec![0, 1, 1, 6]));
+    assert_eq!(page(&pages, 2, 9, 1), Ok(vec![0, 4, 6, 6]));
+    assert_eq!(page(&pages, 7, 9, 1), Err(0xa_010d));
+    // the row at 2 is left, and the pair at 0, which would make one, is passed
+    give(&mut layout.second, &[1.0, 2.0, -0.0, 0.0]);
+    let pages = Pages::new(layout.listed(Call::Mutual), layout.epsilon);
+    assert_eq!(
+        (pages.all(), pages.looked_at(), pages.rows().len()),
+        (6, 4, 1)
+    );
+    assert_eq!(page(&pages, 0, 2, 1), Ok(vec![0, 2, 2, 6]));
+    assert_eq!(page(&pages, 0, 4, 1), Ok(vec![1, 4, 4, 6, 0, 2]));
+    assert_eq!(page(&pages, 2, 9, 1), Ok(vec![1, 4, 6, 6, 0, 2]));
+}
+
 /// Compares until the first difference.
 fn run(defect: &'static str) -> Run {
     stand_in::set(defect);
