@@ -153,8 +153,8 @@ fn touching(room: [usize; 2], word: u64) -> Example {
     }
 }
 
-/// The lines of `touching` with traces: the first path's, and each of the second's. So many pairs are left, and the row or not. The
-/// index stays as it is.
+/// The lines of `touching` with traces: the first path's, and each of the second's. So many pairs are left, and the row or not.
+/// The index stays as it is.
 fn traced(first: f64, second: [f64; 3], looked_at: u64, row: bool) -> Example {
     let rows = u64::from(row);
     let mut example = touching([24, 1], 0);
