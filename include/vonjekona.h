@@ -350,7 +350,7 @@ uint64_t vj_pair_findings(double v1x, double v1y, double v1_bulge,
  *
  * examples/tracks.c lists two tracks that are joined at a pad.
  *
- * A listing needs some 244 KiB of stack: a buffer that holds rows back until it
+ * A listing needs some 246 KiB of stack: a buffer that holds rows back until it
  * is known that all fit, and four numbers for each segment of the second path.
  */
 
@@ -449,7 +449,7 @@ uint64_t vj_self(const double *path, size_t len, bool closed, double epsilon,
  * A call has no state, so it can start at any position: several machines can
  * share a listing if each takes a range of positions, with budgets that end at
  * the end of its range. Each call checks both paths anew, however small its
- * budget is. A page needs some 132 KiB of stack: it holds no rows back, but it
+ * budget is. A page needs some 134 KiB of stack: it holds no rows back, but it
  * has four numbers for each segment of the second path.
  *
  * examples/panel.c is a panel's cycle.
@@ -528,7 +528,7 @@ uint64_t vj_self_page(const double *path, size_t len, bool closed,
  * to 1/2, have boxes that meet, so no such pair is lost. docs/LIMITS.md says
  * what is known of others.
  *
- * A boxed listing needs some 381 KiB of stack: what a listing needs, and the
+ * A boxed listing needs some 383 KiB of stack: what a listing needs, and the
  * second path's boxes.
  *
  * examples/boxed.c lists a coil both ways.
