@@ -28,7 +28,7 @@
 #define ROWS 64
 
 struct path {
-    double numbers[3 * VERTICES];
+    double numbers[4 * VERTICES];
     size_t len;
 };
 
@@ -37,6 +37,7 @@ static void go_to(struct path *path, double x, double y, double bulge)
     path->numbers[path->len++] = x;
     path->numbers[path->len++] = y;
     path->numbers[path->len++] = bulge;
+    path->numbers[path->len++] = 0; /* the trace: no pair is skipped for it */
 }
 
 /* A rounded corner: from one direction, 0 to 3 from x on, into the next. */
@@ -115,7 +116,7 @@ int main(void)
 {
     /* short lines, 5/8 from each other; at epsilon 1/4 the Rust reports them */
     static const double lines[] = {
-        0, 0, 0,  0.375, 0, 0,  0.375, 0.625, 0,  0, 0.625, 0,
+        0, 0, 0, 0,  0.375, 0, 0, 0,  0.375, 0.625, 0, 0,  0, 0.625, 0, 0,
     };
     static struct path coil;
     static double boxes[VJ_BOXES_NEEDED(SEGMENTS)];

@@ -18,37 +18,40 @@
 #define ROWS 8
 #define EPSILON (1.0 / 1024.0)
 
-/* x, y and the bulge of the segment that starts there, for each vertex. */
+/*
+ * x, y, and the bulge and the trace of the segment that starts there, for each
+ * vertex. The traces are 0: no pair is skipped for them.
+ */
 
 /* The second segment runs back over the first. */
-static const double fold[] = { 0, 0, 0,  10, 0, 0,  5, 0, 0 };
+static const double fold[] = { 0, 0, 0, 0,  10, 0, 0, 0,  5, 0, 0, 0 };
 
 /* Back by less than epsilon. */
 static const double short_fold[] = {
-    0, 0, 0,  10, 0, 0,  10 - EPSILON / 2, 0, 0,
+    0, 0, 0, 0,  10, 0, 0, 0,  10 - EPSILON / 2, 0, 0, 0,
 };
 
-static const double corner[] = { 0, 0, 0,  10, 0, 0,  10, 5, 0 };
+static const double corner[] = { 0, 0, 0, 0,  10, 0, 0, 0,  10, 5, 0, 0 };
 
 /* Four segments if it is closed. */
 static const double square[] = {
-    0, 0, 0,  4, 0, 0,  4, 4, 0,  0, 4, 0,
+    0, 0, 0, 0,  4, 0, 0, 0,  4, 4, 0, 0,  0, 4, 0, 0,
 };
 
 /* The same square, drawn open: its last vertex is where its first one is. */
 static const double ends_on_start[] = {
-    0, 0, 0,  4, 0, 0,  4, 4, 0,  0, 4, 0,  0, 0, 0,
+    0, 0, 0, 0,  4, 0, 0, 0,  4, 4, 0, 0,  0, 4, 0, 0,  0, 0, 0, 0,
 };
 
 /* Two half circles. If it is closed they share both vertices. */
-static const double circle[] = { 0, 0, 1,  4, 0, 1 };
+static const double circle[] = { 0, 0, 1, 0,  4, 0, 1, 0 };
 
 /* A half circle, and a line from its end that crosses it again. */
-static const double crossed[] = { 0, 0, 1,  2, 0, 0,  0, -1, 0 };
+static const double crossed[] = { 0, 0, 1, 0,  2, 0, 0, 0,  0, -1, 0, 0 };
 
 /* A corner with a segment without length in it. */
 static const double twice[] = {
-    0, 0, 0,  4, 0, 0,  4, 0, 0,  4, 4, 0,
+    0, 0, 0, 0,  4, 0, 0, 0,  4, 0, 0, 0,  4, 4, 0, 0,
 };
 
 static void show(const uint64_t *index, const double *point)

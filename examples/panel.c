@@ -20,22 +20,25 @@
 #define ROWS 2
 #define EPSILON (1.0 / 1024.0)
 
-/* x, y and the bulge of the segment that starts there, for each vertex. */
+/*
+ * x, y, and the bulge and the trace of the segment that starts there, for each
+ * vertex. The traces are 0: no pair is skipped for them.
+ */
 
 /* A track of lines, wound inwards: 7 segments, open. */
 static const double track[] = {
-    0, 0, 0,  8, 0, 0,  8, 6, 0,  1, 6, 0,
-    1, 1, 0,  7, 1, 0,  7, 5, 0,  2, 5, 0,
+    0, 0, 0, 0,  8, 0, 0, 0,  8, 6, 0, 0,  1, 6, 0, 0,
+    1, 1, 0, 0,  7, 1, 0, 0,  7, 5, 0, 0,  2, 5, 0, 0,
 };
 
 /* A slot across it, one end of which is a half circle: 4 segments, closed. */
 static const double slot[] = {
-    4, -1, 0,  5, -1, 0,  5, 6.5, -1,  4, 6.5, 0,
+    4, -1, 0, 0,  5, -1, 0, 0,  5, 6.5, -1, 0,  4, 6.5, 0, 0,
 };
 
 /* The same with a coordinate beyond the limit. */
 static const double bad_slot[] = {
-    4, -1, 0,  5, -1, 0,  5, 2000000, -1,  4, 6.5, 0,
+    4, -1, 0, 0,  5, -1, 0, 0,  5, 2000000, -1, 0,  4, 6.5, 0, 0,
 };
 
 static void show(const uint64_t *index, const double *point)

@@ -42,7 +42,7 @@ static const struct places circles = {
 
 static const char *const items[] = {
     "epsilon", "x", "y", "bulge", "radius", "centre x", "centre y", "chord",
-    "length", "rows", "position", "budget", "boxes",
+    "length", "rows", "position", "budget", "boxes", "trace",
 };
 
 /* By the refusal's number. A text's refusal, 10, comes from no call. */
@@ -51,7 +51,7 @@ static const char *const reasons[] = {
     [3] = "above 1 in magnitude",
     [4] = "NaN, infinite, or not in 2^-40 to 1/2",
     [5] = "shorter than 2^-40, of an arc",
-    [6] = "no multiple of 3",
+    [6] = "no multiple of 4",
     [7] = "more than 4,096 vertices",
     [8] = "more than there is room for",
     [9] = "beyond a circle's limits",
@@ -59,6 +59,7 @@ static const char *const reasons[] = {
     [12] = "infinite",
     [13] = "beyond the end",
     [14] = "0",
+    [15] = "no whole number from 0 to 255",
     [17] = "more than there is room for",
 };
 
@@ -101,15 +102,16 @@ static void tell(const char *call, uint64_t word, const struct places *places)
     printf("%s: %s\n", items[VJ_ITEM(word)], reasons[VJ_NUMBER(word)]);
 }
 
-/* x, y and bulge of each vertex of a zigzag. */
+/* x, y, bulge and trace of each vertex of a zigzag. */
 static void draw(double *path)
 {
     int i;
 
     for (i = 0; i < VERTICES; i++) {
-        path[3 * i] = i;
-        path[3 * i + 1] = i % 2;
-        path[3 * i + 2] = 0;
+        path[4 * i] = i;
+        path[4 * i + 1] = i % 2;
+        path[4 * i + 2] = 0;
+        path[4 * i + 3] = 0;
     }
 }
 
@@ -129,7 +131,7 @@ static void list(const double *first, size_t first_len, const double *second,
 
 static void listings(void)
 {
-    double first[3 * VERTICES], second[3 * VERTICES];
+    double first[4 * VERTICES], second[4 * VERTICES];
     size_t len = COUNT(first);
 
     draw(first);
@@ -137,15 +139,18 @@ static void listings(void)
     /* the same path twice: many rows */
     list(first, len, second, len, EPSILON);
     /* two faults: the first path's is told */
-    first[3 * 17 + 1] = NAN;
-    second[3 * 4 + 2] = 2;
+    first[4 * 17 + 1] = NAN;
+    second[4 * 4 + 2] = 2;
     list(first, len, second, len, EPSILON);
-    first[3 * 17 + 1] = 1;
+    first[4 * 17 + 1] = 1;
     list(first, len, second, len, EPSILON);
     /* an arc from vertex 4 to vertex 5, which is where vertex 4 is */
-    second[3 * 4 + 2] = 0.5;
-    second[3 * 5] = second[3 * 4];
-    second[3 * 5 + 1] = second[3 * 4 + 1];
+    second[4 * 4 + 2] = 0.5;
+    second[4 * 5] = second[4 * 4];
+    second[4 * 5 + 1] = second[4 * 4 + 1];
+    list(first, len, second, len, EPSILON);
+    /* a trace is checked before an arc */
+    second[4 * 4 + 3] = 256;
     list(first, len, second, len, EPSILON);
     list(first, len, second, len - 1, EPSILON);
     list(first, len, second, len, 0);
@@ -155,7 +160,7 @@ static void listings(void)
 static void page(uint64_t position, uint64_t budget)
 {
     uint64_t indices[3], counts[4];
-    double path[3 * VERTICES], points[4];
+    double path[4 * VERTICES], points[4];
 
     draw(path);
     tell("vj_self_page",
@@ -169,7 +174,7 @@ static void page(uint64_t position, uint64_t budget)
 static void boxed(size_t boxes_room)
 {
     uint64_t indices[3], counts[2];
-    double path[3 * VERTICES], points[4];
+    double path[4 * VERTICES], points[4];
     double boxes[VJ_BOXES_NEEDED(VERTICES)];
 
     draw(path);

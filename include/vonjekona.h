@@ -86,13 +86,14 @@ uint64_t vj_sqrt_bits(uint64_t b);
  *                      +0 in the places that it does not need, and the places
  *                      after them are unchanged.
  *
- * Refusal 11: a coordinate, bulge or radius is NaN, quiet or signalling, with
- * either sign; 12: it is infinite. If it is neither, refusal 2: a point's
+ * Refusal 11: a coordinate, bulge, radius or trace is NaN, quiet or signalling,
+ * with either sign; 12: it is infinite. If it is neither, refusal 2: a point's
  * coordinate is above 1,048,576 in magnitude; refusal 3: a bulge is above 1 in
  * magnitude; refusal 9: a circle's radius is not in 2^-42 to 2^47, or a
- * coordinate of its centre is above 2^48 in magnitude. Refusal 4: epsilon is
- * NaN, infinite, or not in 2^-40 to 1/2. A number equal to its limit passes.
- * Refusal 1, once for NaN and infinite alike, is not given any more.
+ * coordinate of its centre is above 2^48 in magnitude; refusal 15: a trace is no
+ * whole number from 0 to 255. Refusal 4: epsilon is NaN, infinite, or not in
+ * 2^-40 to 1/2. A number equal to its limit passes. Refusal 1, once for NaN and
+ * infinite alike, is not given any more.
  *
  * Every value is fixed, the sign of a zero too, even where the Rust leaves the
  * sign of a zero open. Only the bits of a NaN are left open.
@@ -135,6 +136,7 @@ uint64_t vj_sqrt_bits(uint64_t b);
 #define VJ_ITEM_POSITION 10 /* refusal 13: of a page */
 #define VJ_ITEM_BUDGET 11   /* refusal 14: of a page */
 #define VJ_ITEM_BOXES 12    /* refusal 17: of a boxed listing */
+#define VJ_ITEM_TRACE 13    /* of a vertex */
 
 /*
  * The owner and the index of epsilon, rows, position, budget and boxes are 0,
@@ -284,11 +286,21 @@ uint64_t vj_pair_findings(double v1x, double v1y, double v1_bulge,
 
 /*
  * Listings of whole paths. A path is lent as `len` binary64 numbers from `path`
- * on, and a flag that says whether it is closed. Each vertex has three numbers:
- * x, y and the bulge of the segment that starts there. n vertices have n - 1
- * segments if the path is open. If it is closed they have n, the last of which
- * runs back to vertex 0. If n is below 2 there are none. A pointer may not be
- * null, even if its length is 0.
+ * on, and a flag that says whether it is closed. Each vertex has four numbers: x,
+ * y, and the bulge and the trace of the segment that starts there. n vertices
+ * have n - 1 segments if the path is open. If it is closed they have n. The last
+ * of these runs back to vertex 0, and has the last vertex's bulge and trace. If n
+ * is below 2 there are none. A pointer may not be null, even if its length is 0.
+ *
+ * A trace is the number of the track that a segment belongs to, a whole number
+ * from 0 to 255; 0 is for a segment of no track. Two segments of the same trace
+ * above 0 may touch on purpose, as a track and its pad do. They are skipped: the
+ * listing does not look at them, and they make no row, however they meet. This
+ * holds across the two paths of vj_mutual and for all pairs of vj_self,
+ * neighbours too, in the full listings, in pages and in boxed listings. Traces
+ * are compared by value, so -0 is 0, and segments of trace 0 are never skipped
+ * for it. The last trace of an open path is checked, and plays no part. The pair
+ * call, with findings or without, and the kernels have no trace.
  *
  * Rows go into two slices. From `indices` on, a row has three whole numbers: the
  * segment's index in the first path, the segment's index in the second path, and
@@ -304,26 +316,41 @@ uint64_t vj_pair_findings(double v1x, double v1y, double v1_bulge,
  *   a refusal's word  else, if there is a fault: nothing is written. The word
  *                     tells the first fault, in the order below;
  *   0                 else. Then counts[0] is how many rows were written, and
- *                     counts[1] how many pairs were looked at. What follows the
- *                     last row, and what follows counts[1], is unchanged.
+ *                     counts[1] how many pairs were looked at, without those
+ *                     that were skipped. What follows the last row, and what
+ *                     follows counts[1], is unchanged.
  *
  * The order: epsilon, refusal 4; the first path's length, refusal 6 if it is no
- * multiple of 3, then 7 if it has more than 4,096 vertices; the second path's
- * length, the same; the first path's vertices in order, each x, y and bulge, also
- * the last bulge of an open path, refusals 11, 12, 2 and 3; then its arcs in
- * order, refusal 5; the second path's vertices and arcs, the same; last, refusal
- * 8 if there are more rows than there is room for.
+ * multiple of 4, then 7 if it has more than 4,096 vertices; the second path's
+ * length, the same; the first path's vertices in order, each x, y, bulge and
+ * trace, also the last bulge and the last trace of an open path, refusals 11, 12,
+ * 2, 3 and 15; then its arcs in order, refusal 5; the second path's vertices and
+ * arcs, the same; last, refusal 8 if there are more rows than there is room for.
  *
  * The place of a refusal:
  *
- *   item          owner                           index
- *   x, y, bulge   0 the first path, 1 the second  the vertex
- *   chord         the same                        the segment
- *   length        the same                        0
+ *   item                 owner                           index
+ *   x, y, bulge, trace   0 the first path, 1 the second  the vertex
+ *   chord                the same                        the segment
+ *   length               the same                        0
  *
  * In vj_self the owner is 0. If one path is lent twice, the first is told.
  *
- * A listing needs some 244 KiB of stack: a buffer that holds rows back until it
+ * What looks true and is not:
+ *
+ *   "Segments that overlap make a row." Those of the same trace above 0 make
+ *     none. If all vertices of a path have one trace above 0, its self listing
+ *     is empty, and a fold within it is not seen. To look for folds, list the
+ *     path once more with all traces 0.
+ *
+ * For callers from before: a vertex had three numbers, and no trace. A path that
+ * is still lent so is refused with 6, 3 or 15 mostly, but not surely: 12 numbers
+ * were four vertices, and are three now. With a 0 behind each bulge the answers
+ * are as before.
+ *
+ * examples/tracks.c lists two tracks that are joined at a pad.
+ *
+ * A listing needs some 246 KiB of stack: a buffer that holds rows back until it
  * is known that all fit, and four numbers for each segment of the second path.
  */
 
@@ -344,16 +371,17 @@ uint64_t vj_mutual(const double *first, size_t first_len, bool first_closed,
  * pair of class 1, 2 or 3 makes no row exactly if each of its points is near to
  * some vertex that the pair shares. Near means that the difference of the two x
  * is below epsilon in magnitude, and so is that of the two y. Neighbours that
- * overlap, class 4 or 5, always make a row. A pair that makes no row counts as
- * looked at all the same. All other pairs are as in vj_mutual.
+ * overlap, class 4 or 5, always make a row, if they are not skipped for their
+ * trace. A pair that makes no row counts as looked at all the same, one that is
+ * skipped does not. All other pairs are as in vj_mutual.
  *
  * So a corner is no row, and a path that runs back over itself is one: (0, 0),
  * (10, 0), (5, 0) has a row of class 4. A neighbours' row has all points of the
  * pair, so one of two may be the vertex that they share.
  *
- * What is proved: two neighbouring lines with whole coordinates up to 1048576
- * either way, and an epsilon of 1/1024 to 1/2, make a row exactly if they share
- * more than one point.
+ * What is proved: two neighbouring lines that are not skipped, with whole
+ * coordinates up to 1048576 either way and an epsilon of 1/1024 to 1/2, make a
+ * row exactly if they share more than one point.
  *
  * What looks true and is not. The numbers here were searched, not proved;
  * docs/LIMITS.md has more.
@@ -390,18 +418,20 @@ uint64_t vj_self(const double *path, size_t len, bool closed, double epsilon,
 /*
  * Pages: the same listings, handed out in calls. A position says how many pairs
  * come before it, in the order of the rows: 0 is the front, and the number of
- * all pairs is the end. A call looks at the pairs from `position` on. It stops
- * when it has passed `budget` pairs, at the end, or before a pair that makes a
- * row where no row is left. That pair is not passed: the next call starts with
- * it. The call returns
+ * all pairs is the end. Pairs that are skipped for their trace count here: they
+ * have their positions, and a page passes them and spends budget on them. A call
+ * goes through the pairs from `position` on. It stops when it has passed `budget`
+ * pairs, at the end, or before a pair that makes a row where no row is left. That
+ * pair is not passed: the next call starts with it. The call returns
  *
  *   VJ_NO_ROOM        if counts_room is below 4: nothing is written;
  *   a refusal's word  else, if there is a fault: nothing is written;
  *   0                 else. Then counts[0] is how many rows were written,
  *                     counts[1] how many pairs were passed, counts[2] the next
  *                     position, which is position + counts[1], and counts[3] the
- *                     number of all pairs. What follows the last row, and what
- *                     follows counts[3], is unchanged.
+ *                     number of all pairs, with those that are skipped. What
+ *                     follows the last row, and what follows counts[3], is
+ *                     unchanged.
  *
  * The order of faults: as for a listing up to the last path's arcs; then
  * refusal 13 if the position is beyond the end; 14 if the budget is 0; last, 8
@@ -419,7 +449,7 @@ uint64_t vj_self(const double *path, size_t len, bool closed, double epsilon,
  * A call has no state, so it can start at any position: several machines can
  * share a listing if each takes a range of positions, with budgets that end at
  * the end of its range. Each call checks both paths anew, however small its
- * budget is. A page needs some 132 KiB of stack: it holds no rows back, but it
+ * budget is. A page needs some 134 KiB of stack: it holds no rows back, but it
  * has four numbers for each segment of the second path.
  *
  * examples/panel.c is a panel's cycle.
@@ -447,7 +477,7 @@ uint64_t vj_self_page(const double *path, size_t len, bool closed,
 
 /*
  * Boxed listings: the same listings, kept to the pairs whose boxes meet. Other
- * pairs are not looked at, so large paths are listed in less time.
+ * pairs are skipped too, so large paths are listed in less time.
  *
  * A box has four numbers: least x, least y, greatest x, greatest y. The box of
  * a segment from (x1, y1) to (x2, y2) has
@@ -470,16 +500,18 @@ uint64_t vj_self_page(const double *path, size_t len, bool closed,
  * vj_self_boxed the one path is there once. Box k, counted from 0, starts at
  * boxes[4 * k]: if the first path has n segments, its segment i is box i, and
  * its group g is box n + g. A path of n segments needs VJ_BOXES_NEEDED(n)
- * numbers. The index is written also if there are no pairs. No number of it is
- * NaN, infinite or -0. The call returns
+ * numbers. The index has all segments, whatever their traces, and is written
+ * also if there are no pairs. No number of it is NaN, infinite or -0. The call
+ * returns
  *
  *   VJ_NO_ROOM        if counts_room is below 2: nothing is written;
  *   a refusal's word  else, if there is a fault: nothing is written, to none
  *                     of the four slices;
  *   0                 else. Then counts[0] is how many rows were written, and
  *                     counts[1] how many pairs were looked at: all those whose
- *                     boxes meet. What follows the index, what follows the
- *                     last row, and what follows counts[1], is unchanged.
+ *                     boxes meet and that are not of the same trace above 0.
+ *                     What follows the index, what follows the last row, and
+ *                     what follows counts[1], is unchanged.
  *
  * The order of faults: as for a listing up to the last path's arcs; then
  * refusal 17 if the index does not fit into boxes_room numbers; last, 8 if
@@ -496,7 +528,7 @@ uint64_t vj_self_page(const double *path, size_t len, bool closed,
  * to 1/2, have boxes that meet, so no such pair is lost. docs/LIMITS.md says
  * what is known of others.
  *
- * A boxed listing needs some 381 KiB of stack: what a listing needs, and the
+ * A boxed listing needs some 383 KiB of stack: what a listing needs, and the
  * second path's boxes.
  *
  * examples/boxed.c lists a coil both ways.

@@ -17,11 +17,18 @@ pub mod score;
 pub mod shapes;
 pub mod sheets;
 pub mod sites;
+#[cfg(test)]
+pub mod stand_in;
+#[cfg(test)]
+mod tests;
+pub mod traces;
 
 use layout::{Call, Drawn, Layout, CALLS};
 use lent::{Old, Room};
 use score::{Known, Score};
+use traces::traced;
 
+use crate::capi::Rows;
 use crate::inputs::values::epsilon;
 use crate::inputs::{Kind, Pair, Point, Vertex};
 use crate::numbers::{hex, Numbers};
@@ -33,34 +40,20 @@ pub const FLAGS: [[bool; 2]; 4] = [[false, false], [false, true], [true, false],
 /// From this count on, the largest possible listings take part.
 pub const FULL: u64 = 1 << 20;
 
+/// After so many differences a run ends.
+const ENOUGH: u64 = 1000;
+
+/// Our call of a listing.
+pub type Ours = fn(model::Listed, f64, Rows) -> u64;
+
 /// Compares the listings on small paths of every size with every room, on layouts with chosen numbers of rows, and on layouts
-/// with one fault and with two; on `count / 16` pairs of segments; and on random layouts until `count` pairs were looked at.
-/// Answers how many differences there were, plus the kinds of input that never occurred.
+/// with one fault and with two; on `count / 16` pairs of segments; and on random layouts until `count` pairs were looked at. Of
+/// the sizes and of the random layouts, many come again with traces. Answers how many differences there were, plus the kinds of
+/// input that never occurred.
 pub fn check(count: u64, seed: u64) -> u64 {
-    let full = count >= FULL;
-    let mut run = Run {
-        rng: Rng::new(seed),
-        scores: CALLS.map(|call| Score::new(call, full)),
-    };
-    run.classes();
-    run.sizes();
-    run.row_counts();
-    run.long_paths();
-    run.far_faults();
-    for _ in 0..2 + count / (4 * FULL) {
-        run.damaged();
-    }
-    for _ in 0..count / 16 {
-        run.pairs();
-    }
-    let before = run.looked_at();
-    while run.looked_at() < before + count {
-        run.layout();
-    }
-    if full {
-        run.largest();
-    }
-    run.scores.iter().map(Score::report).sum()
+    let mut run = Run::new(layout::ours, count, seed, ENOUGH);
+    run.all(count);
+    run.report()
 }
 
 /// Lists pairs of segments, given as for the pair call, with the epsilon of the first: all first segments as one path and all
@@ -83,7 +76,7 @@ pub fn wrong_on_pairs(pairs: &[Numbers], in_one: bool) -> (u64, Option<String>) 
     };
     let call = if in_one { Call::Own } else { Call::Mutual };
     let known = Known::new(&layout, call);
-    let wrong = known.wrong(Room::of(known.rows()), Old::Nans);
+    let wrong = known.wrong(layout::ours, Room::of(known.rows()), Old::Nans);
     let on = |what| format!("{what}, on paths from {}", hex(&pairs[0]));
     (known.pairs(), wrong.map(on))
 }
@@ -91,9 +84,50 @@ pub fn wrong_on_pairs(pairs: &[Numbers], in_one: bool) -> (u64, Option<String>) 
 struct Run {
     rng: Rng,
     scores: [Score; 3],
+    enough: u64,
 }
 
 impl Run {
+    fn new(ours: Ours, count: u64, seed: u64, enough: u64) -> Run {
+        Run {
+            rng: Rng::new(seed),
+            scores: CALLS.map(|call| Score::new(call, ours, count >= FULL)),
+            enough,
+        }
+    }
+
+    fn all(&mut self, count: u64) {
+        self.classes();
+        self.folds();
+        self.sizes();
+        for _ in 0..2 + count / (4 * FULL) {
+            self.damaged();
+        }
+        self.row_counts();
+        self.long_paths();
+        self.far_faults();
+        for _ in 0..count / 16 {
+            self.pairs();
+        }
+        let before = self.looked_at();
+        while self.looked_at() < before + count && self.goes_on() {
+            self.layout();
+        }
+        if count >= FULL {
+            self.largest();
+        }
+    }
+
+    /// Whether there were not yet differences enough. If there were, nothing more is asked.
+    fn goes_on(&self) -> bool {
+        let differences: u64 = self.scores.iter().map(|score| score.differences).sum();
+        differences < self.enough
+    }
+
+    fn report(&self) -> u64 {
+        self.scores.iter().map(Score::report).sum()
+    }
+
     fn score(&mut self, call: Call) -> &mut Score {
         &mut self.scores[call as usize]
     }
@@ -104,6 +138,9 @@ impl Run {
 
     /// One call with a drawn room.
     fn once(&mut self, layout: &Layout, call: Call) {
+        if !self.goes_on() {
+            return;
+        }
         let known = Known::new(layout, call);
         let (room, old) = (
             Room::draw(known.rows(), &mut self.rng),
@@ -124,6 +161,9 @@ impl Run {
         call: Call,
         rooms: impl Fn(usize, &mut Rng) -> Vec<Room>,
     ) {
+        if !self.goes_on() {
+            return;
+        }
         let known = Known::new(layout, call);
         for room in rooms(known.rows(), &mut self.rng) {
             let old = Old::draw(&mut self.rng);
@@ -141,7 +181,17 @@ impl Run {
         }
     }
 
-    /// Paths of few vertices, open and closed, in every pairing, with every room up to one row more than needed.
+    /// Folds with each of some traces.
+    fn folds(&mut self) {
+        for layout in traces::folds() {
+            for call in CALLS {
+                self.in_rooms(&layout, call, Room::up_to);
+            }
+        }
+    }
+
+    /// Paths of few vertices, open and closed, in every pairing, with every room up to one row more than needed; and the same
+    /// with traces.
     fn sizes(&mut self) {
         for first in 0..6 {
             for second in 0..6 {
@@ -158,8 +208,10 @@ impl Run {
                         second,
                         epsilon,
                     };
+                    let again = traced(&layout, &mut self.rng);
                     for call in CALLS {
                         self.in_rooms(&layout, call, Room::up_to);
+                        self.in_rooms(&again, call, Room::up_to);
                     }
                 }
             }
@@ -210,6 +262,11 @@ impl Run {
             self.every_call(&layout(&faulty, &short));
             if vertices > 4096 {
                 self.every_call(&layout(&long, &short));
+            } else {
+                let again = traced(&layout(&long, &short), &mut self.rng);
+                self.in_rooms(&again, Call::Mutual, rooms);
+                let again = traced(&layout(&short, &long), &mut self.rng);
+                self.in_rooms(&again, Call::Mutual, rooms);
             }
         }
     }
@@ -240,33 +297,44 @@ impl Run {
                 for damaged in damage::two_at_once(&layout, &mut self.rng) {
                     self.every_call(&damaged);
                 }
+                if !self.goes_on() {
+                    return;
+                }
             }
         }
     }
 
-    /// A pair of segments, drawn as for the pair call, as two paths or in one.
+    /// A pair of segments, drawn as for the pair call, as two paths or in one; one in four again with traces.
     fn pairs(&mut self) {
         let pair = Pair::draw(Kind::Accepted, &mut self.rng);
         let closed = [0; 2].map(|_| self.rng.one_in(4));
-        if self.rng.one_in(2) {
-            self.once(&draw::of_pair(&pair, closed), Call::Mutual);
+        let (layout, call) = if self.rng.one_in(2) {
+            (draw::of_pair(&pair, closed), Call::Mutual)
         } else {
-            self.once(&draw::joined(&pair, closed[0]), Call::Own);
+            (draw::joined(&pair, closed[0]), Call::Own)
+        };
+        self.once(&layout, call);
+        if self.rng.one_in(4) {
+            let again = traced(&layout, &mut self.rng);
+            self.once(&again, call);
         }
     }
 
-    /// A random layout.
+    /// A random layout, and the same with traces.
     fn layout(&mut self) {
         let layout = draw::draw(&mut self.rng);
-        self.once(&layout, Call::Mutual);
-        self.once(&layout, Call::Own);
-        if self.rng.one_in(4) {
-            self.once(&layout, Call::Twice);
+        let again = traced(&layout, &mut self.rng);
+        for layout in [&layout, &again] {
+            self.once(layout, Call::Mutual);
+            self.once(layout, Call::Own);
+            if self.rng.one_in(4) {
+                self.once(layout, Call::Twice);
+            }
         }
     }
 
     /// The largest possible paths, closed, with exactly the room that they need: round coils, one of which reaches into the
-    /// other.
+    /// other. With the trace 0, and in two tracks.
     fn largest(&mut self) {
         let coil = shapes::short_steps(4096);
         let by = Point { x: 120.0, y: 5.0 };
@@ -276,8 +344,10 @@ impl Run {
             second: Drawn::new(&other, true),
             epsilon: epsilon(&mut self.rng),
         };
-        for call in [Call::Mutual, Call::Own] {
-            self.in_rooms(&layout, call, |rows, _| vec![Room::of(rows)]);
+        for layout in [&layout, &traces::in_halves(&layout)] {
+            for call in [Call::Mutual, Call::Own] {
+                self.in_rooms(layout, call, |rows, _| vec![Room::of(rows)]);
+            }
         }
     }
 }

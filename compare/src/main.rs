@@ -46,6 +46,7 @@ mod tally;
 mod text;
 #[cfg(feature = "rust-text")]
 mod texts;
+mod vertex;
 mod views;
 
 use std::env;

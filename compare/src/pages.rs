@@ -26,6 +26,7 @@ use crate::inputs::Point;
 use crate::listings::layout::{self, Call, Drawn, Layout, CALLS};
 use crate::listings::lent::Old;
 use crate::listings::model::Listed;
+use crate::listings::traces::{self, traced};
 use crate::listings::{damage, draw, shapes, FLAGS, FULL};
 use crate::rng::Rng;
 
@@ -107,9 +108,15 @@ impl Run {
         self.scores.iter().map(Score::report).sum()
     }
 
-    /// Every position, and one beyond the end; no budget, one pair, two, all and the most; no row, one, two and enough.
+    /// Every position, and one beyond the end; no budget, one pair, two, all and the most; no row, one, two and enough. With the
+    /// trace 0, with traces, and folds with each of some traces.
     fn small(&mut self) {
-        for layout in small::layouts(&mut self.rng) {
+        let mut all = small::layouts(&mut self.rng);
+        let again = all.iter().filter(|layout| small::has_pairs(layout));
+        let again: Vec<Layout> = again.map(|layout| traced(layout, &mut self.rng)).collect();
+        all.extend(again);
+        all.extend(traces::folds());
+        for layout in all {
             for call in CALLS {
                 if !self.goes_on() {
                     return;
@@ -209,15 +216,16 @@ impl Run {
         calls + 5
     }
 
-    /// On a small layout and on a random one.
+    /// On a small layout and on a random one, and on both with traces.
     fn chains(&mut self) -> u64 {
         let vertices = [0; 2].map(|_| self.rng.below(7) as usize);
         let flags = self.rng.pick(&FLAGS);
         let small = damage::accepted(vertices, flags, &mut self.rng);
         let drawn = draw::draw(&mut self.rng);
         let twice = self.rng.one_in(4);
+        let again = [&small, &drawn].map(|layout| traced(layout, &mut self.rng));
         let mut calls = 0;
-        for layout in [&small, &drawn] {
+        for layout in [&small, &drawn, &again[0], &again[1]] {
             calls += self.chain(layout, Call::Mutual) + self.chain(layout, Call::Own);
             if twice {
                 calls += self.chain(layout, Call::Twice);
@@ -245,13 +253,20 @@ impl Run {
                 second: second.clone(),
                 epsilon,
             };
-            self.chain(&layout(&long, &short), Call::Mutual);
-            self.chain(&layout(&short, &long), Call::Mutual);
-            self.chain(&layout(&middle, &short), Call::Own);
+            for (layout, call) in [
+                (layout(&long, &short), Call::Mutual),
+                (layout(&short, &long), Call::Mutual),
+                (layout(&middle, &short), Call::Own),
+            ] {
+                self.chain(&layout, call);
+                let again = traced(&layout, &mut self.rng);
+                self.chain(&again, call);
+            }
         }
     }
 
-    /// The largest possible paths, closed, in pages of 2^20 pairs, and calls at any positions.
+    /// The largest possible paths, closed, in pages of 2^20 pairs, and calls at any positions. With the trace 0, and in two
+    /// tracks.
     fn largest(&mut self) {
         let coil = shapes::short_steps(4096);
         let by = Point { x: 120.0, y: 5.0 };
@@ -261,8 +276,10 @@ impl Run {
             second: Drawn::new(&other, true),
             epsilon: epsilon(&mut self.rng),
         };
-        for call in [Call::Mutual, Call::Own] {
-            let known = Known::new(&layout, call);
+        let halves = traces::in_halves(&layout);
+        let both = [(&layout, Call::Mutual), (&layout, Call::Own)];
+        for (layout, call) in both.into_iter().chain([(&halves, Call::Mutual)]) {
+            let known = Known::new(layout, call);
             let (score, rng) = (&mut self.scores[call as usize], &mut self.rng);
             let room = room_of(known.pages.rows().len());
             chain::run_with(score, &known, u64::MAX, rng, |position, _| Asked {

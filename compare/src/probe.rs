@@ -156,7 +156,8 @@ pub fn vjp_seg_arc_radius_and_center(
     unsafe { raw::vjp_seg_arc_radius_and_center(x1, y1, bulge1, x2, y2, bulge2, start, room) }
 }
 
-/// A path with a flag that says whether it is closed, and an index.
+/// A path with a flag that says whether it is closed, and an index. Both vertices' numbers but their traces go into the slice,
+/// and then the segment's trace.
 pub fn vjp_segment(path: &[f64], closed: bool, i: usize, out: &mut [f64]) -> usize {
     let (start, room) = (out.as_mut_ptr(), out.len());
     unsafe { raw::vjp_segment(path.as_ptr(), path.len(), closed, i, start, room) }

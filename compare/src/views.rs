@@ -16,6 +16,7 @@ use stored::Stored;
 use crate::probe;
 use crate::rng::Rng;
 use crate::tally::Tally;
+use crate::vertex::VERTEX;
 
 /// The stored layouts and their answers, beside this program's sources.
 const STORED: &str = concat!(env!("CARGO_MANIFEST_DIR"), "/../layouts");
@@ -100,7 +101,7 @@ impl Run {
         let beyond =
             |places: usize| -> Vec<usize> { (0..=places + 1).chain([usize::MAX]).collect() };
         for path in &paths {
-            let indices = beyond(path.len() / model::VERTEX);
+            let indices = beyond(path.len() / VERTEX);
             for closed in [false, true] {
                 self.path(path, closed, &indices);
             }
@@ -114,7 +115,7 @@ impl Run {
     }
 
     fn drawn_path(&mut self, path: &[f64]) {
-        let indices = draw::indices(path.len() / model::VERTEX, &mut self.rng);
+        let indices = draw::indices(path.len() / VERTEX, &mut self.rng);
         for closed in [false, true] {
             self.path(path, closed, &indices);
         }

@@ -1,5 +1,5 @@
-//! What boxes save: the boxed listing beside our own full one, on the same paths and with the same rooms, by turns; and the stack
-//! that each takes.
+//! What boxes save: the boxed listing beside our own full one, on the same paths and with the same rooms, by turns; the boxed
+//! one with traces beside that with all traces 0; and the stack that each takes.
 
 use std::hint::black_box;
 
@@ -9,11 +9,13 @@ use super::{stack, OURS};
 use crate::bench::by_turns;
 use crate::capi::Rows;
 use crate::inputs::{Point, Vertex};
+use crate::listings::bench::with_traces;
 use crate::listings::layout::{Call, Drawn, Layout};
 use crate::listings::model::Listed;
 use crate::listings::shapes::{coil, on_grid, placed};
 use crate::listings::sheets::{Sheet, SHEETS};
 use crate::rng::Rng;
+use crate::vertex::VERTEX;
 
 const EPSILON: f64 = 1e-5;
 const EPSILONS: [f64; 2] = [1.0 / 1024.0, EPSILON];
@@ -109,10 +111,10 @@ fn round(sheet: &Sheet, vertices: usize, rng: &mut Rng) -> Layout {
 /// The same path a second time, so far aside that the two reach into each other by a twentieth.
 fn side_by_side(layout: &Layout) -> Layout {
     let first = &layout.first;
-    let xs = first.numbers.iter().step_by(3);
+    let xs = first.numbers.iter().step_by(VERTEX);
     let [least, most] = [f64::min, f64::max].map(|of| xs.clone().copied().fold(0.0, of));
     let mut second = first.clone();
-    for x in second.numbers.iter_mut().step_by(3) {
+    for x in second.numbers.iter_mut().step_by(VERTEX) {
         *x += 0.95 * (most - least);
     }
     Layout {
@@ -199,14 +201,31 @@ fn timed(name: &str, layout: &Layout, epsilon: f64, call: Call) {
         lent_too.full(listed, epsilon)
     });
     assert_eq!(lent.counts[..], model.counts(), "{name}: other counts");
+    line(name, epsilon, &model, [boxed, full], full / boxed);
+    for (name, layout) in with_traces(layout) {
+        let traced = layout.listed(call);
+        let model = Boxed::new(traced, epsilon);
+        let mut lent_traced = Lent::new(traced, model.rows.len());
+        let [with, without] = by_turns(
+            times,
+            &mut || lent_traced.boxed(traced, epsilon),
+            &mut || lent.boxed(listed, epsilon),
+        );
+        let counts = &lent_traced.counts[..];
+        assert_eq!(counts, model.counts(), "{name}: other counts");
+        line(name, epsilon, &model, [with, without], with / without);
+    }
+}
+
+/// A line of the table: two times in nanoseconds, and their ratio. With traces, the second is ours with all traces 0, and the
+/// ratio is the first's to it.
+fn line(name: &str, epsilon: f64, model: &Boxed, times: [f64; 2], ratio: f64) {
+    let [first, second] = times.map(|time| time / 1000.0);
     println!(
-        "{name:52} {epsilon:8.1e} {:9} {:9} {:7} {:10.1} {:10.1} {:10.2}",
+        "{name:52} {epsilon:8.1e} {:9} {:9} {:7} {first:10.1} {second:10.1} {ratio:10.2}",
         model.all_pairs,
         model.looked_at,
         model.rows.len(),
-        boxed / 1000.0,
-        full / 1000.0,
-        full / boxed
     );
 }
 

@@ -4,6 +4,7 @@ use super::ask::{Asked, COUNTS};
 use super::model::Boxed;
 use super::seen::Seen;
 use crate::listings::model::Path;
+use crate::listings::traces::Passed;
 
 /// A call as it was made. A plain copy of what is needed, so that a kind's test borrows nothing.
 pub struct Case {
@@ -22,6 +23,7 @@ pub struct Case {
     pub pairs: u64,
     pub looked_at: u64,
     pub seen: Seen,
+    pub passed: Passed,
 }
 
 impl Case {
@@ -40,6 +42,7 @@ impl Case {
             pairs: boxed.all_pairs,
             looked_at: boxed.looked_at,
             seen: boxed.seen,
+            passed: boxed.passed,
         }
     }
 

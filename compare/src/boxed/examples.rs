@@ -11,8 +11,10 @@ const OLD_COUNT: u64 = 77;
 
 pub struct Example {
     name: &'static str,
-    /// Vertices of each path, and an epsilon. Of one path by itself the second is none.
+    /// Vertices of each path, their traces, which are 0 where none is given, and an epsilon. Of one path by itself the second is
+    /// none.
     paths: [Vec<[f64; 3]>; 2],
+    traces: [Vec<f64>; 2],
     own: bool,
     epsilon: f64,
     /// Floats for the index, and room for rows.
@@ -31,9 +33,12 @@ const REFUSED_17: u64 = 0xc_0111;
 
 impl Example {
     fn layout(&self) -> Layout {
-        let [first, second] = self.paths.each_ref().map(|path| Drawn {
-            numbers: path.concat(),
-            closed: false,
+        let [first, second] = [0, 1].map(|at: usize| {
+            let mut drawn = Drawn::of(self.paths[at].iter().copied(), false);
+            for (trace, given) in drawn.traces().zip(&self.traces[at]) {
+                *trace = *given;
+            }
+            drawn
         });
         Layout {
             first,
@@ -97,6 +102,7 @@ fn apart(own: bool, room: [usize; 2], full: (u64, [u64; 2])) -> Example {
     Example {
         name: "the request's example",
         paths,
+        traces: Default::default(),
         own,
         epsilon: 0.25,
         room,
@@ -131,6 +137,7 @@ fn touching(room: [usize; 2], word: u64) -> Example {
                 [0.5, 2.0, 0.0],
             ],
         ],
+        traces: Default::default(),
         own: false,
         epsilon: 0.5,
         room,
@@ -146,6 +153,20 @@ fn touching(room: [usize; 2], word: u64) -> Example {
     }
 }
 
+/// The lines of `touching` with traces: the first path's, and each of the second's. So many pairs are left, and the row or not.
+/// The index stays as it is.
+fn traced(first: f64, second: [f64; 3], looked_at: u64, row: bool) -> Example {
+    let rows = u64::from(row);
+    let mut example = touching([24, 1], 0);
+    example.name = "boxes that touch, with traces";
+    // what an open path's last trace is plays no part
+    example.traces = [vec![first, 5.0], [&second[..], &[first]].concat()];
+    example.rows.truncate(rows as usize);
+    example.counts = [rows, looked_at];
+    example.full = (0, [rows, looked_at]);
+    example
+}
+
 /// An arc over a chord of 3/4 by 1, whose length is 5/4; and no second path, so no pairs.
 fn arc(room: [usize; 2], word: u64) -> Example {
     let answered = word == 0;
@@ -153,6 +174,7 @@ fn arc(room: [usize; 2], word: u64) -> Example {
     Example {
         name: "an arc and no pairs",
         paths: [vec![[0.0, 0.0, -1e-8], [0.75, -1.0, 0.5]], vec![]],
+        traces: Default::default(),
         own: false,
         epsilon: 0.25,
         room,
@@ -178,6 +200,11 @@ pub fn all() -> Vec<Example> {
         touching([23, 1], REFUSED_17),
         touching([23, 0], REFUSED_17),
         touching([0, 0], REFUSED_17),
+        traced(5.0, [0.0, -0.0, 1.0], 3, true),
+        traced(5.0, [5.0, 0.0, 0.0], 2, true),
+        traced(5.0, [5.0, 0.0, 5.0], 1, false),
+        traced(5.0, [5.0; 3], 0, false),
+        traced(-0.0, [0.0, -0.0, -0.0], 3, true),
         arc([8, 0], 0),
         arc([13, 1], 0),
         arc([7, 0], REFUSED_17),

@@ -4,9 +4,10 @@ use super::case::Case;
 use super::index::A_GROUP;
 use super::model::{NO_INDEX, NO_ROWS};
 use super::seen::{GAPS, SIDES, SORTS};
-use crate::crossing::faults::{INFINITE, NOT_A_NUMBER};
+use crate::crossing::faults::{INFINITE, NOT_A_NUMBER, NO_TRACE};
 use crate::listings::layout::Call;
 use crate::listings::lent::Old;
+use crate::listings::traces::Sight;
 use crate::met::Met;
 
 /// The kinds that a call must meet: only a full run has the largest listing of one path.
@@ -20,6 +21,7 @@ pub fn kinds(call: Call, full: bool) -> Met<Case> {
     of_groups(&mut kinds, call);
     of_index(&mut kinds, call);
     of_rows(&mut kinds, call);
+    of_traces(&mut kinds, call);
     of_refusals(&mut kinds);
     kinds
 }
@@ -213,6 +215,46 @@ fn of_rows(kinds: &mut Met<Case>, call: Call) {
     });
 }
 
+fn of_traces(kinds: &mut Met<Case>, call: Call) {
+    for sight in Sight::of(call) {
+        kinds.add(format!("{sight:?}"), move |c| {
+            c.is_answered() && c.passed.has(sight)
+        });
+    }
+    kinds.add("of one trace, boxes meet", |c| {
+        c.is_answered() && c.seen.of_one_trace
+    });
+    kinds.add("of one trace, boxes apart", |c| {
+        c.is_answered() && c.seen.of_one_trace_apart
+    });
+    kinds.add("groups that meet, each pair of one trace", |c| {
+        c.is_answered() && c.seen.groups_of_one_trace
+    });
+    // in one path all pairs are of one trace if all those of a segment are
+    let paths = if call == Call::Own { 0 } else { 2 };
+    for path in 0..paths {
+        let name = format!("a segment of path {path}, each pair of one trace, others not");
+        kinds.add(name, move |c| {
+            c.is_answered() && c.seen.segment_of_one_trace[path] && c.passed.over < c.passed.all
+        });
+    }
+    kinds.add("each pair of one trace, and an index", |c| {
+        let each = c.passed.all > 0 && c.passed.over == c.passed.all;
+        c.is_answered() && each && c.beyond() == 0
+    });
+    kinds.add("each pair of one trace, an index a float short", |c| {
+        let each = c.passed.all > 0 && c.passed.over == c.passed.all;
+        c.is_refused(NO_INDEX) && each && c.beyond() == -1
+    });
+    kinds.add("some of one trace, and rows", |c| {
+        c.is_answered() && c.passed.over > 0 && c.rows > 0
+    });
+    kinds.add("rows that fit only since some are passed over", |c| {
+        let room = c.asked.rows();
+        c.is_answered() && c.passed.over > 0 && c.rows > 0 && room < c.passed.rows_without
+    });
+}
+
 fn of_refusals(kinds: &mut Met<Case>) {
     for wrongs in [[false, false], [true, false], [false, true], [true, true]] {
         let also = match wrongs {
@@ -221,7 +263,7 @@ fn of_refusals(kinds: &mut Met<Case>) {
             [false, true] => "8",
             [true, true] => "17, 8",
         };
-        for number in (2..8).chain([NOT_A_NUMBER, INFINITE]) {
+        for number in (2..8).chain([NOT_A_NUMBER, INFINITE, NO_TRACE]) {
             kinds.add(format!("refusal {number}, also [{also}]"), move |c| {
                 c.is_refused(number) && c.wrongs() == wrongs
             });

@@ -1,10 +1,12 @@
-//! A boxed listing as in the request's words, with plain loops: its index, the pairs that it looks at, its rows, and what it
-//! refuses. The rows of the full listing, and the faults of paths and epsilon, are those of the model of listings.
+//! A boxed listing as in the request's words, with plain loops: its index, which has all segments whatever their traces, the
+//! pairs that it looks at, its rows, and what it refuses. The rows of the full listing, and the faults of paths and epsilon, are
+//! those of the model of listings.
 
 use super::index::{floats_needed, meet, Boxes};
 use super::seen::Seen;
 use crate::crossing::faults::{Fault, Item, Place};
-use crate::listings::model::{no_row_left, Listed, Listing, Row};
+use crate::listings::model::{no_row_left, Listed, Listing, Path, Row};
+use crate::listings::traces::{would_row, Passed};
 use crate::pages::model::in_order;
 
 pub const NO_INDEX: u64 = 17;
@@ -25,12 +27,16 @@ pub struct Boxed {
     pub index: Vec<f64>,
     /// Rows of the pairs whose boxes meet.
     pub rows: Vec<Row>,
-    /// How many rows and pairs the full listing has.
+    /// How many rows the full listing has, and how many pairs there are, those of one trace among them.
     pub full_rows: usize,
     pub all_pairs: u64,
-    /// How many of the pairs have boxes that meet.
+    /// How many of the pairs have boxes that meet and are not of one trace.
     pub looked_at: u64,
     pub seen: Seen,
+    /// What traces do in the full listing.
+    pub passed: Passed,
+    /// Which pairs are of one trace: by the traces of the first path's segments and of the second's.
+    traces: [Vec<f64>; 2],
     boxes: [Boxes; 2],
 }
 
@@ -49,9 +55,11 @@ impl Boxed {
             index: Vec::new(),
             rows: Vec::new(),
             full_rows: full.rows.len(),
-            all_pairs: full.pairs,
+            all_pairs: 0,
             looked_at: 0,
             seen: Seen::default(),
+            passed: Passed::default(),
+            traces: Default::default(),
             boxes: Default::default(),
         };
         if boxed.faults.is_empty() {
@@ -60,7 +68,10 @@ impl Boxed {
             for part in &boxed.boxes[..paths.len()] {
                 boxed.index.extend(part.floats());
             }
+            let of_segments = |path: Path| (0..path.segments()).map(|i| path.trace(i)).collect();
+            boxed.traces = [paths[0], paths[last]].map(of_segments);
             boxed.seen = Seen::of(listed, epsilon, &boxed.boxes, &full.rows);
+            boxed.passed = Passed::of(listed, &would_row(listed, epsilon, &full.rows));
             boxed.rows = full.rows;
             boxed.keep(listed);
         }
@@ -69,16 +80,26 @@ impl Boxed {
 
     /// Counts the pairs that are looked at, and keeps their rows.
     fn keep(&mut self, listed: Listed) {
-        let mut looked_at = 0;
-        in_order(listed, |pair| looked_at += u64::from(self.looks_at(pair)));
-        self.looked_at = looked_at;
+        let (mut all, mut looked_at) = (0, 0);
+        in_order(listed, |pair| {
+            all += 1;
+            looked_at += u64::from(self.looks_at(pair));
+        });
+        (self.all_pairs, self.looked_at) = (all, looked_at);
         let mut rows = std::mem::take(&mut self.rows);
         rows.retain(|row| self.looks_at(row.indices));
         self.rows = rows;
     }
 
+    /// Whether the boxes of a pair meet, and it is not of one trace.
+    pub fn looks_at(&self, pair: [u64; 2]) -> bool {
+        let [a, b] = [0, 1].map(|at| self.traces[at][pair[at] as usize]);
+        let of_one_trace = a > 0.0 && a == b;
+        self.boxes_meet(pair) && !of_one_trace
+    }
+
     /// Whether the boxes of a pair meet. Of one path both are its segments.
-    pub fn looks_at(&self, [i, j]: [u64; 2]) -> bool {
+    pub fn boxes_meet(&self, [i, j]: [u64; 2]) -> bool {
         let [first, second] = &self.boxes;
         meet(&first.segments[i as usize], &second.segments[j as usize])
     }

@@ -7,6 +7,7 @@ use crate::inputs::values::epsilon;
 use crate::inputs::Point;
 use crate::listings::layout::{Call, Drawn, Layout, CALLS};
 use crate::listings::lent::Old;
+use crate::listings::traces::{self, traced};
 use crate::listings::{self, damage, shapes, FLAGS, FULL};
 use crate::rng::Rng;
 
@@ -46,6 +47,7 @@ impl Run {
             }
             self.part(Run::chosen);
         }
+        self.part(Run::folds);
         for _ in 0..2 {
             self.part(Run::damaged);
         }
@@ -130,7 +132,7 @@ impl Run {
         self.ask(layout, call, |known, rng| Asked::about(&known.boxed, rng));
     }
 
-    /// Each size about a group with each other, open and closed.
+    /// Each size about a group with each other, open and closed; and again with traces.
     fn sizes(&mut self) {
         for flags in FLAGS {
             for (n, m) in draw::SIZES
@@ -142,11 +144,23 @@ impl Run {
                     second: draw::of_size(m, flags[1], &mut self.rng),
                     epsilon: epsilon(&mut self.rng),
                 };
-                self.in_rooms(&layout, Call::Mutual);
-                if n == m {
-                    self.in_rooms(&layout, Call::Own);
-                    self.in_rooms(&layout, Call::Twice);
+                let again = traced(&layout, &mut self.rng);
+                for layout in [&layout, &again] {
+                    self.in_rooms(layout, Call::Mutual);
+                    if n == m {
+                        self.in_rooms(layout, Call::Own);
+                        self.in_rooms(layout, Call::Twice);
+                    }
                 }
+            }
+        }
+    }
+
+    /// Folds with each of some traces.
+    fn folds(&mut self) {
+        for layout in traces::folds() {
+            for call in CALLS {
+                self.in_rooms(&layout, call);
             }
         }
     }
@@ -186,9 +200,11 @@ impl Run {
             self.in_rooms(&two, Call::Mutual);
             self.in_rooms(&draw::joined(&two), Call::Own);
             let close = draw::close(&mut self.rng);
-            for call in CALLS {
-                self.in_rooms(&some, call);
-                self.in_rooms(&close, call);
+            let [some_again, close_again] = [&some, &close].map(|of| traced(of, &mut self.rng));
+            for layout in [&some, &some_again, &close, &close_again] {
+                for call in CALLS {
+                    self.in_rooms(layout, call);
+                }
             }
         }
     }
@@ -237,24 +253,33 @@ impl Run {
                     second: second.clone(),
                     epsilon,
                 };
-                self.in_rooms(&layout(&long, &short), Call::Mutual);
-                self.in_rooms(&layout(&short, &long), Call::Mutual);
+                for layout in [layout(&long, &short), layout(&short, &long)] {
+                    self.in_rooms(&layout, Call::Mutual);
+                    let again = traced(&layout, &mut self.rng);
+                    self.exactly(&again, Call::Mutual);
+                }
             }
         }
     }
 
-    /// Small random layouts, and a larger one.
+    /// Small random layouts, and a larger one; each of them again with traces.
     fn layouts(&mut self) {
         for _ in 0..SMALL {
             let layout = listings::draw::draw(&mut self.rng);
-            self.random += self.once(&layout, Call::Mutual) + self.once(&layout, Call::Own);
-            if self.rng.one_in(4) {
-                self.random += self.once(&layout, Call::Twice);
+            let again = traced(&layout, &mut self.rng);
+            for layout in [&layout, &again] {
+                self.random += self.once(layout, Call::Mutual) + self.once(layout, Call::Own);
+                if self.rng.one_in(4) {
+                    self.random += self.once(layout, Call::Twice);
+                }
             }
         }
         let layout = draw::larger(&mut self.rng);
-        for call in CALLS {
-            self.random += self.once(&layout, call);
+        let again = traced(&layout, &mut self.rng);
+        for layout in [&layout, &again] {
+            for call in CALLS {
+                self.random += self.once(layout, call);
+            }
         }
     }
 
@@ -268,8 +293,10 @@ impl Run {
             second: Drawn::new(&other, true),
             epsilon: epsilon(&mut self.rng),
         };
-        for call in CALLS {
-            self.exactly(&layout, call);
+        for layout in [&layout, &traces::in_halves(&layout)] {
+            for call in CALLS {
+                self.exactly(layout, call);
+            }
         }
     }
 }

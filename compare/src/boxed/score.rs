@@ -145,7 +145,9 @@ impl Score {
         let mut full = lent::Lent::new(Room::of(boxed.full_rows), Old::Nans);
         let full_answer = (self.ours.full)(listed, epsilon, full.slices());
         let (ours, full) = (lent.rows.slices(), full.slices());
-        if answer != 0 || full_answer != 0 || full.counts[0] != boxed.full_rows as u64 {
+        let looked_at = boxed.passed.all - boxed.passed.over;
+        let full_counts = [boxed.full_rows as u64, looked_at];
+        if answer != 0 || full_answer != 0 || *full.counts != full_counts {
             return self.differ(known, "the full listing, or the boxed one, is not answered");
         }
         let full = full.indices.chunks(3).zip(full.points.chunks(4));

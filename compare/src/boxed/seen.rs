@@ -32,6 +32,12 @@ pub struct Seen {
     pub in_two_groups: bool,
     /// Rows stand otherwise than from group to group.
     pub rows_across_groups: bool,
+    /// Pairs of one trace: whose boxes meet, whose are apart.
+    pub of_one_trace: bool,
+    pub of_one_trace_apart: bool,
+    /// A segment, of each path, of which each pair is of one trace; and two groups that meet, of which each pair is.
+    pub segment_of_one_trace: [bool; 2],
+    pub groups_of_one_trace: bool,
 }
 
 impl Seen {
@@ -50,6 +56,14 @@ impl Seen {
             let (a, b) = (&boxes[0].segments[i], &boxes[1].segments[j]);
             let row = rows.next_if_eq(&pair).is_some();
             let met = meet(a, b);
+            let over = listed.passes_over([i, j]);
+            groups.count(i, j, met, met && row, over);
+            if over {
+                // its boxes decide nothing
+                seen.of_one_trace |= met;
+                seen.of_one_trace_apart |= !met;
+                return;
+            }
             let sort = usize::from(sort[0][i]) + 2 * usize::from(sort[1][j]);
             all_but_touching(a, b, |side, gap| {
                 seen.edges |= 1 << (4 * (3 * side + gap) + sort);
@@ -58,7 +72,6 @@ impl Seen {
                 let by = u8::from(!meet(&thin[0][i], b)) + 2 * u8::from(!meet(a, &thin[1][j]));
                 seen.by_chord |= if row { by | by << 2 } else { by };
             }
-            groups.count(i, j, met, met && row);
         });
         groups.tell(&mut seen);
         seen
@@ -116,11 +129,14 @@ fn arcs(path: Path) -> Vec<bool> {
     segments.map(|(from, _)| is_arc(from)).collect()
 }
 
-/// The pairs of two groups, and how many of them meet.
+/// The pairs of two groups, how many of them meet, and how many are of one trace.
 struct Groups<'a> {
     boxes: &'a [Boxes; 2],
     own: bool,
-    pairs: Vec<[u32; 2]>,
+    /// Pairs, those whose boxes meet, and those of one trace.
+    pairs: Vec<[u32; 3]>,
+    /// Pairs of each segment, and those of one trace.
+    of_segments: [Vec<[u32; 2]>; 2],
     last_row: [usize; 2],
     across: bool,
 }
@@ -131,17 +147,25 @@ impl<'a> Groups<'a> {
         Groups {
             boxes,
             own,
-            pairs: vec![[0; 2]; count],
+            pairs: vec![[0; 3]; count],
+            of_segments: [0, 1].map(|at: usize| vec![[0; 2]; boxes[at].segments.len()]),
             last_row: [0; 2],
             across: false,
         }
     }
 
-    fn count(&mut self, i: usize, j: usize, met: bool, row: bool) {
+    fn count(&mut self, i: usize, j: usize, met: bool, row: bool, over: bool) {
         let (g, h) = (i / A_GROUP, j / A_GROUP);
         let pair = &mut self.pairs[g * self.boxes[1].groups.len() + h];
         pair[0] += 1;
         pair[1] += u32::from(met);
+        pair[2] += u32::from(over);
+        for (at, index) in [i, j].into_iter().enumerate() {
+            // of one path each segment's pairs are those in which it is either
+            let segments = &mut self.of_segments[if self.own { 0 } else { at }];
+            segments[index][0] += 1;
+            segments[index][1] += u32::from(over);
+        }
         if row {
             self.across |= self.last_row[0] == g && self.last_row[1] > h;
             self.last_row = [g, h];
@@ -150,7 +174,7 @@ impl<'a> Groups<'a> {
 
     fn tell(&self, seen: &mut Seen) {
         let [first, second] = self.boxes;
-        for (at, [pairs, met]) in self.pairs.iter().enumerate() {
+        for (at, [pairs, met, over]) in self.pairs.iter().enumerate() {
             if *pairs == 0 {
                 continue;
             }
@@ -161,10 +185,15 @@ impl<'a> Groups<'a> {
             seen.groups_in_vain |= meeting && *met == 0;
             seen.in_one_group |= same && *met > 0;
             seen.in_two_groups |= !same && *met > 0;
+            seen.groups_of_one_trace |= meeting && over == pairs;
             if !meeting || *met > 0 {
                 all_but_touching(a, b, |side, gap| seen.group_edges |= 1 << (3 * side + gap));
             }
         }
         seen.rows_across_groups = self.across;
+        for (at, segments) in self.of_segments.iter().enumerate() {
+            let all = |[pairs, over]: &[u32; 2]| *pairs > 0 && pairs == over;
+            seen.segment_of_one_trace[at] = segments.iter().any(all);
+        }
     }
 }

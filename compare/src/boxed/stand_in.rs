@@ -10,7 +10,8 @@ use super::Ours;
 use crate::capi::Rows;
 use crate::crossing::faults::{Fault, Item, Place};
 use crate::crossing::NO_ROOM;
-use crate::listings::model::{no_row_left, row_room, Listed, Listing, Path};
+use crate::listings::model::{no_row_left, row_room, Listed, Listing};
+use crate::listings::stand_in::{self, key, Key};
 
 pub const STAND_IN: Ours = Ours { boxed, full };
 
@@ -20,8 +21,6 @@ pub fn set(defect: &'static str, hidden: bool) {
     HIDDEN.set(hidden);
     LAST.set(None);
 }
-
-type Key = (Vec<Vec<u64>>, Vec<bool>, u64);
 
 /// The full listing, and the place of each pair's row in it.
 struct Given {
@@ -59,16 +58,10 @@ fn boxed(listed: Listed, epsilon: f64, boxes: &mut [f64], lent: Rows) -> u64 {
 }
 
 fn with_given<T>(listed: Listed, epsilon: f64, call: impl FnOnce(&Given) -> T) -> T {
-    let paths = listed.paths();
-    let bits = |path: &Path| path.numbers.iter().map(|x| x.to_bits()).collect();
-    let key = (
-        paths.iter().map(bits).collect(),
-        paths.iter().map(|path| path.closed).collect(),
-        epsilon.to_bits(),
-    );
+    let key = key(listed, epsilon);
     LAST.with_borrow_mut(|last| {
         if last.as_ref().is_none_or(|(of, _)| *of != key) {
-            let listing = Listing::new(listed, epsilon);
+            let listing = stand_in::listing(listed, epsilon, &is);
             let places = listing.rows.rows.iter().enumerate();
             let row = places.map(|(at, row)| (row.indices, at)).collect();
             *last = Some((key, Given { listing, row }));
@@ -101,7 +94,7 @@ fn answer(given: &Given, listed: Listed, epsilon: f64, boxes: &mut [f64], lent: 
     if let Some(fault) = given.listing.faults.first() {
         return if none { no_index } else { *fault }.word();
     }
-    let (index, pairs, passed) = boxes::found(listed, epsilon);
+    let (index, pairs, passed, of_one_trace) = boxes::found(listed, epsilon);
     let all = &given.listing.rows;
     let rows: Vec<usize> = pairs
         .iter()
@@ -155,6 +148,7 @@ fn answer(given: &Given, listed: Listed, epsilon: f64, boxes: &mut [f64], lent: 
         _ if is("passed pairs counted") => all.pairs,
         _ if is("pairs of groups counted") => passed,
         _ if is("rows for pairs") => rows.len() as u64,
+        _ if is("pairs of one trace are counted") => pairs.len() as u64 + of_one_trace,
         _ => pairs.len() as u64,
     };
     write(given, &rows, looked_at, is("another point"), lent);

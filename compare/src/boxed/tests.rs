@@ -8,14 +8,12 @@ use super::stand_in::{self, STAND_IN};
 use crate::crossing::faults::Fault;
 use crate::listings::layout::Drawn;
 use crate::listings::model::Listed;
+use crate::listings::stand_in::{OF_CHECKS, OF_PAIRS};
 
 const INPUTS: u64 = 1 << 17;
 
 fn drawn(points: &[[f64; 3]], closed: bool) -> Drawn {
-    Drawn {
-        numbers: points.concat(),
-        closed,
-    }
+    Drawn::of(points.iter().copied(), closed)
 }
 
 /// The returned word, by room for the index and for rows.
@@ -99,6 +97,25 @@ fn run(defect: &'static str, hidden: bool) -> Run {
 #[test]
 fn a_right_stand_in_passes() {
     assert_eq!(run("", false).report(), 0);
+}
+
+/// Pairs of one trace, as they are looked at and checked, counted, and in the index.
+#[test]
+fn wrong_traces_are_found() {
+    let others = [
+        "pairs of one trace are counted",
+        "segments of a trace above 0 are not in the index",
+        "segments of one trace with each other are not in the index",
+        "a group's box of its members of trace 0",
+    ];
+    for defect in OF_PAIRS.into_iter().chain(OF_CHECKS).chain(others) {
+        assert!(!run(defect, false).goes_on(), "not found: {defect}");
+    }
+    let defect = "a group's box of its members of trace 0";
+    assert!(
+        !run(defect, true).goes_on(),
+        "not found behind an index: {defect}"
+    );
 }
 
 #[test]

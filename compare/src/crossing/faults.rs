@@ -23,6 +23,8 @@ pub enum Item {
     Budget = 11,
     /// Of a boxed listing: the index.
     Boxes = 12,
+    /// Of a path's vertex.
+    Trace = 13,
 }
 
 /// Whose item it is: a path, a segment, a point or a circle of the call, and there which vertex, segment or end. All count from
@@ -49,6 +51,8 @@ const REFUSED: u64 = 256;
 
 pub const NOT_A_NUMBER: u64 = 11;
 pub const INFINITE: u64 = 12;
+/// A trace is finite and no whole number from 0 to 255.
+pub const NO_TRACE: u64 = 15;
 
 impl Place {
     pub const EPSILON: Place = Place::alone(Item::Epsilon);
@@ -98,6 +102,8 @@ fn refusal(item: Item, x: f64) -> Option<u64> {
         Item::Bulge => (3, x.abs() <= 1.0),
         Item::Radius => (9, x >= two_to(-42) && x <= two_to(47)),
         Item::CenterX | Item::CenterY => (9, x.abs() <= two_to(48)),
+        // by value: -0 is 0
+        Item::Trace => (NO_TRACE, (0.0..=255.0).contains(&x) && x.trunc() == x),
         _ => unreachable!("{item:?} is no number of a caller's"),
     };
     match item {
@@ -132,6 +138,7 @@ mod tests {
         assert_eq!(word(12, Item::CenterY, 1, 0), 0x0106_010c);
         assert_eq!(word(14, Item::Budget, 0, 0), 0x000b_010e);
         assert_eq!(word(17, Item::Boxes, 0, 0), 0x000c_0111);
+        assert_eq!(word(15, Item::Trace, 1, 4095), 0xfff_010d_010f);
     }
 
     /// At each number NaN comes first, then infinite, then its limits; epsilon has one refusal for all.
@@ -146,6 +153,7 @@ mod tests {
             (Item::Radius, 9, 0.0),
             (Item::CenterX, 9, -1e15),
             (Item::CenterY, 9, 1e15),
+            (Item::Trace, 15, 256.0),
         ];
         for (item, beyond, number) in numbers {
             let of_all = |number| if beyond == 4 { 4 } else { number };
@@ -156,7 +164,23 @@ mod tests {
                 assert_eq!(refusal(item, infinite), Some(of_all(12)));
             }
             assert_eq!(refusal(item, number), Some(beyond));
-            assert_eq!(refusal(item, 0.25), None);
+            let accepted = if item == Item::Trace { 255.0 } else { 0.25 };
+            assert_eq!(refusal(item, accepted), None);
+        }
+    }
+
+    /// Each whole number from 0 to 255, and -0, is a trace; nothing beside them is.
+    #[test]
+    fn traces() {
+        for whole in 0..=255 {
+            assert_eq!(refusal(Item::Trace, f64::from(whole)), None);
+            for beside in [f64::from(whole).next_down(), f64::from(whole).next_up()] {
+                assert_eq!(refusal(Item::Trace, beside), Some(15), "{beside:e}");
+            }
+        }
+        assert_eq!(refusal(Item::Trace, -0.0), None);
+        for x in [256.0, -1.0, 0.5, -0.5, 254.5, f64::MAX, f64::MIN] {
+            assert_eq!(refusal(Item::Trace, x), Some(15), "{x:e}");
         }
     }
 

@@ -21,7 +21,7 @@ impl Sites {
     pub fn count(&mut self, call: &Call, numbers: &[f64], fault: Fault) {
         let mut order = call.order.iter();
         let number = order.find(|(_, place)| *place == fault.place);
-        let sort = number.map(|(at, _)| Sort::of(numbers[*at]));
+        let sort = number.map(|(at, place)| Sort::of(place.item, numbers[*at]));
         *self.told.entry((fault, sort)).or_insert(0) += 1;
         if let Some(next) = call.faults(numbers).nth(1) {
             *self.both.entry([fault, next]).or_insert(0) += 1;

@@ -11,21 +11,24 @@ const ROOM: usize = 4;
 pub struct Example {
     name: &'static str,
     vertices: Vec<[f64; 3]>,
+    /// 0 where none is given.
+    traces: Vec<f64>,
     closed: bool,
     epsilon: f64,
-    /// How many pairs there are, and of how many the boxes meet.
-    pairs: [u64; 2],
+    /// How many pairs there are, how many the full listing looks at, and how many the boxed one.
+    pairs: [u64; 3],
     /// Indices and class, and the points.
     rows: Vec<([u64; 3], [f64; 4])>,
 }
 
 impl Example {
     pub fn layout(&self) -> Layout {
+        let mut first = Drawn::of(self.vertices.iter().copied(), self.closed);
+        for (trace, given) in first.traces().zip(&self.traces) {
+            *trace = *given;
+        }
         Layout {
-            first: Drawn {
-                numbers: self.vertices.concat(),
-                closed: self.closed,
-            },
+            first,
             second: Drawn::default(),
             epsilon: self.epsilon,
         }
@@ -40,9 +43,9 @@ impl Example {
             position: 0,
             budget: u64::MAX,
         };
-        let [all, looked_at] = self.pairs;
+        let [all, looked_at, boxed] = self.pairs;
         let rows = self.rows.len() as u64;
-        self.is("full", &[rows, all], |lent| {
+        self.is("full", &[rows, looked_at], |lent| {
             (ours.full)(listed, epsilon, lent)
         })
         .or_else(|| {
@@ -52,7 +55,7 @@ impl Example {
             })
         })
         .or_else(|| {
-            let counts = [rows, looked_at];
+            let counts = [rows, boxed];
             self.is("boxed", &counts, |lent| {
                 (ours.boxed)(listed, epsilon, &mut boxes, lent)
             })
@@ -83,9 +86,10 @@ fn lines(name: &'static str, points: &[[f64; 2]], closed: bool) -> Example {
     Example {
         name,
         vertices: points.iter().map(|[x, y]| [*x, *y, 0.0]).collect(),
+        traces: vec![],
         closed,
         epsilon: 1.0 / 1024.0,
-        pairs: [pairs(segments as u64); 2],
+        pairs: [pairs(segments as u64); 3],
         rows: vec![],
     }
 }
@@ -118,7 +122,15 @@ impl Example {
     }
 
     fn looked_at(mut self, looked_at: u64) -> Example {
-        self.pairs[1] = looked_at;
+        self.pairs[2] = looked_at;
+        self
+    }
+
+    /// With traces, by which so many pairs are passed over, so many of them with boxes that meet.
+    fn traced(mut self, traces: &[f64], over: u64, meeting: u64) -> Example {
+        self.traces = traces.to_vec();
+        self.pairs[1] -= over;
+        self.pairs[2] -= meeting;
         self
     }
 }
@@ -165,5 +177,40 @@ pub fn all() -> Vec<Example> {
         halves("an arc and its chord", [1.0, 0.0], true),
         halves("a chord and its arc", [0.0, -0.5], true),
         halves("an arc and its chord, open", [1.0, 0.0], false).row([0, 1, 3], across),
+        // of one trace, whatever the last one of an open path is
+        lines("a fold of one trace", &fold, false).traced(&[1.0, 1.0, 0.0], 1, 1),
+        lines("a fold of one trace, and another last", &fold, false).traced(&[255.0; 3], 1, 1),
+        lines("a fold of two traces", &fold, false)
+            .traced(&[1.0, 2.0, 2.0], 0, 0)
+            .row([0, 1, 4], [10.0, 0.0, 5.0, 0.0]),
+        lines("a fold of a trace and 0", &fold, false)
+            .traced(&[7.0, 0.0, 7.0], 0, 0)
+            .row([0, 1, 4], [10.0, 0.0, 5.0, 0.0]),
+        lines("a fold of two zeros", &fold, false)
+            .traced(&[-0.0, 0.0, 1.0], 0, 0)
+            .row([0, 1, 4], [10.0, 0.0, 5.0, 0.0]),
+        // the closing segment has the last vertex's trace
+        lines("a fold, closed, the first two of one trace", &fold, true)
+            .traced(&[3.0, 3.0, 4.0], 1, 1)
+            .row([0, 2, 4], [5.0, 0.0, 0.0, 0.0]),
+        lines("a fold, closed, first and last of one trace", &fold, true)
+            .traced(&[3.0, 4.0, 3.0], 1, 1)
+            .row([0, 1, 4], [10.0, 0.0, 5.0, 0.0]),
+        lines("a fold, closed, all of one trace", &fold, true).traced(&[2.0; 3], 3, 3),
+        lines("to and fro, of one trace", &fold[..2], true).traced(&[9.0; 2], 1, 1),
+        lines("to and fro, of two traces", &fold[..2], true)
+            .traced(&[9.0, 8.0], 0, 0)
+            .row([0, 1, 4], [10.0, 0.0, 0.0, 0.0]),
+        lines(
+            "an open path back to its start, of one trace",
+            &square,
+            false,
+        )
+        .looked_at(4)
+        .traced(&[1.0, 2.0, 3.0, 1.0, 0.0], 1, 1),
+        lines("a square of two tracks", &square[..4], true)
+            .looked_at(4)
+            .traced(&[1.0, 1.0, 2.0, 2.0], 2, 2),
+        halves("an arc and back, of one trace", [1.0, -1.0], true).traced(&[1.0, 1.0], 1, 1),
     ]
 }

@@ -64,14 +64,10 @@ fn spots(mut number: u64, vertices: u32) -> Vec<Spot> {
 }
 
 fn layout(spots: &[Spot], closed: bool, epsilon: f64) -> Layout {
-    let numbers = spots
-        .iter()
-        .flat_map(|spot| [spot.x as f64, spot.y as f64, 0.0]);
+    let vertices = spots.iter();
+    let vertices = vertices.map(|spot| [spot.x as f64, spot.y as f64, 0.0]);
     Layout {
-        first: Drawn {
-            numbers: numbers.collect(),
-            closed,
-        },
+        first: Drawn::of(vertices, closed),
         second: Drawn::default(),
         epsilon,
     }

@@ -39,6 +39,8 @@ pub struct Joint {
     pub vertices: Vec<PlineVertex>,
     /// Whether it is an open path of two segments that ends where it starts, and where that is.
     pub back: Option<PlineVertex>,
+    /// The traces of both segments.
+    pub traces: [f64; 2],
 }
 
 /// The joints of a path that meet, of accepted numbers.
@@ -61,6 +63,7 @@ pub fn joints(path: Path, epsilon: f64) -> Vec<Joint> {
                 points: row.points().collect(),
                 vertices,
                 back: back.then_some(v1),
+                traces: [path.trace(i), path.trace(j)],
             })
         })
         .collect()
@@ -117,7 +120,18 @@ impl Joint {
         self.points.iter().all(|point| near(*point))
     }
 
+    /// Whether it is of one trace, and so passed over.
+    pub fn is_passed(&self) -> bool {
+        let [a, b] = self.traces;
+        a > 0.0 && a == b
+    }
+
     pub fn makes_row(&self) -> bool {
+        !self.is_passed() && self.would_row()
+    }
+
+    /// If the traces were 0.
+    pub fn would_row(&self) -> bool {
         self.is_overlap() || !LINKS.contains(&self.link) || !self.is_at_vertices()
     }
 

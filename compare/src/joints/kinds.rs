@@ -7,6 +7,7 @@ use crate::met::Met;
 /// The Rust's tolerance where no other is given.
 const DEFAULT: f64 = 1e-8;
 
+/// Of joints that are looked at.
 pub fn kinds() -> Met<Joint> {
     let mut kinds = Met::new();
     of_classes(&mut kinds);
@@ -14,6 +15,58 @@ pub fn kinds() -> Met<Joint> {
     of_points(&mut kinds);
     of_distances(&mut kinds);
     of_seeming(&mut kinds);
+    kinds
+}
+
+/// By their traces, of all joints. Those of one trace have the classes of the others.
+pub fn of_traces() -> Met<Joint> {
+    let mut kinds: Met<Joint> = Met::new();
+    for link in LINKS {
+        for (sort, sort_name) in SORTS.iter().enumerate() {
+            for would_row in [false, true] {
+                let gives = if would_row { "a row" } else { "no row" };
+                let name = format!("{link:?}, {sort_name}, of one trace, else {gives}");
+                kinds.add(name, move |joint| {
+                    let is = joint.link == link && joint.sort == sort;
+                    is && joint.is_passed() && joint.would_row() == would_row
+                });
+            }
+        }
+        for trace in [1.0, 2.0, 255.0] {
+            kinds.add(
+                format!("{link:?}, of trace {trace}, else a row"),
+                move |joint| {
+                    let is = joint.link == link && joint.traces == [trace; 2];
+                    is && joint.is_passed() && joint.would_row()
+                },
+            );
+        }
+        for [a, b] in [[0.0, 0.0], [0.0, -0.0], [-0.0, 0.0], [-0.0, -0.0f64]] {
+            kinds.add(
+                format!("{link:?}, of {a:?} and {b:?}, a row"),
+                move |joint| {
+                    let bits = joint.traces.map(f64::to_bits);
+                    joint.link == link && bits == [a, b].map(f64::to_bits) && joint.makes_row()
+                },
+            );
+        }
+        let names = [
+            ("above 0 and 0", [true, false]),
+            ("0 and above 0", [false, true]),
+            ("two above 0", [true, true]),
+        ];
+        for (name, above) in names {
+            kinds.add(format!("{link:?}, of {name}, a row"), move |joint| {
+                let is = joint.traces.map(|trace| trace > 0.0) == above;
+                joint.link == link && is && joint.makes_row()
+            });
+        }
+    }
+    for link in [Link::Ends, Link::Across] {
+        kinds.add(format!("{link:?}, of one trace"), move |joint| {
+            joint.link == link && joint.is_passed()
+        });
+    }
     kinds
 }
 

@@ -1,8 +1,8 @@
 //! A run: chosen paths and drawn ones, each listed in full, in pages and boxed.
 
 use super::beside::beside;
-use super::joint::{joints, LINKS, SORTS};
-use super::kinds::kinds;
+use super::joint::{joints, Joint, LINKS, SORTS};
+use super::kinds::{kinds, of_traces};
 use super::{draw, examples, grid, Ours};
 use crate::boxed::ask::Asked;
 use crate::boxed::lent::Lent as BoxedLent;
@@ -11,6 +11,7 @@ use crate::capi::Span;
 use crate::listings::layout::{Call, Layout};
 use crate::listings::lent::{Expected, Lent, LentPath, Old, Room};
 use crate::listings::model::{row_room, Listed, Listing};
+use crate::listings::traces;
 use crate::listings::FULL;
 use crate::met::Met;
 use crate::pages::ask::room_of;
@@ -25,9 +26,13 @@ const A_PATH: u64 = 512;
 pub struct Run {
     pub rng: Rng,
     pub ours: Ours,
-    kinds: Met<super::joint::Joint>,
+    /// Joints that are looked at, and all of them by their traces.
+    kinds: Met<Joint>,
+    traces: Met<Joint>,
     /// Neighbours that meet, by their sort: without a row, and with one.
     met: [[u64; 2]; 4],
+    /// Neighbours of one trace that meet: without a row else, and with one.
+    passed: [u64; 2],
     paths: u64,
     pages: u64,
     pub grid: grid::Count,
@@ -41,6 +46,8 @@ impl Run {
             rng: Rng::new(seed),
             ours,
             kinds: kinds(),
+            traces: of_traces(),
+            passed: [0; 2],
             met: [[0; 2]; 4],
             paths: 0,
             pages: 0,
@@ -68,9 +75,13 @@ impl Run {
         }
     }
 
-    /// Each path as it is drawn, and with epsilons beside the distances of its points.
+    /// Each path as it is drawn, with epsilons beside the distances of its points, and with traces. Folds with each of some
+    /// traces.
     pub fn drawn(&mut self, paths: u64) {
         self.once(&draw::fold());
+        for layout in traces::folds() {
+            self.once(&layout);
+        }
         for _ in 0..paths {
             if !self.goes_on() {
                 return;
@@ -80,6 +91,8 @@ impl Run {
             for layout in beside(&layout, &mut self.rng) {
                 self.once(&layout);
             }
+            let again = traces::traced(&layout, &mut self.rng);
+            self.once(&again);
         }
     }
 
@@ -90,8 +103,14 @@ impl Run {
         self.paged(layout);
         self.boxed(layout);
         for joint in joints(layout.first.path(), layout.epsilon) {
+            self.traces.count(&joint);
+            let neighbours = LINKS.contains(&joint.link);
+            if joint.is_passed() {
+                self.passed[usize::from(joint.would_row())] += u64::from(neighbours);
+                continue;
+            }
             self.kinds.count(&joint);
-            if LINKS.contains(&joint.link) {
+            if neighbours {
                 self.met[joint.sort][usize::from(joint.makes_row())] += 1;
             }
         }
@@ -205,10 +224,12 @@ impl Run {
             .map(|(sort, [silent, rows])| format!("{sort} {silent} without a row, {rows} with one"))
             .collect();
         println!(
-            "joints: {} paths, {} pages, neighbours that meet: {}; {} differences",
+            "joints: {} paths, {} pages, neighbours that meet: {}; of one trace {} and, else with a row, {}; {} differences",
             self.paths,
             self.pages,
             sorts.join("; "),
+            self.passed[0],
+            self.passed[1],
             self.differences
         );
         let grid::Count {
@@ -219,7 +240,8 @@ impl Run {
         println!(
             "joints: {paths} paths on the grid, {neighbours} neighbours, {rows} of them with a row"
         );
-        let unmet = self.kinds.report("joints", "joint");
+        let mut unmet = self.kinds.report("joints", "joint");
+        unmet.extend(self.traces.report("joints", "joint by its traces"));
         for what in &unmet {
             println!("joints: NEVER MET: {what}");
         }

@@ -9,6 +9,7 @@ use super::Ours;
 use crate::boxed::model::Boxed;
 use crate::capi::{Rows, Span};
 use crate::listings::model::{no_row_left, row_room, Listed, Path, Row};
+use crate::listings::stand_in::passes_over;
 
 pub const STAND_IN: Ours = Ours { full, page, boxed };
 
@@ -132,8 +133,11 @@ fn silent(path: Path, row: &Row, epsilon: f64) -> bool {
     points.iter().all(some)
 }
 
-/// Each pair in order, with its row if it makes one.
-fn pairs(path: Path, epsilon: f64) -> Vec<([u64; 2], Option<Row>)> {
+/// A pair, its row if it makes one, and whether it is of one trace.
+type Found = ([u64; 2], Option<Row>, bool);
+
+/// Each pair in order.
+fn pairs(path: Path, epsilon: f64) -> Vec<Found> {
     let mut all = Vec::new();
     for j in 0..path.segments() {
         for i in 0..j {
@@ -151,12 +155,39 @@ fn pairs(path: Path, epsilon: f64) -> Vec<([u64; 2], Option<Row>)> {
                 _ => false,
             };
             if !passed {
-                all.push(([i as u64, j as u64], row.filter(|_| !at_joint)));
+                let pair = [i as u64, j as u64];
+                let over = passes_over(Listed::Own(path), pair, &is);
+                let silent = match () {
+                    _ if is("neighbours of one trace that fold make a row") => {
+                        at_joint || over && !(j == i + 1 || around)
+                    }
+                    _ => at_joint || over,
+                };
+                all.push((pair, row.filter(|_| !silent), over));
             }
         }
     }
-    all.sort_by_key(|(pair, _)| *pair);
+    all.sort_by_key(|(pair, ..)| *pair);
+    if is("neighbours of one trace are counted") {
+        for ([i, j], _, over) in &mut all {
+            *over &= *j != *i + 1;
+        }
+    }
     all
+}
+
+/// Without the pairs of one trace.
+fn looked_at(path: Path, epsilon: f64) -> Vec<Found> {
+    let mut all = pairs(path, epsilon);
+    all.retain(|(_, row, over)| !over || row.is_some());
+    all
+}
+
+fn rows(pairs: &[Found]) -> Vec<&Row> {
+    pairs
+        .iter()
+        .filter_map(|(_, row, _)| row.as_ref())
+        .collect()
 }
 
 fn own(listed: Listed) -> Path {
@@ -185,19 +216,22 @@ fn write(rows: &[&Row], counts: &[u64], lent: Rows) -> u64 {
 
 fn full(listed: Listed, epsilon: f64, lent: Rows) -> u64 {
     NOW.set(Of::Full);
-    let pairs = pairs(own(listed), epsilon);
-    let rows: Vec<&Row> = pairs.iter().filter_map(|(_, row)| row.as_ref()).collect();
+    let pairs = looked_at(own(listed), epsilon);
+    let rows = rows(&pairs);
     write(&rows, &[rows.len() as u64, pairs.len() as u64], lent)
 }
 
 fn page(listed: Listed, epsilon: f64, span: Span, lent: Rows) -> u64 {
     NOW.set(Of::Page);
-    let pairs = pairs(own(listed), epsilon);
+    let mut pairs = pairs(own(listed), epsilon);
+    if is("neighbours of one trace have no position") {
+        pairs.retain(|([i, j], _, over)| !(*over && *j == *i + 1));
+    }
     let room = row_room(lent.indices.len(), lent.points.len());
     let from = pairs.len().min(span.position as usize);
     let mut rows: Vec<&Row> = Vec::new();
     let mut passed = 0;
-    for (_, row) in &pairs[from..] {
+    for (_, row, _) in &pairs[from..] {
         let full = rows.len() == room && row.is_some();
         if full || passed == span.budget {
             break;
@@ -219,9 +253,9 @@ fn boxed(listed: Listed, epsilon: f64, boxes: &mut [f64], lent: Rows) -> u64 {
     if boxes.len() < model.floats {
         return crate::boxed::model::no_index_fits().word();
     }
-    let mut pairs = pairs(own(listed), epsilon);
-    pairs.retain(|(pair, _)| model.looks_at(*pair));
-    let rows: Vec<&Row> = pairs.iter().filter_map(|(_, row)| row.as_ref()).collect();
+    let mut pairs = looked_at(own(listed), epsilon);
+    pairs.retain(|(pair, ..)| model.boxes_meet(*pair));
+    let rows = rows(&pairs);
     let word = write(&rows, &[rows.len() as u64, pairs.len() as u64], lent);
     if word == 0 {
         boxes[..model.floats].copy_from_slice(&model.index);

@@ -3,6 +3,7 @@
 use super::grid::{judge, Count};
 use super::run::Run;
 use super::stand_in::{self, Of, STAND_IN};
+use crate::listings::stand_in::OF_PAIRS;
 use crate::listings::FULL;
 use crate::search::plane::Spot;
 
@@ -73,6 +74,30 @@ fn wrong_stand_ins_are_found() {
             assert!(!run.goes_on(), "not found: {defect}, {of:?}");
         }
     }
+}
+
+/// Neighbours of one trace, in each of the calls.
+#[test]
+fn wrong_traces_are_found() {
+    let of_two_paths = "traces of two paths are not compared";
+    let of_all = OF_PAIRS
+        .into_iter()
+        .filter(|defect| *defect != of_two_paths);
+    let find = |defect: &'static str, of: Of| {
+        stand_in::set(defect, of);
+        let mut run = Run::new(STAND_IN, SEED, 1);
+        run.drawn(1 << 14);
+        assert!(!run.goes_on(), "not found: {defect}, {of:?}");
+    };
+    for defect in of_all.chain(["neighbours of one trace that fold make a row"]) {
+        for of in [Of::Full, Of::Page, Of::Boxed] {
+            find(defect, of);
+        }
+    }
+    for of in [Of::Full, Of::Boxed] {
+        find("neighbours of one trace are counted", of);
+    }
+    find("neighbours of one trace have no position", Of::Page);
 }
 
 /// What the judge on the grid says of lines, without a model.

@@ -1,5 +1,5 @@
 //! Nanoseconds for each pair of whole listings: ours, and a plain loop in Rust with the same checks, on the same layouts, in
-//! turns.
+//! turns. Then ours on the same layouts with traces, beside ours with all traces 0.
 
 use std::hint::black_box;
 
@@ -9,6 +9,7 @@ use super::layout::{ours, Call, Drawn, Layout};
 use super::model::{no_row_left, Listed, Path, Row};
 use super::shapes::{coil, on_grid, placed, pocket};
 use super::sheets::{Sheet, EPSILONS, SHEETS};
+use super::traces::{all_of, in_halves};
 use crate::bench::{self, head};
 use crate::capi::Rows;
 use crate::inputs::{Point, Vertex};
@@ -196,6 +197,28 @@ fn timed(name: &str, layout: &Layout, epsilon: f64, call: Call) {
         || accepted(plain(listed, epsilon, lent_too.slices())),
     );
     assert!(lent.is(&lent_too), "{name}: the two differ");
+    for (name, layout) in with_traces(layout) {
+        let traced = layout.listed(call);
+        let found = traced.rows(epsilon);
+        let mut lent_traced = Lent::new(found.rows.len());
+        let row = bench::Row::new(name).epsilon(epsilon).of(pairs);
+        row.meeting(found.rows.len()).timed(
+            A_ROUND,
+            || accepted(ours(traced, epsilon, lent_traced.slices())),
+            || accepted(ours(listed, epsilon, lent.slices())),
+        );
+        let counts = [found.rows.len() as u64, found.pairs];
+        assert_eq!(lent_traced.counts, counts, "{name}: other counts");
+    }
+}
+
+/// The same layout in two tracks, half of whose pairs are of one trace, and in one, all of whose pairs are. Their rows of the
+/// table have our own time with all traces 0 as the other one.
+pub fn with_traces(layout: &Layout) -> [(&'static str, Layout); 2] {
+    [
+        ("- two tracks, beside all traces 0", in_halves(layout)),
+        ("- one track, beside all traces 0", all_of(layout, 1.0)),
+    ]
 }
 
 /// The listing as one would write it in Rust: the checks once for each path, then two nested loops that write rows as they come.

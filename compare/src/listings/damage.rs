@@ -6,14 +6,15 @@ use super::model::MOST_VERTICES;
 use super::shapes::{on_grid, straightened};
 use crate::crossing::faults::two_to;
 use crate::crossing::{sorts, specials};
-use crate::inputs::values::epsilon;
+use crate::inputs::values::{epsilon, up};
 use crate::rng::Rng;
+use crate::vertex::{BULGE, TRACE, VERTEX};
 
 /// What is done to a layout. A path is 0 or 1.
 #[derive(Clone, Copy)]
 enum Damage {
     Epsilon(f64),
-    /// One or two numbers more than whole vertices have.
+    /// One, two or three numbers more than whole vertices have.
     Longer {
         path: usize,
         by: usize,
@@ -43,11 +44,11 @@ impl Damage {
             Damage::Longer { path, by } => numbers(layout, path).extend(vec![0.5; by]),
             Damage::TooMany { path } => {
                 let numbers = numbers(layout, path);
-                let more = numbers.len() % 3;
+                let more = numbers.len() % VERTEX;
                 // lines, so that no chord is at fault besides
-                let vertex = [0.25, 0.25, 0.0];
-                let new = numbers.len()..3 * 4097 + more;
-                numbers.extend(new.map(|at| vertex[at % 3]));
+                let vertex: [f64; VERTEX] = [0.25, 0.25, 0.0, 0.0];
+                let new = numbers.len()..VERTEX * 4097 + more;
+                numbers.extend(new.map(|at| vertex[at % VERTEX]));
             }
             Damage::Number { path, at, number } => numbers(layout, path)[at] = number,
             Damage::Chord {
@@ -57,8 +58,8 @@ impl Damage {
                 bulge,
             } => {
                 let numbers = numbers(layout, path);
-                let (from, vertices) = (3 * segment, numbers.len() / 3);
-                let to = 3 * ((segment + 1) % vertices);
+                let (from, vertices) = (VERTEX * segment, numbers.len() / VERTEX);
+                let to = VERTEX * ((segment + 1) % vertices);
                 numbers[from..from + 3].copy_from_slice(&[0.0, 0.0, bulge]);
                 let way = [[long, 0.0], [0.0, long]][segment % 2];
                 numbers[to..to + 2].copy_from_slice(&way);
@@ -96,7 +97,8 @@ pub fn accepted(vertices: [usize; 2], closed: [bool; 2], rng: &mut Rng) -> Layou
     }
 }
 
-/// Every limit, its neighbours, NaNs and infinities in every place; each chord near the shortest that an arc may have.
+/// Every limit, its neighbours, NaNs and infinities in every place; what is beside a trace's limits in the traces' places; each
+/// chord near the shortest that an arc may have.
 pub fn one_at_a_time(layout: &Layout) -> Vec<Layout> {
     let mut all = Vec::new();
     for special in specials() {
@@ -107,6 +109,11 @@ pub fn one_at_a_time(layout: &Layout) -> Vec<Layout> {
             number: special,
         }));
     }
+    let traces = places(layout).filter(|(_, at)| at % VERTEX == TRACE);
+    all.extend(traces.flat_map(|(path, at)| {
+        let numbers = sorts::about_traces().into_iter();
+        numbers.map(move |number| Damage::Number { path, at, number })
+    }));
     for short in shorts() {
         for bulge in bulges() {
             all.extend(segments(layout).map(|(path, segment)| Damage::Chord {
@@ -118,7 +125,7 @@ pub fn one_at_a_time(layout: &Layout) -> Vec<Layout> {
         }
     }
     for path in 0..2 {
-        all.extend([1, 2].map(|by| Damage::Longer { path, by }));
+        all.extend((1..VERTEX).map(|by| Damage::Longer { path, by }));
         all.push(Damage::TooMany { path });
     }
     let damaged = |damage: &Damage| layout.damaged(&[*damage]);
@@ -140,7 +147,7 @@ pub fn two_at_once(layout: &Layout, rng: &mut Rng) -> Vec<Layout> {
 pub fn far(closed: [bool; 2], rng: &mut Rng) -> Vec<(Layout, Layout)> {
     let mut layout = accepted([MOST_VERTICES, 3], closed, rng);
     // lines only, so that the last chord is the first at fault
-    for bulge in layout.first.numbers.iter_mut().skip(2).step_by(3) {
+    for bulge in layout.first.numbers.iter_mut().skip(BULGE).step_by(VERTEX) {
         *bulge = 0.0;
     }
     let turned = Layout {
@@ -164,9 +171,12 @@ pub fn far(closed: [bool; 2], rng: &mut Rng) -> Vec<(Layout, Layout)> {
         bulge,
     };
     let mut all = vec![both(chord, segment, 0.5)];
-    for at in 3 * last..3 * last + 3 {
+    for at in VERTEX * last..VERTEX * last + TRACE {
         all.extend(numbers.map(|x| both(number, at, x)));
     }
+    let [nan, infinite, _] = numbers;
+    let traces = [nan, infinite].into_iter().chain(sorts::no_traces());
+    all.extend(traces.map(|x| both(number, VERTEX * last + TRACE, x)));
     all
 }
 
@@ -174,8 +184,11 @@ fn faults(layout: &Layout, rng: &mut Rng) -> Vec<Damage> {
     let [nans, infinities, _] = sorts::by_refusal();
     let mut all = vec![Damage::Epsilon(rng.pick(&[0.0, f64::NAN, 0.75]))];
     for (path, at) in places(layout) {
-        let limit: f64 = if at % 3 == 2 { 1.0 } else { 1_048_576.0 };
-        let beyond = rng.sign() * f64::from_bits(limit.to_bits() + 1);
+        let beyond = match at % VERTEX {
+            TRACE => rng.pick(&sorts::no_traces()),
+            BULGE => rng.sign() * up(1.0),
+            _ => rng.sign() * up(1_048_576.0),
+        };
         let numbers = [rng.pick(&nans), rng.pick(&infinities), beyond];
         all.extend(numbers.map(|number| Damage::Number { path, at, number }));
     }
@@ -186,7 +199,7 @@ fn faults(layout: &Layout, rng: &mut Rng) -> Vec<Damage> {
         bulge: 0.5,
     }));
     for path in 0..2 {
-        let by = 1 + rng.below(2) as usize;
+        let by = 1 + rng.below(VERTEX as u64 - 1) as usize;
         all.extend([Damage::Longer { path, by }, Damage::TooMany { path }]);
     }
     all
@@ -201,8 +214,8 @@ fn places(layout: &Layout) -> impl Iterator<Item = (usize, usize)> {
 /// Every vertex at which a segment would start if both paths were closed.
 fn segments(layout: &Layout) -> impl Iterator<Item = (usize, usize)> {
     places(layout)
-        .filter(|(_, at)| at % 3 == 0)
-        .map(|(path, at)| (path, at / 3))
+        .filter(|(_, at)| at % VERTEX == 0)
+        .map(|(path, at)| (path, at / VERTEX))
 }
 
 /// The shortest chord of an arc, the floats next to it, and none at all.

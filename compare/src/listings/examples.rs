@@ -7,16 +7,14 @@ use super::model::{row_room, Listed, Listing, Rows};
 use super::neighbours::is_near;
 use super::shapes::{crossed, crossed_by_itself};
 use crate::crossing::faults::{Fault, Item, Place};
+use crate::vertex::{TRACE, VERTEX};
 
 const EPSILON: f64 = 1e-5;
 const NEXT_ABOVE_LIMIT: f64 = 1_048_576.0 + 1.0 / (1u64 << 32) as f64;
 
-/// Vertices as x, y, bulge.
+/// Vertices as x, y, bulge, with the trace 0.
 fn path(vertices: &[[f64; 3]], closed: bool) -> Drawn {
-    Drawn {
-        numbers: vertices.concat(),
-        closed,
-    }
+    Drawn::of(vertices.iter().copied(), closed)
 }
 
 fn line(from: [f64; 2], to: [f64; 2]) -> Drawn {
@@ -312,9 +310,10 @@ fn order_of_refusals() {
         [0.0, 0.0, 0.0],
     ];
     let mut first = path(&bad, false);
-    let mut second = path(&bad, false);
+    first.numbers[TRACE] = 255.5;
+    let mut second = first.clone();
     first.numbers.push(0.0);
-    second.numbers.resize(3 * 4097, 0.0);
+    second.numbers.resize(VERTEX * 4097, 0.0);
     let mut epsilon = 1.0;
     let mut shown = Vec::new();
     let mut show = |first: &Drawn, second: &Drawn, epsilon: f64| {
@@ -325,19 +324,19 @@ fn order_of_refusals() {
     show(&first, &second, epsilon);
     first.numbers.pop();
     show(&first, &second, epsilon);
-    second.numbers.truncate(9);
-    for at in 0..3 {
+    second.numbers.truncate(3 * VERTEX);
+    for at in 0..VERTEX {
         show(&first, &second, epsilon);
         first.numbers[at] = 0.0;
     }
     show(&first, &second, epsilon);
-    first.numbers[6] = 2.0;
-    for at in 0..3 {
+    first.numbers[2 * VERTEX] = 2.0;
+    for at in 0..VERTEX {
         show(&first, &second, epsilon);
         second.numbers[at] = 0.0;
     }
     show(&first, &second, epsilon);
-    second.numbers[6] = 2.0;
+    second.numbers[2 * VERTEX] = 2.0;
     show(&first, &second, epsilon);
 
     let fault = |number, item, owner, index| Fault::new(number, Place::new(item, owner, index));
@@ -348,10 +347,12 @@ fn order_of_refusals() {
         fault(11, Item::X, 0, 0),
         fault(2, Item::Y, 0, 0),
         fault(3, Item::Bulge, 0, 0),
+        fault(15, Item::Trace, 0, 0),
         fault(5, Item::Chord, 0, 1),
         fault(11, Item::X, 1, 0),
         fault(2, Item::Y, 1, 0),
         fault(3, Item::Bulge, 1, 0),
+        fault(15, Item::Trace, 1, 0),
         fault(5, Item::Chord, 1, 1),
         fault(8, Item::Rows, 0, 0),
     ];
@@ -364,7 +365,7 @@ fn places() {
     let told = |result: Result<Rows, Fault>| result.err().map_or(0, Fault::word);
     let line = line([0.0, 0.0], [4.0, 0.0]);
     let mut bad = path(&vec![[1.0, 2.0, 0.0]; 18], false);
-    bad.numbers[3 * 17 + 1] = f64::NAN;
+    bad.numbers[VERTEX * 17 + 1] = f64::NAN;
     assert_eq!(told(mutual(&bad, &line, EPSILON, 0)), 0x11_0002_010b);
     assert_eq!(told(mutual(&line, &bad, EPSILON, 0)), 0x11_0102_010b);
     assert_eq!(told(mutual(&bad, &bad, EPSILON, 0)), 0x11_0002_010b);
@@ -374,6 +375,84 @@ fn places() {
     assert_eq!(told(mutual(&open, &closed, EPSILON, 9)), 0x2_0107_0105);
     assert_eq!(told(own(&closed, 9)), 0x2_0007_0105);
     assert_eq!(told(mutual(&line, &line, EPSILON, 0)), 0x9_0108);
+}
+
+/// A line across two others, by the traces of the three: rows, and pairs looked at.
+#[test]
+fn traces() {
+    let across = |traces: [f64; 3], last: f64| {
+        let mut one = line([0.0, 0.0], [10.0, 0.0]);
+        one.numbers[TRACE] = traces[0];
+        let upright = [[2.0, -1.0, 0.0], [2.0, 1.0, 0.0], [8.0, -1.0, 0.0]];
+        let mut other = path(&upright, false);
+        let of_other = [traces[1], traces[2], last];
+        other
+            .traces()
+            .zip(of_other)
+            .for_each(|(trace, of)| *trace = of);
+        let rows = mutual(&one, &other, EPSILON, 2).expect("accepted");
+        let indices: Vec<u64> = rows.rows.iter().map(|row| row.indices[1]).collect();
+        (indices, rows.pairs)
+    };
+    // trace 0 is never passed over, with either sign, and an open path's last trace plays no part
+    for zeros in [[0.0; 3], [-0.0; 3], [0.0, -0.0, 0.0], [-0.0, 0.0, -0.0]] {
+        assert_eq!(across(zeros, 1.0), (vec![0, 1], 2));
+    }
+    assert_eq!(across([1.0, 0.0, -0.0], 1.0), (vec![0, 1], 2));
+    assert_eq!(across([0.0, 1.0, 1.0], 0.0), (vec![0, 1], 2));
+    assert_eq!(across([1.0, 2.0, 255.0], 1.0), (vec![0, 1], 2));
+    assert_eq!(across([255.0, 255.0, 1.0], 255.0), (vec![1], 1));
+    assert_eq!(across([255.0, 254.0, 255.0], 0.0), (vec![0], 1));
+    assert_eq!(across([3.0; 3], 0.0), (vec![], 0));
+}
+
+/// A closing segment has the last vertex's trace: a triangle's closing side, and a line across it.
+#[test]
+fn traces_of_closing_segments() {
+    let found = |traces: [f64; 3], of_line: f64| {
+        let corners = [[0.0, 0.0, 0.0], [-5.0, 9.0, 0.0], [10.0, 0.0, 0.0]];
+        let mut triangle = path(&corners, true);
+        triangle
+            .traces()
+            .zip(traces)
+            .for_each(|(trace, of)| *trace = of);
+        let mut across = line([5.0, -1.0], [5.0, 1.0]);
+        across.numbers[TRACE] = of_line;
+        let rows = mutual(&triangle, &across, EPSILON, 1).expect("accepted");
+        (plain(&rows).len(), rows.pairs)
+    };
+    assert_eq!(found([0.0, 0.0, 6.0], 6.0), (0, 2));
+    assert_eq!(found([6.0, 0.0, 0.0], 6.0), (1, 2));
+    assert_eq!(found([6.0, 6.0, 5.0], 6.0), (1, 1));
+    assert_eq!(found([1.0, 2.0, 3.0], 4.0), (1, 3));
+}
+
+/// The numbers of a trace: told after the bulge, at its own place.
+#[test]
+fn traces_that_are_none() {
+    let told = |trace: f64, closed: bool| {
+        let mut last = path(&[[0.0, 0.0, 0.0], [1.0, 0.0, 0.0]], closed);
+        last.numbers[VERTEX + TRACE] = trace;
+        own(&last, 1).err().map_or(0, Fault::word)
+    };
+    for closed in [false, true] {
+        for whole in 0..256 {
+            assert_eq!(told(f64::from(whole), closed), 0);
+        }
+        assert_eq!(told(-0.0, closed), 0);
+        for no_trace in [
+            256.0,
+            -1.0,
+            0.5,
+            254.5,
+            f64::from_bits(1),
+            -f64::from_bits(1),
+        ] {
+            assert_eq!(told(no_trace, closed), 0x1_000d_010f);
+        }
+        assert_eq!(told(f64::NAN, closed), 0x1_000d_010b);
+        assert_eq!(told(f64::NEG_INFINITY, closed), 0x1_000d_010c);
+    }
 }
 
 /// The smaller of the whole rows in the two slices.

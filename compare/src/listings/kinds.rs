@@ -3,7 +3,10 @@
 use super::layout::Call;
 use super::lent::{Old, Room};
 use super::model::{row_room, Path};
+use super::sites::OF_A_VERTEX;
+use super::traces::{Passed, Sight};
 use crate::crossing::faults::{Fault, Item};
+use crate::vertex::VERTEX;
 
 /// A call as it was made.
 pub struct Case<'a> {
@@ -14,6 +17,8 @@ pub struct Case<'a> {
     pub fault: Option<Fault>,
     /// The rows of the listing, unless it is refused for another reason than room.
     pub rows: usize,
+    /// What traces do; nothing if the paths or the epsilon have a fault.
+    pub passed: Passed,
     pub room: Room,
     pub old: Old,
 }
@@ -44,7 +49,7 @@ struct Kind {
 pub struct Kinds(Vec<Kind>);
 
 fn is_number(item: Item) -> bool {
-    matches!(item, Item::X | Item::Y | Item::Bulge)
+    OF_A_VERTEX.contains(&item)
 }
 
 /// The row counts around which the code takes another way.
@@ -66,6 +71,7 @@ impl Kinds {
             });
         }
         kinds.of_rooms();
+        kinds.of_traces(call);
         if call != Call::Twice {
             kinds.of_turns();
         }
@@ -94,15 +100,15 @@ impl Kinds {
                 };
                 let most = if largest(closed) { 5 } else { 4 };
                 for n in &[0, 1, 2, 3, 4096][..most] {
-                    let (name, numbers) = (format!("path {at} {form}, {n} vertices"), 3 * n);
+                    let (name, numbers) = (format!("path {at} {form}, {n} vertices"), VERTEX * n);
                     self.add(name, move |c| long(c, numbers) && c.is_answered());
                 }
                 let name = format!("path {at} {form}, 4097 vertices");
-                self.add(name, move |c| long(c, 3 * 4097));
-                for rest in [1, 2] {
+                self.add(name, move |c| long(c, VERTEX * 4097));
+                for rest in 1..VERTEX {
                     let name = format!("path {at} {form}, {rest} numbers beyond whole vertices");
                     self.add(name, move |c| {
-                        c.paths[at].closed == closed && c.paths[at].numbers.len() % 3 == rest
+                        c.paths[at].closed == closed && c.paths[at].numbers.len() % VERTEX == rest
                     });
                 }
             }
@@ -143,6 +149,37 @@ impl Kinds {
         self.add("old contents NaNs", |c| c.old == Old::Nans);
         self.add("old contents zeros", |c| c.old == Old::Zeros);
         self.add("old contents random", |c| matches!(c.old, Old::Bits(_)));
+    }
+
+    fn of_traces(&mut self, call: Call) {
+        for sight in Sight::of(call) {
+            self.add(format!("{sight:?}"), move |c| {
+                c.is_answered() && c.passed.has(sight)
+            });
+        }
+        let some = |c: &Case| c.is_answered() && c.passed.over > 0;
+        self.add("each pair passed over, though some meet", move |c| {
+            some(c) && c.passed.over == c.passed.all && c.passed.rows_without > 0
+        });
+        self.add("some passed over, and rows", move |c| some(c) && c.rows > 0);
+        if call != Call::Twice {
+            // of a path that is lent twice each segment meets itself
+            self.add("some passed over, and all rows are left", move |c| {
+                some(c) && c.rows > 0 && c.rows == c.passed.rows_without
+            });
+        }
+        self.add("rows that fit only since some are passed over", move |c| {
+            some(c) && c.rows > 0 && c.row_room() < c.passed.rows_without
+        });
+        self.add("some passed over, and rows that do not fit", |c| {
+            c.faults.is_empty() && c.passed.over > 0 && c.row_room() < c.rows
+        });
+        if call == Call::Mutual {
+            for at in 0..2 {
+                let name = format!("path {at} with 4096 vertices, some passed over");
+                self.add(name, move |c| some(c) && c.paths[at].vertices() == 4096);
+            }
+        }
     }
 
     fn of_turns(&mut self) {

@@ -3,6 +3,7 @@
 use super::model::{Listed, Path};
 use crate::capi::{vj_mutual, vj_self, Rows};
 use crate::inputs::Vertex;
+use crate::vertex::{TRACE, VERTEX};
 
 /// A path's numbers, and whether it is closed.
 #[derive(Clone, Debug, Default, PartialEq)]
@@ -12,12 +13,24 @@ pub struct Drawn {
 }
 
 impl Drawn {
+    /// With the trace 0 everywhere.
     pub fn new(vertices: &[Vertex], closed: bool) -> Drawn {
-        let numbers = vertices
-            .iter()
-            .flat_map(|v| [v.at.x, v.at.y, v.bulge])
-            .collect();
-        Drawn { numbers, closed }
+        Drawn::of(vertices.iter().map(|v| [v.at.x, v.at.y, v.bulge]), closed)
+    }
+
+    /// Vertices as x, y and bulge, with the trace 0.
+    pub fn of(vertices: impl IntoIterator<Item = [f64; 3]>, closed: bool) -> Drawn {
+        let vertices = vertices.into_iter();
+        let numbers = vertices.flat_map(|[x, y, bulge]| -> [f64; VERTEX] { [x, y, bulge, 0.0] });
+        Drawn {
+            numbers: numbers.collect(),
+            closed,
+        }
+    }
+
+    /// The traces, one a vertex.
+    pub fn traces(&mut self) -> impl Iterator<Item = &mut f64> {
+        self.numbers.iter_mut().skip(TRACE).step_by(VERTEX)
     }
 
     pub fn path(&self) -> Path<'_> {

@@ -7,8 +7,9 @@ use cavalier_contours::polyline::{pline_seg_intr, PlineSegIntr, PlineVertex};
 
 use crate::crossing::faults::{chord, Fault, Item, Place};
 use crate::crossing::of_segments;
+use crate::vertex::{TRACE, VERTEX};
 
-/// A path as it is lent: x, y and bulge of one vertex after the other.
+/// A path as it is lent: x, y, bulge and trace of one vertex after the other.
 #[derive(Clone, Copy)]
 pub struct Path<'a> {
     pub numbers: &'a [f64],
@@ -17,7 +18,7 @@ pub struct Path<'a> {
 
 impl Path<'_> {
     pub fn vertices(self) -> usize {
-        self.numbers.len() / 3
+        self.numbers.len() / VERTEX
     }
 
     /// One fewer than vertices if the path is open, as many if it is closed; a single vertex has none.
@@ -30,8 +31,14 @@ impl Path<'_> {
     }
 
     pub fn vertex(self, i: usize) -> PlineVertex {
-        let n = &self.numbers[3 * i..];
+        let n = &self.numbers[VERTEX * i..];
         PlineVertex::new(n[0], n[1], n[2])
+    }
+
+    /// The trace of segment i: its first vertex's. The closing segment's is the last vertex's, and an open path's last is no
+    /// one's.
+    pub fn trace(self, i: usize) -> f64 {
+        self.numbers[VERTEX * i + TRACE]
     }
 
     /// Where segment i starts and ends: the last one of a closed path ends at vertex 0.
@@ -91,22 +98,36 @@ impl<'a> Listed<'a> {
             .chain(insides)
     }
 
+    /// Whether a pair is passed over: both segments have the same trace, and it is above 0.
+    pub fn passes_over(self, [i, j]: [usize; 2]) -> bool {
+        let (first, second) = match self {
+            Listed::Mutual(first, second) => (first, second),
+            Listed::Own(path) => (path, path),
+        };
+        first.trace(i) > 0.0 && first.trace(i) == second.trace(j)
+    }
+
     /// The rows of accepted paths. In one path each two segments are a pair, and neighbours that meet only at a vertex that they
-    /// share make no row.
+    /// share make no row. A pair that is passed over makes none and is not counted.
     pub fn rows(self, epsilon: f64) -> Rows {
         let mut found = Rows::default();
         match self {
             Listed::Mutual(first, second) => {
                 for i in 0..first.segments() {
                     for j in 0..second.segments() {
-                        let row = found.look((first, i), (second, j), epsilon);
-                        found.rows.extend(row);
+                        if !self.passes_over([i, j]) {
+                            let row = found.look((first, i), (second, j), epsilon);
+                            found.rows.extend(row);
+                        }
                     }
                 }
             }
             Listed::Own(path) => {
                 for i in 0..path.segments() {
                     for j in i + 1..path.segments() {
+                        if self.passes_over([i, j]) {
+                            continue;
+                        }
                         let row = found.look((path, i), (path, j), epsilon);
                         let at_joint = |row: &Row| row.is_at_joint(path.shared(i, j), epsilon);
                         found.rows.extend(row.filter(|row| !at_joint(row)));
@@ -174,9 +195,9 @@ pub fn no_row_left() -> Fault {
     Fault::new(8, Place::alone(Item::Rows))
 }
 
-/// A length that is no multiple of 3, or else too many vertices.
+/// A length that is no multiple of 4, or else too many vertices.
 fn shape(path: Path, at: usize) -> Option<Fault> {
-    let number = if path.numbers.len() % 3 != 0 {
+    let number = if path.numbers.len() % VERTEX != 0 {
         6
     } else if path.vertices() > MOST_VERTICES {
         7
@@ -186,13 +207,14 @@ fn shape(path: Path, at: usize) -> Option<Fault> {
     Some(Fault::new(number, Place::new(Item::Length, at, 0)))
 }
 
-/// Every vertex in order, each x, y, bulge: also the last bulge of an open path, though it belongs to no segment.
+/// Every vertex in order, each x, y, bulge, trace: also the last bulge and trace of an open path, though they belong to no
+/// segment.
 fn numbers(path: Path<'_>, at: usize) -> impl Iterator<Item = Fault> + '_ {
-    const ITEMS: [Item; 3] = [Item::X, Item::Y, Item::Bulge];
+    const ITEMS: [Item; VERTEX] = [Item::X, Item::Y, Item::Bulge, Item::Trace];
     path.numbers
         .iter()
         .enumerate()
-        .filter_map(move |(i, x)| Fault::of(Place::new(ITEMS[i % 3], at, i / 3), *x))
+        .filter_map(move |(i, x)| Fault::of(Place::new(ITEMS[i % VERTEX], at, i / VERTEX), *x))
 }
 
 /// Every segment in order.

@@ -2,11 +2,13 @@
 //! of input, and differences.
 
 use super::kinds::{Case, Kinds};
-use super::layout::{ours, Call, Layout};
+use super::layout::{Call, Layout};
 use super::lent::{Expected, Lent, LentPath, Old, Room};
 use super::model::{row_room, Listing};
 use super::orders::Orders;
 use super::sites::{Short, Sites};
+use super::traces::{would_row, Passed};
+use super::Ours;
 use crate::crossing::faults::Fault;
 
 const SHOWN: u64 = 5;
@@ -14,15 +16,18 @@ pub const CLASSES: [&str; 6] = ["none", "tangent", "one", "two", "lines", "arcs"
 
 pub struct Score {
     call: Call,
+    ours: Ours,
     answered: u64,
     pub pairs: u64,
+    /// Pairs that were passed over.
+    over: u64,
     classes: [u64; 6],
     refusals: [u64; 16],
     no_room: u64,
     sites: Sites,
     orders: Orders,
     kinds: Kinds,
-    differences: u64,
+    pub differences: u64,
 }
 
 /// A layout with the model's listing of it, computed once for any number of calls.
@@ -30,14 +35,23 @@ pub struct Known<'a> {
     layout: &'a Layout,
     call: Call,
     listing: Listing,
+    passed: Passed,
 }
 
 impl<'a> Known<'a> {
     pub fn new(layout: &'a Layout, call: Call) -> Known<'a> {
+        let (listed, epsilon) = (layout.listed(call), layout.epsilon);
+        let listing = Listing::new(listed, epsilon);
+        let passed = if listing.faults.is_empty() {
+            Passed::of(listed, &would_row(listed, epsilon, &listing.rows.rows))
+        } else {
+            Passed::default()
+        };
         Known {
             layout,
             call,
-            listing: Listing::new(layout.listed(call), layout.epsilon),
+            listing,
+            passed,
         }
     }
 
@@ -66,7 +80,7 @@ impl<'a> Known<'a> {
     }
 
     /// Makes the call with slices of these lengths and these old contents, and says what is not as expected, if anything.
-    pub fn wrong(&self, room: Room, old: Old) -> Option<String> {
+    pub fn wrong(&self, ours: Ours, room: Room, old: Old) -> Option<String> {
         let layout = self.layout;
         let (first, second) = (LentPath::new(&layout.first), LentPath::new(&layout.second));
         let listed = self.call.of(first.path(), second.path());
@@ -80,11 +94,13 @@ impl<'a> Known<'a> {
 }
 
 impl Score {
-    pub fn new(call: Call, full: bool) -> Score {
+    pub fn new(call: Call, ours: Ours, full: bool) -> Score {
         Score {
             call,
+            ours,
             answered: 0,
             pairs: 0,
+            over: 0,
             classes: [0; 6],
             refusals: [0; 16],
             no_room: 0,
@@ -97,16 +113,17 @@ impl Score {
 
     /// Makes the call with slices of these lengths and these old contents.
     pub fn compare(&mut self, known: &Known, room: Room, old: Old) {
-        if let Some(what) = known.wrong(room, old) {
+        if let Some(what) = known.wrong(self.ours, room, old) {
             self.differ(known, room, &what);
         }
         let (fault, expected) = known.expected(room);
-        self.count(&expected);
+        self.count(&expected, &known.passed);
         let case = Case {
             paths: &known.layout.listed(known.call).paths(),
             faults: &known.listing.faults,
             fault,
             rows: known.rows(),
+            passed: known.passed,
             room,
             old,
         };
@@ -119,13 +136,14 @@ impl Score {
         self.kinds.count(&case);
     }
 
-    fn count(&mut self, expected: &Expected) {
+    fn count(&mut self, expected: &Expected, passed: &Passed) {
         match expected {
             Expected::NoRoom => self.no_room += 1,
             Expected::Refused(fault) => self.refusals[fault.number as usize] += 1,
             Expected::Answered { rows, counts } => {
                 self.answered += 1;
                 self.pairs += counts[1];
+                self.over += passed.over;
                 for row in *rows {
                     self.classes[row.class as usize] += 1;
                 }
@@ -169,9 +187,10 @@ impl Score {
             .collect();
         let name = self.name();
         println!(
-            "{name}: {} answered, {} pairs, rows {}, refused {}, {} without room, {} differences",
+            "{name}: {} answered, {} pairs, {} passed over, rows {}, refused {}, {} without room, {} differences",
             self.answered,
             self.pairs,
+            self.over,
             rows.join(", "),
             refusals.join(", "),
             self.no_room,

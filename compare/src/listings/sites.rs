@@ -7,9 +7,10 @@ use super::lent::Room;
 use super::model::{Path, MOST_VERTICES};
 use crate::crossing::faults::{Fault, Item, Place};
 use crate::crossing::sorts::{faults_of, Sort};
+use crate::vertex::VERTEX;
 
-/// The numbers of a vertex.
-pub const OF_A_VERTEX: [Item; 3] = [Item::X, Item::Y, Item::Bulge];
+/// The numbers of a vertex, in the order in which they are lent and checked.
+pub const OF_A_VERTEX: [Item; VERTEX] = [Item::X, Item::Y, Item::Bulge, Item::Trace];
 
 #[derive(Clone, Copy, Debug, PartialEq, Eq, PartialOrd, Ord)]
 enum Site {
@@ -121,7 +122,7 @@ impl Sites {
     pub fn count(&mut self, paths: &[Path], epsilon: f64, fault: Fault, short: Short) {
         let Place { item, owner, index } = fault.place;
         let site = match item {
-            Item::Epsilon => Site::Epsilon(Sort::of(epsilon)),
+            Item::Epsilon => Site::Epsilon(Sort::of(item, epsilon)),
             Item::Length => Site::Length { path: owner },
             Item::Chord => Site::Chord {
                 path: owner,
@@ -135,7 +136,7 @@ impl Sites {
                 closed: paths[owner].closed,
                 at: At::of(index, paths[owner].vertices()),
                 item,
-                sort: Sort::of(paths[owner].numbers[3 * index + (item as usize - 1)]),
+                sort: Sort::of(item, number(paths[owner], item, index)),
             },
         };
         self.add(fault.number, site);
@@ -161,6 +162,12 @@ impl Sites {
             .map(|((number, site), _)| format!("refusal {number} at {site:?}"))
             .collect()
     }
+}
+
+/// The number of a vertex that an item names.
+fn number(path: Path, item: Item, vertex: usize) -> f64 {
+    let place = OF_A_VERTEX.iter().position(|of| *of == item);
+    path.numbers[VERTEX * vertex + place.expect("a number of a vertex")]
 }
 
 /// Every site within a path.
@@ -191,8 +198,8 @@ fn in_path(path: usize, closed: bool) -> BTreeSet<(u64, Site)> {
 fn is_far(paths: &[Path], Place { item, owner, index }: Place) -> bool {
     let last = match item {
         Item::Chord => paths[owner].segments(),
-        Item::X | Item::Y | Item::Bulge => paths[owner].vertices(),
+        item if OF_A_VERTEX.contains(&item) => paths[owner].vertices(),
         _ => return false,
     };
-    paths[owner].numbers.len() == 3 * MOST_VERTICES && index + 1 == last
+    paths[owner].vertices() == MOST_VERTICES && index + 1 == last
 }

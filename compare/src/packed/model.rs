@@ -2,6 +2,7 @@
 //! shorter to say.
 
 use crate::form::{self, Place, Sheet, BULGE, COORDINATE, MOST_VERTICES};
+use crate::vertex::VERTEX;
 
 pub const MOST_BYTES: usize = 8_192;
 /// The bytes of the longest layout: two counts of two bytes, and 512 vertices of four, four and three.
@@ -10,7 +11,7 @@ pub const LONGEST: usize = 2 + 2 + 2 * 256 * (4 + 4 + 3);
 /// stands between and behind them.
 pub const LONGEST_TEXT: usize = 8 + 2 * 256 * (8 + 1 + 8 + 1 + 6 + 1);
 /// The numbers of a path with the most vertices.
-pub const MOST_NUMBERS: usize = 3 * 256;
+pub const MOST_NUMBERS: usize = VERTEX * 256;
 
 /// What a number is for, and so in which range it must be.
 #[derive(Clone, Copy, Debug, PartialEq)]
@@ -204,8 +205,10 @@ pub fn unpack(bytes: &[u8]) -> Result<Vec<u8>, Fault> {
     sheet(bytes).map(|sheet| sheet.text())
 }
 
-/// A path as the listings take it.
+/// A path as the listings take it. A file has no traces: each is +0.
 pub fn floats(path: &[Place]) -> Vec<f64> {
-    let numbers = |[x, y, bulge]: &Place| [*x as f64, *y as f64, *bulge as f64 / 65_536.0];
+    let numbers = |[x, y, bulge]: &Place| -> [f64; VERTEX] {
+        [*x as f64, *y as f64, *bulge as f64 / 65_536.0, 0.0]
+    };
     path.iter().flat_map(numbers).collect()
 }

@@ -11,6 +11,7 @@ use super::Ours;
 use crate::form::damage::{self as of_text, lengthened, replaced, FORM};
 use crate::form::{self, Place, Sheet, MOST_VERTICES};
 use crate::rng::Rng;
+use crate::vertex::VERTEX;
 
 const SHOWN: u64 = 5;
 /// What a call returns.
@@ -480,7 +481,7 @@ impl Run {
         let expected = match &paths {
             _ if !asked.fits(Call::Read) => Expected::nothing(NO_ROOM),
             Ok([first, second]) => {
-                let vertices = [first, second].map(|path| path.len() / 3);
+                let vertices = [first, second].map(|path| path.len() / VERTEX);
                 Expected::done([first, second], vertices)
             }
             Err(fault) => Expected::refused(fault),

@@ -652,7 +652,15 @@ fn floats(path: &[Place]) -> Vec<f64> {
         } else {
             bulge
         };
-        [x, y, bulge].map(minus)
+        let trace = match () {
+            _ if is("a trace of -0") => -0.0,
+            _ if is("a trace of 1") => 1.0,
+            _ if is("the bulge's trace") => bulge,
+            _ => 0.0,
+        };
+        let vertex = [x, y, bulge, trace].map(minus);
+        let numbers = if is("no traces") { 3 } else { 4 };
+        vertex[..numbers].to_vec()
     };
     path.iter().flat_map(each).collect()
 }
@@ -661,9 +669,14 @@ fn read(bytes: &[u8], first: &mut [f64], second: &mut [f64], told: &mut [u64]) -
     NOW.set(Call::Read);
     let paths = sheet(bytes).map(|sheet| sheet.paths.each_ref().map(|path| floats(path)));
     let written = |at: usize| paths.as_ref().ok().map(|paths| paths[at].len());
+    let asked = if is("room for three numbers a vertex") {
+        768
+    } else {
+        1024
+    };
     let short = [
-        too_short(first.len(), 768, written(0)) && !is("the first slice's room not asked for"),
-        too_short(second.len(), 768, written(1)) && !is("the second slice's room not asked for"),
+        too_short(first.len(), asked, written(0)) && !is("the first slice's room not asked for"),
+        too_short(second.len(), asked, written(1)) && !is("the second slice's room not asked for"),
     ];
     if no_room(told) || short[0] || short[1] {
         if is("written where there is no room") {
@@ -676,12 +689,12 @@ fn read(bytes: &[u8], first: &mut [f64], second: &mut [f64], told: &mut [u64]) -
             put(&one, if is("both into one") { second } else { first });
             put(&other, second);
             if is("the rest cleared") {
-                second[other.len().min(768)..].fill(0.0);
+                second[other.len().min(1024)..].fill(0.0);
             }
             let told_counts = if is("numbers for vertices") {
                 [one.len(), other.len()]
             } else {
-                [one.len() / 3, other.len() / 3]
+                [one.len() / 4, other.len() / 4]
             };
             tell(told, told_counts);
             0

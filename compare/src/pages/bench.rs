@@ -1,5 +1,6 @@
-//! What pages cost: a chain of them beside the full listing, for each pair; and a page of one pair beside the checks alone, for
-//! each call. A call with the budget 0 is refused after all checks of the paths, so it stands for these.
+//! What pages cost: a chain of them beside the full listing, for each pair, and with traces beside the chain with all traces 0;
+//! and a page of one pair beside the checks alone, for each call. A call with the budget 0 is refused after all checks of the
+//! paths, so it stands for these.
 
 use std::hint::black_box;
 
@@ -7,8 +8,8 @@ use super::model::{of_page, NO_BUDGET};
 use super::ours;
 use crate::bench::{head, Row};
 use crate::capi::{Rows, Span};
-use crate::listings::bench::of_sheet;
-use crate::listings::layout::{self, Call};
+use crate::listings::bench::{of_sheet, with_traces};
+use crate::listings::layout::{self, Call, Layout};
 use crate::listings::model::Listed;
 use crate::listings::sheets::{EPSILONS, SHEETS};
 use crate::rng::Rng;
@@ -23,14 +24,21 @@ pub fn run() {
     head("4,096 lines by 4,096, in pages, beside the full listing");
     for epsilon in EPSILONS {
         for budget in [1 << 20, 1 << 16] {
-            chain(mutual, epsilon, budget);
+            chain(&layout, epsilon, budget);
         }
     }
     head("a page of one pair, 4,096 lines by 4,096, beside the checks");
     let pairs = (VERTICES * VERTICES) as u64;
-    one_pair("the first pair", mutual, 0);
-    one_pair("a pair in the middle", mutual, pairs / 2);
-    one_pair("the last pair", mutual, pairs - 1);
+    for (name, position) in [
+        ("the first pair", 0),
+        ("a pair in the middle", pairs / 2),
+        ("the last pair", pairs - 1),
+    ] {
+        one_pair(name, mutual, position);
+        for (name, traced) in with_traces(&layout) {
+            beside(name, traced.listed(Call::Mutual), mutual, position);
+        }
+    }
     let pairs = (VERTICES * (VERTICES - 1) / 2) as u64;
     let own = layout.listed(Call::Own);
     one_pair("the first pair of one path by itself", own, 0);
@@ -62,27 +70,65 @@ impl Lent {
     }
 }
 
-fn chain(listed: Listed, epsilon: f64, budget: u64) {
+fn chain(layout: &Layout, epsilon: f64, budget: u64) {
+    let listed = layout.listed(Call::Mutual);
     let found = listed.rows(epsilon);
     let (pairs, rows) = (found.pairs, found.rows.len());
     let (mut lent, mut lent_too) = (Lent::new(rows), Lent::new(rows));
-    let paged = || {
-        let (mut position, mut rows_too) = (0, 0);
-        while position < pairs {
-            let span = Span { position, budget };
-            assert_eq!(black_box(ours(listed, epsilon, span, lent.slices())), 0);
-            rows_too += lent.counts[0];
-            position = lent.counts[2];
-        }
-        assert_eq!(rows_too, rows as u64, "the pages have other rows");
-    };
     let full = || {
         let answer = layout::ours(listed, epsilon, lent_too.slices());
         assert_eq!(black_box(answer), 0);
     };
     let name = format!("pages of {budget} pairs");
     let row = Row::new(&name).epsilon(epsilon).of(pairs).meeting(rows);
+    let paged = || all_pages(listed, epsilon, budget, rows, &mut lent);
     row.timed(pairs, paged, full);
+    for (name, layout) in with_traces(layout) {
+        let traced = layout.listed(Call::Mutual);
+        let rows_traced = traced.rows(epsilon).rows.len();
+        let mut lent_traced = Lent::new(rows_traced.max(1));
+        let row = Row::new(name).epsilon(epsilon).of(pairs);
+        row.meeting(rows_traced).timed(
+            pairs,
+            || all_pages(traced, epsilon, budget, rows_traced, &mut lent_traced),
+            || all_pages(listed, epsilon, budget, rows, &mut lent),
+        );
+    }
+}
+
+/// From position 0 to the end: there are so many rows.
+fn all_pages(listed: Listed, epsilon: f64, budget: u64, rows: usize, lent: &mut Lent) {
+    let (mut position, mut found) = (0, 0);
+    loop {
+        let span = Span { position, budget };
+        assert_eq!(black_box(ours(listed, epsilon, span, lent.slices())), 0);
+        let [here, _, next, all] = lent.counts;
+        found += here;
+        position = next;
+        if position == all {
+            break;
+        }
+    }
+    assert_eq!(found, rows as u64, "the pages have other rows");
+}
+
+/// A page of one pair with traces, beside the same with all traces 0.
+fn beside(name: &str, traced: Listed, listed: Listed, position: u64) {
+    let (mut lent, mut lent_too) = (Lent::new(1), Lent::new(1));
+    let call = |listed: Listed, lent: &mut Lent| {
+        let span = Span {
+            position,
+            budget: 1,
+        };
+        let answer = ours(listed, EPSILONS[1], span, lent.slices());
+        assert_eq!(black_box(answer), 0);
+    };
+    let row = Row::new(name).epsilon(EPSILONS[1]).of(1);
+    row.timed(
+        A_ROUND,
+        || call(traced, &mut lent),
+        || call(listed, &mut lent_too),
+    );
 }
 
 fn one_pair(name: &str, listed: Listed, position: u64) {

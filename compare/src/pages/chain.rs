@@ -42,6 +42,8 @@ impl Joined {
 pub struct Chained {
     calls: u64,
     all: u64,
+    /// How many pairs the full listing looks at.
+    looked_at: u64,
     position: u64,
     rows: usize,
     refused: u64,
@@ -71,6 +73,20 @@ pub fn kinds(call: Call) -> Met<Chained> {
     kinds.add("with a refused call between", |c| {
         c.refused > 0 && c.calls > 1
     });
+    kinds.add(
+        "to the end, more pairs than the listing looks at",
+        move |c| ended(c) && c.calls > 1 && c.looked_at > 0 && c.looked_at < c.all,
+    );
+    kinds.add("the same, and more than 10 rows", move |c| {
+        ended(c) && c.calls > 1 && c.looked_at < c.all && c.rows > 10
+    });
+    kinds.add("to the end, the listing looks at none", move |c| {
+        ended(c) && c.calls > 1 && c.looked_at == 0
+    });
+    kinds.add(
+        "as many calls as pairs, and the listing looks at fewer",
+        move |c| ended(c) && c.calls > 2 && c.calls == c.all && c.looked_at < c.all,
+    );
     if call != Call::Twice {
         kinds.add("to the end, several calls, no rows", move |c| {
             ended(c) && c.calls > 1 && c.rows == 0
@@ -108,6 +124,7 @@ pub fn run_with(
     let (all, differences) = (known.pages.all(), score.differences);
     let mut joined = Joined::default();
     let (mut position, mut calls, mut refused) = (0, 0, 0);
+    let mut pairs = 0;
     while position < all && calls < most {
         let asked = ask(position, rng);
         let (answer, mut lent) = score.compare(known, &asked);
@@ -130,6 +147,13 @@ pub fn run_with(
         }
         joined.add(&mut lent, rows as usize);
         position = next;
+        pairs += passed;
+    }
+    if pairs != position {
+        score.differ(
+            known,
+            "the pairs of the calls are not all up to the position",
+        );
     }
     if !joined.is(known.pages.rows_before(position)) {
         score.differ(known, "the joined rows are not those of the pairs passed");
@@ -141,6 +165,7 @@ pub fn run_with(
     score.count_chain(&Chained {
         calls,
         all,
+        looked_at: known.pages.looked_at(),
         position,
         rows: joined.indices.len() / 3,
         refused,
@@ -172,7 +197,7 @@ fn full(score: &mut Score, known: &Known) -> Joined {
     let mut lent = Lent::new(Room::of(rows), Old::Nans);
     let answer = (score.ours.full)(known.listed(), known.epsilon(), lent.slices());
     let mut full = Joined::default();
-    if answer != 0 || *lent.slices().counts != [rows as u64, known.pages.all()] {
+    if answer != 0 || *lent.slices().counts != [rows as u64, known.pages.looked_at()] {
         score.differ(known, "the full call answers something else");
     } else {
         full.add(&mut lent, rows);

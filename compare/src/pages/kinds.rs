@@ -2,9 +2,11 @@
 
 use super::ask::{Asked, BEYOND_ALL, COUNTS};
 use super::model::{Page, Pages, BEYOND, NO_BUDGET, NO_ROW_FITS};
-use crate::crossing::faults::{Fault, INFINITE, NOT_A_NUMBER};
+use crate::crossing::faults::{Fault, INFINITE, NOT_A_NUMBER, NO_TRACE};
+use crate::listings::layout::Call;
 use crate::listings::lent::Old;
 use crate::listings::model::Path;
+use crate::listings::traces::{Passed, Sight};
 use crate::met::Met;
 
 /// A call as it was made. A plain copy of what is needed, so that a kind's test borrows nothing.
@@ -18,6 +20,7 @@ pub struct Case {
     refusal: Option<u64>,
     page: Option<Seen>,
     all: u64,
+    passed: Passed,
 }
 
 /// What an answered page looks like.
@@ -31,6 +34,46 @@ struct Seen {
     next_is_turn: bool,
     /// Whether pairs without a row follow the last row.
     has_tail: bool,
+    traces: Over,
+}
+
+/// Pairs of one trace in a page and beside it.
+struct Over {
+    /// Of the pair before the page, its first and its last one, and the one behind it.
+    before: bool,
+    first: bool,
+    last: bool,
+    behind: bool,
+    /// How many there are, and how many of them follow the last row.
+    count: u64,
+    tail: u64,
+    /// How many pairs follow the last row.
+    tail_pairs: u64,
+    /// Whether one would make a row, in the page and behind its last row.
+    row: bool,
+    tail_row: bool,
+}
+
+impl Over {
+    fn new(page: &Page, pages: &Pages, position: u64) -> Over {
+        let next = page.next;
+        let tail = match pages.last_row(next) {
+            Some(at) if at >= position => at + 1,
+            _ => position,
+        };
+        let count = |from: u64| (from..next).filter(|at| pages.is_over(*at)).count() as u64;
+        Over {
+            before: position > 0 && pages.is_over(position - 1),
+            first: page.passed > 0 && pages.is_over(position),
+            last: page.passed > 0 && pages.is_over(next - 1),
+            behind: pages.is_over(next),
+            count: count(position),
+            tail: count(tail),
+            tail_pairs: next - tail,
+            row: pages.has_row_over(position, next),
+            tail_row: pages.has_row_over(tail, next),
+        }
+    }
 }
 
 impl Seen {
@@ -49,6 +92,7 @@ impl Seen {
             starts_at_turn: pages.is_turn(position),
             next_is_turn: pages.is_turn(page.next),
             has_tail: page.passed > 0 && !pages.makes_row(page.next - 1),
+            traces: Over::new(page, pages, position),
         }
     }
 }
@@ -65,6 +109,7 @@ impl Case {
             refusal: page.as_ref().err().map(|fault| fault.number),
             page: page.as_ref().ok().filter(|_| counted).map(seen),
             all: pages.all(),
+            passed: pages.passed,
         }
     }
 
@@ -97,12 +142,14 @@ impl Case {
     }
 }
 
-pub fn kinds(paths: usize) -> Met<Case> {
+pub fn kinds(call: Call) -> Met<Case> {
     let mut kinds = Met::new();
+    let paths = if call == Call::Own { 1 } else { 2 };
     of_paths(&mut kinds, paths);
     of_starts(&mut kinds);
     of_stops(&mut kinds);
     of_rooms(&mut kinds);
+    of_traces(&mut kinds, call);
     of_refusals(&mut kinds);
     kinds
 }
@@ -202,6 +249,70 @@ fn of_stops(kinds: &mut Met<Case>) {
     });
 }
 
+/// Pages that begin and end among pairs of one trace, that consist of them, and in which they follow the last row that fits.
+fn of_traces(kinds: &mut Met<Case>, call: Call) {
+    for sight in Sight::of(call) {
+        kinds.add(format!("{sight:?}"), move |c| {
+            c.page.is_some() && c.passed.has(sight)
+        });
+    }
+    let names = ["at its budget", "at the end", "before a row"];
+    for (name, stop) in names.into_iter().zip(0..) {
+        kinds.add(
+            format!("stops {name}, its last pair of one trace"),
+            move |c| c.sees(|page| page.stops[stop] && page.traces.last),
+        );
+        if stop == 2 {
+            // it has rows
+            continue;
+        }
+        kinds.add(format!("stops {name}, each pair of one trace"), move |c| {
+            let each = |page: &Seen| page.passed > 1 && page.traces.count == page.passed;
+            c.sees(|page| page.stops[stop] && each(page))
+        });
+    }
+    kinds.add("starts at a pair of one trace", |c| {
+        c.asked.span.position > 0 && c.sees(|page| page.traces.first)
+    });
+    kinds.add("starts among pairs of one trace", |c| {
+        c.sees(|page| page.traces.before && page.traces.first)
+    });
+    kinds.add("starts behind pairs of one trace", |c| {
+        c.sees(|page| page.passed > 0 && page.traces.before && !page.traces.first)
+    });
+    kinds.add("starts behind pairs of one trace, with a row", |c| {
+        c.sees(|page| page.traces.before && page.starts_with_row)
+    });
+    kinds.add("stops at its budget, among pairs of one trace", |c| {
+        c.sees(|page| page.stops[0] && page.traces.last && page.traces.behind)
+    });
+    kinds.add("stops at its budget, before a pair of one trace", |c| {
+        c.sees(|page| page.stops[0] && !page.traces.last && page.traces.behind)
+    });
+    kinds.add("a budget of one pair, of one trace", |c| {
+        c.asked.span.budget == 1 && c.sees(|page| page.traces.first)
+    });
+    kinds.add("a pair of one trace that would make a row, and rows", |c| {
+        c.sees(|page| page.rows > 0 && page.traces.row)
+    });
+    // behind the last row that fits
+    let tail = |page: &Seen| page.traces.tail > 0 && page.traces.tail == page.traces.tail_pairs;
+    let full = move |c: &Case, stop: usize| {
+        c.sees(|page| page.rows == c.asked.rows() && page.stops[stop] && tail(page))
+    };
+    for (name, stop) in names.into_iter().zip(0..) {
+        let name = format!("no row is left, pairs of one trace follow, stops {name}");
+        kinds.add(name, move |c| full(c, stop));
+    }
+    kinds.add("no row is left, one follows that would make a row", |c| {
+        c.sees(|page| page.rows == c.asked.rows() && page.traces.tail_row)
+    });
+    kinds.add(
+        "no row is left before a row, one between would make a row",
+        |c| c.sees(|page| page.stops[2] && page.traces.tail_row),
+    );
+}
+
 fn of_rooms(kinds: &mut Met<Case>) {
     kinds.add("indices short of a row by a number", |c| {
         c.is_refused(NO_ROW_FITS) && c.asked.room.indices == 2 && c.asked.room.points >= 4
@@ -248,7 +359,7 @@ fn of_refusals(kinds: &mut Met<Case>) {
     let each = (0..8).map(|n| [n & 1 != 0, n & 2 != 0, n & 4 != 0]);
     for wrongs in each {
         let also = also(wrongs);
-        for number in (2..8).chain([NOT_A_NUMBER, INFINITE]) {
+        for number in (2..8).chain([NOT_A_NUMBER, INFINITE, NO_TRACE]) {
             kinds.add(format!("refusal {number}, also [{also}]"), move |c| {
                 c.is_refused(number) && c.wrongs() == wrongs
             });

@@ -1,9 +1,11 @@
-//! Pages of a listing as in the request's words: where a call stops, what it answers, what it refuses and in which order. The
-//! rows, and the faults of paths and epsilon, are those of the model of listings.
+//! Pages of a listing as in the request's words: where a call stops, what it answers, what it refuses and in which order. A pair
+//! of one trace has a position and is passed as any pair without a row. The rows, and the faults of paths and epsilon, are those
+//! of the model of listings.
 
 use crate::capi::Span;
 use crate::crossing::faults::{Fault, Item, Place};
 use crate::listings::model::{no_row_left, Listed, Listing, Row};
+use crate::listings::traces::{would_row, Passed};
 
 /// The refusals of a page, after all checks of numbers.
 pub const BEYOND: u64 = 13;
@@ -28,6 +30,12 @@ pub struct Pages {
     row_at: Vec<u64>,
     /// The position of the first pair of each first segment.
     turn_at: Vec<u64>,
+    /// Of each position, whether its pair is of one trace. Such a pair is passed like any other.
+    over: Vec<bool>,
+    /// What traces do in the listing.
+    pub passed: Passed,
+    /// The positions of pairs of one trace that would make a row.
+    row_over: Vec<u64>,
 }
 
 /// What a call answers.
@@ -46,15 +54,21 @@ impl Pages {
             all: 0,
             row_at: Vec::new(),
             turn_at: Vec::new(),
+            over: Vec::new(),
+            passed: Passed::default(),
+            row_over: Vec::new(),
         };
         if pages.listing.faults.is_empty() {
-            pages.place(listed);
+            let would_row = would_row(listed, epsilon, &pages.listing.rows.rows);
+            pages.passed = Passed::of(listed, &would_row);
+            pages.place(listed, &would_row);
         }
         pages
     }
 
     /// Finds the pair of each row. Rows stand in the order of the pairs.
-    fn place(&mut self, listed: Listed) {
+    fn place(&mut self, listed: Listed, would_row: &[[u64; 2]]) {
+        let mut would_row = would_row.iter().peekable();
         let mut rows = self
             .listing
             .rows
@@ -64,9 +78,14 @@ impl Pages {
             .peekable();
         let mut last = None;
         in_order(listed, |[i, j]| {
+            let would_row = would_row.next_if_eq(&&[i, j]).is_some();
+            let over = listed.passes_over([i, j].map(|index| index as usize));
             if rows.next_if_eq(&[i, j]).is_some() {
                 self.row_at.push(self.all);
+            } else if over && would_row {
+                self.row_over.push(self.all);
             }
+            self.over.push(over);
             if last != Some(i) {
                 self.turn_at.push(self.all);
             }
@@ -103,6 +122,29 @@ impl Pages {
 
     pub fn makes_row(&self, position: u64) -> bool {
         self.row_at.binary_search(&position).is_ok()
+    }
+
+    /// How many pairs the full listing looks at.
+    pub fn looked_at(&self) -> u64 {
+        self.listing.rows.pairs
+    }
+
+    /// Whether the pair at this position is of one trace.
+    pub fn is_over(&self, position: u64) -> bool {
+        self.over.get(position as usize) == Some(&true)
+    }
+
+    /// Whether there is a pair of one trace that would make a row, from one position to before another.
+    pub fn has_row_over(&self, from: u64, to: u64) -> bool {
+        let next = self.row_over.partition_point(|at| *at < from);
+        self.row_over.get(next).is_some_and(|at| *at < to)
+    }
+
+    /// The position of the last row before a position, or none.
+    pub fn last_row(&self, before: u64) -> Option<u64> {
+        self.row_at[..self.rows_before(before).len()]
+            .last()
+            .copied()
     }
 
     /// Whether the pair at this position is the first one of its first segment.

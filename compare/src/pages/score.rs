@@ -69,7 +69,6 @@ pub struct Score {
 
 impl Score {
     pub fn new(call: Call, ours: Ours) -> Score {
-        let paths = if call == Call::Own { 1 } else { 2 };
         Score {
             call,
             ours,
@@ -80,7 +79,7 @@ impl Score {
             no_room: 0,
             sites: Sites::of_pages(call),
             orders: Orders::of(call),
-            kinds: kinds(paths),
+            kinds: kinds(call),
             chains: chain::kinds(call),
             differences: 0,
         }

@@ -37,6 +37,11 @@ pub fn layouts(rng: &mut Rng) -> Vec<Layout> {
     all
 }
 
+/// Whether the first path has pairs by itself, so that traces play a part in each call.
+pub fn has_pairs(layout: &Layout) -> bool {
+    layout.first.path().segments() > 1
+}
+
 fn each(vertices: usize, vertex: impl Fn(usize) -> Vertex) -> Vec<Vertex> {
     (0..vertices).map(vertex).collect()
 }

@@ -1,7 +1,7 @@
 //! A stand-in for the library, right or with a defect, to try the comparison on. It goes pair by pair through a list of them.
 
 use std::cell::{Cell, RefCell};
-use std::collections::HashMap;
+use std::collections::{HashMap, HashSet};
 
 use super::ask::BEYOND_ALL;
 use super::model::{of_page, BEYOND, NO_BUDGET, NO_ROW_FITS};
@@ -9,7 +9,11 @@ use super::Ours;
 use crate::capi::{Rows, Span};
 use crate::crossing::faults::{Fault, Item};
 use crate::crossing::NO_ROOM;
-use crate::listings::model::{no_row_left, row_room, Listed, Listing, Path};
+use crate::listings::model::{row_room, Listed, Listing, Path};
+use crate::listings::sites::OF_A_VERTEX;
+use crate::listings::stand_in::{self, key, passes_over, Key};
+use crate::listings::traces::would_row;
+use crate::vertex::VERTEX;
 
 pub const STAND_IN: Ours = Ours { page, full };
 
@@ -19,17 +23,20 @@ pub fn set(defect: &'static str) {
     LAST.set(None);
 }
 
-/// A listing with its pairs in order, and the row of each, if it makes one.
+/// A listing with its pairs in order, and the row of each, if it makes one. Of a pair of one trace also whether it would make
+/// one.
 struct Given {
     listing: Listing,
     pairs: Vec<[u64; 2]>,
     row: Vec<Option<usize>>,
+    over: Vec<bool>,
+    row_over: Vec<bool>,
 }
 
 impl Given {
     fn new(listed: Listed, epsilon: f64) -> Given {
-        let listing = Listing::new(listed, epsilon);
-        let pairs = match listed {
+        let listing = stand_in::listing(listed, epsilon, &is);
+        let mut pairs = match listed {
             _ if !listing.faults.is_empty() => Vec::new(),
             Listed::Mutual(first, second) => both(first, second),
             Listed::Own(path) => {
@@ -44,6 +51,20 @@ impl Given {
                 pairs
             }
         };
+        let is_over = |pair: &[u64; 2]| passes_over(listed, *pair, &is);
+        if is("pairs of one trace have no position") {
+            pairs.retain(|pair| !is_over(pair));
+        }
+        let over: Vec<bool> = pairs.iter().map(is_over).collect();
+        let would_row = match listing.faults[..] {
+            [] => would_row(listed, epsilon, &listing.rows.rows),
+            _ => Vec::new(),
+        };
+        let would_row: HashSet<[u64; 2]> = would_row.into_iter().collect();
+        let each = pairs.iter().zip(&over);
+        let row_over = each
+            .map(|(pair, over)| *over && would_row.contains(pair))
+            .collect();
         let places = listing.rows.rows.iter().enumerate();
         let row_of: HashMap<[u64; 2], usize> = places.map(|(at, row)| (row.indices, at)).collect();
         let row = pairs.iter().map(|pair| row_of.get(pair).copied()).collect();
@@ -51,6 +72,8 @@ impl Given {
             listing,
             pairs,
             row,
+            over,
+            row_over,
         }
     }
 }
@@ -66,8 +89,6 @@ fn both(first: Path, second: Path) -> Vec<[u64; 2]> {
     pairs
 }
 
-type Key = (Vec<Vec<u64>>, Vec<bool>, u64);
-
 thread_local! {
     /// What is wrong with the stand-in.
     static DEFECT: Cell<&'static str> = const { Cell::new("") };
@@ -80,13 +101,7 @@ fn is(defect: &str) -> bool {
 }
 
 fn page(listed: Listed, epsilon: f64, span: Span, lent: Rows) -> u64 {
-    let paths = listed.paths();
-    let bits = |path: &Path| path.numbers.iter().map(|x| x.to_bits()).collect();
-    let key = (
-        paths.iter().map(bits).collect(),
-        paths.iter().map(|path| path.closed).collect(),
-        epsilon.to_bits(),
-    );
+    let key = key(listed, epsilon);
     LAST.with_borrow_mut(|last| {
         if last.as_ref().is_none_or(|(of, _)| *of != key) {
             *last = Some((key, Given::new(listed, epsilon)));
@@ -165,7 +180,8 @@ fn told(faults: &[Fault]) -> Option<Fault> {
 /// The returned word, right or with a defect in its parts.
 fn word(fault: Fault) -> u64 {
     let Fault { number, mut place } = fault;
-    let of_path = matches!(place.item, Item::X | Item::Y | Item::Bulge | Item::Chord);
+    let at = OF_A_VERTEX.iter().position(|item| *item == place.item);
+    let of_path = at.is_some() || place.item == Item::Chord;
     match place.item {
         _ if is("no place") => return 256 + number,
         _ if is("no index") => place.index = 0,
@@ -176,8 +192,8 @@ fn word(fault: Fault) -> u64 {
         Item::X if is("y for x") => place.item = Item::Y,
         Item::Y if is("the bulge's item for y") => place.item = Item::Bulge,
         Item::Chord if is("a chord's second vertex") => place.index += 1,
-        Item::X | Item::Y | Item::Bulge if is("the number's place in the path") => {
-            place.index = 3 * place.index + place.item as usize - 1;
+        _ if is("the number's place in the path") && at.is_some() => {
+            place.index = VERTEX * place.index + at.expect("it is some");
         }
         Item::Position if is("13 with the epsilon's item") => place.item = Item::Epsilon,
         Item::Budget if is("14 with the position") => place.item = Item::Position,
@@ -233,11 +249,35 @@ fn write(given: &Given, Span { position, budget }: Span, lent: Rows) {
         _ if is("the budget counts rows") => all,
         end => end,
     };
-    let end = end.min(all);
+    let end = match () {
+        _ if is("the budget is without pairs of one trace") => all,
+        _ => end.min(all),
+    };
     let all_rows = &given.listing.rows.rows;
     let mut rows = Vec::new();
     let mut at = position;
+    let of_one_trace = |from: u64, to: u64| {
+        let over = &given.over[from as usize..to as usize];
+        over.iter().filter(|over| **over).count() as u64
+    };
+    // of the budget, if pairs of one trace spend nothing
+    let mut spent = 0;
     while at < end {
+        let over = given.over[at as usize];
+        let full = rows.len() == room;
+        let stops = match () {
+            _ if is("the budget is without pairs of one trace") => spent == budget && !over,
+            _ if is("stops before a pair of one trace that meets") => {
+                full && given.row_over[at as usize]
+            }
+            _ if is("stops before pairs of one trace if no row is left") => full && over,
+            _ if is("stops before pairs of one trace") => over && at > position,
+            _ => false,
+        };
+        if stops {
+            break;
+        }
+        spent += u64::from(!over);
         let pair = given.pairs[at as usize];
         let row = given.row[at as usize].map(|at| &all_rows[at]);
         let lost = is("the first pair's row is lost") && at == position && position > 0;
@@ -259,6 +299,16 @@ fn write(given: &Given, Span { position, budget }: Span, lent: Rows) {
         }
     }
     let stopped = at < end && rows.len() == room;
+    if is("pairs of one trace at the page's end are left") {
+        while at > position + 1 && given.over[at as usize - 1] {
+            at -= 1;
+        }
+    }
+    if is("pairs of one trace behind the page are passed") {
+        while at < all && given.over[at as usize] {
+            at += 1;
+        }
+    }
     if is("the pair without room is passed") && stopped {
         at += 1;
     }
@@ -288,6 +338,14 @@ fn write(given: &Given, Span { position, budget }: Span, lent: Rows) {
     }
     let mut counts = [rows.len() as u64, at - position, at, all];
     match () {
+        _ if is("passed without pairs of one trace") => counts[1] -= of_one_trace(position, at),
+        _ if is("the next position without pairs of one trace") => {
+            counts[2] -= of_one_trace(position, at);
+        }
+        _ if is("all pairs without those of one trace") => counts[3] -= of_one_trace(0, all),
+        _ if is("all pairs without those of one trace passed") => {
+            counts[3] -= of_one_trace(position, at);
+        }
         _ if is("passed and next exchanged") => counts.swap(1, 2),
         _ if is("the end's next is 0") && position == all => counts[2] = 0,
         _ if is("what is left, not all") => counts[3] = all - at,
@@ -305,20 +363,11 @@ fn write(given: &Given, Span { position, budget }: Span, lent: Rows) {
 
 /// The full listing, from the same rows.
 fn full(listed: Listed, epsilon: f64, lent: Rows) -> u64 {
-    let listing = Listing::new(listed, epsilon);
-    let rows = &listing.rows.rows;
-    if row_room(lent.indices.len(), lent.points.len()) < rows.len() {
-        return no_row_left().word();
-    }
-    for (k, row) in rows.iter().enumerate() {
-        let indices = [row.indices[0], row.indices[1], row.class];
-        let mut points = row.points;
-        if is("the full listing has other points") && k == 1 {
-            points[0] += 1.0;
+    let mut listing = stand_in::listing(listed, epsilon, &is);
+    if is("the full listing has other points") {
+        for row in listing.rows.rows.iter_mut().skip(1).take(1) {
+            row.points[0] += 1.0;
         }
-        lent.indices[3 * k..3 * k + 3].copy_from_slice(&indices);
-        lent.points[4 * k..4 * k + 4].copy_from_slice(&points);
     }
-    lent.counts[..2].copy_from_slice(&[rows.len() as u64, listing.rows.pairs]);
-    0
+    stand_in::write(&listing, lent)
 }

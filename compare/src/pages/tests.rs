@@ -5,12 +5,12 @@ use super::model::Pages;
 use super::stand_in::{self, STAND_IN};
 use super::*;
 use crate::crossing::faults::Fault;
+use crate::listings::stand_in::{OF_CHECKS, OF_PAIRS};
 
 const INPUTS: u64 = 1 << 17;
 
 fn drawn(points: &[[f64; 2]], closed: bool) -> Drawn {
-    let numbers = points.iter().flat_map(|[x, y]| [*x, *y, 0.0]).collect();
-    Drawn { numbers, closed }
+    Drawn::of(points.iter().map(|[x, y]| [*x, *y, 0.0]), closed)
 }
 
 /// Two segments with three: of the pairs at 0 to 5, those at 0 and 2 meet.
@@ -75,6 +75,36 @@ fn pages_of_one_path_by_hand() {
     assert_eq!(page(&faulty, 7, 0, 0), Err(0x104));
 }
 
+/// The first layout in tracks: of the pairs at 0 to 5, those at 0, 2 and 4 are of one trace.
+#[test]
+fn pages_with_traces_by_hand() {
+    let mut layout = layout();
+    let give = |drawn: &mut Drawn, traces: &[f64]| {
+        let each = drawn.traces().zip(traces);
+        each.for_each(|(trace, given)| *trace = *given);
+    };
+    give(&mut layout.first, &[1.0, 2.0, 1.0]);
+    give(&mut layout.second, &[1.0, 2.0, 1.0, 2.0]);
+    let pages = Pages::new(layout.listed(Call::Mutual), layout.epsilon);
+    assert_eq!(
+        (pages.all(), pages.looked_at(), pages.rows().len()),
+        (6, 3, 0)
+    );
+    assert_eq!(page(&pages, 0, 1, 1), Ok(vec![0, 1, 1, 6]));
+    assert_eq!(page(&pages, 2, 9, 1), Ok(vec![0, 4, 6, 6]));
+    assert_eq!(page(&pages, 7, 9, 1), Err(0xa_010d));
+    // the row at 2 is left, and the pair at 0, which would make one, is passed
+    give(&mut layout.second, &[1.0, 2.0, -0.0, 0.0]);
+    let pages = Pages::new(layout.listed(Call::Mutual), layout.epsilon);
+    assert_eq!(
+        (pages.all(), pages.looked_at(), pages.rows().len()),
+        (6, 4, 1)
+    );
+    assert_eq!(page(&pages, 0, 2, 1), Ok(vec![0, 2, 2, 6]));
+    assert_eq!(page(&pages, 0, 4, 1), Ok(vec![1, 4, 4, 6, 0, 2]));
+    assert_eq!(page(&pages, 2, 9, 1), Ok(vec![1, 4, 6, 6, 0, 2]));
+}
+
 /// Compares until the first difference.
 fn run(defect: &'static str) -> Run {
     stand_in::set(defect);
@@ -86,6 +116,28 @@ fn run(defect: &'static str) -> Run {
 #[test]
 fn a_right_stand_in_passes() {
     assert_eq!(run("").report(), 0);
+}
+
+/// Pairs of one trace, as they are passed and checked, and counted in positions, budgets and counts.
+#[test]
+fn wrong_traces_are_found() {
+    let others = [
+        "pairs of one trace are counted",
+        "pairs of one trace have no position",
+        "the budget is without pairs of one trace",
+        "passed without pairs of one trace",
+        "the next position without pairs of one trace",
+        "all pairs without those of one trace",
+        "all pairs without those of one trace passed",
+        "stops before a pair of one trace that meets",
+        "stops before pairs of one trace if no row is left",
+        "stops before pairs of one trace",
+        "pairs of one trace at the page's end are left",
+        "pairs of one trace behind the page are passed",
+    ];
+    for defect in OF_PAIRS.into_iter().chain(OF_CHECKS).chain(others) {
+        assert!(!run(defect).goes_on(), "not found: {defect}");
+    }
 }
 
 #[test]

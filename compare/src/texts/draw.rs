@@ -6,6 +6,7 @@ use crate::inputs::Vertex;
 use crate::listings::draw;
 use crate::listings::shapes::{crossed, on_grid};
 use crate::rng::Rng;
+use crate::vertex::VERTEX;
 
 /// A way to draw a text whose form is right.
 pub struct Kind {
@@ -106,7 +107,7 @@ fn as_cut(rng: &mut Rng) -> Sheet {
     let layout = draw::draw(rng);
     let size = rng.pick(&[1.0, 2.0, 4.0, 4.0, 1000.0]);
     let path = |numbers: &[f64]| {
-        let vertices = numbers.chunks_exact(3);
+        let vertices = numbers.chunks_exact(VERTEX);
         let vertices = vertices.take(MOST_VERTICES as usize);
         let path: Vec<Place> = vertices
             .map(|n| of_numbers([n[0], n[1], n[2]], size))

@@ -131,9 +131,9 @@ fn limits() {
     };
     assert_eq!(
         numbers("1 0\n1048576 -1048576 65536\n"),
-        [1_048_576.0, -1_048_576.0, 1.0]
+        [1_048_576.0, -1_048_576.0, 1.0, 0.0]
     );
-    assert_eq!(numbers("1 0\n10 -200 -16384\n"), [10.0, -200.0, -0.25]);
+    assert_eq!(numbers("1 0\n10 -200 -16384\n"), [10.0, -200.0, -0.25, 0.0]);
     let points = |n: usize, m: usize| format!("{n} {m}\n{}", "0 0 0\n".repeat(n + m));
     // points that lie on each other: every pair makes a row
     assert!(printed(&points(17, 33)).starts_with("pairs 512 rows 512\n0 0 one "));

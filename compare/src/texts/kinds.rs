@@ -4,6 +4,7 @@ use super::model::{paths, Answer, CLASSES, MOST_ROWS};
 use crate::crossing::faults::{Fault, Item};
 use crate::form::{BULGE, COORDINATE, MOST_BYTES};
 use crate::listings::layout::Drawn;
+use crate::vertex::VERTEX;
 
 pub struct Case<'a> {
     pub text: &'a [u8],
@@ -51,7 +52,7 @@ impl Seen<'_> {
     /// Whether a path ends with the same vertex twice, with a bulge only at the last one: it belongs to no segment.
     fn ends_in_bulge(&self) -> bool {
         self.paths.iter().any(|path| match path.numbers[..] {
-            [.., x, y, b, x2, y2, b2] => x == x2 && y == y2 && b == 0.0 && b2 != 0.0,
+            [.., x, y, b, _, x2, y2, b2, _] => x == x2 && y == y2 && b == 0.0 && b2 != 0.0,
             _ => false,
         })
     }
@@ -124,7 +125,7 @@ impl Kinds {
                         path.numbers
                             .iter()
                             .skip(which)
-                            .step_by(3)
+                            .step_by(VERTEX)
                             .any(|x| *x == value)
                     };
                     s.is_listed() && s.paths.iter().any(of)

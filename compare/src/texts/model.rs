@@ -76,11 +76,8 @@ pub fn paths(text: &[u8]) -> Option<[Drawn; 2]> {
     form::sheet(text).map(|sheet| sheet.paths.map(|path| drawn(&path)))
 }
 
-/// An open path.
+/// An open path. A text has no traces: they are 0.
 fn drawn(vertices: &[[i64; 3]]) -> Drawn {
     let numbers = |[x, y, bulge]: &[i64; 3]| [*x as f64, *y as f64, *bulge as f64 / 65_536.0];
-    Drawn {
-        numbers: vertices.iter().flat_map(numbers).collect(),
-        closed: false,
-    }
+    Drawn::of(vertices.iter().map(numbers), false)
 }

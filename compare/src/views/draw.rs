@@ -1,13 +1,17 @@
 //! Random paths and rows of every length, and the indices and counts that are asked for.
 
-use super::model::{MOST_VERTICES, ROW, VERTEX};
+use super::model::{MOST_VERTICES, ROW};
 use crate::classes::{magnitude, signed, CLASSES};
 use crate::rng::Rng;
+use crate::vertex::{TRACE, VERTEX};
 
 /// A path of up to this many vertices is asked for each of its segments.
 const SHORT: usize = 24;
 /// Once in this many draws the path is about as long as a path may be, and the rows are many.
 const LONG_ONE_IN: u64 = 128;
+
+/// What a path's traces may be. A view does not ask.
+const TRACES: [f64; 5] = [0.0, -0.0, 1.0, 2.0, 255.0];
 
 /// Every short length, and every length near that of the longest path.
 pub fn lengths() -> impl Iterator<Item = usize> {
@@ -15,7 +19,7 @@ pub fn lengths() -> impl Iterator<Item = usize> {
     (0..16).chain(most - VERTEX..=most + 2 * VERTEX)
 }
 
-/// A path of any numbers and any length; in one of four draws the length is no multiple of 3.
+/// A path of any numbers and any length; in one of four draws the length is no multiple of 4. In one of two its traces are some.
 pub fn path(rng: &mut Rng) -> Vec<f64> {
     let vertices = if rng.one_in(LONG_ONE_IN) {
         MOST_VERTICES - 2 + below(5, rng)
@@ -27,7 +31,13 @@ pub fn path(rng: &mut Rng) -> Vec<f64> {
     } else {
         0
     };
-    numbers(vertices * VERTEX + more, rng)
+    let mut path = numbers(vertices * VERTEX + more, rng);
+    if rng.one_in(2) {
+        for trace in path.iter_mut().skip(TRACE).step_by(VERTEX) {
+            *trace = TRACES[below(TRACES.len(), rng)];
+        }
+    }
+    path
 }
 
 /// Each index of a short path and one beyond its vertices; for a long one those near both ends, and some inside. Always the

@@ -1,22 +1,22 @@
 //! A lent path's segments and the filled part of rows, as in the scope's prose.
 
-/// x, y and bulge.
-pub const VERTEX: usize = 3;
+use crate::vertex::{TRACE, VERTEX};
+
 /// Two points.
 pub const ROW: usize = 4;
 /// The most vertices that a path may have.
 pub const MOST_VERTICES: usize = 4096;
 
-/// Two vertices.
-pub const SEGMENT: usize = 2 * VERTEX;
+/// x, y and bulge of two vertices, and a trace.
+pub const SEGMENT: usize = 2 * TRACE + 1;
 
-/// The first vertex's numbers, then the second's.
+/// The first vertex's numbers but its trace, then the second's, and the first one's trace.
 pub type Segment = [f64; SEGMENT];
 
 /// Why a path has no segments, whatever the index.
 #[derive(Clone, Copy, Debug, PartialEq)]
 pub enum Empty {
-    /// Refusal 6: its length is no multiple of 3.
+    /// Refusal 6: its length is no multiple of 4.
     Length,
     /// Refusal 7: it has more than 4,096 vertices.
     Vertices,
@@ -43,8 +43,9 @@ pub fn segments(path: &[f64], closed: bool) -> Vec<Segment> {
     }
     let vertices: Vec<&[f64]> = path.chunks_exact(VERTEX).collect();
     let joined = |from: &[f64], to: &[f64]| -> Segment {
-        let numbers: Vec<f64> = from.iter().chain(to).copied().collect();
-        numbers.try_into().expect("two vertices")
+        let [from, to, trace] = [&from[..TRACE], &to[..TRACE], &from[TRACE..]];
+        let numbers = [from, to, trace].concat();
+        numbers.try_into().expect("two vertices and a trace")
     };
     let mut all: Vec<Segment> = vertices
         .windows(2)
@@ -69,44 +70,50 @@ pub fn filled(points: &[f64], rows: usize) -> Vec<f64> {
 mod tests {
     use super::*;
 
-    const THREE: [f64; 9] = [0.0, 0.0, 0.5, 4.0, 0.0, -1.0, 4.0, 3.0, 0.25];
+    #[rustfmt::skip]
+    const THREE: [f64; 12] = [
+        0.0, 0.0, 0.5, 7.0,
+        4.0, 0.0, -1.0, 255.0,
+        4.0, 3.0, 0.25, 2.0,
+    ];
 
-    /// The last closed one runs back to vertex 0 with the last bulge.
+    /// The last closed one runs back to vertex 0 with the last bulge and the last trace.
     #[test]
     fn segments_of_three_vertices() {
         let inner = [
-            [0.0, 0.0, 0.5, 4.0, 0.0, -1.0],
-            [4.0, 0.0, -1.0, 4.0, 3.0, 0.25],
+            [0.0, 0.0, 0.5, 4.0, 0.0, -1.0, 7.0],
+            [4.0, 0.0, -1.0, 4.0, 3.0, 0.25, 255.0],
         ];
         assert_eq!(segments(&THREE, false), inner);
-        let back = [4.0, 3.0, 0.25, 0.0, 0.0, 0.5];
+        let back = [4.0, 3.0, 0.25, 0.0, 0.0, 0.5, 2.0];
         assert_eq!(segments(&THREE, true), [inner[0], inner[1], back]);
     }
 
     #[test]
     fn two_vertices_closed_run_there_and_back() {
         let (there, back) = (
-            [0.0, 0.0, 0.5, 4.0, 0.0, -1.0],
-            [4.0, 0.0, -1.0, 0.0, 0.0, 0.5],
+            [0.0, 0.0, 0.5, 4.0, 0.0, -1.0, 7.0],
+            [4.0, 0.0, -1.0, 0.0, 0.0, 0.5, 255.0],
         );
-        assert_eq!(segments(&THREE[..6], false), [there]);
-        assert_eq!(segments(&THREE[..6], true), [there, back]);
+        assert_eq!(segments(&THREE[..8], false), [there]);
+        assert_eq!(segments(&THREE[..8], true), [there, back]);
     }
 
     #[test]
     fn paths_without_segments() {
         for (path, why) in [
             (vec![], Empty::Few),
-            (vec![0.0; 3], Empty::Few),
+            (vec![0.0; 4], Empty::Few),
             (vec![0.0; 1], Empty::Length),
-            (vec![0.0; 8], Empty::Length),
-            (vec![0.0; 3 * 4097], Empty::Vertices),
-            (vec![0.0; 3 * 4097 + 1], Empty::Length),
+            (vec![0.0; 9], Empty::Length),
+            (vec![0.0; 12 + 3], Empty::Length),
+            (vec![0.0; 4 * 4097], Empty::Vertices),
+            (vec![0.0; 4 * 4097 + 1], Empty::Length),
         ] {
             assert_eq!(empty(&path), Some(why));
             assert!(segments(&path, false).is_empty() && segments(&path, true).is_empty());
         }
-        let most = vec![0.0; 3 * 4096];
+        let most = vec![0.0; 4 * 4096];
         assert_eq!(segments(&most, false).len(), 4095);
         assert_eq!(segments(&most, true).len(), 4096);
     }

@@ -2,11 +2,12 @@
 
 use super::draw::room;
 use super::lent::Lent;
-use super::model::{empty, filled, Empty, Segment, ROW, SEGMENT, VERTEX};
+use super::model::{empty, filled, Empty, Segment, ROW, SEGMENT};
 use super::{Ask, Fill};
 use crate::numbers::hex;
 use crate::rng::Rng;
 use crate::tally::Tally;
+use crate::vertex::{TRACE, VERTEX};
 
 const OF_SEGMENTS: [&str; 8] = [
     "inner",
@@ -17,6 +18,15 @@ const OF_SEGMENTS: [&str; 8] = [
     "none, one beyond",
     "none, further",
     "without room",
+];
+/// The trace of a segment that is given.
+const OF_TRACES: [&str; 6] = [
+    "trace 0",
+    "trace -0",
+    "a trace above 0",
+    "a NaN for a trace",
+    "another number for a trace",
+    "the trace of a segment back to vertex 0, another than vertex 0's",
 ];
 const OF_ROWS: [&str; 6] = [
     "no row",
@@ -32,6 +42,7 @@ pub struct Segments {
     ask: Ask,
     tally: Tally,
     kinds: Kinds,
+    traces: Kinds,
 }
 
 impl Segments {
@@ -40,6 +51,7 @@ impl Segments {
             ask,
             tally: Tally::new(name),
             kinds: Kinds::new(name, &OF_SEGMENTS),
+            traces: Kinds::new(name, &OF_TRACES),
         }
     }
 
@@ -63,10 +75,20 @@ impl Segments {
         });
         let kind = kind_of(path.slice(), closed, i, all.len());
         self.kinds.count(if short { "without room" } else { kind });
+        if let Some([.., trace]) = all.get(i).filter(|_| !short) {
+            let back = kind == "back to vertex 0" && *trace != path.slice()[TRACE];
+            self.traces.count(match *trace {
+                _ if back => OF_TRACES[5],
+                x if x == 0.0 => OF_TRACES[usize::from(x.is_sign_negative())],
+                x if (1..256).any(|whole| x == f64::from(whole)) => OF_TRACES[2],
+                x if x.is_nan() => OF_TRACES[3],
+                _ => OF_TRACES[4],
+            });
+        }
     }
 
     pub fn report(&self) -> u64 {
-        self.tally.report() + self.kinds.report()
+        self.tally.report() + self.kinds.report() + self.traces.report()
     }
 }
 

@@ -3,10 +3,13 @@
 use std::fs;
 use std::path::{Path, PathBuf};
 
-use super::model::{ROW, VERTEX};
+use super::model::ROW;
+use crate::vertex::VERTEX;
 
 /// Bulges in a text are in units of 1 / this.
 const BULGE: f64 = 65_536.0;
+/// A text has x, y and bulge of a vertex.
+const IN_A_TEXT: usize = 3;
 
 #[derive(Default)]
 pub struct Stored {
@@ -40,19 +43,27 @@ fn files(folder: &Path) -> std::io::Result<Vec<PathBuf>> {
     Ok(files)
 }
 
-/// The two paths, if the text is two counts and as many whole numbers as they say. Nothing else of the text matters here.
+/// The two paths, if the text is two counts and as many whole numbers as they say. Nothing else of the text matters here. A text
+/// has no traces: they are counted.
 fn paths(text: &str) -> Option<[Vec<f64>; 2]> {
     let words = text.split_whitespace();
     let numbers: Option<Vec<i32>> = words.map(|word| word.parse().ok()).collect();
     let numbers = numbers?;
     let (counts, places) = numbers.split_at_checked(2)?;
-    let first = usize::try_from(counts[0]).ok()? * VERTEX;
-    let second = usize::try_from(counts[1]).ok()? * VERTEX;
+    let first = usize::try_from(counts[0]).ok()? * IN_A_TEXT;
+    let second = usize::try_from(counts[1]).ok()? * IN_A_TEXT;
     if places.len() != first + second {
         return None;
     }
-    let vertex = |v: &[i32]| [f64::from(v[0]), f64::from(v[1]), f64::from(v[2]) / BULGE];
-    let path = |places: &[i32]| places.chunks_exact(VERTEX).flat_map(vertex).collect();
+    let vertex = |v: &[i32], trace: usize| -> [f64; VERTEX] {
+        let [x, y, bulge] = [v[0], v[1], v[2]].map(f64::from);
+        [x, y, bulge / BULGE, trace as f64]
+    };
+    // each trace another than the next one's, so that a segment's is seen
+    let path = |places: &[i32]| {
+        let vertices = places.chunks_exact(IN_A_TEXT).enumerate();
+        vertices.flat_map(|(i, v)| vertex(v, i % 256)).collect()
+    };
     Some([path(&places[..first]), path(&places[first..])])
 }
 
@@ -80,7 +91,10 @@ mod tests {
         let two = paths("2 1\n0 -3 32768\n4 0 0\n1 2 -65536\n").unwrap();
         assert_eq!(
             two,
-            [vec![0.0, -3.0, 0.5, 4.0, 0.0, 0.0], vec![1.0, 2.0, -1.0]]
+            [
+                vec![0.0, -3.0, 0.5, 0.0, 4.0, 0.0, 0.0, 1.0],
+                vec![1.0, 2.0, -1.0, 0.0]
+            ]
         );
         assert_eq!(paths("0 0\n"), Some([vec![], vec![]]));
         for broken in [

@@ -2,7 +2,8 @@
 
 use super::*;
 
-const INPUTS: u64 = 1 << 12;
+/// More than the stored layouts have.
+const INPUTS: u64 = 1 << 14;
 
 /// Numbers written as the library does.
 fn give(numbers: &[f64], out: &mut [f64]) -> usize {
@@ -17,14 +18,30 @@ fn segment(path: &[f64], closed: bool, i: usize, out: &mut [f64]) -> usize {
     if i >= count(path, closed) {
         return 0;
     }
-    let (from, to) = (3 * i, 3 * (i + 1) % path.len());
-    give(&[&path[from..from + 3], &path[to..to + 3]].concat(), out)
+    let (from, to) = (4 * i, 4 * (i + 1) % path.len());
+    let vertices = [&path[from..from + 3], &path[to..to + 3]].concat();
+    give(&[&vertices[..], &[path[from + 3]]].concat(), out)
+}
+
+/// The same with another trace, by the path, the index and the right one.
+fn with_trace(
+    path: &[f64],
+    closed: bool,
+    i: usize,
+    out: &mut [f64],
+    trace: impl Fn(&[f64], usize, f64) -> f64,
+) -> usize {
+    let answer = segment(path, closed, i, out);
+    if answer == 7 {
+        out[6] = trace(path, i, out[6]);
+    }
+    answer
 }
 
 fn count(path: &[f64], closed: bool) -> usize {
     match model::empty(path) {
         Some(_) => 0,
-        None => path.len() / 3 - usize::from(!closed),
+        None => path.len() / 4 - usize::from(!closed),
     }
 }
 
@@ -60,7 +77,7 @@ fn nothing_stored_is_told() {
 
 #[test]
 fn wrong_segments_are_told() {
-    let wrong: [(&str, Ask); 12] = [
+    let wrong: [(&str, Ask); 19] = [
         ("always open", |path, _, i, out| {
             segment(path, false, i, out)
         }),
@@ -73,56 +90,93 @@ fn wrong_segments_are_told() {
         ("ends swapped", |path, closed, i, out| {
             let answer = segment(path, closed, i, out);
             if answer > 0 {
-                out[..answer].rotate_left(3);
+                out[..6].rotate_left(3);
             }
             answer
         }),
         (
             "back to the last one's neighbour",
             |path, closed, i, out| {
-                let last = closed && path.len() >= 6 && i + 1 == path.len() / 3;
+                let last = closed && path.len() >= 8 && i + 1 == path.len() / 4;
                 let answer = segment(path, closed, i, out);
                 if last && answer > 0 {
-                    out[3..6].copy_from_slice(&path[3..6]);
+                    out[3..6].copy_from_slice(&path[4..7]);
                 }
                 answer
             },
         ),
         ("a part of a vertex passed over", |path, closed, i, out| {
-            segment(&path[..path.len() / 3 * 3], closed, i, out)
+            segment(&path[..path.len() / 4 * 4], closed, i, out)
         }),
         ("a vertex more allowed", |path, closed, i, out| {
             match path.len() {
-                12291 if i < 4096 => give(&path[3 * i..3 * i + 6], out),
+                16388 if i < 4096 => {
+                    let (from, to) = (&path[4 * i..4 * i + 4], &path[4 * i + 4..]);
+                    give(&[&from[..3], &to[..3], &from[3..]].concat(), out)
+                }
                 _ => segment(path, closed, i, out),
             }
         }),
         (
             "a vertex fewer allowed",
             |path, closed, i, out| match path.len() {
-                12288 => 0,
+                16384 => 0,
                 _ => segment(path, closed, i, out),
             },
         ),
         ("one vertex makes one", |path, closed, i, out| {
             match path.len() {
-                3 if closed && i == 0 => give(&[path, path].concat(), out),
+                4 if closed && i == 0 => give(&[&path[..3], path].concat(), out),
                 _ => segment(path, closed, i, out),
             }
         }),
         ("an index that wraps round", |path, closed, i, out| {
-            segment(path, closed, i.wrapping_mul(3) / 3, out)
+            segment(path, closed, i.wrapping_mul(4) / 4, out)
         }),
         ("written where there is no room", |path, closed, i, out| {
             let answer = segment(path, closed, i, out);
             if answer == 0 && !out.is_empty() && i < count(path, closed) {
-                out[0] = path[3 * i];
+                out[0] = path[4 * i];
             }
             answer
         }),
         ("a zero's sign lost", |path, closed, i, out| {
             let answer = segment(path, closed, i, out);
             out[..answer].iter_mut().for_each(|x| *x += 0.0);
+            answer
+        }),
+        ("no trace", |path, closed, i, out| {
+            segment(path, closed, i, out).min(6)
+        }),
+        ("the trace 0", |path, closed, i, out| {
+            with_trace(path, closed, i, out, |_, _, _| 0.0)
+        }),
+        ("the second vertex's trace", |path, closed, i, out| {
+            let next = |path: &[f64], i: usize, _| path[4 * (i + 1) % path.len() + 3];
+            with_trace(path, closed, i, out, next)
+        }),
+        (
+            "the closing one with vertex 0's trace",
+            |path, closed, i, out| {
+                let of_0 = |path: &[f64], i: usize, trace| match path.len() / 4 {
+                    n if i + 1 == n => path[3],
+                    _ => trace,
+                };
+                with_trace(path, closed, i, out, of_0)
+            },
+        ),
+        ("a trace's sign lost", |path, closed, i, out| {
+            with_trace(path, closed, i, out, |_, _, trace| trace + 0.0)
+        }),
+        ("a trace as a byte", |path, closed, i, out| {
+            with_trace(path, closed, i, out, |_, _, trace| f64::from(trace as u8))
+        }),
+        ("both traces", |path, closed, i, out| {
+            let answer = segment(path, closed, i, out);
+            if answer == 7 && out.len() > 7 {
+                out[7] = out[6];
+                return 8;
+            }
             answer
         }),
     ];
@@ -139,9 +193,9 @@ fn wrong_segments_are_told() {
 fn wrong_counts_are_told() {
     let wrong: [fn(&[f64], bool) -> usize; 3] = [
         |path, _| count(path, true),
-        |path, closed| count(&path[..path.len().min(3 * 4096)], closed),
+        |path, closed| count(&path[..path.len().min(4 * 4096)], closed),
         |path, closed| {
-            if path.len() == 3 {
+            if path.len() == 4 {
                 usize::from(closed)
             } else {
                 count(path, closed)

@@ -21,6 +21,7 @@ use Rattle.checks.specs.declared.fault.Item.the-variants.{
   Position,
   Budget,
   Boxes,
+  Trace,
 }
 use Rattle.checks.specs.declared.fault.Checked.{Checked}
 use Rattle.checks.specs.declared.fault.Checked.the-variants.{Fine, Bad}
@@ -40,10 +41,11 @@ item Rows = 9
 item Position = 10
 item Budget = 11
 item Boxes = 12
+item Trace = 13
 
 -- how many items there are
 abbrev pub items : ℕ
-items = 13
+items = 14
 
 pub item-below : (i : Item) → item i < items
 item-below Epsilon = omega arith
@@ -59,6 +61,7 @@ item-below Rows = omega arith
 item-below Position = omega arith
 item-below Budget = omega arith
 item-below Boxes = omega arith
+item-below Trace = omega arith
 
 abbrev pub faultNumbers : Checked → List ℕ
 faultNumbers Fine = 0 ∷ []
@@ -79,7 +82,8 @@ item-back n =
     (cond (eqb n 9) Rows
     (cond (eqb n 10) Position
     (cond (eqb n 11) Budget
-    Boxes)))))))))))
+    (cond (eqb n 12) Boxes
+    Trace))))))))))))
 
 pub item-same : (i : Item) → item-back (item i) ≡ i
 unfolding item-back
@@ -96,6 +100,7 @@ item-same Rows = refl
 item-same Position = refl
 item-same Budget = refl
 item-same Boxes = refl
+item-same Trace = refl
 
 back : List ℕ → Checked
 back [] = Fine

@@ -14,6 +14,7 @@ use super::fault::later;
 use super::limit;
 use super::number::between;
 use super::number::inside;
+use super::number::no_trace;
 
 // Whether a point's numbers are both fine, by comparisons alone.
 fn point_inside(x: f64, y: f64) -> bool
@@ -47,7 +48,7 @@ pub fn vertex_inside(x: f64, y: f64, bulge: f64) -> bool
     point_inside(x, y) & inside(limit::BULGE, bulge)
 }
 
-// A vertex of a path, number by number: x, y, then its bulge.
+// A vertex, number by number: x, y, then its bulge.
 fn vertex_by_numbers(f: Checked, x: f64, y: f64, bulge: f64, owner: u64, index: u64) -> Checked
     ensures { λ r. ⌜ r ≡ first (f ∷ Lists.vertexChecks x y bulge owner index) ⌝ }
 {
@@ -55,7 +56,7 @@ fn vertex_by_numbers(f: Checked, x: f64, y: f64, bulge: f64, owner: u64, index: 
     later(a, each::bulge(bulge, at(owner, index, Item::Bulge)))
 }
 
-// A vertex of a path: x, y, then its bulge. Most often all three are fine, and then it answers f.
+// A vertex: x, y, then its bulge. Most often all three are fine, and then it answers f.
 pub fn vertex_after(f: Checked, x: f64, y: f64, bulge: f64, owner: u64, index: u64) -> Checked
     ensures { λ r. ⌜ r ≡ first (f ∷ Lists.vertexChecks x y bulge owner index) ⌝ }
 {
@@ -63,6 +64,29 @@ pub fn vertex_after(f: Checked, x: f64, y: f64, bulge: f64, owner: u64, index: u
         return f;
     }
     vertex_by_numbers(f, x, y, bulge, owner, index)
+}
+
+// Whether the numbers of a path's vertex are all fine, without building a place.
+pub fn traced_inside(x: f64, y: f64, bulge: f64, trace: f64) -> bool
+    ensures { λ r. ⌜ r ≡ Inside.tracedInside x y bulge trace ⌝ }
+{
+    vertex_inside(x, y, bulge) & !no_trace(trace)
+}
+
+// A vertex of a path: x, y, its bulge, then its trace.
+pub fn traced_after(
+    f: Checked,
+    x: f64,
+    y: f64,
+    bulge: f64,
+    trace: f64,
+    owner: u64,
+    index: u64,
+) -> Checked
+    ensures { λ r. ⌜ r ≡ first (f ∷ Lists.tracedChecks x y bulge trace owner index) ⌝ }
+{
+    let a = vertex_after(f, x, y, bulge, owner, index);
+    later(a, each::trace(trace, at(owner, index, Item::Trace)))
 }
 
 // Whether a circle's numbers are all fine, by comparisons alone.

@@ -3,7 +3,7 @@ ghost use mathlib.Core.Path.{_≡_};
 ghost use Rattle.checks.specs.Fault as fault;
 
 // Which of the owner's numbers. `Length` is how many numbers a path has, `Rows` how many rows a listing has or has room for;
-// `Position` and `Budget` are a page's, and `Boxes` is a boxed listing's index.
+// `Position` and `Budget` are a page's, `Boxes` is a boxed listing's index, and `Trace` is a path's vertex's.
 pub enum Item {
     Epsilon,
     X,
@@ -18,6 +18,7 @@ pub enum Item {
     Position,
     Budget,
     Boxes,
+    Trace,
 }
 
 // Where a number stands in a call.

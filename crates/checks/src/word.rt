@@ -35,6 +35,7 @@ pub fn item_number(item: Item) -> u64
         Item::Position => 10,
         Item::Budget => 11,
         Item::Boxes => 12,
+        Item::Trace => 13,
     }
 }
 

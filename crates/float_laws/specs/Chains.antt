@@ -1,17 +1,17 @@
 -- Chains of comparisons, for all floats: with a NaN no comparison says yes, and an infinity lies beyond every finite float.
-use mathlib.Core.Path.{_≡_, refl, sym, subst}
+use mathlib.Core.Path.{_≡_, refl, sym, ap, subst}
 use Prim.Native.Nat.{ℕ, _+_, _*_, _≤_, _<_}
-use native.Mathlib.Nat.{mul-le-mul-right, mul-lt-mul-of-pos-right, lt-of-mul-lt-mul-right}
+use native.Mathlib.Nat.{mul-le-mul-right, mul-lt-mul-of-pos-right, lt-of-mul-lt-mul-right, le-of-mul-le-mul-right, le-antisymm}
 use native.Mathlib.Omega.{arith}
 use mathlib.Core.Bool.{Bool, true, false, not, true≢false}
 use borrow.Author.Tests.{ltb-true, ltb-false}
 use lib.Dec.{T, not-T, ltb}
 use lib.IntN.{ℤ}
-use lib.Ieee.{Float, nan, inf, fin, up, down, neg, isNan, lt, le}
+use lib.Ieee.{Float, nan, inf, fin, up, down, neg, isNan, lt, le, eq}
 use lib.Ieee.Fits.{down-pos}
 use lib.Ieee.Scale.{finite}
 use Rattle.float_laws.specs.Signed.{Diff, ups, downs, own-diff, neg-diff}
-use Rattle.float_laws.specs.Order.{lt-diff, le-diff}
+use Rattle.float_laws.specs.Order.{lt-diff, le-diff, eq-diff}
 
 -- a finite float, as it is written
 pub written-diff : (s : Bool) (m : ℕ) (e : ℤ) → Diff (fin s m e) (ups s (m * up e)) (downs s (m * up e)) (down e)
@@ -178,6 +178,71 @@ le-trans x y z h g = not-below x z (le-numbers x y h .0) (le-numbers y z g .1) (
     go : (b : Bool) → lt z x ≡ b → lt z x ≡ false
     go false e = e
     go true e = absurd (not-both y z g (lt-le z x y (subst T (sym e) tt) h))
+
+-- ---- equality: of a number with itself, both ways, and over a third
+pub eq-self : (x : Float) → isNan x ≡ false → T (eq x x)
+unfolding eq isNan
+eq-self nan h = absurd (true≢false h)
+eq-self (inf true) h = tt
+eq-self (inf false) h = tt
+eq-self (fin s m e) h =
+    let E = down-pos e in
+    eq-diff (fin s m e) (fin s m e) _ _ _ _ _ _ E E (written-diff s m e) (written-diff s m e) .1 refl
+
+pub eq-sym : (x y : Float) → T (eq x y) → T (eq y x)
+unfolding eq
+eq-sym nan y h = absurd h
+eq-sym (inf s) nan h = absurd h
+eq-sym (inf true) (inf true) h = tt
+eq-sym (inf true) (inf false) h = absurd h
+eq-sym (inf false) (inf true) h = absurd h
+eq-sym (inf false) (inf false) h = tt
+eq-sym (inf s) (fin t n d) h = absurd h
+eq-sym (fin s m e) nan h = absurd h
+eq-sym (fin s m e) (inf t) h = absurd h
+eq-sym (fin s m e) (fin t n d) h =
+    let E = down-pos e in
+    let D = down-pos d in
+    eq-diff (fin t n d) (fin s m e) _ _ _ _ _ _ D E (written-diff t n d) (written-diff s m e) .1
+    (sym (eq-diff (fin s m e) (fin t n d) _ _ _ _ _ _ E D (written-diff s m e) (written-diff t n d) .0 h))
+
+pub eq-trans : (x y z : Float) → T (eq x y) → T (eq y z) → T (eq x z)
+unfolding eq
+eq-trans nan y z h g = absurd h
+eq-trans (inf s) nan z h g = absurd h
+eq-trans (inf s) (inf t) nan h g = absurd g
+eq-trans (inf true) (inf true) (inf u) h g = g
+eq-trans (inf true) (inf false) (inf u) h g = absurd h
+eq-trans (inf false) (inf true) (inf u) h g = absurd h
+eq-trans (inf false) (inf false) (inf u) h g = g
+eq-trans (inf s) (inf t) (fin u o k) h g = absurd g
+eq-trans (inf s) (fin t n d) z h g = absurd h
+eq-trans (fin s m e) nan z h g = absurd h
+eq-trans (fin s m e) (inf t) z h g = absurd h
+eq-trans (fin s m e) (fin t n d) nan h g = absurd g
+eq-trans (fin s m e) (fin t n d) (inf u) h g = absurd g
+eq-trans (fin s m e) (fin t n d) (fin u o k) h g =
+    let E = down-pos e in
+    let D = down-pos d in
+    let K = down-pos k in
+    eq-diff (fin s m e) (fin u o k) _ _ _ _ _ _ E K (written-diff s m e) (written-diff u o k) .1
+    (over-y _ _ (down e) _ _ (down d) _ _ (down k) D
+    (eq-diff (fin s m e) (fin t n d) _ _ _ _ _ _ E D (written-diff s m e) (written-diff t n d) .0 h)
+    (eq-diff (fin t n d) (fin u o k) _ _ _ _ _ _ D K (written-diff t n d) (written-diff u o k) .0 g))
+  where
+    over-y : (a b c p q d v w f : ℕ) → 0 < d → a * d + q * c ≡ p * c + b * d → p * f + w * d ≡ v * d + q * f
+        → a * f + w * c ≡ v * c + b * f
+    over-y a b c p q d v w f D i j =
+        let l = ap (λ (n : ℕ). n * f) i in
+        let r = ap (λ (n : ℕ). n * c) j in
+        let all : (a * f + w * c) * d ≡ (v * c + b * f) * d = sums a b c p q d v w f l r in
+        le-antisymm
+        (le-of-mul-le-mul-right {m = a * f + w * c} {n = v * c + b * f} {k = d} (omega (arith, all)) D)
+        (le-of-mul-le-mul-right {m = v * c + b * f} {n = a * f + w * c} {k = d} (omega (arith, all)) D)
+      where
+        sums : (a b c p q d v w f : ℕ) → (a * d + q * c) * f ≡ (p * c + b * d) * f → (p * f + w * d) * c ≡ (v * d + q * f) * c
+            → (a * f + w * c) * d ≡ (v * c + b * f) * d
+        sums a b c p q d v w f l r = omega (arith, l, r)
 
 -- ---- between two finite floats lie finite ones
 pub between-finite : (x y z : Float) → T (finite x) → T (finite z) → T (le x y) → T (le y z) → T (finite y)

@@ -1,4 +1,5 @@
--- The promise on joints and folds: neighbouring lines of one path make a row exactly if they share more than one point. It is
+-- The promise on joints and folds: neighbouring lines of one path make a row exactly if they share more than one point and are
+-- not of one trace. It is
 -- stated here, in the words of Promise and of Neighbours of listing_pairs, and proved in JointsProved.
 use Prim.Native.Nat.{ℕ, _+_, _<_}
 use mathlib.Core.Path.{_≡_}
@@ -17,10 +18,10 @@ use Rattle.arcs.specs.declared.pline_seg_intr.PlineSegIntr.the-variants.{OneInt
 use Rattle.paths.specs.Segments.{segmentCount}
 use Rattle.listing_pairs.specs.declared.row.Row.{Row}
 use Rattle.listing_pairs.specs.declared.row.Look.the-variants.{Made}
-use Rattle.listing_pairs.specs.Look.{selfLook}
+use Rattle.listing_pairs.specs.Look.{tracedSelfLook}
 use Rattle.listing_pairs.specs.Neighbours.{onlyAt, atJoint}
 use Rattle.listing_calls.specs.Complete.{pairOf}
-use Rattle.grid.specs.Promise.{Spot, On, Epsilon, ShareMore, GridLine}
+use Rattle.grid.specs.Promise.{Spot, On, Epsilon, ShareMore, GridLine, OtherTraces}
 
 -- ---- two lines with a common end. What is promised if they met like this and `near` is a test for points near that end: they
 -- meet in no other point exactly if they share no more than one, and then in an OneIntersect near the end; else in an overlap.
@@ -67,13 +68,13 @@ Neighbours path closed i j =
 
 -- they make a row in a self listing
 abbrev pub MakesRow : List Float → Bool → Float → ℕ → ℕ → Type 0
-MakesRow path closed e i j = (r : Row) × (selfLook path closed e i j ≡ Made r)
+MakesRow path closed e i j = (r : Row) × (tracedSelfLook path closed e i j ≡ Made r)
 
 -- neighbours that are lines between grid points are at a joint exactly if they share no more than one point, and make a row
--- exactly if they share more
+-- exactly if they share more and are not of one trace
 abbrev pub FoldPromise : Type 0
 FoldPromise = (path : List Float) (closed : Bool) (e : Float) (num den : ℕ) → Epsilon e num den
     → (i j : ℕ) → Neighbours path closed i j
     → (p1 p2 q1 q2 : Spot) → GridLine path i p1 p2 → GridLine path j q1 q2
     → ((atJoint path closed (segmentCount path closed) e i j (pairOf path path e i j) ≡ true) ↔ (¬ ShareMore p1 p2 q1 q2))
-    × (MakesRow path closed e i j ↔ ShareMore p1 p2 q1 q2)
+    × (MakesRow path closed e i j ↔ (ShareMore p1 p2 q1 q2 × OtherTraces path path i j))

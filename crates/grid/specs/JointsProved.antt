@@ -24,11 +24,12 @@ use Rattle.paths.specs.Segments.{segmentCount, after, segmentFrom}
 use Rattle.paths.specs.Laws.Segments.{count-within}
 use Rattle.listing_pairs.specs.declared.row.Row.{Row}
 use Rattle.listing_pairs.specs.declared.row.Look.{Look}
-use Rattle.listing_pairs.specs.declared.row.Look.the-variants.{Nothing, Made}
+use Rattle.listing_pairs.specs.declared.row.Look.the-variants.{Skipped, Nothing, Made}
 use Rattle.listing_pairs.specs.Row.{row}
 use Rattle.listing_pairs.specs.Look.{look, selfLook}
+use Rattle.listing_pairs.specs.Traces.{oneTrace, traced}
 use Rattle.listing_pairs.specs.Neighbours.{sharedVertices, nearSome, atJoint}
-use Rattle.listing_calls.specs.Complete.{pairOf, makes}
+use Rattle.listing_calls.specs.Complete.{pairOf, makes-looked}
 use Rattle.grid.specs.Promise.{Spot, On, ShareMore}
 use Rattle.grid.specs.Joints.{Seen, EndOf, nearTo, JointPromise, ThreeWays, BackPromise, FoldPromise}
 use Rattle.grid.specs.Plane.Joints.{AnEnd, start-shared, end-shared, there-and-back}
@@ -173,11 +174,25 @@ not-silent : (b : Bool) (l : Look) (r : Row) → cond b Nothing l ≡ Made r →
 not-silent true l r e = let z : _≡_ {A = ℕ} 0 1 = cc in absurd (omega (arith, z))
 not-silent false l r e = refl
 
+-- nor does one that is skipped
+not-skipped : (b : Bool) (l : Look) (r : Row) → cond b Skipped l ≡ Made r → b ≡ false
+not-skipped true l r e = let z : _≡_ {A = ℕ} 0 1 = cc in absurd (omega (arith, z))
+not-skipped false l r e = refl
+
 pub fold-promise : FoldPromise
-unfolding atJoint selfLook look
-fold-promise path closed e num den small i j (rises, within, beside) p1 p2 q1 q2 (on-v1, on-v2, line-v) (on-u1, on-u2, line-u) =
-    (s .only-there, (λ r. s .elsewhere .0 (not-silent _ _ (r .0) (r .1)), λ m. (row i j met, rw (s .elsewhere .1 m) (made m))))
+unfolding atJoint selfLook look traced
+fold-promise path closed e num den small i j (rises, within, beside) p1 p2 q1 q2 (on-v1, on-v2, line-v) (on-u1, on-u2, line-u) = (
+  s .only-there,
+  (
+    λ r. let looked = not-skipped one _ (r .0) (r .1) in
+        (s .elsewhere .0 (not-silent _ _ (r .0) (rw looked at (r .1))), looked),
+    λ h. (row i j met, rw (h .1) (rw (s .elsewhere .1 (h .0)) (made (h .0)))),
+  ),
+)
   where
+    one : Bool
+    one = oneTrace path path (record { i = i; j = j })
+
     n : ℕ
     n = segmentCount path closed
 
@@ -197,4 +212,4 @@ fold-promise path closed e num den small i j (rises, within, beside) p1 p2 q1 q2
     apart r p q h k = let z : _≡_ {A = ℕ} 0 1 = cc in omega arith
 
     made : ShareMore p1 p2 q1 q2 → look path path e i j ≡ Made (row i j met)
-    made m = let k = s .overlap .1 m in makes path path e i j (class-above met (apart met (k .0) (k .1) (k .2)))
+    made m = let k = s .overlap .1 m in makes-looked path path e i j (class-above met (apart met (k .0) (k .1) (k .2)))

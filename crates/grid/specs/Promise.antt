@@ -17,6 +17,7 @@ use Rattle.arcs.specs.declared.pline_seg_intr.PlineSegIntr.{PlineSegIntr}
 use Rattle.arcs.specs.declared.pline_seg_intr.PlineSegIntr.the-variants.{NoIntersect, OneIntersect, OverlappingLines}
 use Rattle.crossing.specs.declared.pline_seg_intersect.PlineSegAnswer.the-variants.{Met}
 use Rattle.paths.specs.Segments.{segmentFrom, segmentCount}
+use Rattle.listing_pairs.specs.Traces.{oneTrace}
 use Rattle.listing_outcomes.specs.declared.answer.ListingAnswer.the-variants.{Listed}
 use Rattle.listing_calls.specs.Listing.{mutualListing}
 use Rattle.listing_calls.specs.Boxed.{mutualBoxed}
@@ -126,9 +127,12 @@ Promise = (v1 v2 u1 u2 : PlineVertex) (p1 p2 q1 q2 : Spot) (e : Float) (num den 
     → (r : PlineSegIntr) × (plineSegIntr v1 v2 u1 u2 e ≡ Met r) × Promised p1 p2 q1 q2 num den r
 
 -- ---- sentence 5. Segment k of a path is a line between grid points. If two paths were listed and not refused, two such lines
--- that share a point have a row.
+-- that share a point have a row, unless they are of one trace: request 8 passes over pairs of the same trace above 0.
 abbrev pub GridLine : List Float → ℕ → Spot → Spot → Type 0
 GridLine path k a b = let s = segmentFrom path k in On (s .v1) a × On (s .v2) b × T (bulgeIsZero (s .v1))
+
+abbrev pub OtherTraces : List Float → List Float → ℕ → ℕ → Type 0
+OtherTraces first second i j = oneTrace first second (record { i = i; j = j }) ≡ false
 
 abbrev pub ListingPromise : Type 0
 ListingPromise = (first : List Float) (closed : Bool) (second : List Float) (closed′ : Bool) (e : Float) (num den : ℕ)
@@ -137,7 +141,7 @@ ListingPromise = (first : List Float) (closed : Bool) (second : List Float) (clo
     o .answer ≡ Listed rows pairs
     → (i j : ℕ) → i < segmentCount first closed → j < segmentCount second closed′
     → (p1 p2 q1 q2 : Spot) → GridLine first i p1 p2 → GridLine second j q1 q2
-    → Share p1 p2 q1 q2 → HasRow rows (o .indices) i j
+    → Share p1 p2 q1 q2 → OtherTraces first second i j → HasRow rows (o .indices) i j
 
 -- the same of a chain of pages: if it went from the first pair to the end and no call was refused, its joined rows have the row
 abbrev pub PagesPromise : Type 0
@@ -147,7 +151,7 @@ PagesPromise = (first : List Float) (closed : Bool) (second : List Float) (close
     all .refused ≡ false → all .next ≡ mutualEnd first closed second closed′ e
     → (i j : ℕ) → i < segmentCount first closed → j < segmentCount second closed′
     → (p1 p2 q1 q2 : Spot) → GridLine first i p1 p2 → GridLine second j q1 q2
-    → Share p1 p2 q1 q2 → HasRow (all .rows) (all .indices) i j
+    → Share p1 p2 q1 q2 → OtherTraces first second i j → HasRow (all .rows) (all .indices) i j
 
 -- and the same of a boxed listing
 abbrev pub BoxedPromise : Type 0
@@ -157,4 +161,4 @@ BoxedPromise = (first : List Float) (closed : Bool) (second : List Float) (close
     o .answer ≡ Listed rows pairs
     → (i j : ℕ) → i < segmentCount first closed → j < segmentCount second closed′
     → (p1 p2 q1 q2 : Spot) → GridLine first i p1 p2 → GridLine second j q1 q2
-    → Share p1 p2 q1 q2 → HasRow rows (o .indices) i j
+    → Share p1 p2 q1 q2 → OtherTraces first second i j → HasRow rows (o .indices) i j

@@ -98,18 +98,18 @@ module _ (first second : List Float) (e : Float) (num den : ℕ) (small : Epsilo
       class-above (plineSeg (a .v1) (a .v2) (b .v1) (b .v2) e) (λ none. k .none-missed none share)
 
 pub listing-promise : ListingPromise
-listing-promise first closed second closed′ e num den indices points rows pairs small is i j hi hj p1 p2 q1 q2 v u share =
+listing-promise first closed second closed′ e num den indices points rows pairs small is i j hi hj p1 p2 q1 q2 v u share other =
     complete first closed second closed′ e indices points rows pairs is i j hi hj
-    (above first second e num den small i j p1 p2 q1 q2 v u share)
+    (above first second e num den small i j p1 p2 q1 q2 v u share) other
 
 pub pages-promise : PagesPromise
-pages-promise first closed second closed′ e num den lents small fine end i j hi hj p1 p2 q1 q2 v u share =
+pages-promise first closed second closed′ e num den lents small fine end i j hi hj p1 p2 q1 q2 v u share other =
     chain-complete first closed second closed′ e lents fine end i j hi hj
-    (above first second e num den small i j p1 p2 q1 q2 v u share)
+    (above first second e num den small i j p1 p2 q1 q2 v u share) other
 
 pub boxed-promise : BoxedPromise
 unfolding boxesMeet
-boxed-promise first closed second closed′ e num den boxes indices points rows pairs small is i j hi hj p1 p2 q1 q2 v u share =
+boxed-promise first closed second closed′ e num den boxes indices points rows pairs small is i j hi hj p1 p2 q1 q2 v u share other =
     boxed-complete first closed second closed′ e boxes indices points rows pairs is i j hi hj
     (segment-boxes-meet first second e num den small i j p1 p2 q1 q2 v u share)
-    (above first second e num den small i j p1 p2 q1 q2 v u share)
+    (above first second e num den small i j p1 p2 q1 q2 v u share) other

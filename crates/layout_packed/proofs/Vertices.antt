@@ -9,7 +9,7 @@ use lib.Seq.{sets}
 use lib.Ieee.{Float}
 use Rattle.layouts.specs.Limits.{numbersAVertex}
 use Rattle.layouts.specs.Layout.{Vertex, whole, wholeVertex}
-use Rattle.layouts.specs.Numbers.{coordinate, bulge, pathOf}
+use Rattle.layouts.specs.Numbers.{coordinate, bulge, trace, pathOf}
 use Rattle.layout_packed.specs.Limits as written
 use Rattle.layout_packed.specs.Workings.Reader.{Got, fault, got, andThen, Skipped, stuck, over, passed}
 use Rattle.layout_packed.specs.Workings.Reader.{numberFrom, negative, size, meant, vertexFrom, verticesFrom}
@@ -84,16 +84,18 @@ stored (fault at) old k = gone
 stored (got vs at rest) old k = holds (sets old k (pathOf vs))
 
 after-stored : (v : Vertex) (g : Got (List Vertex)) (old : List Float) (k : ℕ)
-    → stored g (sets old k (pathOf (v ∷ []))) (suc (suc (suc k))) ≡ stored (andThen g (λ vs at r. got (v ∷ vs) at r)) old k
+    → stored g (sets old k (pathOf (v ∷ []))) (suc (suc (suc (suc k)))) ≡ stored (andThen g (λ vs at r. got (v ∷ vs) at r)) old k
 after-stored v (fault at) old k = refl
 after-stored v (got vs at r) old k = refl
 
--- three floats written one after the other
-three-set : (old : List Float) (k : ℕ) (x y b : Float) → set (set (set old k x) (k + 1) y) (k + 2) b ≡ sets old k (x ∷ y ∷ b ∷ [])
-three-set old k x y b =
+-- four floats written one after the other
+four-set : (old : List Float) (k : ℕ) (x y b t : Float)
+    → set (set (set (set old k x) (k + 1) y) (k + 2) b) (k + 3) t ≡ sets old k (x ∷ y ∷ b ∷ t ∷ [])
+four-set old k x y b t =
     let one : k + 1 ≡ suc k = omega arith in
     let two : k + 2 ≡ suc (suc k) = omega arith in
-    rw (one, two)
+    let three : k + 3 ≡ suc (suc (suc k)) = omega arith in
+    rw (one, two, three)
 
 -- `all` is what stands once all vertices are written, and i of n are written to `old`, up to k
 module _ (bytes : List ℕ) (n i at : ℕ) (all : Stored) (old : List Float) (k : ℕ)
@@ -106,17 +108,17 @@ module _ (bytes : List ℕ) (n i at : ℕ) (all : Stored) (old : List Float) (k 
     store-fault place e = rw (vertices-fault n i at _ inside (no-vertex bytes is e)) at inv
 
     pub store-vertex : (x-minus y-minus b-minus : Bool) (x y b next : ℕ) → r ≡ Corner·.At x-minus x y-minus y b-minus b next
-        → (vx vy vb : Float) → vx ≡ coordinate (whole x-minus x) → vy ≡ coordinate (whole y-minus y)
-        → vb ≡ bulge (whole b-minus b)
-        → stored (verticesFrom (n - (i + 1)) next (drop next bytes)) (set (set (set old k vx) (k + 1) vy) (k + 2) vb)
-        (k + numbersAVertex)
+        → (vx vy vb vt : Float) → vx ≡ coordinate (whole x-minus x) → vy ≡ coordinate (whole y-minus y)
+        → vb ≡ bulge (whole b-minus b) → vt ≡ trace
+        → stored (verticesFrom (n - (i + 1)) next (drop next bytes))
+        (set (set (set (set old k vx) (k + 1) vy) (k + 2) vb) (k + 3) vt) (k + numbersAVertex)
         ≡ all
-    store-vertex x-minus y-minus b-minus x y b next e vx vy vb ex ey eb =
+    store-vertex x-minus y-minus b-minus x y b next e vx vy vb vt ex ey eb et =
         let v = wholeVertex x-minus x y-minus y b-minus b in
-        let three : k + numbersAVertex ≡ suc (suc (suc k)) = omega arith in
-        let written : set (set (set old k vx) (k + 1) vy) (k + 2) vb ≡ sets old k (pathOf (v ∷ [])) =
-        three-set old k vx vy vb ∙ rw (ex, ey, eb) in
-        rw (written, three) (after-stored v (verticesFrom (n - (i + 1)) next (drop next bytes)) old k)
+        let four : k + numbersAVertex ≡ suc (suc (suc (suc k))) = omega arith in
+        let written : set (set (set (set old k vx) (k + 1) vy) (k + 2) vb) (k + 3) vt ≡ sets old k (pathOf (v ∷ [])) =
+        four-set old k vx vy vb vt ∙ rw (ex, ey, eb, et) in
+        rw (written, four) (after-stored v (verticesFrom (n - (i + 1)) next (drop next bytes)) old k)
         ∙ rw (vertices-more n i at _ inside (a-vertex bytes is e)) at inv
 
 pub filled-fault : (h : Got (List Vertex)) (old now : List Float) → gone ≡ stored h old 0 → Filled h old now

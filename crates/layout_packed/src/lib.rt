@@ -23,7 +23,7 @@ pub enum Unpacking {
     NoRoom,
 }
 
-// Reads a packed file. It writes the vertices of the two paths, three numbers each, to the front of the two buffers; the rest of
+// Reads a packed file. It writes the vertices of the two paths, four numbers each, to the front of the two buffers; the rest of
 // the buffers is unchanged. If the file breaks its form or a buffer is too small, nothing is written.
 pub fn read_packed(bytes: &[u8], first: &mut [f64], second: &mut [f64]) -> Unpacking
     ensures { λ r. ⌜

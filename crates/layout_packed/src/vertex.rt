@@ -83,7 +83,7 @@ pub(crate) fn skip(bytes: &[u8], start: usize, n: u64) -> Place
     Place::At(at)
 }
 
-// Writes n vertices, three floats each, to the front of `out`, if the file has all of them.
+// Writes n vertices, four floats each, to the front of `out`, if the file has all of them.
 pub(crate) fn fill(bytes: &[u8], start: usize, n: u64, out: &mut [f64])
     requires { ⌜ n * limit.numbersAVertex ≤ length (now out) ⌝ }
     ensures { λ _. ⌜ Filled (verticesFrom n start (drop start (now (bytes .entry)))) (now (out .entry)) (now (out .exit)) ⌝ }
@@ -101,6 +101,7 @@ pub(crate) fn fill(bytes: &[u8], start: usize, n: u64, out: &mut [f64])
                 out[to] = value::coordinate(x_minus, x);
                 out[to + 1] = value::coordinate(y_minus, y);
                 out[to + 2] = value::bulge(b_minus, b);
+                out[to + 3] = value::TRACE;
                 at = next;
             }
         }

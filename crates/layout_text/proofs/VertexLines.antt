@@ -10,7 +10,7 @@ use lib.Ieee.{Float}
 use Rattle.layouts.specs.Limits as limit
 use Rattle.layouts.specs.Limits.{numbersAVertex}
 use Rattle.layouts.specs.Layout.{Vertex, whole, wholeVertex}
-use Rattle.layouts.specs.Numbers.{coordinate, bulge, pathOf}
+use Rattle.layouts.specs.Numbers.{coordinate, bulge, trace, pathOf}
 use Rattle.layout_text.specs.Workings.Reader.{
   Got,
   nothing,
@@ -88,16 +88,18 @@ stored nothing old k = gone
 stored (got vs rest) old k = holds (sets old k (pathOf vs))
 
 after-stored : (v : Vertex) (g : Got (List Vertex)) (old : List Float) (k : ℕ)
-    → stored g (sets old k (pathOf (v ∷ []))) (suc (suc (suc k))) ≡ stored (andThen g (λ vs r. got (v ∷ vs) r)) old k
+    → stored g (sets old k (pathOf (v ∷ []))) (suc (suc (suc (suc k)))) ≡ stored (andThen g (λ vs r. got (v ∷ vs) r)) old k
 after-stored v nothing old k = refl
 after-stored v (got vs r) old k = refl
 
--- three numbers written one after the other
-three-set : (old : List Float) (k : ℕ) (x y b : Float) → set (set (set old k x) (k + 1) y) (k + 2) b ≡ sets old k (x ∷ y ∷ b ∷ [])
-three-set old k x y b =
+-- four numbers written one after the other
+four-set : (old : List Float) (k : ℕ) (x y b t : Float)
+    → set (set (set (set old k x) (k + 1) y) (k + 2) b) (k + 3) t ≡ sets old k (x ∷ y ∷ b ∷ t ∷ [])
+four-set old k x y b t =
     let one : k + 1 ≡ suc k = omega arith in
     let two : k + 2 ≡ suc (suc k) = omega arith in
-    rw (one, two)
+    let three : k + 3 ≡ suc (suc (suc k)) = omega arith in
+    rw (one, two, three)
 
 -- `all` is what stands once all lines are written, and i of n are written to `old`, up to k
 module _ (text : List ℕ) (n i at : ℕ) (all : Stored) (old : List Float) (k : ℕ)
@@ -110,16 +112,17 @@ module _ (text : List ℕ) (n i at : ℕ) (all : Stored) (old : List Float) (k :
     store-broken e = rw (lines-broken n i _ inside (no-line text is e)) at inv
 
     pub store-line : (x-minus y-minus b-minus : Bool) (x y b next : ℕ) → r ≡ Corner·.At x-minus x y-minus y b-minus b next
-        → (vx vy vb : Float)
-        → vx ≡ coordinate (whole x-minus x) → vy ≡ coordinate (whole y-minus y) → vb ≡ bulge (whole b-minus b)
-        → stored (verticesOf (n - (i + 1)) (drop next text)) (set (set (set old k vx) (k + 1) vy) (k + 2) vb) (k + numbersAVertex)
+        → (vx vy vb vt : Float)
+        → vx ≡ coordinate (whole x-minus x) → vy ≡ coordinate (whole y-minus y) → vb ≡ bulge (whole b-minus b) → vt ≡ trace
+        → stored (verticesOf (n - (i + 1)) (drop next text)) (set (set (set (set old k vx) (k + 1) vy) (k + 2) vb) (k + 3) vt)
+        (k + numbersAVertex)
         ≡ all
-    store-line x-minus y-minus b-minus x y b next e vx vy vb is-x is-y is-b =
+    store-line x-minus y-minus b-minus x y b next e vx vy vb vt is-x is-y is-b is-t =
         let v = wholeVertex x-minus x y-minus y b-minus b in
-        let three : k + numbersAVertex ≡ suc (suc (suc k)) = omega arith in
-        let numbered : vx ∷ vy ∷ vb ∷ [] ≡ pathOf (v ∷ []) = rw (is-x, is-y, is-b) in
-        let written = three-set old k vx vy vb ∙ ap (sets old k) numbered in
-        rw (written, three) (after-stored v (verticesOf (n - (i + 1)) (drop next text)) old k)
+        let four : k + numbersAVertex ≡ suc (suc (suc (suc k))) = omega arith in
+        let numbered : vx ∷ vy ∷ vb ∷ vt ∷ [] ≡ pathOf (v ∷ []) = rw (is-x, is-y, is-b, is-t) in
+        let written = four-set old k vx vy vb vt ∙ ap (sets old k) numbered in
+        rw (written, four) (after-stored v (verticesOf (n - (i + 1)) (drop next text)) old k)
         ∙ rw (lines-read n i _ inside (a-line text is e)) at inv
 
 pub filled-broken : (h : Got (List Vertex)) (old now : List Float) → gone ≡ stored h old 0 → Filled h old now

@@ -28,7 +28,7 @@ pub enum Reading {
     NoRoom,
 }
 
-// Reads a text. It writes the vertices of the two paths, three numbers each, to the front of the two buffers; the rest of the
+// Reads a text. It writes the vertices of the two paths, four numbers each, to the front of the two buffers; the rest of the
 // buffers is unchanged. If the text breaks its form or a buffer is too small, nothing is written.
 pub fn read_layout(text: &[u8], first: &mut [f64], second: &mut [f64]) -> Reading
     ensures { λ r. ⌜

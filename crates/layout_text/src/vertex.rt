@@ -75,7 +75,7 @@ pub(crate) fn skip(text: &[u8], start: usize, n: u64) -> Place
     Place::At(at)
 }
 
-// Writes n vertices, three numbers each, to the front of `out`, if the text has all of them.
+// Writes n vertices, four numbers each, to the front of `out`, if the text has all of them.
 pub(crate) fn fill(text: &[u8], start: usize, n: u64, out: &mut [f64])
     requires { ⌜ n * limit.numbersAVertex ≤ length (now out) ⌝ }
     ensures { λ _. ⌜ Filled (verticesOf n (drop start (now (text .entry)))) (now (out .entry)) (now (out .exit)) ⌝ }
@@ -93,6 +93,7 @@ pub(crate) fn fill(text: &[u8], start: usize, n: u64, out: &mut [f64])
                 out[to] = value::coordinate(x_minus, x);
                 out[to + 1] = value::coordinate(y_minus, y);
                 out[to + 2] = value::bulge(b_minus, b);
+                out[to + 3] = value::TRACE;
                 at = next;
             }
         }

@@ -1,5 +1,5 @@
 -- The floats of a layout's numbers are exact: the float of a coordinate is the whole number, and the float of a bulge n is n /
--- 65,536. `HasValue x s a c` says that x is finite, has the sign s, and is a / c in magnitude.
+-- 65,536. The trace is +0. `HasValue x s a c` says that x is finite, has the sign s, and is a / c in magnitude.
 use Prim.Native.Nat.{ℕ, suc, _+_, _-_, _*_, _^_, _≤_, _<_}
 use mathlib.Core.Path.{_≡_, refl, sym, ap, _∙_, subst}
 use mathlib.Core.Bool.{Bool, true, false}
@@ -13,7 +13,7 @@ use lib.Ieee.Exact.{HasValue, round-exact}
 use lib.Ieee.Back.{round-whole}
 use Rattle.layouts.specs.Limits as limit
 use Rattle.layouts.specs.Layout.{magnitude}
-use Rattle.layouts.specs.Numbers.{coordinate, bulge, scale}
+use Rattle.layouts.specs.Numbers.{coordinate, bulge, scale, trace}
 
 abbrev pub negative : ℤ → Bool
 negative (pos n) = false
@@ -83,3 +83,9 @@ unfolding bulge
 bulge-exact z h =
     subst (λ (y : Float). HasValue (div binary64 (ofInt binary64 z) y) (negative z) (magnitude z) 65536) (sym scale-is)
     (divided binary64 (omega arith) (omega arith) (ofInt binary64 z) (negative z) (magnitude z) (whole-exact z (omega arith)) h)
+
+-- ---- the trace: no sign, and 0 in magnitude
+
+pub trace-exact : HasValue trace false 0 1
+unfolding ofBits ofFields
+trace-exact = (refl, refl)

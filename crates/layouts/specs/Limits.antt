@@ -1,4 +1,5 @@
--- The scope's limits on the numbers of a layout. They hold however a layout is stored.
+-- The scope's limits on the numbers of a layout. They hold however a layout is stored. At the end the size of the buffers that a
+-- layout is read into.
 use Prim.Native.Nat.{ℕ, _*_}
 
 -- the largest magnitude of x and of y
@@ -13,10 +14,10 @@ bulge = 65_536
 abbrev pub vertices : ℕ
 vertices = 256
 
--- how many numbers a buffer has for a vertex
+-- how many numbers a buffer has for a vertex: x, y, bulge and trace. A layout itself has three, no trace
 abbrev pub numbersAVertex : ℕ
-numbersAVertex = 3
+numbersAVertex = 4
 
--- how many numbers a buffer must hold: those of the most vertices
+-- how many numbers a buffer must hold: those of the most vertices, 1,024
 abbrev pub room : ℕ
 room = vertices * numbersAVertex

@@ -1,7 +1,10 @@
-// The f64 numbers that whole numbers stand for.
+// The f64 numbers that whole numbers stand for, and the trace of a vertex.
 ghost use mathlib.Core.Path.{_≡_};
 ghost use Rattle.layouts.specs.Layout.{whole};
 ghost use Rattle.layouts.specs.Numbers;
+
+// the trace of every vertex: a layout has no traces
+pub const TRACE: f64 = 0.0;
 
 // n or -n as a float. 0 is always +0.
 pub fn coordinate(negative: bool, n: u64) -> f64

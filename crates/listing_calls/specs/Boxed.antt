@@ -7,7 +7,7 @@ use lib.Ieee.{Float}
 use Rattle.paths.specs.Segments.{segmentCount}
 use Rattle.boxes.specs.Index.{index}
 use Rattle.listing_pairs.specs.Order.{mutualPairs, selfPairs}
-use Rattle.listing_pairs.specs.Look.{look, selfLook}
+use Rattle.listing_pairs.specs.Look.{tracedLook, tracedSelfLook}
 use Rattle.listing_pairs.specs.Boxed.{boxedPairs}
 use Rattle.listing_outcomes.specs.BoxedOutcome.{BoxedOutcome, boxedOutcome}
 use Rattle.listing_calls.specs.Listing.{mutualChecks, selfChecks}
@@ -18,7 +18,7 @@ mutualBoxed first firstClosed second secondClosed epsilon boxes indices points =
     let n = segmentCount first firstClosed in
     let m = segmentCount second secondClosed in
     boxedOutcome (mutualChecks first firstClosed second secondClosed epsilon)
-    (look first second epsilon)
+    (tracedLook first second epsilon)
     (boxedPairs first second epsilon (mutualPairs n m))
     (index first epsilon n ++ index second epsilon m)
     boxes indices points
@@ -28,7 +28,7 @@ unfoldable pub selfBoxed : List Float → Bool → Float → List Float → List
 selfBoxed path closed epsilon boxes indices points =
     let n = segmentCount path closed in
     boxedOutcome (selfChecks path closed epsilon)
-    (selfLook path closed epsilon)
+    (tracedSelfLook path closed epsilon)
     (boxedPairs path path epsilon (selfPairs n))
     (index path epsilon n)
     boxes indices points

@@ -25,7 +25,7 @@ use Rattle.boxes.specs.Workings.Stored.{index-length}
 use Rattle.listing_pairs.specs.declared.row.Look.{Look}
 use Rattle.listing_pairs.specs.Order.{Pair, mutualPairs, selfPairs}
 use Rattle.listing_pairs.specs.Rows.{rowsOf, lookedAt}
-use Rattle.listing_pairs.specs.Look.{look, selfLook}
+use Rattle.listing_pairs.specs.Look.{tracedLook, tracedSelfLook}
 use Rattle.listing_pairs.specs.Boxed.{boxedPairs}
 use Rattle.listing_outcomes.specs.declared.answer.ListingAnswer.the-variants.{Refused}
 use Rattle.listing_outcomes.specs.Outcome.{roomCheck}
@@ -110,16 +110,16 @@ module _ (first : List Float) (firstClosed : Bool) (second : List Float) (second
   pub mutual-boxed-when :
       ExactlyWhen Refused counted
       (mutualBoxed first firstClosed second secondClosed epsilon boxes indices points .listing .answer)
-      (boxedChecks (mutualChecks first firstClosed second secondClosed epsilon) (look first second epsilon) meeting bothIndices
+      (boxedChecks (mutualChecks first firstClosed second secondClosed epsilon) (tracedLook first second epsilon) meeting bothIndices
       boxes indices points)
-      (boxedCounts these (look first second epsilon) meeting bothIndices boxes indices points)
+      (boxedCounts these (tracedLook first second epsilon) meeting bothIndices boxes indices points)
   unfolding mutualBoxed
-  mutual-boxed-when = boxed-when these (look first second epsilon) meeting bothIndices boxes indices points
+  mutual-boxed-when = boxed-when these (tracedLook first second epsilon) meeting bothIndices boxes indices points
 
   pub mutual-boxed-untouched :
       BoxedUntouched (mutualBoxed first firstClosed second secondClosed epsilon boxes indices points) boxes indices points
   unfolding mutualBoxed
-  mutual-boxed-untouched = boxed-untouched these (look first second epsilon) meeting bothIndices boxes indices points
+  mutual-boxed-untouched = boxed-untouched these (tracedLook first second epsilon) meeting bothIndices boxes indices points
 
 -- ---- one path
 module _ (path : List Float) (closed : Bool) (epsilon : Float) (boxes : List Float) (indices : List ℕ) (points : List Float) where
@@ -131,13 +131,13 @@ module _ (path : List Float) (closed : Bool) (epsilon : Float) (boxes : List Flo
 
   pub self-boxed-when :
       ExactlyWhen Refused counted (selfBoxed path closed epsilon boxes indices points .listing .answer)
-      (boxedChecks (selfChecks path closed epsilon) (selfLook path closed epsilon) ownMeeting ownIndex boxes indices points)
-      (boxedCounts (selfChecks path closed epsilon) (selfLook path closed epsilon) ownMeeting ownIndex boxes indices points)
+      (boxedChecks (selfChecks path closed epsilon) (tracedSelfLook path closed epsilon) ownMeeting ownIndex boxes indices points)
+      (boxedCounts (selfChecks path closed epsilon) (tracedSelfLook path closed epsilon) ownMeeting ownIndex boxes indices points)
   unfolding selfBoxed
   self-boxed-when =
-      boxed-when (selfChecks path closed epsilon) (selfLook path closed epsilon) ownMeeting ownIndex boxes indices points
+      boxed-when (selfChecks path closed epsilon) (tracedSelfLook path closed epsilon) ownMeeting ownIndex boxes indices points
 
   pub self-boxed-untouched : BoxedUntouched (selfBoxed path closed epsilon boxes indices points) boxes indices points
   unfolding selfBoxed
   self-boxed-untouched =
-      boxed-untouched (selfChecks path closed epsilon) (selfLook path closed epsilon) ownMeeting ownIndex boxes indices points
+      boxed-untouched (selfChecks path closed epsilon) (tracedSelfLook path closed epsilon) ownMeeting ownIndex boxes indices points

@@ -1,6 +1,6 @@
 -- Chains of `mutualPage` and of `selfPage` beside the listing: calls from position 0 to the end, none refused, join to the
--- listing's rows, as read from its slices, and pass the pairs that the listing looks at. So no row is left out of the joined
--- rows either.
+-- listing's rows, as read from its slices, and pass all pairs of the order. The listing looks at those of them that are not of one
+-- trace. No row is left out of the joined rows either.
 use mathlib.Core.Path.{_≡_, refl, sym, ap, _∙_}
 use mathlib.Core.Bool.{Bool, true, false, cond}
 use mathlib.Core.List.{List, [], _∷_, _++_, append-nil}
@@ -21,7 +21,9 @@ use Rattle.listing_pairs.specs.declared.row.Look.the-variants.{Skipped, Nothing
 use Rattle.listing_pairs.specs.Order.{Pair, mutualPairs, selfPairs}
 use Rattle.listing_pairs.specs.Row.{indicesARow, pointsARow, indicesOf, pointsOf, numbersOfRows, row, unlessApart, lookOf}
 use Rattle.listing_pairs.specs.Rows.{rowsOf, count, lookedAt}
-use Rattle.listing_pairs.specs.Look.{look, selfLook}
+use Rattle.listing_pairs.specs.Look.{look, selfLook, tracedLook, tracedSelfLook}
+use Rattle.listing_pairs.specs.Traces.{oneTrace, tracedPairs}
+use Rattle.listing_pairs.specs.TracedListing.{traced-looked}
 use Rattle.listing_pairs.specs.Neighbours.{atJoint}
 use Rattle.float_laws.specs.Stores.{flat-length}
 use Rattle.listing_outcomes.specs.declared.answer.ListingAnswer.{ListingAnswer}
@@ -44,14 +46,15 @@ mutualPages first firstClosed second secondClosed epsilon position l =
 abbrev pub selfPages : List Float → Bool → Float → ℕ → Lent → Outcome PageAnswer
 selfPages path closed epsilon position l = selfPage path closed epsilon position (l .budget) (l .indices) (l .points)
 
--- ---- what was joined is what a listing wrote
-pub record SameAs (o : Outcome ListingAnswer) (rows pairs : ℕ) (j : Joined) : Type 0 where
+-- ---- what was joined is what a listing wrote: all pairs were passed, and the listing looked at those that are kept of them
+pub record SameAs (o : Outcome ListingAnswer) (all kept : List Pair) (rows pairs : ℕ) (j : Joined) : Type 0 where
   pub row-count : j .rows ≡ rows
-  pub pair-count : j .pairs ≡ pairs
+  pub passed-count : j .pairs ≡ length all
+  pub looked-count : pairs ≡ length kept
   pub indices : j .indices ≡ take (rows * indicesARow) (o .indices)
   pub points : j .points ≡ take (rows * pointsARow) (o .points)
 
--- every pair is looked at
+-- every pair is looked at, traces apart
 never-skipped : (class : ℕ) (r : Row) (n : ℕ) → count (unlessApart class r) n ≡ suc n
 never-skipped zero r n = refl
 never-skipped (suc class) r n = refl
@@ -77,10 +80,23 @@ looks-at-own path closed epsilon i j n =
     go true s e = refl
     go false s e = e
 
+-- so a listing looks at the pairs that are not of one trace
+pub mutual-looked : (first second : List Float) (epsilon : Float) (ps : List Pair)
+    → lookedAt (tracedLook first second epsilon) ps ≡ length (tracedPairs first second ps)
+mutual-looked first second epsilon ps =
+    traced-looked first second (look first second epsilon) ps
+    ∙ all-looked (look first second epsilon) (looks first second epsilon) (tracedPairs first second ps)
+
+pub self-looked : (path : List Float) (closed : Bool) (epsilon : Float) (ps : List Pair)
+    → lookedAt (tracedSelfLook path closed epsilon) ps ≡ length (tracedPairs path path ps)
+self-looked path closed epsilon ps =
+    traced-looked path path (selfLook path closed epsilon) ps
+    ∙ all-looked (selfLook path closed epsilon) (looks-at-own path closed epsilon) (tracedPairs path path ps)
+
 listed-never : {f : Fault} {k m : ℕ} → Refused f ≡ Listed k m → ⊥
 listed-never e = let z : _≡_ {A = ℕ} 0 1 = cc in omega (arith, z)
 
-module _ (f : ℕ → ℕ → Look) (ps : List Pair) (seen : lookedAt f ps ≡ length ps) (checks : List Checked) (j : Joined)
+module _ (f : ℕ → ℕ → Look) (ps kept : List Pair) (seen : lookedAt f ps ≡ length kept) (checks : List Checked) (j : Joined)
     (w : Whole checks f ps j) (indices : List ℕ) (points : List Float) where
   read : {A : Type 0} (numbers : Row → List A) (width : ℕ) → ((r : Row) → length (numbers r) ≡ width) → (old : List A) (rows : ℕ)
       → rows ≡ length (rowsOf f ps)
@@ -92,20 +108,21 @@ module _ (f : ℕ → ℕ → Look) (ps : List Pair) (seen : lookedAt f ps ≡ l
 
   same-checked : (c : Checked) {rows pairs : ℕ}
       → listedOf c (rowsOf f ps) (lookedAt f ps) indices points .answer ≡ Listed rows pairs
-      → SameAs (listedOf c (rowsOf f ps) (lookedAt f ps) indices points) rows pairs j
+      → SameAs (listedOf c (rowsOf f ps) (lookedAt f ps) indices points) ps kept rows pairs j
   same-checked (Bad fault) e = absurd (listed-never e)
   same-checked Fine {rows} {pairs} e =
       let rows-are : rows ≡ length (rowsOf f ps) = cc in
       let pairs-are : pairs ≡ lookedAt f ps = cc in
       record {
         row-count = w .rows ∙ sym rows-are;
-        pair-count = w .pairs ∙ sym seen ∙ sym pairs-are;
+        passed-count = w .pairs;
+        looked-count = pairs-are ∙ seen;
         indices = w .indices ∙ read indicesOf indicesARow (λ r. refl) indices rows rows-are;
         points = w .points ∙ read pointsOf pointsARow (λ r. refl) points rows rows-are;
       }
 
   same-outcome : {rows pairs : ℕ} → outcome checks f ps indices points .answer ≡ Listed rows pairs
-      → SameAs (outcome checks f ps indices points) rows pairs j
+      → SameAs (outcome checks f ps indices points) ps kept rows pairs j
   unfolding outcome
   same-outcome e = same-checked (firstFault (checks ++ (roomCheck (rowsOf f ps) indices points ∷ []))) e
 
@@ -119,38 +136,41 @@ module _ (first : List Float) (firstClosed : Bool) (second : List Float) (second
   mutualChain lents = chain (mutualPages first firstClosed second secondClosed epsilon) 0 lents
 
   mutual-whole : (lents : List Lent) → mutualChain lents .refused ≡ false → mutualChain lents .next ≡ mutualEnd
-      → Whole (mutualChecks first firstClosed second secondClosed epsilon) (look first second epsilon)
+      → Whole (mutualChecks first firstClosed second secondClosed epsilon) (tracedLook first second epsilon)
       (mutualPairs (segmentCount first firstClosed) (segmentCount second secondClosed)) (mutualChain lents)
   unfolding mutualPage
   mutual-whole lents =
-      whole (mutualChecks first firstClosed second secondClosed epsilon) (look first second epsilon)
+      whole (mutualChecks first firstClosed second secondClosed epsilon) (tracedLook first second epsilon)
       (mutualPairs (segmentCount first firstClosed) (segmentCount second secondClosed)) lents
 
   pub mutual-chain : (lents : List Lent) → mutualChain lents .refused ≡ false → mutualChain lents .next ≡ mutualEnd
       → (indices : List ℕ) (points : List Float) (rows pairs : ℕ)
       → mutualListing first firstClosed second secondClosed epsilon indices points .answer ≡ Listed rows pairs
-      → SameAs (mutualListing first firstClosed second secondClosed epsilon indices points) rows pairs (mutualChain lents)
+      → let ps = mutualPairs (segmentCount first firstClosed) (segmentCount second secondClosed) in
+      SameAs (mutualListing first firstClosed second secondClosed epsilon indices points) ps (tracedPairs first second ps)
+      rows pairs (mutualChain lents)
   unfolding mutualListing
   mutual-chain lents fine end indices points rows pairs e =
       let ps = mutualPairs (segmentCount first firstClosed) (segmentCount second secondClosed) in
-      same-outcome (look first second epsilon) ps (all-looked (look first second epsilon) (looks first second epsilon) ps)
+      let kept = tracedPairs first second ps in
+      same-outcome (tracedLook first second epsilon) ps kept (mutual-looked first second epsilon ps)
       (mutualChecks first firstClosed second secondClosed epsilon) (mutualChain lents) (mutual-whole lents fine end)
       indices points e
 
   -- no row is left out
   pub chain-complete : (lents : List Lent) → mutualChain lents .refused ≡ false → mutualChain lents .next ≡ mutualEnd
       → (i j : ℕ) → i < segmentCount first firstClosed → j < segmentCount second secondClosed
-      → 0 < classOf (pairOf first second epsilon i j)
+      → 0 < classOf (pairOf first second epsilon i j) → oneTrace first second (record { i = i; j = j }) ≡ false
       → HasRow (mutualChain lents .rows) (mutualChain lents .indices) i j
-  chain-complete lents fine end i j hi hj meets =
-      let f = look first second epsilon in
+  chain-complete lents fine end i j hi hj meets other =
+      let f = tracedLook first second epsilon in
       let n = segmentCount first firstClosed in
       let m = segmentCount second secondClosed in
       let ps = mutualPairs n m in
       let all = mutual-whole lents fine end in
       let r = row i j (pairOf first second epsilon i j) in
       let here = pairs-have (λ i. 0) (λ i. m) i j n 0 zero-le (omega (arith, hi)) zero-le hj in
-      let w = row-of-pair f (record { i = i; j = j }) ps r here (makes first second epsilon i j meets) in
+      let w = row-of-pair f (record { i = i; j = j }) ps r here (makes first second epsilon i j meets other) in
       let stands = row-in-slice r (rowsOf f ps) [] w in
       let none : overwrite [] (numbersOfRows indicesOf (rowsOf f ps)) ≡ mutualChain lents .indices =
       rest-none (numbersOfRows indicesOf (rowsOf f ps)) ∙ sym (all .indices) in
@@ -178,11 +198,11 @@ module _ (path : List Float) (closed : Bool) (epsilon : Float) where
   pub self-chain : (lents : List Lent) → selfChain lents .refused ≡ false → selfChain lents .next ≡ selfEnd
       → (indices : List ℕ) (points : List Float) (rows pairs : ℕ)
       → selfListing path closed epsilon indices points .answer ≡ Listed rows pairs
-      → SameAs (selfListing path closed epsilon indices points) rows pairs (selfChain lents)
+      → let ps = selfPairs (segmentCount path closed) in
+      SameAs (selfListing path closed epsilon indices points) ps (tracedPairs path path ps) rows pairs (selfChain lents)
   unfolding selfPage selfListing
   self-chain lents fine end indices points rows pairs e =
       let ps = selfPairs (segmentCount path closed) in
       let checks = selfChecks path closed epsilon in
-      same-outcome (selfLook path closed epsilon) ps
-      (all-looked (selfLook path closed epsilon) (looks-at-own path closed epsilon) ps) checks (selfChain lents)
-      (whole checks (selfLook path closed epsilon) ps lents fine end) indices points e
+      same-outcome (tracedSelfLook path closed epsilon) ps (tracedPairs path path ps) (self-looked path closed epsilon ps) checks
+      (selfChain lents) (whole checks (tracedSelfLook path closed epsilon) ps lents fine end) indices points e

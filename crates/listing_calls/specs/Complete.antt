@@ -1,7 +1,7 @@
--- No row is left out: if two paths were listed, every pair of their segments that meets, in any class except NoIntersect, has a
--- row with its indices. In a boxed listing this holds for every pair whose boxes meet.
-use mathlib.Core.Path.{_≡_, refl}
-use mathlib.Core.Bool.{Bool, true}
+-- No row is left out: if two paths were listed, every pair of their segments that meets, in any class except NoIntersect, and is
+-- not of one trace has a row with its indices. In a boxed listing this holds for every such pair whose boxes meet.
+use mathlib.Core.Path.{_≡_, refl, _∙_}
+use mathlib.Core.Bool.{Bool, true, false}
 use mathlib.Core.List.{List, _++_}
 use Prim.Native.Nat.{ℕ, zero, suc, _<_, zero-le}
 use native.Mathlib.Omega.{arith}
@@ -22,7 +22,9 @@ use Rattle.listing_pairs.specs.declared.row.Look.the-variants.{Made}
 use Rattle.listing_pairs.specs.Row.{row, lookOf, unlessApart, indicesOf, numbersOfRows}
 use Rattle.listing_pairs.specs.Order.{Pair, mutualPairs}
 use Rattle.listing_pairs.specs.Rows.{rowsOf, lookedAt}
-use Rattle.listing_pairs.specs.Look.{look}
+use Rattle.listing_pairs.specs.Look.{look, tracedLook}
+use Rattle.listing_pairs.specs.Traces.{oneTrace}
+use Rattle.listing_pairs.specs.TracedListing.{not-of-one}
 use Rattle.listing_pairs.specs.Boxed.{boxesMeet, boxedPairs}
 use Rattle.listing_outcomes.specs.declared.answer.ListingAnswer.the-variants.{Refused, Listed}
 use Rattle.listing_outcomes.specs.Outcome.{overwrite, listedOf, outcome}
@@ -44,16 +46,23 @@ pairOf first second epsilon i j =
 never : {f : Fault} {k m : ℕ} → Refused f ≡ Listed k m → ⊥
 never e = let z : _≡_ {A = ℕ} 0 1 = cc in omega (arith, z)
 
--- a pair that meets makes a row
-pub makes : (first second : List Float) (epsilon : Float) (i j : ℕ) → 0 < classOf (pairOf first second epsilon i j)
+-- a pair that meets makes a row, if it is looked at
+pub makes-looked : (first second : List Float) (epsilon : Float) (i j : ℕ) → 0 < classOf (pairOf first second epsilon i j)
     → look first second epsilon i j ≡ Made (row i j (pairOf first second epsilon i j))
 unfolding look lookOf
-makes first second epsilon i j h =
+makes-looked first second epsilon i j h =
     let met = pairOf first second epsilon i j in go (classOf met) (row i j met) h
   where
     go : (class : ℕ) (r : Row) → 0 < class → unlessApart class r ≡ Made r
     go zero r h = absurd (omega (arith, h))
     go (suc class) r h = refl
+
+-- as it is if it is not of one trace
+pub makes : (first second : List Float) (epsilon : Float) (i j : ℕ) → 0 < classOf (pairOf first second epsilon i j)
+    → oneTrace first second (record { i = i; j = j }) ≡ false
+    → tracedLook first second epsilon i j ≡ Made (row i j (pairOf first second epsilon i j))
+makes first second epsilon i j h other =
+    not-of-one first second (look first second epsilon) i j other ∙ makes-looked first second epsilon i j h
 
 -- the rows that were listed are all rows
 listed-is : (c : Checked) (rows : List Row) (looked n m : ℕ) (old : List ℕ) (points : List Float)
@@ -77,13 +86,14 @@ listed-row-of found f ps indices points rows pairs i j met e here made =
 
 listed-row : (found : Checked) (first second : List Float) (epsilon : Float) (ps : List Pair)
     (indices : List ℕ) (points : List Float) (rows pairs : ℕ) (i j : ℕ)
-    → (let f = look first second epsilon in
+    → (let f = tracedLook first second epsilon in
     listedOf found (rowsOf f ps) (lookedAt f ps) indices points .answer ≡ Listed rows pairs
     → Within (record { i = i; j = j }) ps → 0 < classOf (pairOf first second epsilon i j)
+    → oneTrace first second (record { i = i; j = j }) ≡ false
     → HasRow rows (listedOf found (rowsOf f ps) (lookedAt f ps) indices points .indices) i j)
-listed-row found first second epsilon ps indices points rows pairs i j e here meets =
-    listed-row-of found (look first second epsilon) ps indices points rows pairs i j (pairOf first second epsilon i j) e here
-    (makes first second epsilon i j meets)
+listed-row found first second epsilon ps indices points rows pairs i j e here meets other =
+    listed-row-of found (tracedLook first second epsilon) ps indices points rows pairs i j (pairOf first second epsilon i j) e
+    here (makes first second epsilon i j meets other)
 
 -- each segment of the first path with each of the second
 between : (n m i j : ℕ) → i < n → j < m → Within (record { i = i; j = j }) (mutualPairs n m)
@@ -94,14 +104,15 @@ pub complete : (first : List Float) (firstClosed : Bool) (second : List Float) (
     → mutualListing first firstClosed second secondClosed epsilon indices points .answer ≡ Listed rows pairs
     → (i j : ℕ) → i < segmentCount first firstClosed → j < segmentCount second secondClosed
     → 0 < classOf (pairOf first second epsilon i j)
+    → oneTrace first second (record { i = i; j = j }) ≡ false
     → HasRow rows (mutualListing first firstClosed second secondClosed epsilon indices points .indices) i j
 unfolding mutualListing outcome
-complete first firstClosed second secondClosed epsilon indices points rows pairs e i j hi hj meets =
+complete first firstClosed second secondClosed epsilon indices points rows pairs e i j hi hj meets other =
     let n = segmentCount first firstClosed in
     let m = segmentCount second secondClosed in
     let checks = mutualChecks first firstClosed second secondClosed epsilon in
-    listed-row (firstFault (all checks (look first second epsilon) (mutualPairs n m) indices points))
-    first second epsilon (mutualPairs n m) indices points rows pairs i j e (between n m i j hi hj) meets
+    listed-row (firstFault (all checks (tracedLook first second epsilon) (mutualPairs n m) indices points))
+    first second epsilon (mutualPairs n m) indices points rows pairs i j e (between n m i j hi hj) meets other
 
 -- the same of a boxed listing, for a pair whose boxes meet
 pub boxed-complete : (first : List Float) (firstClosed : Bool) (second : List Float) (secondClosed : Bool) (epsilon : Float)
@@ -110,14 +121,16 @@ pub boxed-complete : (first : List Float) (firstClosed : Bool) (second : List Fl
     → (i j : ℕ) → i < segmentCount first firstClosed → j < segmentCount second secondClosed
     → boxesMeet first second epsilon (record { i = i; j = j }) ≡ true
     → 0 < classOf (pairOf first second epsilon i j)
+    → oneTrace first second (record { i = i; j = j }) ≡ false
     → HasRow rows (mutualBoxed first firstClosed second secondClosed epsilon boxes indices points .listing .indices) i j
 unfolding mutualBoxed boxedOutcome
-boxed-complete first firstClosed second secondClosed epsilon boxes indices points rows pairs e i j hi hj boxed meets =
+boxed-complete first firstClosed second secondClosed epsilon boxes indices points rows pairs e i j hi hj boxed meets other =
     let n = segmentCount first firstClosed in
     let m = segmentCount second secondClosed in
     let ps = boxedPairs first second epsilon (mutualPairs n m) in
     let idx = index first epsilon n ++ index second epsilon m in
     let checks = mutualChecks first firstClosed second secondClosed epsilon in
-    listed-row (firstFault (boxedChecks checks (look first second epsilon) ps idx boxes indices points))
+    listed-row (firstFault (boxedChecks checks (tracedLook first second epsilon) ps idx boxes indices points))
     first second epsilon ps indices points rows pairs i j e
     (those-have (boxesMeet first second epsilon) (record { i = i; j = j }) (mutualPairs n m) boxed (between n m i j hi hj)) meets
+    other

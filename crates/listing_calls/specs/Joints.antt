@@ -1,5 +1,5 @@
 -- Neighbours in a self listing: when exactly a pair makes a row; that a pair which shares no vertex, and an overlap, makes one
--- whenever it meets; and that no such row is left out of a listing, boxed or not.
+-- whenever it meets; and that no such row is left out of a listing, boxed or not. A pair of one trace is passed over.
 use mathlib.Core.Path.{_≡_, refl, sym, ap, subst, _∙_}
 use mathlib.Core.Bool.{Bool, true, false, cond, _&&_, _||_, true≢false}
 use mathlib.Core.Logic.{_↔_, _⊎_, inl, inr}
@@ -25,10 +25,13 @@ use Rattle.arcs.specs.declared.pline_seg_intr.PlineSegIntr.the-variants.{
 use Rattle.paths.specs.Path.{vertex}
 use Rattle.paths.specs.Segments.{segmentCount}
 use Rattle.boxes.specs.Index.{index}
-use Rattle.listing_pairs.specs.declared.row.Look.the-variants.{Nothing, Made}
+use Rattle.listing_pairs.specs.declared.row.Look.{Look}
+use Rattle.listing_pairs.specs.declared.row.Look.the-variants.{Skipped, Nothing, Made}
 use Rattle.listing_pairs.specs.Row.{row, unlessApart, lookOf}
 use Rattle.listing_pairs.specs.Order.{selfPairs}
-use Rattle.listing_pairs.specs.Look.{selfLook}
+use Rattle.listing_pairs.specs.Look.{selfLook, tracedSelfLook}
+use Rattle.listing_pairs.specs.Traces.{oneTrace, traced}
+use Rattle.listing_pairs.specs.TracedListing.{not-of-one}
 use Rattle.listing_pairs.specs.Boxed.{boxesMeet, boxedPairs}
 use Rattle.listing_pairs.specs.Neighbours.{sharedVertices, nearSome, onlyAt, atJoint}
 use Rattle.listing_outcomes.specs.declared.answer.ListingAnswer.the-variants.{Listed}
@@ -130,10 +133,10 @@ module _ (path : List Float) (closed : Bool) (epsilon : Float) (i j : ℕ) where
   unfolding atJoint
   silent-when = only-at-when (nearSome path epsilon shared) met
 
-  -- none exactly if the two are apart or at a joint
-  pub no-row-when : (selfLook path closed epsilon i j ≡ Nothing) ↔ ((classOf met ≡ 0) ⊎ AtJoint)
+  -- ---- if the pair is looked at: no row exactly if the two are apart or at a joint
+  silent-pair : (selfLook path closed epsilon i j ≡ Nothing) ↔ ((classOf met ≡ 0) ⊎ AtJoint)
   unfolding selfLook lookOf
-  no-row-when = (forth (classOf met) silent refl refl, back)
+  silent-pair = (forth (classOf met) silent refl refl, back)
     where
       forth : (class : ℕ) (b : Bool) → classOf met ≡ class → silent ≡ b
           → cond b Nothing (unlessApart class (row i j met)) ≡ Nothing → (classOf met ≡ 0) ⊎ AtJoint
@@ -151,9 +154,9 @@ module _ (path : List Float) (closed : Bool) (epsilon : Float) (i j : ℕ) where
       back (inr h) = rw (silent-when .1 h) refl
 
   -- a row exactly if they meet, and not only at a joint
-  pub row-when : (selfLook path closed epsilon i j ≡ Made (row i j met)) ↔ ((0 < classOf met) × (AtJoint → ⊥))
+  row-pair : (selfLook path closed epsilon i j ≡ Made (row i j met)) ↔ ((0 < classOf met) × (AtJoint → ⊥))
   unfolding selfLook lookOf
-  row-when = (forth (classOf met) silent refl refl, back)
+  row-pair = (forth (classOf met) silent refl refl, back)
     where
       forth : (class : ℕ) (b : Bool) → classOf met ≡ class → silent ≡ b
           → cond b Nothing (unlessApart class (row i j met)) ≡ Made (row i j met) → (0 < classOf met) × (AtJoint → ⊥)
@@ -170,6 +173,44 @@ module _ (path : List Float) (closed : Bool) (epsilon : Float) (i j : ℕ) where
           go true f class l = absurd (h .1 (silent-when .0 f))
           go false f zero l = absurd (omega (arith, l))
           go false f (suc class) l = refl
+
+  -- ---- in a listing: a pair of one trace is skipped, and any other is as above
+  abbrev pub OneTrace : Bool
+  OneTrace = oneTrace path path (record { i = i; j = j })
+
+  split : {P : Type 0} (s r : Look) → (Skipped ≡ r → ⊥) → ((s ≡ r) ↔ P) → (b : Bool) → (cond b Skipped s ≡ r) ↔ (P × (b ≡ false))
+  split s r never when true = (λ e. absurd (never e), λ h. absurd (true≢false (h .1)))
+  split s r never when false = (λ e. (when .0 e, refl), λ h. when .1 (h .0))
+
+  pub skipped-when : (tracedSelfLook path closed epsilon i j ≡ Skipped) ↔ (OneTrace ≡ true)
+  unfolding traced selfLook lookOf
+  skipped-when = go OneTrace silent (classOf met)
+    where
+      clash : {A : Type 0} {s : Look} → s ≡ Nothing → s ≡ Skipped → A
+      clash e f = let z : _≡_ {A = ℕ} 0 1 = cc in absurd (omega (arith, z))
+
+      made : {A : Type 0} {s : Look} → s ≡ Made (row i j met) → s ≡ Skipped → A
+      made e f = let z : _≡_ {A = ℕ} 0 1 = cc in absurd (omega (arith, z))
+
+      go : (b c : Bool) (class : ℕ) → (cond b Skipped (cond c Nothing (unlessApart class (row i j met))) ≡ Skipped) ↔ (b ≡ true)
+      go true c class = (λ e. refl, λ e. refl)
+      go false true class = (λ e. clash refl e, λ e. absurd (true≢false (sym e)))
+      go false false zero = (λ e. clash refl e, λ e. absurd (true≢false (sym e)))
+      go false false (suc class) = (λ e. made refl e, λ e. absurd (true≢false (sym e)))
+
+  -- it is looked at and makes no row exactly if the two are apart or at a joint
+  pub no-row-when : (tracedSelfLook path closed epsilon i j ≡ Nothing) ↔ (((classOf met ≡ 0) ⊎ AtJoint) × (OneTrace ≡ false))
+  unfolding traced
+  no-row-when =
+      split (selfLook path closed epsilon i j) Nothing (λ e. let z : _≡_ {A = ℕ} 0 1 = cc in omega (arith, z)) silent-pair OneTrace
+
+  -- it makes a row exactly if they meet, and not only at a joint
+  pub row-when : (tracedSelfLook path closed epsilon i j ≡ Made (row i j met))
+      ↔ (((0 < classOf met) × (AtJoint → ⊥)) × (OneTrace ≡ false))
+  unfolding traced
+  row-when =
+      split (selfLook path closed epsilon i j) (Made (row i j met)) (λ e. let z : _≡_ {A = ℕ} 0 1 = cc in omega (arith, z)) row-pair
+      OneTrace
 
   -- a pair that shares no vertex is never at a joint, and neither is an overlap
   pub no-neighbours : shared ≡ [] → AtJoint → ⊥
@@ -197,21 +238,21 @@ module _ (path : List Float) (closed : Bool) (epsilon : Float) (i j : ℕ) where
 -- ---- a listing: no such row is left out
 module _ (path : List Float) (closed : Bool) (epsilon : Float) (rows pairs i j : ℕ) (order : i < j)
     (last : j < segmentCount path closed) (meets : 0 < classOf (pairOf path path epsilon i j))
-    (elsewhere : AtJoint path closed epsilon i j → ⊥) where
+    (elsewhere : AtJoint path closed epsilon i j → ⊥) (other : oneTrace path path (record { i = i; j = j }) ≡ false) where
   here : Within (record { i = i; j = j }) (selfPairs (segmentCount path closed))
   here =
       let n = segmentCount path closed in
       pairs-have (λ i. i + 1) (λ i. n) i j n 0 zero-le (omega (arith, order, last)) (omega (arith, order)) last
 
-  made : selfLook path closed epsilon i j ≡ Made (row i j (pairOf path path epsilon i j))
-  made = row-when path closed epsilon i j .1 (meets, elsewhere)
+  made : tracedSelfLook path closed epsilon i j ≡ Made (row i j (pairOf path path epsilon i j))
+  made = row-when path closed epsilon i j .1 ((meets, elsewhere), other)
 
   pub self-complete : (indices : List ℕ) (points : List Float)
       → selfListing path closed epsilon indices points .answer ≡ Listed rows pairs
       → HasRow rows (selfListing path closed epsilon indices points .indices) i j
   unfolding selfListing outcome
   self-complete indices points e =
-      let f = selfLook path closed epsilon in
+      let f = tracedSelfLook path closed epsilon in
       let ps = selfPairs (segmentCount path closed) in
       listed-row-of (firstFault (all (selfChecks path closed epsilon) f ps indices points)) f ps indices points rows pairs i j
       (pairOf path path epsilon i j) e here made
@@ -222,7 +263,7 @@ module _ (path : List Float) (closed : Bool) (epsilon : Float) (rows pairs i j :
       → HasRow rows (selfBoxed path closed epsilon boxes indices points .listing .indices) i j
   unfolding selfBoxed boxedOutcome
   self-boxed-complete boxed boxes indices points e =
-      let f = selfLook path closed epsilon in
+      let f = tracedSelfLook path closed epsilon in
       let n = segmentCount path closed in
       let ps = boxedPairs path path epsilon (selfPairs n) in
       let idx = index path epsilon n in

@@ -13,5 +13,6 @@ pub mod HasRow
 pub mod Complete
 pub mod Joints
 pub mod ChainedCalls
+pub mod Traced
 pub mod Workings
 pub mod Laws

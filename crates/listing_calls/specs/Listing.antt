@@ -10,7 +10,7 @@ use Rattle.paths.specs.Shape.{shape}
 use Rattle.paths.specs.Segments.{segmentCount}
 use Rattle.paths.specs.Check.{pathChecks}
 use Rattle.listing_pairs.specs.Order.{mutualPairs, selfPairs}
-use Rattle.listing_pairs.specs.Look.{look, selfLook}
+use Rattle.listing_pairs.specs.Look.{tracedLook, tracedSelfLook}
 use Rattle.listing_outcomes.specs.declared.answer.ListingAnswer.{ListingAnswer}
 use Rattle.listing_outcomes.specs.Outcome.{Outcome, outcome}
 
@@ -30,7 +30,7 @@ checkMutual first firstClosed second secondClosed epsilon =
 unfoldable pub mutualListing : List Float → Bool → List Float → Bool → Float → List ℕ → List Float → Outcome ListingAnswer
 mutualListing first firstClosed second secondClosed epsilon indices points =
     outcome (mutualChecks first firstClosed second secondClosed epsilon)
-    (look first second epsilon)
+    (tracedLook first second epsilon)
     (mutualPairs (segmentCount first firstClosed) (segmentCount second secondClosed))
     indices points
 
@@ -44,4 +44,4 @@ checkSelf path closed epsilon = firstFault (selfChecks path closed epsilon)
 
 unfoldable pub selfListing : List Float → Bool → Float → List ℕ → List Float → Outcome ListingAnswer
 selfListing path closed epsilon indices points =
-    outcome (selfChecks path closed epsilon) (selfLook path closed epsilon) (selfPairs (segmentCount path closed)) indices points
+    outcome (selfChecks path closed epsilon) (tracedSelfLook path closed epsilon) (selfPairs (segmentCount path closed)) indices points

@@ -24,7 +24,7 @@ use Rattle.paths.specs.Segments.{segmentCount}
 use Rattle.listing_pairs.specs.declared.row.Look.{Look}
 use Rattle.listing_pairs.specs.Order.{Pair, mutualPairs, selfPairs}
 use Rattle.listing_pairs.specs.Page.{Page, page}
-use Rattle.listing_pairs.specs.Look.{look, selfLook}
+use Rattle.listing_pairs.specs.Look.{tracedLook, tracedSelfLook}
 use Rattle.listing_outcomes.specs.declared.answer.PageAnswer.{PageAnswer}
 use Rattle.listing_outcomes.specs.declared.answer.PageAnswer.the-variants.{Refused, Paged}
 use Rattle.listing_outcomes.specs.Outcome.{Outcome, room}
@@ -141,14 +141,14 @@ module _ (first : List Float) (firstClosed : Bool) (second : List Float) (second
       (mutualPage first firstClosed second secondClosed epsilon position budget indices points .answer)
       (mutualChecks first firstClosed second secondClosed epsilon ++ limits position
       (length (mutualPairs (segmentCount first firstClosed) (segmentCount second secondClosed))) budget indices points)
-      (pageCounts these (look first second epsilon) pairs position budget indices points)
+      (pageCounts these (tracedLook first second epsilon) pairs position budget indices points)
   unfolding mutualPage
-  mutual-page-when = page-when these (look first second epsilon) pairs position budget indices points
+  mutual-page-when = page-when these (tracedLook first second epsilon) pairs position budget indices points
 
   pub mutual-page-untouched :
       PageUntouched (mutualPage first firstClosed second secondClosed epsilon position budget indices points) indices points
   unfolding mutualPage
-  mutual-page-untouched = page-untouched these (look first second epsilon) pairs position budget indices points
+  mutual-page-untouched = page-untouched these (tracedLook first second epsilon) pairs position budget indices points
 
 -- ---- one path
 module _ (path : List Float) (closed : Bool) (epsilon : Float) (position budget : ℕ)
@@ -160,11 +160,11 @@ module _ (path : List Float) (closed : Bool) (epsilon : Float) (position budget 
       ExactlyWhen Refused paging (selfPage path closed epsilon position budget indices points .answer)
       (selfChecks path closed epsilon ++ limits position (length (selfPairs (segmentCount path closed))) budget
       indices points)
-      (pageCounts (selfChecks path closed epsilon) (selfLook path closed epsilon) own position budget indices points)
+      (pageCounts (selfChecks path closed epsilon) (tracedSelfLook path closed epsilon) own position budget indices points)
   unfolding selfPage
-  self-page-when = page-when (selfChecks path closed epsilon) (selfLook path closed epsilon) own position budget indices points
+  self-page-when = page-when (selfChecks path closed epsilon) (tracedSelfLook path closed epsilon) own position budget indices points
 
   pub self-page-untouched : PageUntouched (selfPage path closed epsilon position budget indices points) indices points
   unfolding selfPage
   self-page-untouched =
-      page-untouched (selfChecks path closed epsilon) (selfLook path closed epsilon) own position budget indices points
+      page-untouched (selfChecks path closed epsilon) (tracedSelfLook path closed epsilon) own position budget indices points

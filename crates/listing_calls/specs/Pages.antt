@@ -6,7 +6,7 @@ use Prim.Native.Nat.{ℕ}
 use lib.Ieee.{Float}
 use Rattle.paths.specs.Segments.{segmentCount}
 use Rattle.listing_pairs.specs.Order.{mutualPairs, selfPairs}
-use Rattle.listing_pairs.specs.Look.{look, selfLook}
+use Rattle.listing_pairs.specs.Look.{tracedLook, tracedSelfLook}
 use Rattle.listing_outcomes.specs.declared.answer.PageAnswer.{PageAnswer}
 use Rattle.listing_outcomes.specs.Outcome.{Outcome}
 use Rattle.listing_outcomes.specs.PageOutcome.{pageOutcome}
@@ -16,12 +16,12 @@ use Rattle.listing_calls.specs.Listing.{mutualChecks, selfChecks}
 unfoldable pub mutualPage : List Float → Bool → List Float → Bool → Float → ℕ → ℕ → List ℕ → List Float → Outcome PageAnswer
 mutualPage first firstClosed second secondClosed epsilon position budget indices points =
     pageOutcome (mutualChecks first firstClosed second secondClosed epsilon)
-    (look first second epsilon)
+    (tracedLook first second epsilon)
     (mutualPairs (segmentCount first firstClosed) (segmentCount second secondClosed))
     position budget indices points
 
 -- ---- one path with itself
 unfoldable pub selfPage : List Float → Bool → Float → ℕ → ℕ → List ℕ → List Float → Outcome PageAnswer
 selfPage path closed epsilon position budget indices points =
-    pageOutcome (selfChecks path closed epsilon) (selfLook path closed epsilon) (selfPairs (segmentCount path closed))
+    pageOutcome (selfChecks path closed epsilon) (tracedSelfLook path closed epsilon) (selfPairs (segmentCount path closed))
     position budget indices points

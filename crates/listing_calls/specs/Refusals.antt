@@ -24,7 +24,7 @@ use Rattle.listing_pairs.specs.declared.row.Row.{Row}
 use Rattle.listing_pairs.specs.declared.row.Look.{Look}
 use Rattle.listing_pairs.specs.Order.{Pair, mutualPairs, selfPairs}
 use Rattle.listing_pairs.specs.Rows.{rowsOf, lookedAt}
-use Rattle.listing_pairs.specs.Look.{look, selfLook}
+use Rattle.listing_pairs.specs.Look.{tracedLook, tracedSelfLook}
 use Rattle.listing_outcomes.specs.declared.answer.ListingAnswer.{ListingAnswer}
 use Rattle.listing_outcomes.specs.declared.answer.ListingAnswer.the-variants.{Refused, Listed}
 use Rattle.listing_outcomes.specs.Outcome.{Outcome, room, roomCheck, listedOf, outcome}
@@ -97,14 +97,14 @@ module _ (first : List Float) (firstClosed : Bool) (second : List Float) (second
 
   pub mutual-when :
       ExactlyWhen Refused counted (mutualListing first firstClosed second secondClosed epsilon indices points .answer)
-      (all (mutualChecks first firstClosed second secondClosed epsilon) (look first second epsilon) between indices points)
-      (counts (mutualChecks first firstClosed second secondClosed epsilon) (look first second epsilon) between indices points)
+      (all (mutualChecks first firstClosed second secondClosed epsilon) (tracedLook first second epsilon) between indices points)
+      (counts (mutualChecks first firstClosed second secondClosed epsilon) (tracedLook first second epsilon) between indices points)
   unfolding mutualListing
-  mutual-when = outcome-when these (look first second epsilon) between indices points
+  mutual-when = outcome-when these (tracedLook first second epsilon) between indices points
 
   pub mutual-untouched : Untouched (mutualListing first firstClosed second secondClosed epsilon indices points) indices points
   unfolding mutualListing
-  mutual-untouched = outcome-untouched these (look first second epsilon) between indices points
+  mutual-untouched = outcome-untouched these (tracedLook first second epsilon) between indices points
 
 -- ---- one path
 module _ (path : List Float) (closed : Bool) (epsilon : Float) (indices : List ℕ) (points : List Float) where
@@ -113,11 +113,11 @@ module _ (path : List Float) (closed : Bool) (epsilon : Float) (indices : List �
 
   pub self-when :
       ExactlyWhen Refused counted (selfListing path closed epsilon indices points .answer)
-      (all (selfChecks path closed epsilon) (selfLook path closed epsilon) own indices points)
-      (counts (selfChecks path closed epsilon) (selfLook path closed epsilon) own indices points)
+      (all (selfChecks path closed epsilon) (tracedSelfLook path closed epsilon) own indices points)
+      (counts (selfChecks path closed epsilon) (tracedSelfLook path closed epsilon) own indices points)
   unfolding selfListing
-  self-when = outcome-when (selfChecks path closed epsilon) (selfLook path closed epsilon) own indices points
+  self-when = outcome-when (selfChecks path closed epsilon) (tracedSelfLook path closed epsilon) own indices points
 
   pub self-untouched : Untouched (selfListing path closed epsilon indices points) indices points
   unfolding selfListing
-  self-untouched = outcome-untouched (selfChecks path closed epsilon) (selfLook path closed epsilon) own indices points
+  self-untouched = outcome-untouched (selfChecks path closed epsilon) (tracedSelfLook path closed epsilon) own indices points

@@ -88,7 +88,7 @@ pub fn fill(
         let start = j;
         let end = end_within(start, to, budget);
         while j < end {
-            let run = next_run(kept, v_box, job, j, end);
+            let run = next_run(second, kept, v_box, v.trace, job, j, end);
             let stop = run.to;
             j = run.from;
             while j < stop {

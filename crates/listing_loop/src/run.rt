@@ -1,11 +1,13 @@
-// Which indices the loop looks at next. In a boxed listing it passes over those whose box does not meet that of the first path's
-// segment; in any other it looks at all.
+// Which indices the loop looks at next. It passes over those whose segment is of one trace with the first path's segment, and in
+// a boxed listing those whose box does not meet that segment's.
 ghost use mathlib.Core.Path.{_≡_};
 ghost use mathlib.Core.Bool.{true};
 ghost use Prim.Native.Nat.{_≤_, _<_};
 ghost use Rattle.paths.specs.Path;
 ghost use Rattle.boxes.specs.Workings.Next;
+ghost use Rattle.floats.specs.Ops.{_≻_, f0};
 ghost use Rattle.listing_pairs.specs.Workings.Keeping;
+ghost use Rattle.listing_pairs.specs.Workings.Tracks;
 ghost use Rattle.listing_loop.specs.Workings.Runs;
 use boxes::bounds::Box;
 use boxes::bounds::box_with;
@@ -14,6 +16,10 @@ use boxes::next::next_by_groups;
 use fast_pair::kept::Kept;
 use listing_pairs::keeping;
 use listing_pairs::order::Job;
+use listing_pairs::sizes::lesser;
+use listing_pairs::tracks::past_group;
+use listing_pairs::tracks::past_others;
+use paths::path;
 use paths::path::Segment;
 
 // The indices from `from` up to, but not including, `to`.
@@ -38,11 +44,11 @@ pub(crate) fn box_for(v: Segment, v_kept: Kept, job: Job) -> Box
     }
 }
 
-// The next indices to look at, from j on and before `end`. Those between j and them are passed over.
-pub(crate) fn next_run(kept: &[f64], v_box: Box, job: Job, j: usize, end: usize) -> Run
+// The next indices from j on and before `end` whose boxes meet; of a listing that is not boxed all.
+fn run_of_boxes(kept: &[f64], v_box: Box, job: Job, j: usize, end: usize) -> Run
     requires { ⌜ (job .boxed ≡ true → Next.GroupedTwice (now kept) Keeping.boxesKept (job .m)) ⌝ }
     requires { ⌜ (j ≤ end) × (end ≤ job .m) × (job .m ≤ Path.mostVertices) ⌝ }
-    ensures { λ r. ⌜ r ≡ Runs.nextRun (now (kept .entry)) «v_box» job j end ⌝ }
+    ensures { λ r. ⌜ r ≡ Runs.runOfBoxes (now (kept .entry)) «v_box» job j end ⌝ }
 {
     if job.boxed {
         let from = next_by_groups(kept, keeping::BOXES, job.m, v_box, j, end);
@@ -50,4 +56,76 @@ pub(crate) fn next_run(kept: &[f64], v_box: Box, job: Job, j: usize, end: usize)
         return Run { from: from, to: to };
     }
     Run { from: j, to: end }
+}
+
+// The first vertex from j on and before `end` that has another trace than this one, which is above 0; `end` if there is none. A
+// group of which this trace is kept is passed over whole.
+fn next_other_by_groups(path: &[f64], kept: &[f64], trace: f64, j: usize, end: usize) -> usize
+    requires { ⌜ (j ≤ end) × (end ≤ Path.vertexCount (now path)) × (end ≤ Path.mostVertices) ⌝ }
+    requires { ⌜ Tracks.Tracked (now path) (now kept) ⌝ }
+    requires { ⌜ (trace ≻ f0) ≡ true ⌝ }
+    ensures { λ r. ⌜ r ≡ Next.first (Tracks.other (now (path .entry)) trace) j end ⌝ }
+{
+    let mut k = j;
+    while k < end {
+        let past = past_group(kept, trace, k);
+        if k < past {
+            k = lesser(past, end);
+        } else {
+            if !(trace == path::trace(path, k)) {
+                return k;
+            }
+            k += 1;
+        }
+    }
+    end
+}
+
+// The first vertex from j on and before `end` that has this trace; `end` if there is none. A group of which another trace is kept
+// is passed over whole.
+fn next_same_by_groups(path: &[f64], kept: &[f64], trace: f64, j: usize, end: usize) -> usize
+    requires { ⌜ (j ≤ end) × (end ≤ Path.vertexCount (now path)) × (end ≤ Path.mostVertices) ⌝ }
+    requires { ⌜ Tracks.Tracked (now path) (now kept) ⌝ }
+    ensures { λ r. ⌜ r ≡ Next.first (Tracks.same (now (path .entry)) trace) j end ⌝ }
+{
+    let mut k = j;
+    while k < end {
+        let past = past_others(kept, trace, k);
+        if k < past {
+            k = lesser(past, end);
+        } else {
+            if trace == path::trace(path, k) {
+                return k;
+            }
+            k += 1;
+        }
+    }
+    end
+}
+
+// The next indices to look at, from j on and before `end`, for a segment of the first path with this box and trace. Those
+// between j and them are passed over. No pair of trace 0 is of one trace, so then no trace of the second path is read.
+pub(crate) fn next_run(
+    second: &[f64],
+    kept: &[f64],
+    v_box: Box,
+    trace: f64,
+    job: Job,
+    j: usize,
+    end: usize,
+) -> Run
+    requires { ⌜ (job .boxed ≡ true → Next.GroupedTwice (now kept) Keeping.boxesKept (job .m)) ⌝ }
+    requires { ⌜ (j ≤ end) × (end ≤ job .m) × (job .m ≤ Path.mostVertices) ⌝ }
+    requires { ⌜ job .m ≤ Path.vertexCount (now second) ⌝ }
+    requires { ⌜ Tracks.Tracked (now second) (now kept) ⌝ }
+    ensures { λ r. ⌜ r ≡ Runs.nextRun (now (second .entry)) (now (kept .entry)) «v_box» trace job j end ⌝ }
+{
+    let all = run_of_boxes(kept, v_box, job, j, end);
+    if trace > 0.0 {
+        let stop = all.to;
+        let from = next_other_by_groups(second, kept, trace, all.from, stop);
+        let to = next_same_by_groups(second, kept, trace, from, stop);
+        return Run { from: from, to: to };
+    }
+    all
 }

@@ -19,13 +19,11 @@ use checks::fault::whole;
 use checks::refusal;
 use listing_pairs::keeping;
 use listing_pairs::order::Job;
+use listing_pairs::tracks;
 use paths::path;
 
-// the most groups that a path may have
-const GROUPS: usize = path::VERTICES / index::GROUP;
-
 // the most groups of groups
-const OUTER_GROUPS: usize = GROUPS / index::GROUP;
+const OUTER_GROUPS: usize = tracks::GROUPS / index::GROUP;
 
 // How many floats the index of a job needs.
 fn floats_for(job: Job) -> usize
@@ -79,9 +77,11 @@ fn list_by_boxes(
         (now (boxes .entry)) (now (indices .entry)) (now (points .entry)))
         r (now (boxes .exit)) (now (indices .exit)) (now (points .exit)) ⌝ }
 {
-    // for each segment, each group and each group of groups that a path may have: 264 KiB
+    // for each segment, each group and each group of groups that a path may have: 267 KiB
     let mut kept = [0.0f64; path::VERTICES * keeping::NUMBERS
-        + index::FLOATS * (path::VERTICES + GROUPS + OUTER_GROUPS)];
+        + tracks::GROUPS
+        + index::FLOATS * (path::VERTICES + tracks::GROUPS + OUTER_GROUPS)];
+    tracks::keep_traces(second, job.m, &mut kept);
     keeping::keep(second, 0, job.m, job.epsilon, &mut kept);
     keeping::keep_boxes(second, job.m, job.epsilon, &mut kept);
     let answer = list_kept(first, second, &kept, job, indices, points);

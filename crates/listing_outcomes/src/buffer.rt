@@ -24,6 +24,7 @@ use listing_pairs::order::Job;
 use listing_pairs::row;
 use listing_pairs::rows;
 use listing_pairs::sizes::lesser;
+use listing_pairs::tracks;
 use paths::path;
 
 // how many rows the buffer holds back until it is known that all fit: 112 KiB
@@ -206,8 +207,9 @@ pub fn list(
         (now (indices .entry)) (now (points .entry)))
         r (now (indices .exit)) (now (points .exit)) ⌝ }
 {
-    // for each segment that a path may have: 128 KiB
-    let mut kept = [0.0f64; path::VERTICES * keeping::NUMBERS];
+    // for each segment and each group that a path may have: 130 KiB
+    let mut kept = [0.0f64; path::VERTICES * keeping::NUMBERS + tracks::GROUPS];
+    tracks::keep_traces(second, job.m, &mut kept);
     keeping::keep(second, 0, job.m, job.epsilon, &mut kept);
     list_kept(first, second, &kept, job, indices, points)
 }

@@ -23,6 +23,7 @@ use listing_pairs::keeping;
 use listing_pairs::order;
 use listing_pairs::order::Job;
 use listing_pairs::order::Spot;
+use listing_pairs::tracks;
 use paths::path;
 
 // Fills the slices from a pair on, with room for so many rows and a budget of so many pairs.
@@ -46,8 +47,8 @@ fn fill_from(
         room budget)
         r (now (indices .entry)) (now (indices .exit)) (now (points .entry)) (now (points .exit)) ⌝ }
 {
-    // for each segment that a path may have: 128 KiB
-    let mut kept = [0.0f64; path::VERTICES * keeping::NUMBERS];
+    // for each segment and each group that a path may have: 130 KiB; no trace of a group is kept
+    let mut kept = [0.0f64; path::VERTICES * keeping::NUMBERS + tracks::GROUPS];
     keeping::keep_reached(second, job, spot.i, spot.j, budget, &mut kept);
     let part = Part {
         i: spot.i,

@@ -25,8 +25,11 @@ use paths::segments;
 // how many numbers are kept of a segment
 pub const NUMBERS: usize = 4;
 
-// the box from which on the index stands: behind the numbers of as many segments as a path may have
-pub const BOXES: usize = path::VERTICES * NUMBERS / index::FLOATS;
+// where the traces of groups stand: behind the numbers of as many segments as a path may have
+pub const TRACES: usize = path::VERTICES * NUMBERS;
+
+// the box from which on the index stands: behind the traces of as many groups as a path may have
+pub const BOXES: usize = (TRACES + path::VERTICES / index::GROUP) / index::FLOATS;
 
 // Stores what is kept of the path's segments from `from` up to, but not including, `to`.
 pub fn keep(path: &[f64], from: usize, to: usize, epsilon: f64, kept: &mut [f64])

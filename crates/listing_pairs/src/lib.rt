@@ -7,3 +7,4 @@ pub mod order;
 pub mod row;
 pub mod rows;
 pub mod sizes;
+pub mod tracks;

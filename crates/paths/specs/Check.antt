@@ -7,7 +7,7 @@ use Rattle.checks.specs.declared.fault.Checked.{Checked}
 use Rattle.checks.specs.Fault.{later}
 use Rattle.checks.specs.First.{first}
 use Rattle.checks.specs.Lists as lists
-use Rattle.paths.specs.Path.{vertexCount, vertex}
+use Rattle.paths.specs.Path.{vertexCount, vertex, trace}
 use Rattle.paths.specs.Segments.{segmentCount, segmentFrom}
 use Rattle.checks.specs.Arc.{arcChord}
 
@@ -16,9 +16,9 @@ abbrev pub along : (ℕ → List Checked) → ℕ → ℕ → List Checked
 along checks i zero = []
 along checks i (suc k) = checks i ++ along checks (i + 1) k
 
--- vertex i: x, y, bulge
+-- vertex i: x, y, bulge, trace
 unfoldable pub ofVertex : List Float → ℕ → ℕ → List Checked
-ofVertex path owner i = let v = vertex path i in lists.vertexChecks (v .x) (v .y) (v .bulge) owner i
+ofVertex path owner i = let v = vertex path i in lists.tracedChecks (v .x) (v .y) (v .bulge) (trace path i) owner i
 
 -- segment i: its chord, if it is an arc
 unfoldable pub ofSegment : List Float → ℕ → ℕ → List Checked

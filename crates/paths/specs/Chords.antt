@@ -26,7 +26,7 @@ module _ (path : List Float) (closed : Bool) (owner : ℕ) where
   path-chords h i l =
       let passed = along-fine (ofVertex path owner) (vertexCount path) (vertex-fine path owner) .0 (first-fine _ .1 h) in
       let here : i < vertexCount path = omega (arith, l, count-within path closed) in
-      of-points _ _ (passed i here .point) (passed _ (after-within path i here) .point)
+      of-points _ _ (passed i here .vertex .point) (passed _ (after-within path i here) .vertex .point)
 
   -- if all checks of a path are fine, every arc of it has a chord of at least 2^-40
   pub path-long : AllFine (pathChecks path closed owner)

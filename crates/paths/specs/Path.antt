@@ -1,4 +1,4 @@
--- The numbers of a lent path, by the scope: x, y and bulge of one vertex after the other.
+-- The numbers of a lent path, by the scope and request 8: x, y, bulge and trace of one vertex after the other.
 use mathlib.Core.List.{List}
 use Prim.Native.Nat.{ℕ, _+_, _*_, _/_}
 use lib.ListN.{length, getD}
@@ -8,7 +8,7 @@ use Rattle.plane.specs.PlineVertex as vertices
 
 -- how many numbers a vertex has
 abbrev pub numbersAVertex : ℕ
-numbersAVertex = 3
+numbersAVertex = 4
 
 -- the most vertices that a path may have
 abbrev pub mostVertices : ℕ
@@ -22,8 +22,12 @@ vertexCount path = length path / numbersAVertex
 abbrev pub number : List Float → ℕ → Float
 number path k = getD path k nan
 
--- vertex i
+-- vertex i, without its trace
 unfoldable pub vertex : List Float → ℕ → PlineVertex
 vertex path i =
     let start = i * numbersAVertex in
     vertices.new (number path start) (number path (start + 1)) (number path (start + 2))
+
+-- the trace that stands with vertex i, after its bulge
+unfoldable pub trace : List Float → ℕ → Float
+trace path i = number path (i * numbersAVertex + 3)

@@ -19,7 +19,7 @@ use Rattle.paths.specs.Shape
 use Rattle.checks.specs.Arc.{arcChord}
 use Rattle.checks.specs.Laws.Later.{fine-right}
 
--- 6, 7: the length is no multiple of 3; there are more than 4,096 vertices
+-- 6, 7: the length is no multiple of 4; there are more than 4,096 vertices
 pub shape : (path : List Float) (owner : ℕ)
     → Gives (Shape.shape path owner) (at owner 0 Length)
     (test 6 (Shape.broken path) ∷ test 7 (Shape.tooLong path) ∷ [])

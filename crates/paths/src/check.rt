@@ -18,7 +18,8 @@ fn vertices_inside(path: &[f64]) -> bool
     let mut i = 0;
     while i < count {
         let v = path::vertex(path, i);
-        if !chain::vertex_inside(v.x, v.y, v.bulge) {
+        let trace = path::trace(path, i);
+        if !chain::traced_inside(v.x, v.y, v.bulge, trace) {
             return false;
         }
         i += 1;
@@ -41,14 +42,15 @@ fn find_in_vertices(f: Checked, path: &[f64], owner: u64) -> Checked
             }
         }
         let v = path::vertex(path, i);
-        g = chain::vertex_after(g, v.x, v.y, v.bulge, owner, i as u64);
+        let trace = path::trace(path, i);
+        g = chain::traced_after(g, v.x, v.y, v.bulge, trace, owner, i as u64);
         i += 1;
     }
     g
 }
 
-// The first fault of f and of every vertex of the path in order, each x, y, then its bulge. Most often there is no fault, and the
-// quick test shows it without building places.
+// The first fault of f and of every vertex of the path in order, each x, y, its bulge, then its trace. Most often there is no
+// fault, and the quick test shows it without building places.
 pub fn check_vertices(f: Checked, path: &[f64], owner: u64) -> Checked
     ensures { λ r. ⌜ r ≡ Check.checkVertices f (now (path .entry)) owner ⌝ }
 {

@@ -1,20 +1,21 @@
-// The numbers of a lent path: x, y and bulge of one vertex after the other. The bulge belongs to the segment that starts at the
-// vertex. specs/Path.antt has the same.
+// The numbers of a lent path: x, y, bulge and trace of one vertex after the other. Bulge and trace belong to the segment that
+// starts at the vertex. specs/Path.antt has the same.
 ghost use mathlib.Core.Path.{_≡_};
 ghost use Prim.Native.Nat.{_<_};
 ghost use Rattle.paths.specs.Path;
 use plane::pline_vertex::PlineVertex;
 
 // how many numbers a vertex has
-pub const NUMBERS: usize = 3;
+pub const NUMBERS: usize = 4;
 
 // the most vertices that a path may have
 pub const VERTICES: usize = 4096;
 
-// A segment of a path: it runs from v1 to v2, with the bulge of v1.
+// A segment of a path: it runs from v1 to v2, with the bulge of v1 and the trace that stands with v1.
 pub struct Segment {
     pub v1: PlineVertex,
     pub v2: PlineVertex,
+    pub trace: f64,
 }
 
 // A segment, or that there is none.
@@ -30,11 +31,19 @@ pub fn vertex_count(path: &[f64]) -> usize
     path.len() / NUMBERS
 }
 
-// Vertex i. The path must have it.
+// Vertex i without its trace. The path must have it.
 pub fn vertex(path: &[f64], i: usize) -> PlineVertex
     requires { ⌜ i < Path.vertexCount (now path) ⌝ }
     ensures { λ r. ⌜ r ≡ Path.vertex (now (path .entry)) i ⌝ }
 {
     let start = i * NUMBERS;
     PlineVertex::new(path[start], path[start + 1], path[start + 2])
+}
+
+// The trace of vertex i. The path must have it.
+pub fn trace(path: &[f64], i: usize) -> f64
+    requires { ⌜ i < Path.vertexCount (now path) ⌝ }
+    ensures { λ r. ⌜ r ≡ Path.trace (now (path .entry)) i ⌝ }
+{
+    path[i * NUMBERS + 3]
 }

@@ -43,7 +43,8 @@ pub fn segment_from(path: &[f64], i: usize) -> Segment
 {
     let v1 = path::vertex(path, i);
     let v2 = path::vertex(path, after(path, i));
-    Segment { v1, v2 }
+    let trace = path::trace(path, i);
+    Segment { v1, v2, trace }
 }
 
 // Segment i of the path, or none if i is no segment's index. The last segment of a closed path runs back to vertex 0.

@@ -9,7 +9,7 @@ use checks::fault::later;
 use checks::fault::refuse;
 use checks::refusal;
 
-// Whether the length of the slice is no multiple of 3.
+// Whether the length of the slice is no multiple of 4.
 pub fn broken(path: &[f64]) -> bool
     ensures { λ r. ⌜ r ≡ Shape.broken (now (path .entry)) ⌝ }
 {
@@ -30,7 +30,7 @@ pub fn refused(path: &[f64]) -> bool
     broken(path) | too_long(path)
 }
 
-// Refusal 6 if the length of the slice is no multiple of 3, then 7 if it has more than 4,096 vertices. `owner` is the path's
+// Refusal 6 if the length of the slice is no multiple of 4, then 7 if it has more than 4,096 vertices. `owner` is the path's
 // number in the call.
 pub fn shape(path: &[f64], owner: u64) -> Checked
     ensures { λ r. ⌜ r ≡ Shape.shape (now (path .entry)) owner ⌝ }

@@ -51,7 +51,7 @@ pub fn vector(v: Vector2, out: &mut [f64]) -> usize
     two(v.x, v.y, out)
 }
 
-// A segment's first vertex, then its second. If there is no segment, no number is written.
+// A segment's first vertex, its second, then its trace. If there is no segment, no number is written.
 pub fn segment(at: SegmentAt, out: &mut [f64]) -> usize
     ensures { λ r. ⌜ Given (SegmentNumbers.segmentNumbers at) r (now (out .entry)) (now (out .exit)) ⌝ }
 {
@@ -60,7 +60,7 @@ pub fn segment(at: SegmentAt, out: &mut [f64]) -> usize
         SegmentAt::At(s) => {
             let v1 = s.v1;
             let v2 = s.v2;
-            part(&[v1.x, v1.y, v1.bulge, v2.x, v2.y, v2.bulge], out)
+            part(&[v1.x, v1.y, v1.bulge, v2.x, v2.y, v2.bulge, s.trace], out)
         }
     }
 }

@@ -8,7 +8,7 @@ use super::out;
 use super::viewed;
 use paths::segments;
 
-// The segment's first vertex, then its second, each x, y and bulge.
+// The segment's first vertex, then its second, each x, y and bulge, then its trace.
 #[no_mangle]
 pub extern "C" fn vjp_segment(path: &[f64], closed: bool, i: usize, out: &mut [f64]) -> usize
     ensures { λ r. ⌜

@@ -2,6 +2,7 @@
 
 use super::{is, shown};
 use crate::listings::model::{Listed, Path};
+use crate::listings::stand_in::passes_over;
 
 /// Least x, least y, greatest x, greatest y.
 type Reach = [f64; 4];
@@ -31,6 +32,19 @@ impl Part {
             segments[last] = segments[last - 1];
         }
         let mut groups: Vec<Reach> = segments.chunks(a_group()).map(around).collect();
+        if is("a group's box of its members of trace 0") {
+            let traces: Vec<f64> = (0..segments.len()).map(|i| path.trace(i)).collect();
+            let of_0 = |(members, traces): (&[Reach], &[f64])| {
+                let each = members.iter().zip(traces);
+                let members: Vec<Reach> =
+                    each.filter(|(_, t)| **t == 0.0).map(|(m, _)| *m).collect();
+                (!members.is_empty()).then(|| around(&members))
+            };
+            let parts = segments.chunks(a_group()).zip(traces.chunks(a_group()));
+            for (group, of_0) in groups.iter_mut().zip(parts.map(of_0)) {
+                *group = of_0.unwrap_or(*group);
+            }
+        }
         if is("a group without its last member") {
             let inner = |members: &[Reach]| around(&members[..(members.len() - 1).max(1)]);
             groups = segments.chunks(a_group()).map(inner).collect();
@@ -122,10 +136,11 @@ fn met(a: &Reach, b: &Reach, group: bool) -> bool {
     })
 }
 
-/// Which pairs are looked at, in order, and how many pairs those of the groups that meet have.
-fn walk(listed: Listed, parts: &[Part; 2]) -> (Vec<[u64; 2]>, u64) {
+/// Which pairs are looked at, in order, how many pairs those of the groups that meet have, and how many are of one trace though
+/// their boxes meet.
+fn walk(listed: Listed, parts: &[Part; 2]) -> (Vec<[u64; 2]>, u64, u64) {
     let [first, second] = parts;
-    let (mut pairs, mut passed) = (Vec::new(), 0);
+    let (mut pairs, mut passed, mut of_one_trace) = (Vec::new(), 0, 0);
     let size = a_group();
     let last = match second.groups.len() {
         n if is("the last group dropped") && n > 1 => n - 1,
@@ -142,8 +157,13 @@ fn walk(listed: Listed, parts: &[Part; 2]) -> (Vec<[u64; 2]>, u64) {
                     continue;
                 }
                 passed += 1;
+                let pair = [i as u64, j as u64];
                 if met(a, &second.segments[j], false) || is("every pair of groups that meet") {
-                    pairs.push([i as u64, j as u64]);
+                    if passes_over(listed, pair, &is) {
+                        of_one_trace += 1;
+                    } else {
+                        pairs.push(pair);
+                    }
                 }
             }
         }
@@ -152,7 +172,7 @@ fn walk(listed: Listed, parts: &[Part; 2]) -> (Vec<[u64; 2]>, u64) {
         let group = |index: u64| index / size as u64;
         pairs.sort_by_key(|&[i, j]| (group(i), group(j), i, j));
     }
-    (pairs, passed)
+    (pairs, passed, of_one_trace)
 }
 
 fn is_pair(listed: Listed, i: usize, j: usize) -> bool {
@@ -172,6 +192,8 @@ fn is_pair(listed: Listed, i: usize, j: usize) -> bool {
 
 fn index(listed: Listed, parts: &[Part; 2]) -> Vec<f64> {
     let lost = usize::from(is("the last group not in the index"));
+    let mut parts = parts.clone();
+    leave_out(listed, &mut parts);
     let [(a, b), (c, d)] = parts.each_ref().map(|part| {
         let groups = part.groups.len().saturating_sub(lost);
         (&part.segments[..], &part.groups[..groups])
@@ -189,8 +211,48 @@ fn index(listed: Listed, parts: &[Part; 2]) -> Vec<f64> {
     order.into_iter().flatten().flatten().copied().collect()
 }
 
+/// Leaves segments out of the index, if it has such a defect.
+fn leave_out(listed: Listed, parts: &mut [Part; 2]) {
+    let (first, second) = match listed {
+        Listed::Mutual(first, second) => (first, second),
+        Listed::Own(path) => (path, path),
+    };
+    let [n, m] = [first, second].map(Path::segments);
+    let of_trace = |path: Path, i: usize| path.trace(i) > 0.0;
+    let over = |i: usize, j: usize| {
+        let pair = if matches!(listed, Listed::Own(_)) && j < i {
+            [j, i]
+        } else {
+            [i, j]
+        };
+        passes_over(listed, pair.map(|index| index as u64), &is)
+    };
+    let own = matches!(listed, Listed::Own(_));
+    let each = |i: usize, others: usize, at: usize| {
+        let mut others = (0..others).filter(|j| !own || *j != i).peekable();
+        let any = others.peek().is_some();
+        any && others.all(|j| if at == 0 { over(i, j) } else { over(j, i) })
+    };
+    let kept = |at: usize, i: usize| match () {
+        _ if is("segments of a trace above 0 are not in the index") => {
+            !of_trace([first, second][at], i)
+        }
+        _ if is("segments of one trace with each other are not in the index") => {
+            !each(i, [m, n][at], at)
+        }
+        _ => true,
+    };
+    for (at, part) in parts.iter_mut().enumerate() {
+        let mut i = 0;
+        part.segments.retain(|_| {
+            i += 1;
+            kept(at, i - 1)
+        });
+    }
+}
+
 /// The index, and what the walk finds.
-pub fn found(listed: Listed, epsilon: f64) -> (Vec<f64>, Vec<[u64; 2]>, u64) {
+pub fn found(listed: Listed, epsilon: f64) -> (Vec<f64>, Vec<[u64; 2]>, u64, u64) {
     let parts = || match listed {
         Listed::Mutual(first, second) => [first, second].map(|path| Part::new(path, epsilon)),
         Listed::Own(path) => {
@@ -199,7 +261,7 @@ pub fn found(listed: Listed, epsilon: f64) -> (Vec<f64>, Vec<[u64; 2]>, u64) {
         }
     };
     let used = parts();
-    let (pairs, passed) = walk(listed, &used);
+    let (pairs, passed, of_one_trace) = walk(listed, &used);
     let index = shown(|| index(listed, &parts()));
-    (index, pairs, passed)
+    (index, pairs, passed, of_one_trace)
 }

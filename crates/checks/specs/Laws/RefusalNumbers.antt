@@ -100,6 +100,10 @@ module _ (x : Float) (p : Place) (l : FitsPlace p) where
   unfolding Each.bulge Each.finiteThen
   bulge = and finite (refused _ Refusal.bulge p (omega arith) (omega arith) l)
 
+  pub trace : Small (Each.trace x p)
+  unfolding Each.trace Each.finiteThen
+  trace = and finite (refused _ Refusal.trace p (omega arith) (omega arith) l)
+
   pub radius : Small (Each.radius x p)
   unfolding Each.radius Each.finiteThen
   radius = and finite (refused _ Refusal.circle p (omega arith) (omega arith) l)

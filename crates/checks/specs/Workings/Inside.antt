@@ -1,6 +1,6 @@
 -- Quick tests of numbers, by comparisons alone: |x| is at most the limit if x and -x are, for all floats; a NaN is at most
 -- nothing. So a point, a vertex or a circle whose numbers are all inside adds no fault to a chain of checks.
-use mathlib.Core.Path.{_≡_, sym, ap, _∙_}
+use mathlib.Core.Path.{_≡_, refl, sym, ap, _∙_}
 use mathlib.Core.Bool.{Bool, true, false, not, _&&_}
 use mathlib.Core.List.{_∷_}
 use Prim.Native.Nat.{ℕ, _+_, _*_, _≤_}
@@ -19,8 +19,10 @@ use Rattle.checks.specs.declared.fault.Checked.the-variants.{Fine}
 use Rattle.checks.specs.Fault.{later}
 use Rattle.checks.specs.First.{first}
 use Rattle.checks.specs.Limit
-use Rattle.checks.specs.Lists.{pointChecks, vertexChecks, circleChecks}
-use Rattle.checks.specs.Laws.Chains.{PointFine, VertexFine, CircleFine, point-listed, vertex-listed, circle-listed}
+use Rattle.checks.specs.Number.{noTrace}
+use Rattle.checks.specs.Lists.{pointChecks, vertexChecks, tracedChecks, circleChecks}
+use Rattle.checks.specs.Laws.Chains.{PointFine, VertexFine, TracedFine, CircleFine}
+use Rattle.checks.specs.Laws.Chains.{point-listed, vertex-listed, traced-listed, circle-listed}
 use Rattle.checks.specs.Laws.Fine.{Within, Between}
 use Rattle.checks.specs.Laws.Later.{fine-right}
 
@@ -35,6 +37,9 @@ pointInside x y = inside Limit.coordinate x && inside Limit.coordinate y
 
 abbrev pub vertexInside : Float → Float → Float → Bool
 vertexInside x y bulge = pointInside x y && inside Limit.bulge bulge
+
+abbrev pub tracedInside : Float → Float → Float → Float → Bool
+tracedInside x y bulge trace = vertexInside x y bulge && not (noTrace trace)
 
 abbrev pub circleInside : Float → Float → Float → Bool
 circleInside r x y = between Limit.radiusLeast Limit.radiusMost r && (inside Limit.center x && inside Limit.center y)
@@ -101,20 +106,32 @@ pub point-passed : (f : Checked) (x y : Float) (owner index : ℕ) → T (pointI
 point-passed f x y owner index h =
     sym (fine-right f) ∙ ap (later f) (sym (point-listed x y owner index .1 (point-fine x y h)))
 
--- ---- a vertex
-pub all-passed : (x y bulge : Float) (owner index : ℕ) → T (vertexInside x y bulge)
-    → first (vertexChecks x y bulge owner index) ≡ Fine
-all-passed x y bulge owner index h =
-    let fine : VertexFine x y bulge =
+-- ---- a vertex, and a vertex of a path
+vertex-fine : (x y bulge : Float) → T (vertexInside x y bulge) → VertexFine x y bulge
+vertex-fine x y bulge h =
     record {
       point = point-fine x y (and-l (pointInside x y) (inside Limit.bulge bulge) h);
       bulge = of-bulge bulge (and-r (pointInside x y) (inside Limit.bulge bulge) h);
-    } in
-    vertex-listed x y owner bulge index .1 fine
+    }
 
 pub vertex-passed : (f : Checked) (x y bulge : Float) (owner index : ℕ) → T (vertexInside x y bulge)
     → f ≡ first (f ∷ vertexChecks x y bulge owner index)
-vertex-passed f x y bulge owner index h = sym (fine-right f) ∙ ap (later f) (sym (all-passed x y bulge owner index h))
+vertex-passed f x y bulge owner index h =
+    sym (fine-right f) ∙ ap (later f) (sym (vertex-listed x y owner bulge index .1 (vertex-fine x y bulge h)))
+
+pub all-passed : (x y bulge trace : Float) (owner index : ℕ) → T (tracedInside x y bulge trace)
+    → first (tracedChecks x y bulge trace owner index) ≡ Fine
+all-passed x y bulge trace owner index h =
+    let fine : TracedFine x y bulge trace =
+    record {
+      vertex = vertex-fine x y bulge (and-l (vertexInside x y bulge) (not (noTrace trace)) h);
+      trace = denied (noTrace trace) (and-r (vertexInside x y bulge) (not (noTrace trace)) h);
+    } in
+    traced-listed x y owner bulge trace index .1 fine
+  where
+    denied : (b : Bool) → T (not b) → b ≡ false
+    denied true h = absurd h
+    denied false h = refl
 
 -- ---- a circle
 circle-fine : (r x y : Float) → T (circleInside r x y) → CircleFine r x y

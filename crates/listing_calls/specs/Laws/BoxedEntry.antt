@@ -16,12 +16,12 @@ use Rattle.listing_pairs.specs.declared.row.Look.{Look}
 use Rattle.listing_pairs.specs.declared.order.Job.{Job}
 use Rattle.listing_pairs.specs.Order.{Pair, mutualPairs, selfPairs}
 use Rattle.listing_pairs.specs.Rows.{rowsOf, lookedAt}
-use Rattle.listing_pairs.specs.Look.{look, selfLook}
+use Rattle.listing_pairs.specs.Look.{look, selfLook, tracedLook, tracedSelfLook}
 use Rattle.listing_pairs.specs.Boxed.{boxedPairs}
 use Rattle.listing_pairs.specs.Workings.Job.{every}
 use Rattle.listing_pairs.specs.Workings.Ready.{lookOn, boxedLook, lookBy}
 use Rattle.listing_pairs.specs.Laws.Sequence.{mutual-every, self-every}
-use Rattle.listing_pairs.specs.Laws.Boxed.{boxed-rows, boxed-looked}
+use Rattle.listing_pairs.specs.Laws.Skipped.{boxed-rows, boxed-looked}
 use Rattle.listing_outcomes.specs.declared.answer.ListingAnswer.{ListingAnswer}
 use Rattle.listing_outcomes.specs.declared.answer.ListingAnswer.the-variants.{Refused}
 use Rattle.listing_outcomes.specs.Outcome.{roomCheck}
@@ -88,16 +88,16 @@ module _ (first : List Float) (firstClosed : Bool) (second : List Float) (second
       → LeavesBoxed (mutualBoxed first firstClosed second secondClosed epsilon b₀ i₀ p₀) r b i p
   unfolding mutualBoxed checkMutual lookOn look
   mutual-boxed b i p r e j is h =
-      let g : LeavesBoxed (boxed (boxedLook first second epsilon (look first second epsilon)) between both b₀ i₀ p₀) r b i p =
+      let g : LeavesBoxed (boxed (boxedLook first second epsilon (tracedLook first second epsilon)) between both b₀ i₀ p₀) r b i p =
       rw (is, mutual-every (job first firstClosed second secondClosed epsilon true) refl) at h in
-      rw (boxed-fine these (look first second epsilon) (boxedPairs first second epsilon between) both b₀ i₀ p₀ e)
-      (rw (left-out first second epsilon (look first second epsilon) between both b₀ i₀ p₀) at g)
+      rw (boxed-fine these (tracedLook first second epsilon) (boxedPairs first second epsilon between) both b₀ i₀ p₀ e)
+      (rw (left-out first second epsilon (tracedLook first second epsilon) between both b₀ i₀ p₀) at g)
 
   pub mutual-boxed-refused : (x : Fault) → checkMutual first firstClosed second secondClosed epsilon ≡ Bad x
       → LeavesBoxed (mutualBoxed first firstClosed second secondClosed epsilon b₀ i₀ p₀) (Refused x) b₀ i₀ p₀
   unfolding mutualBoxed checkMutual
   mutual-boxed-refused x e =
-      boxed-bad these (look first second epsilon) (boxedPairs first second epsilon between) both b₀ i₀ p₀ x e
+      boxed-bad these (tracedLook first second epsilon) (boxedPairs first second epsilon between) both b₀ i₀ p₀ x e
 
 -- ---- one path
 module _ (path : List Float) (closed : Bool) (epsilon : Float) (b₀ : List Float) (i₀ : List ℕ) (p₀ : List Float) where
@@ -116,15 +116,15 @@ module _ (path : List Float) (closed : Bool) (epsilon : Float) (b₀ : List Floa
       → LeavesBoxed (selfBoxed path closed epsilon b₀ i₀ p₀) r b i p
   unfolding selfBoxed checkSelf lookOn selfLook
   self-boxed b i p r e j is h =
-      let k : LeavesBoxed (boxed (boxedLook path path epsilon (selfLook path closed epsilon)) own (one ++ []) b₀ i₀ p₀) r b i p =
+      let k : LeavesBoxed (boxed (boxedLook path path epsilon (tracedSelfLook path closed epsilon)) own (one ++ []) b₀ i₀ p₀) r b i p =
       rw (is, self-every (own-job path closed epsilon true) refl refl) at h in
-      let l : LeavesBoxed (boxed (boxedLook path path epsilon (selfLook path closed epsilon)) own one b₀ i₀ p₀) r b i p =
+      let l : LeavesBoxed (boxed (boxedLook path path epsilon (tracedSelfLook path closed epsilon)) own one b₀ i₀ p₀) r b i p =
       rw (append-nil one) at k in
-      rw (boxed-fine its (selfLook path closed epsilon) (boxedPairs path path epsilon own) one b₀ i₀ p₀ e)
-      (rw (left-out path path epsilon (selfLook path closed epsilon) own one b₀ i₀ p₀) at l)
+      rw (boxed-fine its (tracedSelfLook path closed epsilon) (boxedPairs path path epsilon own) one b₀ i₀ p₀ e)
+      (rw (left-out path path epsilon (tracedSelfLook path closed epsilon) own one b₀ i₀ p₀) at l)
 
   pub self-boxed-refused : (x : Fault) → checkSelf path closed epsilon ≡ Bad x
       → LeavesBoxed (selfBoxed path closed epsilon b₀ i₀ p₀) (Refused x) b₀ i₀ p₀
   unfolding selfBoxed checkSelf
   self-boxed-refused x e =
-      boxed-bad its (selfLook path closed epsilon) (boxedPairs path path epsilon own) one b₀ i₀ p₀ x e
+      boxed-bad its (tracedSelfLook path closed epsilon) (boxedPairs path path epsilon own) one b₀ i₀ p₀ x e

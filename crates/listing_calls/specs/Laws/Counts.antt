@@ -24,7 +24,7 @@ use Rattle.listing_pairs.specs.declared.row.Look.{Look}
 use Rattle.listing_pairs.specs.Row.{indicesARow, pointsARow, indicesOf, pointsOf, numbersOfRows}
 use Rattle.listing_pairs.specs.Order.{Pair, mutualPairs}
 use Rattle.listing_pairs.specs.Rows.{rowsOf, lookedAt}
-use Rattle.listing_pairs.specs.Look.{look}
+use Rattle.listing_pairs.specs.Look.{tracedLook}
 use Rattle.float_laws.specs.Stores.{flat-length}
 use Rattle.listing_outcomes.specs.declared.answer.ListingAnswer.{ListingAnswer}
 use Rattle.listing_outcomes.specs.declared.answer.ListingAnswer.the-variants.{Refused, Listed}
@@ -81,5 +81,5 @@ pub mutual-fits : (first : List Float) (firstClosed : Bool) (second : List Float
     (i₀ : List ℕ) (p₀ : List Float) → Fits (mutualListing first firstClosed second secondClosed epsilon i₀ p₀) (room i₀ p₀) i₀ p₀
 unfolding mutualListing
 mutual-fits first firstClosed second secondClosed epsilon i₀ p₀ =
-    outcome-fits (mutualChecks first firstClosed second secondClosed epsilon) (look first second epsilon)
+    outcome-fits (mutualChecks first firstClosed second secondClosed epsilon) (tracedLook first second epsilon)
     (mutualPairs (segmentCount first firstClosed) (segmentCount second secondClosed)) i₀ p₀

@@ -23,7 +23,7 @@ use Rattle.listing_pairs.specs.declared.row.Look.{Look}
 use Rattle.listing_pairs.specs.declared.order.Job.{Job}
 use Rattle.listing_pairs.specs.Order.{Pair, mutualPairs, selfPairs}
 use Rattle.listing_pairs.specs.Rows.{rowsOf, lookedAt}
-use Rattle.listing_pairs.specs.Look.{look, selfLook}
+use Rattle.listing_pairs.specs.Look.{look, selfLook, tracedLook, tracedSelfLook}
 use Rattle.listing_pairs.specs.Workings.Job.{every}
 use Rattle.listing_pairs.specs.Laws.Sequence.{mutual-every, self-every}
 use Rattle.listing_pairs.specs.Workings.Ready.{lookOn, lookBy, Ready, paths-ready}
@@ -87,7 +87,7 @@ module _ (first : List Float) (firstClosed : Bool) (second : List Float) (second
   job boxed = mutualJob first firstClosed second secondClosed boxed epsilon
 
   abbrev f : ℕ → ℕ → Look
-  f = look first second epsilon
+  f = tracedLook first second epsilon
 
   abbrev between : List Pair
   between = mutualPairs (segmentCount first firstClosed) (segmentCount second secondClosed)
@@ -164,7 +164,7 @@ module _ (path : List Float) (closed : Bool) (epsilon : Float) where
   own-job boxed = selfJob path closed boxed epsilon
 
   abbrev g : ℕ → ℕ → Look
-  g = selfLook path closed epsilon
+  g = tracedSelfLook path closed epsilon
 
   abbrev own : List Pair
   own = selfPairs (segmentCount path closed)

@@ -1,7 +1,7 @@
 -- How large the whole numbers of a listing of two paths can be: a refusal's, the count of pairs, and every number in the slice of
 -- indices, those behind the rows included.
 use mathlib.Core.Path.{_≡_, refl, sym, subst}
-use mathlib.Core.Bool.{Bool}
+use mathlib.Core.Bool.{Bool, true, false, cond}
 use mathlib.Core.List.{List, [], _∷_, _++_}
 use Prim.Native.Nat.{ℕ, zero, suc, _+_, _-_, _*_, _≤_, _<_}
 use native.Mathlib.Nat.{mul-le-mul}
@@ -29,7 +29,8 @@ use Rattle.listing_pairs.specs.declared.row.Look.the-variants.{Skipped, Nothing
 use Rattle.listing_pairs.specs.Row.{indicesOf, numbersOfRows, row, unlessApart, lookOf}
 use Rattle.listing_pairs.specs.Order.{Pair, along, pairsFrom, mutualPairs}
 use Rattle.listing_pairs.specs.Rows.{onto, rowsOf, lookedAt}
-use Rattle.listing_pairs.specs.Look.{look}
+use Rattle.listing_pairs.specs.Look.{look, tracedLook}
+use Rattle.listing_pairs.specs.Traces.{oneTrace, traced}
 use Rattle.listing_pairs.specs.Laws.Order.{few-pairs}
 use Rattle.listing_loop.specs.Laws.Pages.{few-looked}
 use Rattle.listing_outcomes.specs.declared.answer.ListingAnswer.{ListingAnswer}
@@ -85,13 +86,18 @@ module _ (b : ℕ) (wide : mostVertices ≤ b) (first second : List Float) (epsi
   row-below i j (suc class) m hi hj (suc (suc zero)) = omega (arith, class-small m, wide)
   row-below i j (suc class) m hi hj (suc (suc (suc k))) = omega (arith, wide)
 
-  look-below : (i j : ℕ) → i < b → j < b → Below b (made (look first second epsilon i j))
-  unfolding look lookOf
+  look-below : (i j : ℕ) → i < b → j < b → Below b (made (tracedLook first second epsilon i j))
+  unfolding traced look lookOf
   look-below i j hi hj =
       let v = segmentFrom first i in
       let u = segmentFrom second j in
       let m = plineSeg (v .v1) (v .v2) (u .v1) (u .v2) epsilon in
-      row-below i j (classOf m) m hi hj
+      go (oneTrace first second (record { i = i; j = j })) (unlessApart (classOf m) (row i j m))
+      (row-below i j (classOf m) m hi hj)
+    where
+      go : (t : Bool) (s : Look) → Below b (made s) → Below b (made (cond t Skipped s))
+      go true s h = λ k. omega (arith, wide)
+      go false s h = h
 
   onto-below : (s : Look) (rows : List Row) → Below b (made s) → Below b (numbersOfRows indicesOf rows)
       → Below b (numbersOfRows indicesOf (onto s rows))
@@ -100,13 +106,13 @@ module _ (b : ℕ) (wide : mostVertices ≤ b) (first second : List Float) (epsi
   onto-below (Made r) rows p q = below-append b (indicesOf r) (numbersOfRows indicesOf rows) p q
 
   abbrev numbers : List Pair → List ℕ
-  numbers ps = numbersOfRows indicesOf (rowsOf (look first second epsilon) ps)
+  numbers ps = numbersOfRows indicesOf (rowsOf (tracedLook first second epsilon) ps)
 
   along-below : (i j k : ℕ) → i < b → j + k ≤ b → (rest : List Pair) → Below b (numbers rest)
       → Below b (numbers (along i j k ++ rest))
   along-below i j zero hi hj rest q = q
   along-below i j (suc k) hi hj rest q =
-      onto-below (look first second epsilon i j) (rowsOf (look first second epsilon) (along i (suc j) k ++ rest))
+      onto-below (tracedLook first second epsilon i j) (rowsOf (tracedLook first second epsilon) (along i (suc j) k ++ rest))
       (look-below i j hi (omega (arith, hj)))
       (along-below i (suc j) k hi (omega (arith, hj)) rest q)
 
@@ -150,7 +156,7 @@ pub mutual-numbers : (first : List Float) (firstClosed : Bool) (second : List Fl
     → Numbers b (mutualListing first firstClosed second secondClosed epsilon i₀ p₀)
 unfolding mutualListing outcome
 mutual-numbers first firstClosed second secondClosed epsilon i₀ p₀ b wide held =
-    let f = look first second epsilon in
+    let f = tracedLook first second epsilon in
     let n = segmentCount first firstClosed in
     let m = segmentCount second secondClosed in
     let ps = mutualPairs n m in

@@ -1,5 +1,5 @@
 -- What is kept of the second path's segments: four numbers of each in a list, stored one segment after the other, and read back.
-use mathlib.Core.Path.{_≡_, refl, sym, ap, _∙_}
+use mathlib.Core.Path.{_≡_, refl, sym, ap, subst, _∙_}
 use mathlib.Core.Bool.{true, false, true≢false}
 use mathlib.Core.List.{List, [], _∷_}
 use mathlib.Core.Logic.{_⊎_, inl, inr}
@@ -27,13 +27,11 @@ use Rattle.listing_pairs.specs.Order.{Pair}
 use Rattle.listing_pairs.specs.Laws.Order.{lt-or-le}
 use Rattle.listing_pairs.specs.Workings.Job as job_of
 use Rattle.listing_pairs.specs.Workings.Ready as paths
+use Rattle.listing_pairs.specs.Workings.Tracks.{tracesKept, mostGroups, Tracked, tracked-still}
+pub use Rattle.listing_pairs.specs.Workings.Tracks.{numbersKept}
 
 abbrev pub ofSegment : Segment → Float → Kept
 ofSegment s epsilon = keptOf (s .v1) (s .v2) epsilon
-
--- how many numbers are kept of a segment
-abbrev pub numbersKept : ℕ
-numbersKept = 4
 
 -- ---- four numbers
 unfoldable pub keptAt : List Float → ℕ → Kept
@@ -230,9 +228,9 @@ unfoldable pub KeptFor : List Float → List Float → Float → List Pair → T
 KeptFor second kept epsilon [] = Unit {0}
 KeptFor second kept epsilon (p ∷ ps) = KeptOf second kept epsilon (p .j) × KeptFor second kept epsilon ps
 
--- the index of the second path's boxes stands behind the numbers of as many segments as a path may have
+-- the index of the second path's boxes stands behind the traces of as many groups as a path may have
 abbrev pub boxesKept : ℕ
-boxesKept = mostVertices * numbersKept / floatsABox
+boxesKept = (tracesKept + mostGroups) / floatsABox
 
 -- how many floats the index of n segments needs, with the boxes of groups of groups behind it
 abbrev pub boxFloats : ℕ → ℕ
@@ -250,12 +248,14 @@ pub record Ready (first second kept : List Float) (job : Job) (i j budget : ℕ)
   pub pairs : paths.Ready first second job
   pub keeps : KeptFor second kept (job .epsilon) (take budget (job_of.left job i j))
   pub boxes : job .boxed ≡ true → BoxesKept second kept job
+  pub tracks : Tracked second kept
 
 -- every pair can be looked at
 pub record AllReady (first second kept : List Float) (job : Job) : Type 0 where
   pub pairs : paths.Ready first second job
   pub keeps : AllKept second kept (job .epsilon) (job .m)
   pub boxes : job .boxed ≡ true → BoxesKept second kept job
+  pub tracks : Tracked second kept
 
 -- a listing that is not boxed needs no boxes
 pub no-boxes : {second kept : List Float} {job : Job} → job .boxed ≡ false → job .boxed ≡ true → BoxesKept second kept job
@@ -292,6 +292,36 @@ kept-still path l from to epsilon room j was = at (lt-or-le j from)
     at : (j < from) ⊎ (from ≤ j) → KeptOf path (keep path from to epsilon l) epsilon j
     at (inl h) = unchanged (inl h)
     at (inr h) = from-on h (lt-or-le j to)
+
+-- the traces of groups stand as they did
+keep-behind : (path : List Float) (from count : ℕ) (epsilon : Float) (l : List Float) (a : ℕ) → from + count ≤ mostVertices
+    → tracesKept ≤ a → getD (keepFrom path from count epsilon l) a nan ≡ getD l a nan
+unfolding keepFrom
+keep-behind path from zero epsilon l a few high = refl
+keep-behind path from (suc count) epsilon l a few high =
+    let now = keepFrom path from count epsilon l in
+    let at = (from + count) * numbersKept in
+    let k = ofSegment (segmentFrom path (from + count)) epsilon in
+    ap (λ (m : List Float). getD m a nan) (put-sets now at k)
+    ∙ sets-behind now (numbersOf k) at a nan (omega (arith, few, high))
+    ∙ keep-behind path from count epsilon l a (omega (arith, few)) high
+
+none-stored : (path l : List Float) (from : ℕ) (epsilon : Float) → keepFrom path from 0 epsilon l ≡ l
+unfolding keepFrom
+none-stored path l from epsilon = refl
+
+pub keep-tracked : (path l : List Float) (from to : ℕ) (epsilon : Float) → to ≤ mostVertices → Tracked path l
+    → Tracked path (keep path from to epsilon l)
+keep-tracked path l from to epsilon few was = go (lt-or-le from to)
+  where
+    go : (from < to) ⊎ (to ≤ from) → Tracked path (keep path from to epsilon l)
+    go (inl some) =
+        tracked-still path l (keep path from to epsilon l) (keep-length path from (to - from) epsilon l)
+        (λ g below. keep-behind path from (to - from) epsilon l (tracesKept + g) (omega (arith, few, some)) (omega arith)) was
+    go (inr none) =
+        let e : to - from ≡ 0 = omega (arith, none) in
+        subst (λ (m : List Float). Tracked path m)
+        (sym (ap (λ (n : ℕ). keepFrom path from n epsilon l) e ∙ none-stored path l from epsilon)) was
 
 -- and if boxes are stored behind the numbers, it still does
 pub kept-before : (path l vs : List Float) (epsilon : Float) (j : ℕ) → j < mostVertices → KeptOf path l epsilon j
@@ -376,3 +406,12 @@ module _ (path l : List Float) (epsilon : Float) (n : ℕ) (room : boxesKept * f
             sets-before front outer ((boxesKept + n + groupCount n) * floatsABox) (j * numbersKept + m) nan (omega (arith, inside, h)))
             ∙ kept-before path l (index path epsilon n) epsilon j inside (was j below) .is;
       }
+
+  pub still-tracked : Tracked path l → Tracked path (keepBoxes path n epsilon l)
+  unfolding keepBoxes
+  still-tracked was =
+      let behind = (boxesKept + n + groupCount n) * floatsABox in
+      tracked-still path l (sets front behind outer) (length-sets front behind outer ∙ long)
+      (λ g below. sets-before front outer behind (tracesKept + g) nan (omega (arith, below))
+      ∙ sets-before l (index path epsilon n) (boxesKept * floatsABox) (tracesKept + g) nan (omega (arith, below)))
+      was

@@ -37,7 +37,10 @@ use Rattle.listing_pairs.specs.Workings.Keeping.{
   boxes-grouped,
   boxes-are,
   still-kept,
+  keep-tracked,
+  still-tracked,
 }
+use Rattle.listing_pairs.specs.Workings.Tracks.{Tracked}
 
 module _ (second kept : List Float) (epsilon : Float) where
   abbrev Kept : ℕ → Type 0
@@ -94,21 +97,24 @@ all-ready {first} {second} {kept} {job} h i j budget =
       pairs = h .pairs;
       keeps = all-kept second kept (job .epsilon) job (h .keeps) i j budget;
       boxes = h .boxes;
+      tracks = h .tracks;
     }
 
 -- so after all of them were stored
 pub kept-ready : (first second l kept : List Float) (job : Job) → paths.Ready first second job → job .boxed ≡ false
-    → job .m * numbersKept ≤ length l → kept ≡ keep second 0 (job .m) (job .epsilon) l → AllReady first second kept job
-kept-ready first second l kept job ready plain room e =
+    → job .m * numbersKept ≤ length l → Tracked second l → kept ≡ keep second 0 (job .m) (job .epsilon) l
+    → AllReady first second kept job
+kept-ready first second l kept job ready plain room tracks e =
     record {
       pairs = ready;
       keeps = λ j b. rw e (kept-inside second l 0 (job .m) (job .epsilon) room j (omega arith) b);
       boxes = no-boxes plain;
+      tracks = rw e (keep-tracked second l 0 (job .m) (job .epsilon) (ready .few-second) tracks);
     }
 
 -- and after the boxes were stored behind them
 module _ (first second l front : List Float) (job : Job) (ready : paths.Ready first second job)
-    (room : boxesKept * floatsABox + boxFloats (job .m) ≤ length l) (e : front ≡ keep second 0 (job .m) (job .epsilon) l) where
+    (room : boxesKept * floatsABox + boxFloats (job .m) ≤ length l) (tracks : Tracked second l) (e : front ≡ keep second 0 (job .m) (job .epsilon) l) where
   long : length front ≡ length l
   long = ap length e ∙ keep-length second 0 (job .m - 0) (job .epsilon) l
 
@@ -119,6 +125,9 @@ module _ (first second l front : List Float) (job : Job) (ready : paths.Ready fi
   front-kept j b =
       rw e
       (kept-inside second l 0 (job .m) (job .epsilon) (omega (arith, ready .few-second, room)) j (omega arith) b)
+
+  front-tracked : Tracked second front
+  front-tracked = rw e (keep-tracked second l 0 (job .m) (job .epsilon) (ready .few-second) tracks)
 
   module _ (kept : List Float) (f : kept ≡ keepBoxes second (job .m) (job .epsilon) front) where
     pub boxes-kept : BoxesKept second kept job
@@ -135,6 +144,7 @@ module _ (first second l front : List Float) (job : Job) (ready : paths.Ready fi
           pairs = ready;
           keeps = rw f (still-kept second front (job .epsilon) (job .m) front-room (ready .few-second) front-kept);
           boxes = λ t. boxes-kept;
+          tracks = rw f (still-tracked second front (job .epsilon) (job .m) front-room front-tracked);
         }
 
 -- ---- of the segments that the first `budget` pairs from (i, j) on can reach
@@ -398,8 +408,35 @@ module _ (second : List Float) (job : Job) (i j budget : ℕ) (l : List Float) {
       ∙ sym (reached-beyond second job i j budget l inside
       (sym (ap (λ (n : ℕ). isHere job i n budget) counted) ∙ test))
 
+-- the traces of groups stand as they did
+reached-tracked : (second : List Float) (job : Job) (i j budget : ℕ) (l : List Float) → job .m ≤ mostVertices → Tracked second l
+    → Tracked second (keepReached second job i j budget l)
+unfolding keepReached
+reached-tracked second job i j budget l few was =
+    go (leb (job .n) i) (isHere job i (job_of.to job i - j) budget)
+  where
+    end : ℕ
+    end = job_of.to job i
+
+    go : (a b : Bool)
+        → Tracked second (cond a l (cond b (keepHere second job i j budget l) (keepBeyond second job i j budget l)))
+    go true b = was
+    go false true =
+        keep-tracked second l j (end - (end - j - budget)) (job .epsilon) (omega (arith, few, job_of.to-within job i)) was
+    go false false =
+        let low = job_of.from job (i + 1) in
+        let high = highOf (job .m) low (budget - (end - j)) in
+        let once = keep second (min j low) high (job .epsilon) l in
+        keep-tracked second once (greater j high) end (job .epsilon) (omega (arith, few, job_of.to-within job i))
+        (keep-tracked second l (min j low) high (job .epsilon) (omega (arith, few)) was)
+
 pub reached-ready : (first second l kept : List Float) (job : Job) (i j budget : ℕ) → paths.Ready first second job
-    → job .boxed ≡ false → job .m * numbersKept ≤ length l → kept ≡ keepReached second job i j budget l
+    → job .boxed ≡ false → job .m * numbersKept ≤ length l → Tracked second l → kept ≡ keepReached second job i j budget l
     → Ready first second kept job i j budget
-reached-ready first second l kept job i j budget ready plain room e =
-    record { pairs = ready; keeps = rw e (reached-kept second l job room i j budget); boxes = no-boxes plain }
+reached-ready first second l kept job i j budget ready plain room tracks e =
+    record {
+      pairs = ready;
+      keeps = rw e (reached-kept second l job room i j budget);
+      boxes = no-boxes plain;
+      tracks = rw e (reached-tracked second job i j budget l (ready .few-second) tracks);
+    }

@@ -24,6 +24,7 @@ use Rattle.listing_pairs.specs.declared.order.Job.{Job}
 use Rattle.listing_pairs.specs.Row.{lookOf}
 use Rattle.listing_pairs.specs.Look.{look, selfLook}
 use Rattle.listing_pairs.specs.Neighbours.{atJoint}
+use Rattle.listing_pairs.specs.Traces.{traced}
 use Rattle.listing_pairs.specs.Boxed.{boxesMeet}
 
 -- what segments i and j give that meet like this
@@ -37,7 +38,7 @@ lookOn v second job i j =
     let u = segmentFrom second j in
     givenBy second job i j (plineSeg (v .v1) (v .v2) (u .v1) (u .v2) (job .epsilon))
 
--- what a pair gives in the listing of a job that is not boxed
+-- what a pair gives in the listing of a job, if it is looked at
 abbrev pub eachLook : List Float → List Float → Job → ℕ → ℕ → Look
 eachLook first second job i j = lookOn (segmentFrom first i) second job i j
 
@@ -49,7 +50,8 @@ boxedLook first second epsilon look i j =
 -- what a pair gives in the listing of a job
 abbrev pub lookBy : List Float → List Float → Job → ℕ → ℕ → Look
 lookBy first second job =
-    cond (job .boxed) (boxedLook first second (job .epsilon) (eachLook first second job)) (eachLook first second job)
+    let each = traced first second (eachLook first second job) in
+    cond (job .boxed) (boxedLook first second (job .epsilon) each) each
 
 pub look-on : (v : Segment) (first second : List Float) (job : Job) (i j : ℕ) → v ≡ segmentFrom first i
     → lookOn v second job i j ≡ eachLook first second job i j

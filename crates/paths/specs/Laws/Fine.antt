@@ -22,7 +22,8 @@ use Rattle.checks.specs.Laws.Later.{then-fine, alone-fine, unless-fine}
 use Rattle.checks.specs.Laws.Fine.{chord-fine}
 use Rattle.checks.specs.Laws.Chains as chains
 use Rattle.paths.specs.declared.path.Segment.{Segment}
-use Rattle.paths.specs.Path.{vertexCount, vertex}
+use Rattle.checks.specs.Number.{noTrace}
+use Rattle.paths.specs.Path.{vertexCount, vertex, trace}
 use Rattle.paths.specs.Segments.{segmentCount, segmentFrom}
 use Rattle.checks.specs.Arc.{arcChord}
 use Rattle.paths.specs.Check.{ofVertex, ofSegment, vertexChecks, arcChecks, checkPath}
@@ -45,6 +46,7 @@ pub record SegmentFine (s : Segment) : Type 0 where
 
 pub record PathFine (path : List Float) (closed : Bool) : Type 0 where
   pub vertices : (i : ℕ) → i < vertexCount path → VertexFine (vertex path i)
+  pub traces : (i : ℕ) → i < vertexCount path → noTrace (trace path i) ≡ false
   pub arcs : (i : ℕ) → i < segmentCount path closed → ArcFine (segmentFrom path i .v1) (segmentFrom path i .v2)
 
 -- ---- exactly these pass
@@ -56,9 +58,13 @@ arc-fine a b owner index =
     (λ e. record { long = exact .0 e }, λ f. exact .1 (f .long))
 
 module _ (path : List Float) (owner i : ℕ) where
-  pub vertex-fine : (first (ofVertex path owner i) ≡ Fine) ↔ VertexFine (vertex path i)
+  -- a vertex with its trace
+  abbrev pub Traced : Type 0
+  Traced = let v = vertex path i in chains.TracedFine (v .x) (v .y) (v .bulge) (trace path i)
+
+  pub vertex-fine : (first (ofVertex path owner i) ≡ Fine) ↔ Traced
   unfolding ofVertex
-  vertex-fine = let v = vertex path i in chains.vertex-listed (v .x) (v .y) owner (v .bulge) i
+  vertex-fine = let v = vertex path i in chains.traced-listed (v .x) (v .y) owner (v .bulge) (trace path i) i
 
   segment-arc-fine : (first (ofSegment path owner i) ≡ Fine) ↔ ArcFine (segmentFrom path i .v1) (segmentFrom path i .v2)
   unfolding ofSegment
@@ -71,8 +77,10 @@ path-fine f path closed owner =
     let vertices = along-fine (ofVertex path owner) (vertexCount path) (vertex-fine path owner) in
     let arcs = along-fine (ofSegment path owner) (segmentCount path closed) (segment-arc-fine path owner) in
     let all = chains.append-fine (vertexChecks path owner) (arcChecks path closed owner) vertices arcs in
-    Iff·trans (then-fine Iff·rfl all)
-    (λ h. (h .0, record { vertices = h .1 .0; arcs = h .1 .1 }), λ h. (h .0, (h .1 .vertices, h .1 .arcs)))
+    Iff·trans (then-fine Iff·rfl all) (
+      λ h. (h .0, record { vertices = λ i l. h .1 .0 i l .vertex; traces = λ i l. h .1 .0 i l .trace; arcs = h .1 .1 }),
+      λ h. (h .0, (λ i l. record { vertex = h .1 .vertices i l; trace = h .1 .traces i l }, h .1 .arcs)),
+    )
 
 -- so both ends of every segment are fine, and so is its arc
 pub segment-fine : (path : List Float) (closed : Bool) → PathFine path closed

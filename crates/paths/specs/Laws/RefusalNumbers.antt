@@ -7,14 +7,14 @@ use Prim.Native.Nat.{ℕ, zero, suc, _+_, _≤_, _<_}
 use native.Mathlib.Omega.{arith}
 use borrow.Author.Tests.{ltb-false}
 use lib.Ieee.{Float}
-use Rattle.checks.specs.declared.fault.Item.the-variants.{X, Y, Bulge, Chord, Length}
+use Rattle.checks.specs.declared.fault.Item.the-variants.{X, Y, Bulge, Chord, Length, Trace}
 use Rattle.checks.specs.declared.fault.Checked.{Checked}
 use Rattle.checks.specs.declared.fault.Checked.the-variants.{Fine}
 use Rattle.checks.specs.First.{first as firstFault}
 use Rattle.checks.specs.Refusal
 use Rattle.checks.specs.Word.{owners, indices}
-use Rattle.checks.specs.Laws.RefusalNumbers.{Small, fine, refused, and, place, coordinate, bulge, arc-chord, append}
-use Rattle.paths.specs.Path.{mostVertices, vertexCount, vertex}
+use Rattle.checks.specs.Laws.RefusalNumbers.{Small, fine, refused, and, place, coordinate, bulge, trace, arc-chord, append}
+use Rattle.paths.specs.Path.{mostVertices, vertexCount, vertex, trace as traceOf}
 use Rattle.paths.specs.Segments.{segmentCount, segmentFrom}
 use Rattle.paths.specs.Shape.{shape}
 use Rattle.paths.specs.Check.{along, ofVertex, ofSegment, vertexChecks, arcChecks, pathChecks}
@@ -47,7 +47,8 @@ module _ (path : List Float) (owner : ℕ) (h : owner < owners) where
       let v = vertex path i in
       let few : i < indices = omega (arith, l) in
       and (coordinate (v .x) _ (place owner i X h few))
-      (and (coordinate (v .y) _ (place owner i Y h few)) (and (bulge (v .bulge) _ (place owner i Bulge h few)) fine))
+      (and (coordinate (v .y) _ (place owner i Y h few))
+      (and (bulge (v .bulge) _ (place owner i Bulge h few)) (and (trace (traceOf path i) _ (place owner i Trace h few)) fine)))
 
   of-segment : (i : ℕ) → i < mostVertices → Small (firstFault (ofSegment path owner i))
   unfolding ofSegment

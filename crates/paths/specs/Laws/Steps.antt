@@ -13,17 +13,20 @@ use Rattle.checks.specs.Lists
 use Rattle.checks.specs.Laws.Chains.{first-append}
 use Rattle.checks.specs.Laws.Later.{fine-right, later-assoc}
 use Rattle.paths.specs.declared.path.Segment.{Segment}
-use Rattle.paths.specs.Path.{vertex}
+use Rattle.paths.specs.Path.{vertex, trace}
 use Rattle.paths.specs.Segments.{segmentFrom}
 use Rattle.checks.specs.Arc.{arcChord}
 use Rattle.paths.specs.Check.{ofVertex, ofSegment, vertexChecks, arcChecks, checkVertices, checkArcs, checkPath}
 
 module _ (path : List Float) (owner i : ℕ) (g h : Checked) where
-  pub vertex-step : (v : PlineVertex) → v ≡ vertex path i → h ≡ first (g ∷ Lists.vertexChecks (v .x) (v .y) (v .bulge) owner i)
+  pub vertex-step : (v : PlineVertex) (t : Float) → v ≡ vertex path i → t ≡ trace path i
+      → h ≡ first (g ∷ Lists.tracedChecks (v .x) (v .y) (v .bulge) t owner i)
       → h ≡ later g (first (ofVertex path owner i))
   unfolding ofVertex
-  vertex-step v read looked =
-      looked ∙ ap (λ (u : PlineVertex). first (g ∷ Lists.vertexChecks (u .x) (u .y) (u .bulge) owner i)) read
+  vertex-step v t read with looked =
+      looked
+      ∙ ap (λ (s : Float). first (g ∷ Lists.tracedChecks (v .x) (v .y) (v .bulge) s owner i)) with
+      ∙ ap (λ (u : PlineVertex). first (g ∷ Lists.tracedChecks (u .x) (u .y) (u .bulge) (trace path i) owner i)) read
 
   pub segment-step : (s : Segment) → s ≡ segmentFrom path i → h ≡ later g (arcChord (s .v1) (s .v2) owner i)
       → h ≡ later g (first (ofSegment path owner i))

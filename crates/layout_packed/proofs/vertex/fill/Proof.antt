@@ -31,6 +31,7 @@ fill-spec =
     (λ c. filled-fault _ _ _ (search store-fault))
     (λ c. search needs) (λ c. search needs) (λ c. search needs) (λ c. search needs) (λ c. search needs) (λ c. search needs)
     (λ c. search needs) (λ c. simp length-set (omega arith)) (λ c. search needs) (λ c. search needs) (λ c. search needs)
-    (λ c. simp length-set (omega arith)) (λ c. search needs) (λ c. search needs) (λ c. search needs)
+    (λ c. simp length-set (omega arith)) (λ c. search needs) (λ c. search needs) (λ c. simp length-set (omega arith))
+    (λ c. search needs) (λ c. search needs) (λ c. search needs)
     (λ c. (omega arith, simp length-set (search needs), search store-vertex)) (λ c. search needs)
     (λ c. filled-end _ _ _ (search store-end)))

@@ -31,6 +31,7 @@ fill-spec =
     (λ c. filled-broken _ _ _ (search store-broken))
     (λ c. search needs) (λ c. search needs) (λ c. search needs) (λ c. search needs) (λ c. search needs) (λ c. search needs)
     (λ c. search needs) (λ c. simp length-set (omega arith)) (λ c. search needs) (λ c. search needs) (λ c. search needs)
-    (λ c. simp length-set (omega arith)) (λ c. search needs) (λ c. search needs) (λ c. search needs)
+    (λ c. simp length-set (omega arith)) (λ c. search needs) (λ c. search needs) (λ c. simp length-set (omega arith))
+    (λ c. search needs) (λ c. search needs) (λ c. search needs)
     (λ c. (omega arith, simp length-set (search needs), search store-line)) (λ c. search needs)
     (λ c. filled-end _ _ _ (search store-end)))

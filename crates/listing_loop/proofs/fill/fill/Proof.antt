@@ -9,7 +9,7 @@ use borrow.Author.Needs.{needs}
 use denote.Ref.{now}
 use lib.Ieee.{Float}
 use Rattle.listing_pairs.specs.Workings.Job as job_of
-use Rattle.listing_pairs.specs.Workings.Ready.{lookBy, at-segment, look-on}
+use Rattle.listing_pairs.specs.Workings.Ready.{eachLook, lookBy, at-segment, look-on}
 use Rattle.listing_loop.specs.Workings.Filling.{EndsWithin, so-ends}
 use Rattle.listing_loop.specs.Workings.Runs.{Runs, next-runs}
 use Rattle.listing_loop.specs.Laws.Loop.{mostPairs, State, starts, few, ends, next-i, spent, kept-here, skips}
@@ -110,15 +110,16 @@ mid-state c = let a = start (outer c) .args in c .loop2 .inv .2 (now (a .indices
 run : (c : Found)
     → let m = middle c in
     let a = start (outer m) .args in
-    Runs (now (a .first)) (now (a .second)) (a .job) (outer m .loop .i) (m .loop2 .j) (m .before .end-within .result)
-    (c .next-run .result)
+    Runs (lookBy (now (a .first)) (now (a .second)) (a .job) (outer m .loop .i))
+    (eachLook (now (a .first)) (now (a .second)) (a .job) (outer m .loop .i))
+    (m .loop2 .j) (m .before .end-within .result) (c .next-run .result)
 run c =
     let m = middle c in
     let a = start (outer m) .args in
     let b = m .before .before in
-    next-runs _ _ _ _ _ _ _ _ _ _ (c .before .loop2-test .taken)
+    next-runs _ _ _ _ _ _ _ _ _ _ _ (c .before .loop2-test .taken)
     (omega (arith, end-inside m, job_of.to-within (a .job) (outer m .loop .i))) (start (outer m) .pre .0 .boxes)
-    (b .before .before .segment-from .ensures) (b .box-for .ensures) (c .next-run .ensures)
+    (b .before .before .segment-from .ensures) (b .box-for .ensures) refl (c .next-run .ensures)
 
 -- the budget allows what lies between
 allows : (start j from end budget : ℕ) → start ≤ j → j ≤ from → from ≤ end → end - start ≤ budget
@@ -217,9 +218,12 @@ next-run-requires c κs =
     let h = s .pre .0 in (
       (λ boxed. h .boxes boxed .grouped),
       (
-        omega (arith, c .loop2-test .taken),
-        omega (arith, end-inside m, job_of.to-within (s .args .job) (outer m .loop .i)),
-        h .pairs .few-second,
+        (
+          omega (arith, c .loop2-test .taken),
+          omega (arith, end-inside m, job_of.to-within (s .args .job) (outer m .loop .i)),
+          h .pairs .few-second,
+        ),
+        (h .pairs .m-within, h .tracks),
       ),
     )
 
@@ -228,7 +232,7 @@ loop3-holds c = (omega arith, run c .middle, λ x y s. s)
 
 loop2-less : tie.Need-loop2-less Inv-loop3 μ-loop3 Inv-loop2 μ-loop2 Inv-loop μ-loop
 loop2-less c =
-    let f = found (c .before) in omega (arith, c .loop3-test .left, run f .on, f .before .loop2-test .taken)
+    let f = found (c .before) in omega (arith, c .loop3-test .left, run f .on (f .before .loop2-test .taken))
 
 loop2-again : tie.Need-loop2-again Inv-loop3 μ-loop3 Inv-loop2 μ-loop2 Inv-loop μ-loop
 loop2-again c =

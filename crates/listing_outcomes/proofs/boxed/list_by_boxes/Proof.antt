@@ -1,6 +1,7 @@
 -- `listing_outcomes::boxed::list_by_boxes` meets its contract: what is kept is that of the second path's segments, with their
 -- boxes behind it; the listing is that of `list_kept`, and the index is written if it is no refusal.
-use mathlib.Core.Path.{_≡_, refl}
+use mathlib.Core.Path.{_≡_, refl, _∙_}
+use mathlib.Core.List.{List}
 use Prim.Native.Nat.{ℕ, _+_, _*_, _/_, _≤_}
 use native.Mathlib.Omega.{arith}
 use borrow.Author.Needs.{needs}
@@ -14,6 +15,7 @@ use Rattle.listing_pairs.specs.declared.row.Look.{Look}
 use Rattle.listing_pairs.specs.Workings.Job.{every}
 use Rattle.listing_pairs.specs.Workings.Keeping.{numbersKept, boxesKept, boxFloats}
 use Rattle.listing_pairs.specs.Workings.Ready.{lookBy}
+use Rattle.listing_pairs.specs.Workings.Tracks.{mostGroups, Tracked, nothing-kept, call-length, call-tracked}
 use Rattle.listing_pairs.specs.Workings.Reached.{front-room, front-kept, boxes-kept, boxes-ready}
 use Rattle.listing_outcomes.specs.Workings.BoxedOutcome.{indexFor, fits-index, boxed-refused, boxed-listed}
 use Rattle.listing_outcomes.proofs.boxed.list_by_boxes.Statement.{statement}
@@ -22,8 +24,7 @@ use Rattle.listing_outcomes.proofs.boxed.list_by_boxes.Tie as tie
 -- the numbers, at first
 abbrev all : ℕ
 all =
-    mostVertices * numbersKept
-    + floatsABox * (mostVertices + mostVertices / groupSize + mostVertices / groupSize / groupSize)
+    mostVertices * numbersKept + mostGroups + floatsABox * (mostVertices + mostGroups + mostGroups / groupSize)
 
 long : length (let z : Float = ofBits binary64 0 in replicate all z) ≡ all
 long = let z : Float = ofBits binary64 0 in length-replicate all z
@@ -32,8 +33,28 @@ long = let z : Float = ofBits binary64 0 in length-replicate all z
 enough : (m n : ℕ) → m ≤ mostVertices → n ≡ all → boxesKept * floatsABox + boxFloats m ≤ n
 enough m n few e = omega arith
 
+abbrev traced : tie.After-keep → tie.After-keep-traces
+traced c = c .before .before .before
+
 abbrev start : tie.After-keep → tie.Start
-start c = c .before .before .before .before .before .before .before
+start c = traced c .before .before .before .before .before .before .before
+
+-- what the traces of groups left is long enough, and says what it should
+abbrev after : tie.After-keep → List Float
+after c = traced c .keep-traces .last .1 .1 .0
+
+room : (c : tie.After-keep) → boxesKept * floatsABox + boxFloats (start c .args .job .m) ≤ length (after c)
+room c =
+    enough _ (length (after c)) (start c .pre .0 .few-second) (call-length _ _ _ _ (traced c .keep-traces .ensures) ∙ long)
+
+tracks : (c : tie.After-keep) → Tracked (now (start c .args .second)) (after c)
+tracks c =
+    call-tracked _ _ _ _ (traced c .keep-traces .ensures) (start c .pre .0 .few-second) (nothing-kept _ all (omega arith))
+
+keep-traces-requires : tie.Need-keep-traces-requires
+keep-traces-requires c κs =
+    let ready = c .before .before .before .before .before .before .pre .0 in
+    ((ready .m-within, ready .few-second), omega (arith, long))
 
 abbrev kept : tie.After-keep-boxes → tie.After-keep
 kept c = c .before .before .before
@@ -41,15 +62,21 @@ kept c = c .before .before .before
 abbrev listed : tie.After-list-kept → tie.After-keep-boxes
 listed c = c .before .before .before .before .before
 
+keep-requires : tie.Need-keep-requires
+keep-requires c κs =
+    let t = c .before .before in
+    let ready = t .before .before .before .before .before .before .before .pre .0 in
+    let same = call-length _ _ _ _ (t .keep-traces .ensures) in
+    (ready .m-within, (ready .few-second, omega (arith, long, same, ready .few-second)))
+
 keep-boxes-requires : tie.Need-keep-boxes-requires
 keep-boxes-requires c κs =
     let k = c .before .before in
-    let ready = start k .pre .0 in
-    let room = enough _ _ (ready .few-second) long in (
+    let ready = start k .pre .0 in (
       (ready .m-within, ready .few-second),
       (
-        front-kept _ _ _ _ _ ready room (k .keep .ensures),
-        front-room _ _ _ _ _ ready room (k .keep .ensures),
+        front-kept _ _ _ _ _ ready (room k) (tracks k) (k .keep .ensures),
+        front-room _ _ _ _ _ ready (room k) (tracks k) (k .keep .ensures),
       ),
     )
 
@@ -58,7 +85,7 @@ list-kept-requires c κs =
     let b = c .before .before .before .before in
     let k = kept b in
     let ready = start k .pre .0 in
-    boxes-ready _ _ _ _ _ ready (enough _ _ (ready .few-second) long) (k .keep .ensures) _ (b .keep-boxes .ensures)
+    boxes-ready _ _ _ _ _ ready (room k) (tracks k) (k .keep .ensures) _ (b .keep-boxes .ensures)
 
 -- what a pair gives
 abbrev looks : tie.After-keep → ℕ → ℕ → Look
@@ -94,13 +121,13 @@ pub list-by-boxes-spec : {M : Type 1} → statement M
 list-by-boxes-spec =
     tie.close
     (tie.spec
-    (λ c. search needs) (λ c κs. search needs) (λ c. search needs) keep-boxes-requires (λ c. search needs) list-kept-requires
+    (λ c. search needs) keep-traces-requires (λ c. search needs) keep-requires (λ c. search needs) keep-boxes-requires (λ c. search needs) list-kept-requires
     (λ c. search needs) (λ c. search needs)
     (λ c. search needs)
     (λ c κs. let b = listed (c .before .before .before .before .before .before .before .before .before) in
-    let p = start (kept b) .pre in
-    let room = enough _ _ (p .0 .few-second) long in
-    let there = boxes-kept _ _ _ _ _ (p .0) room (kept b .keep .ensures) _ (b .keep-boxes .ensures) in
+    let k = kept b in
+    let p = start k .pre in
+    let there = boxes-kept _ _ _ _ _ (p .0) (room k) (tracks k) (k .keep .ensures) _ (b .keep-boxes .ensures) in
     (p .0, (p .1 .0, (there, p .1 .1))))
     (λ c. search needs) (λ c. search needs) when-refused
     (λ c. search needs) (λ c. search needs) (λ c. search needs) when-listed)

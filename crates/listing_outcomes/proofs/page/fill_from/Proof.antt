@@ -1,13 +1,14 @@
 -- `listing_outcomes::page::fill_from` meets its contract: what is kept is that of the segments that the page can reach, and the
 -- rest is the loop's.
 use mathlib.Core.Path.{_≡_}
-use Prim.Native.Nat.{ℕ, _*_}
+use Prim.Native.Nat.{ℕ, _+_, _*_}
 use native.Mathlib.Nat.{sub-zero}
 use native.Mathlib.Omega.{arith}
 use lib.Ieee.{Float, binary64, ofBits}
 use lib.ListN.{length, replicate, length-replicate}
 use Rattle.paths.specs.Path.{mostVertices}
 use Rattle.listing_pairs.specs.Workings.Keeping.{numbersKept}
+use Rattle.listing_pairs.specs.Workings.Tracks.{mostGroups, nothing-kept}
 use Rattle.listing_pairs.specs.Workings.Reached.{reached-ready}
 use borrow.Author.Needs.{needs}
 use Rattle.listing_outcomes.specs.Workings.PageOutcome.{from-none}
@@ -16,7 +17,7 @@ use Rattle.listing_outcomes.proofs.page.fill_from.Tie as tie
 
 -- the numbers, at first
 abbrev all : ℕ
-all = mostVertices * numbersKept
+all = mostVertices * numbersKept + mostGroups
 
 long : length (let z : Float = ofBits binary64 0 in replicate all z) ≡ all
 long = let z : Float = ofBits binary64 0 in length-replicate all z
@@ -31,7 +32,8 @@ fill-requires c κs =
     let k = c .before .before .before .before in
     let s = k .before .before .before .before .before .before in
     let h = s .pre in (
-      reached-ready _ _ _ _ _ _ _ _ (h .0) (h .1 .0) (omega (arith, long, h .0 .few-second)) (k .keep-reached .ensures),
+      reached-ready _ _ _ _ _ _ _ _ (h .0) (h .1 .0) (omega (arith, long, h .0 .few-second))
+          (nothing-kept _ all (omega arith)) (k .keep-reached .ensures),
       (h .1 .1 .0, (omega arith, h .1 .1 .1)),
     )
 

@@ -19,8 +19,10 @@ abbrev μ-loop : tie.MeasureT-loop
 
 loop-again : tie.Need-loop-again Inv-loop μ-loop
 loop-again c =
-    let l = c .before .before .before .before .before .loop in
-    turned (l .inv) (search needs) (vertex-step _ _ _ _ _ _ (c .before .vertex .ensures) (c .vertex-after .ensures))
+    let t = c .before in
+    let l = t .before .before .before .before .before .loop in
+    turned (l .inv) (search needs)
+    (vertex-step _ _ _ _ _ _ _ (t .before .vertex .ensures) (t .trace .ensures) (c .traced-after .ensures))
 
 returns-2 : tie.Need-returns-2 Inv-loop μ-loop
 returns-2 c =
@@ -34,4 +36,4 @@ find-in-vertices-spec =
     (tie.spec
     Inv-loop μ-loop (λ c. search needs) (λ c. looking _ _ _) (λ c. search needs) (λ c. search needs)
     (λ c. found (c .before .before .before .before .loop .inv) _ (c .before .g .given .1)) (λ c. search needs)
-    (λ c. search needs) (λ c. search needs) (λ c. search needs) loop-again returns-2)
+    (λ c. search needs) (λ c. search needs) (λ c. search needs) (λ c. search needs) loop-again returns-2)

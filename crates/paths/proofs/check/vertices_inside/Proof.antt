@@ -21,8 +21,8 @@ returns c = record { all = λ t. absurd t }
 loop-again : tie.Need-loop-again Inv-loop μ-loop
 loop-again c =
     let v = c .before in
-    one-more _ _ _ _ (v .vertex-inside .ensures) (v .before .vertex .ensures) (c .if1 .left)
-    (v .before .before .before .loop .inv)
+    one-more _ _ _ _ _ (v .traced-inside .ensures) (v .before .before .vertex .ensures) (v .before .trace .ensures) (c .if1 .left)
+    (v .before .before .before .before .loop .inv)
 
 returns-2 : tie.Need-returns-2 Inv-loop μ-loop
 returns-2 c = record { all = λ t j l. c .before .loop .inv j (search needs) }
@@ -31,5 +31,5 @@ pub vertices-inside-spec : {M : Type 1} → statement M
 vertices-inside-spec =
     tie.close
     (tie.spec
-    Inv-loop μ-loop (search needs) loop-holds (search needs) (search needs) returns (search needs) (search needs) loop-again
-    returns-2)
+    Inv-loop μ-loop (search needs) loop-holds (search needs) (search needs) (search needs) returns (search needs) (search needs)
+    loop-again returns-2)

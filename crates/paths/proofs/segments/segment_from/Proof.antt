@@ -12,4 +12,7 @@ segment-from-spec =
     tie.close
     (tie.spec
     (λ c. search needs) (λ c. search needs) (λ c κs. rw (c .after .ensures) (after-within _ _ (search needs)))
-    (λ c. let p = c .before in simp (← p .before .vertex .ensures, ← p .after .ensures, ← c .vertex2 .ensures)))
+    (λ c. search needs)
+    (λ c. let w = c .before in
+    let p = w .before in
+    simp (← p .before .vertex .ensures, ← p .after .ensures, ← w .vertex2 .ensures, ← c .trace .ensures)))

@@ -1,4 +1,4 @@
--- `probe::out::segment` meets its contract: none has no numbers, and a segment those of its vertices.
+-- `probe::out::segment` meets its contract: none has no numbers, and a segment those of its vertices and its trace.
 use Prim.Native.Nat.{zero-le}
 use mathlib.Core.List.{[]}
 use borrow.Author.Needs.{needs}

@@ -1,0 +1,86 @@
+// Which groups of the second path's segments are of one trace: a listing keeps that trace, or 0, of each group, so that its loop
+// passes over a group at a time. It is kept behind the numbers of the segments. A page keeps none, and compares trace by trace.
+ghost use mathlib.Core.Path.{_≡_};
+ghost use Prim.Native.Nat.{_≤_, _<_, _+_, _*_};
+ghost use lib.ListN.{length};
+ghost use Rattle.paths.specs.Path;
+ghost use Rattle.boxes.specs.Groups as groups_of;
+ghost use Rattle.boxes.specs.Workings.Next;
+ghost use Rattle.listing_pairs.specs.Workings.Tracks as tracks;
+use super::keeping;
+use boxes::index;
+use paths::path;
+
+// the most groups that a path may have
+pub const GROUPS: usize = path::VERTICES / index::GROUP;
+
+// The first vertex from j on and before `end` that has another trace; `end` if there is none.
+pub fn next_other(path: &[f64], trace: f64, j: usize, end: usize) -> usize
+    requires { ⌜ (j ≤ end) × (end ≤ Path.vertexCount (now path)) ⌝ }
+    ensures { λ r. ⌜ r ≡ Next.first (tracks.other (now (path .entry)) trace) j end ⌝ }
+{
+    let mut k = j;
+    while k < end {
+        if !(trace == path::trace(path, k)) {
+            return k;
+        }
+        k += 1;
+    }
+    end
+}
+
+// The trace of the segments of group g, if all 16 have it, else 0.
+fn group_trace(path: &[f64], g: usize) -> f64
+    requires { ⌜ (g + 1) * groups_of.groupSize ≤ Path.vertexCount (now path) ⌝ }
+    requires { ⌜ g < tracks.mostGroups ⌝ }
+    ensures { λ r. ⌜ r ≡ tracks.groupTrace (now (path .entry)) g ⌝ }
+{
+    let from = g * index::GROUP;
+    let to = from + index::GROUP;
+    let trace = path::trace(path, from);
+    if next_other(path, trace, from, to) < to {
+        return 0.0;
+    }
+    trace
+}
+
+// Stores the traces of the groups that the path's first n segments fill.
+pub fn keep_traces(path: &[f64], n: usize, kept: &mut [f64])
+    requires { ⌜ (n ≤ Path.vertexCount (now path)) × (n ≤ Path.mostVertices) ⌝ }
+    requires { ⌜ tracks.tracesKept + tracks.mostGroups ≤ length (now kept) ⌝ }
+    ensures { λ _. ⌜ now (kept .exit) ≡ tracks.keepTraces (now (path .entry)) (tracks.wholeGroups n) (now (kept .entry)) ⌝ }
+{
+    let count = n / index::GROUP;
+    let mut g = 0;
+    while g < count {
+        kept[keeping::TRACES + g] = group_trace(path, g);
+        g += 1;
+    }
+}
+
+// The vertex after the group of vertex k, if all of the group have this trace; else k.
+pub fn past_group(kept: &[f64], trace: f64, k: usize) -> usize
+    requires { ⌜ k < Path.mostVertices ⌝ }
+    requires { ⌜ tracks.tracesKept + tracks.mostGroups ≤ length (now kept) ⌝ }
+    ensures { λ r. ⌜ r ≡ tracks.pastGroup (now (kept .entry)) trace k ⌝ }
+{
+    let g = k / index::GROUP;
+    if trace == kept[keeping::TRACES + g] {
+        return (g + 1) * index::GROUP;
+    }
+    k
+}
+
+// The vertex after the group of vertex k, if all of the group have one trace above 0, and not this one; else k.
+pub fn past_others(kept: &[f64], trace: f64, k: usize) -> usize
+    requires { ⌜ k < Path.mostVertices ⌝ }
+    requires { ⌜ tracks.tracesKept + tracks.mostGroups ≤ length (now kept) ⌝ }
+    ensures { λ r. ⌜ r ≡ tracks.pastOthers (now (kept .entry)) trace k ⌝ }
+{
+    let g = k / index::GROUP;
+    let other = kept[keeping::TRACES + g];
+    if (other > 0.0) & !(trace == other) {
+        return (g + 1) * index::GROUP;
+    }
+    k
+}
