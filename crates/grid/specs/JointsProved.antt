@@ -181,15 +181,14 @@ not-skipped false l r e = refl
 
 pub fold-promise : FoldPromise
 unfolding atJoint selfLook look traced
-fold-promise path closed e num den small i j (rises, within, beside) p1 p2 q1 q2 (on-v1, on-v2, line-v) (on-u1, on-u2, line-u) =
-    (
-      s .only-there,
-      (
-        λ r. let looked = not-skipped one _ (r .0) (r .1) in
+fold-promise path closed e num den small i j (rises, within, beside) p1 p2 q1 q2 (on-v1, on-v2, line-v) (on-u1, on-u2, line-u) = (
+  s .only-there,
+  (
+    λ r. let looked = not-skipped one _ (r .0) (r .1) in
         (s .elsewhere .0 (not-silent _ _ (r .0) (rw looked at (r .1))), looked),
-        λ h. (row i j met, rw (h .1) (rw (s .elsewhere .1 (h .0)) (made (h .0)))),
-      ),
-    )
+    λ h. (row i j met, rw (h .1) (rw (s .elsewhere .1 (h .0)) (made (h .0)))),
+  ),
+)
   where
     one : Bool
     one = oneTrace path path (record { i = i; j = j })

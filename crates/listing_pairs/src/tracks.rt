@@ -29,7 +29,7 @@ pub fn next_other(path: &[f64], trace: f64, j: usize, end: usize) -> usize
     end
 }
 
-// The trace of the segments of group g, if all 16 have it, else 0.
+// The trace of the segments of group g, if it is above 0 and all 16 have it, else 0.
 fn group_trace(path: &[f64], g: usize) -> f64
     requires { ⌜ (g + 1) * groups_of.groupSize ≤ Path.vertexCount (now path) ⌝ }
     requires { ⌜ g < tracks.mostGroups ⌝ }
@@ -38,6 +38,9 @@ fn group_trace(path: &[f64], g: usize) -> f64
     let from = g * index::GROUP;
     let to = from + index::GROUP;
     let trace = path::trace(path, from);
+    if !(trace > 0.0) {
+        return 0.0;
+    }
     if next_other(path, trace, from, to) < to {
         return 0.0;
     }

@@ -60,10 +60,7 @@ pub fn segment(at: SegmentAt, out: &mut [f64]) -> usize
         SegmentAt::At(s) => {
             let v1 = s.v1;
             let v2 = s.v2;
-            part(
-                &[v1.x, v1.y, v1.bulge, v2.x, v2.y, v2.bulge, s.trace],
-                out,
-            )
+            part(&[v1.x, v1.y, v1.bulge, v2.x, v2.y, v2.bulge, s.trace], out)
         }
     }
 }

@@ -77,8 +77,7 @@ path-fine f path closed owner =
     let vertices = along-fine (ofVertex path owner) (vertexCount path) (vertex-fine path owner) in
     let arcs = along-fine (ofSegment path owner) (segmentCount path closed) (segment-arc-fine path owner) in
     let all = chains.append-fine (vertexChecks path owner) (arcChecks path closed owner) vertices arcs in
-    Iff·trans (then-fine Iff·rfl all)
-    (
+    Iff·trans (then-fine Iff·rfl all) (
       λ h. (h .0, record { vertices = λ i l. h .1 .0 i l .vertex; traces = λ i l. h .1 .0 i l .trace; arcs = h .1 .1 }),
       λ h. (h .0, (λ i l. record { vertex = h .1 .vertices i l; trace = h .1 .traces i l }, h .1 .arcs)),
     )

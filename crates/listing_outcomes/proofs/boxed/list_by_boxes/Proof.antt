@@ -56,7 +56,6 @@ keep-traces-requires c κs =
     let ready = c .before .before .before .before .before .before .pre .0 in
     ((ready .m-within, ready .few-second), omega (arith, long))
 
-
 abbrev kept : tie.After-keep-boxes → tie.After-keep
 kept c = c .before .before .before
 
@@ -73,8 +72,7 @@ keep-requires c κs =
 keep-boxes-requires : tie.Need-keep-boxes-requires
 keep-boxes-requires c κs =
     let k = c .before .before in
-    let ready = start k .pre .0 in
-    (
+    let ready = start k .pre .0 in (
       (ready .m-within, ready .few-second),
       (
         front-kept _ _ _ _ _ ready (room k) (tracks k) (k .keep .ensures),
