@@ -1,5 +1,5 @@
 // Which groups of the second path's segments are of one trace: a listing keeps that trace, or 0, of each group, so that its loop
-// passes over a group at a time. It is kept behind the numbers of the segments. A page keeps none, and compares trace by trace.
+// passes over a group at a time. It is kept behind the numbers of the segments.
 ghost use mathlib.Core.Path.{_≡_};
 ghost use Prim.Native.Nat.{_≤_, _<_, _+_, _*_};
 ghost use lib.ListN.{length};
