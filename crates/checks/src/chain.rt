@@ -66,11 +66,16 @@ pub fn vertex_after(f: Checked, x: f64, y: f64, bulge: f64, owner: u64, index: u
     vertex_by_numbers(f, x, y, bulge, owner, index)
 }
 
-// Whether the numbers of a path's vertex are all fine, without building a place.
+// Whether the numbers of a path's vertex are all fine, without building a place. Most often the trace is 0, and then no sum is
+// needed.
 pub fn traced_inside(x: f64, y: f64, bulge: f64, trace: f64) -> bool
     ensures { λ r. ⌜ r ≡ Inside.tracedInside x y bulge trace ⌝ }
 {
-    vertex_inside(x, y, bulge) & !no_trace(trace)
+    let inside = vertex_inside(x, y, bulge);
+    if trace == 0.0 {
+        return inside;
+    }
+    inside & !no_trace(trace)
 }
 
 // A vertex of a path: x, y, its bulge, then its trace.

@@ -47,8 +47,9 @@ fn fill_from(
         room budget)
         r (now (indices .entry)) (now (indices .exit)) (now (points .entry)) (now (points .exit)) ⌝ }
 {
-    // for each segment and each group that a path may have: 130 KiB; no trace of a group is kept
+    // for each segment and each group that a path may have: 130 KiB
     let mut kept = [0.0f64; path::VERTICES * keeping::NUMBERS + tracks::GROUPS];
+    tracks::keep_traces(second, job.m, &mut kept);
     keeping::keep_reached(second, job, spot.i, spot.j, budget, &mut kept);
     let part = Part {
         i: spot.i,

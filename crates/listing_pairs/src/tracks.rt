@@ -1,5 +1,5 @@
 // Which groups of the second path's segments are of one trace: a listing keeps that trace, or 0, of each group, so that its loop
-// passes over a group at a time. It is kept behind the numbers of the segments. A page keeps none, and compares trace by trace.
+// passes over a group at a time. It is kept behind the numbers of the segments.
 ghost use mathlib.Core.Path.{_≡_};
 ghost use Prim.Native.Nat.{_≤_, _<_, _+_, _*_};
 ghost use lib.ListN.{length};
@@ -29,7 +29,7 @@ pub fn next_other(path: &[f64], trace: f64, j: usize, end: usize) -> usize
     end
 }
 
-// The trace of the segments of group g, if all 16 have it, else 0.
+// The trace of the segments of group g, if it is above 0 and all 16 have it, else 0.
 fn group_trace(path: &[f64], g: usize) -> f64
     requires { ⌜ (g + 1) * groups_of.groupSize ≤ Path.vertexCount (now path) ⌝ }
     requires { ⌜ g < tracks.mostGroups ⌝ }
@@ -38,6 +38,9 @@ fn group_trace(path: &[f64], g: usize) -> f64
     let from = g * index::GROUP;
     let to = from + index::GROUP;
     let trace = path::trace(path, from);
+    if !(trace > 0.0) {
+        return 0.0;
+    }
     if next_other(path, trace, from, to) < to {
         return 0.0;
     }

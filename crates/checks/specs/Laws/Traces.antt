@@ -9,16 +9,16 @@ use native.Mathlib.Nat.{zero-lt-suc, div-add-mod', mul-mod-left, le-of-mul-le-mu
 use native.Mathlib.Omega.{arith}
 use lib.Dec.{T, eqb, eqb→eq, not-T}
 use lib.IntN.{ℤ, pos}
-use lib.Ieee.{Float, nan, inf, fin, binary64, low, up, down, ofInt, ofBits, fits, isNan}
+use lib.Ieee.{Float, nan, inf, fin, binary64, low, up, down, ofInt, ofBits, fits, isNan, eq}
 use lib.Ieee.Bits.{is-true, is-false, ofBits-fits}
 use lib.Ieee.Back.{round-whole}
 use lib.Ieee.Exact.{HasValue}
 use lib.Ieee.Fits.{down-pos, ofInt-fits, eq→eqb}
 use Rattle.float_laws.specs.Count.{count-unique}
 use Rattle.float_laws.specs.Signed.{Diff, SizeOf, ups, downs, own-diff, signed-of, diff-at}
-use Rattle.float_laws.specs.Order.{lt-diff, le-diff}
+use Rattle.float_laws.specs.Order.{lt-diff, le-diff, eq-diff}
 use Rattle.float_laws.specs.Chains.{written-diff, not-below}
-use Rattle.floats.specs.Ops.{_≺_, _≻_, f0}
+use Rattle.floats.specs.Ops.{_≺_, _≻_, _≈_, f0}
 use Rattle.checks.specs.Exactly.{FirstYes, test}
 use Rattle.checks.specs.Limit
 use Rattle.checks.specs.Number.{outside, isWhole, noTrace}
@@ -115,6 +115,14 @@ to-value (fin s m e) h =
     same : (A d k : ℕ) → A ≡ k * d → A * 1 + 0 * d ≡ k * d + 0 * 1
     same A d k h = omega arith
 
+no-nan : T (nan ≈ f0) → ⊥
+unfolding eq
+no-nan h = h
+
+no-inf : (s : Bool) → T (inf s ≈ f0) → ⊥
+unfolding eq ofBits
+no-inf s h = h
+
 pub by-value : (x : Float) → (noTrace x ≡ false) ↔ WholeTo255 x
 unfolding noTrace
 by-value x = (
@@ -122,6 +130,24 @@ by-value x = (
   λ w. neither (outside f0 Limit.traceMost x) (not (isWhole x)) .1
       (inside x (w .k) (w .most) (w .value), ap not (is-true (isWhole x) (whole-value x (w .k) (w .value)))),
 )
+
+-- 0 is one, of either sign
+pub zero-is-trace : (x : Float) → (x ≈ f0) ≡ true → noTrace x ≡ false
+zero-is-trace x h = by-value x .1 (go x (subst T (sym h) tt))
+  where
+    level : (s : Bool) (m : ℕ) (e : ℤ)
+        → ups s (m * up e) * 1 + 0 * down e ≡ 0 * down e + downs s (m * up e) * 1 → Diff (fin s m e) 0 0 1
+    level true m e h = omega (arith, h)
+    level false m e h = omega (arith, h)
+
+    go : (x : Float) → T (x ≈ f0) → WholeTo255 x
+    go nan h = absurd (no-nan h)
+    go (inf s) h = absurd (no-inf s h)
+    go (fin s m e) h =
+        let E = down-pos e in
+        let one : 0 < 1 = omega arith in
+        let same = eq-diff (fin s m e) f0 _ _ _ 0 0 1 E one (written-diff s m e) zero-is .0 h in
+        record { k = 0; most = omega arith; value = level s m e same }
 
 -- ---- the floats of such values
 abbrev pub minusZero : Float

@@ -1,7 +1,7 @@
 -- Quick tests of numbers, by comparisons alone: |x| is at most the limit if x and -x are, for all floats; a NaN is at most
 -- nothing. So a point, a vertex or a circle whose numbers are all inside adds no fault to a chain of checks.
 use mathlib.Core.Path.{_≡_, refl, sym, ap, _∙_}
-use mathlib.Core.Bool.{Bool, true, false, not, _&&_}
+use mathlib.Core.Bool.{Bool, true, false, cond, not, _&&_}
 use mathlib.Core.List.{_∷_}
 use Prim.Native.Nat.{ℕ, _+_, _*_, _≤_}
 use native.Mathlib.Omega.{arith}
@@ -12,7 +12,7 @@ use lib.Ieee.Scale.{finite}
 use Rattle.float_laws.specs.Signed.{ups, downs}
 use Rattle.float_laws.specs.Order.{le-diff}
 use Rattle.float_laws.specs.Chains.{written-diff, between-finite}
-use Rattle.floats.specs.Ops.{_≼_}
+use Rattle.floats.specs.Ops.{_≼_, _≈_, f0}
 use Rattle.floats.specs.F64
 use Rattle.checks.specs.declared.fault.Checked.{Checked}
 use Rattle.checks.specs.declared.fault.Checked.the-variants.{Fine}
@@ -25,6 +25,7 @@ use Rattle.checks.specs.Laws.Chains.{PointFine, VertexFine, TracedFine, 
 use Rattle.checks.specs.Laws.Chains.{point-listed, vertex-listed, traced-listed, circle-listed}
 use Rattle.checks.specs.Laws.Fine.{Within, Between}
 use Rattle.checks.specs.Laws.Later.{fine-right}
+use Rattle.checks.specs.Laws.Traces.{zero-is-trace}
 
 abbrev pub inside : Float → Float → Bool
 inside most x = (x ≼ most) && (neg most ≼ x)
@@ -39,7 +40,9 @@ abbrev pub vertexInside : Float → Float → Float → Bool
 vertexInside x y bulge = pointInside x y && inside Limit.bulge bulge
 
 abbrev pub tracedInside : Float → Float → Float → Float → Bool
-tracedInside x y bulge trace = vertexInside x y bulge && not (noTrace trace)
+tracedInside x y bulge trace =
+    let inside = vertexInside x y bulge in
+    cond (trace ≈ f0) inside (inside && not (noTrace trace))
 
 abbrev pub circleInside : Float → Float → Float → Bool
 circleInside r x y = between Limit.radiusLeast Limit.radiusMost r && (inside Limit.center x && inside Limit.center y)
@@ -121,17 +124,21 @@ vertex-passed f x y bulge owner index h =
 
 pub all-passed : (x y bulge trace : Float) (owner index : ℕ) → T (tracedInside x y bulge trace)
     → first (tracedChecks x y bulge trace owner index) ≡ Fine
-all-passed x y bulge trace owner index h =
-    let fine : TracedFine x y bulge trace =
-    record {
-      vertex = vertex-fine x y bulge (and-l (vertexInside x y bulge) (not (noTrace trace)) h);
-      trace = denied (noTrace trace) (and-r (vertexInside x y bulge) (not (noTrace trace)) h);
-    } in
-    traced-listed x y owner bulge trace index .1 fine
+all-passed x y bulge trace owner index h = traced-listed x y owner bulge trace index .1 (go (trace ≈ f0) refl h)
   where
     denied : (b : Bool) → T (not b) → b ≡ false
     denied true h = absurd h
     denied false h = refl
+
+    go : (zero : Bool) → (trace ≈ f0) ≡ zero
+        → T (cond zero (vertexInside x y bulge) (vertexInside x y bulge && not (noTrace trace)))
+        → TracedFine x y bulge trace
+    go true e h = record { vertex = vertex-fine x y bulge h; trace = zero-is-trace trace e }
+    go false e h =
+        record {
+          vertex = vertex-fine x y bulge (and-l (vertexInside x y bulge) (not (noTrace trace)) h);
+          trace = denied (noTrace trace) (and-r (vertexInside x y bulge) (not (noTrace trace)) h);
+        }
 
 -- ---- a circle
 circle-fine : (r x y : Float) → T (circleInside r x y) → CircleFine r x y

@@ -41,7 +41,7 @@ groupTrace path g =
     let from = g * groupSize in
     let to = from + groupSize in
     let t = trace path from in
-    cond (ltb (first (other path t) from to) to) f0 t
+    cond (not (t ≻ f0)) f0 (cond (ltb (first (other path t) from to) to) f0 t)
 
 -- how many numbers are kept of a segment, and where the groups' traces stand: behind those of as many segments as a path may have
 abbrev pub numbersKept : ℕ
@@ -97,7 +97,7 @@ itself x h = holds (x ≈ x) (eq-self x (le-numbers f0 x (left (x ≻ f0) (f0 �
 pub group-has : (path : List Float) (g : ℕ) (t : Float) → (t ≈ groupTrace path g) ≡ true → (t ≻ f0) ≡ true
     → (k : ℕ) → g * groupSize ≤ k → k < g * groupSize + groupSize → same path t k ≡ true
 unfolding groupTrace
-group-has path g t is above k low high = go (ltb at to) refl is
+group-has path g t is above k low high = first-test (not (u ≻ f0)) is
   where
     to : ℕ
     to = g * groupSize + groupSize
@@ -115,11 +115,18 @@ group-has path g t is above k low high = go (ltb at to) refl is
     denied true e = refl
     denied false e = absurd (true≢false e)
 
+    zero : {A : Type 0} → (t ≈ f0) ≡ true → A
+    zero h = absurd (true≢false (sym above ∙ not-above t h))
+
     go : (b : Bool) → ltb at to ≡ b → (t ≈ cond b f0 u) ≡ true → same path t k ≡ true
-    go true e h = absurd (true≢false (sym above ∙ not-above t h))
+    go true e h = zero h
     go false e h =
         both t u (trace path k) h
         (denied (u ≈ trace path k) (found .before k low (omega (arith, high, ltb-false at to e))))
+
+    first-test : (b : Bool) → (t ≈ cond b f0 (cond (ltb at to) f0 u)) ≡ true → same path t k ≡ true
+    first-test true h = zero h
+    first-test false h = go (ltb at to) refl h
 
 -- ---- stored and read
 pub traces-length : (path : List Float) (count : ℕ) (l : List Float) → length (keepTraces path count l) ≡ length l

@@ -8,7 +8,7 @@ use lib.Ieee.{Float, binary64, ofBits}
 use lib.ListN.{length, replicate, length-replicate}
 use Rattle.paths.specs.Path.{mostVertices}
 use Rattle.listing_pairs.specs.Workings.Keeping.{numbersKept}
-use Rattle.listing_pairs.specs.Workings.Tracks.{mostGroups, nothing-kept}
+use Rattle.listing_pairs.specs.Workings.Tracks.{mostGroups, nothing-kept, call-length, call-tracked}
 use Rattle.listing_pairs.specs.Workings.Reached.{reached-ready}
 use borrow.Author.Needs.{needs}
 use Rattle.listing_outcomes.specs.Workings.PageOutcome.{from-none}
@@ -22,18 +22,30 @@ all = mostVertices * numbersKept + mostGroups
 long : length (let z : Float = ofBits binary64 0 in replicate all z) ≡ all
 long = let z : Float = ofBits binary64 0 in length-replicate all z
 
+abbrev start : tie.After-keep-traces → tie.Start
+start t = t .before .before .before .before .before .before
+
+keep-traces-requires : tie.Need-keep-traces-requires
+keep-traces-requires c κs =
+    let ready = c .before .before .before .before .before .pre .0 in
+    ((ready .m-within, ready .few-second), omega (arith, long))
+
 keep-reached-requires : tie.Need-keep-reached-requires
 keep-reached-requires c κs =
-    let ready = c .before .before .before .before .before .pre .0 in
-    (ready .m-within, ((ready .few, ready .few-second), omega (arith, long, ready .few-second)))
+    let t = c .before .before in
+    let ready = start t .pre .0 in
+    let same = call-length _ _ _ _ (t .keep-traces .ensures) in
+    (ready .m-within, ((ready .few, ready .few-second), omega (arith, long, same, ready .few-second)))
 
 fill-requires : tie.Need-fill-requires
 fill-requires c κs =
     let k = c .before .before .before .before in
-    let s = k .before .before .before .before .before .before in
-    let h = s .pre in (
-      reached-ready _ _ _ _ _ _ _ _ (h .0) (h .1 .0) (omega (arith, long, h .0 .few-second))
-          (nothing-kept _ all (omega arith)) (k .keep-reached .ensures),
+    let t = k .before .before .before in
+    let is = t .keep-traces .ensures in
+    let h = start t .pre in
+    let few = h .0 .few-second in (
+      reached-ready _ _ _ _ _ _ _ _ (h .0) (h .1 .0) (omega (arith, long, call-length _ _ _ _ is, few))
+          (call-tracked _ _ _ _ is few (nothing-kept _ all (omega arith))) (k .keep-reached .ensures),
       (h .1 .1 .0, (omega arith, h .1 .1 .1)),
     )
 
@@ -44,5 +56,5 @@ pub fill-from-spec : {M : Type 1} → statement M
 fill-from-spec =
     tie.close
     (tie.spec
-    (λ c. search needs) keep-reached-requires (λ c. search needs) fill-requires (λ c. search needs) (λ c. search needs)
+    (λ c. search needs) keep-traces-requires (λ c. search needs) keep-reached-requires (λ c. search needs) fill-requires (λ c. search needs) (λ c. search needs)
     returns)

@@ -1,5 +1,6 @@
 -- `listing_pairs::tracks::group_trace` meets its contract: each return is a branch of the definition.
 use mathlib.Core.Path.{_≡_, refl, sym, ap, _∙_}
+use mathlib.Core.Bool.{Bool, not}
 use Prim.Native.Nat.{ℕ, _+_, _*_}
 use native.Mathlib.Omega.{arith}
 use borrow.Author.Needs.{needs}
@@ -8,6 +9,7 @@ use denote.Ref.{now}
 use lib.Dec.{ltb}
 use lib.Ieee.{Float}
 use Rattle.float_laws.specs.Branches.{holds, fails}
+use Rattle.floats.specs.Ops.{_≻_, f0}
 use Rattle.paths.specs.Path.{trace}
 use Rattle.boxes.specs.Groups.{groupSize}
 use Rattle.boxes.specs.Workings.Next.{first}
@@ -15,19 +17,23 @@ use Rattle.listing_pairs.specs.Workings.Tracks.{other, groupTrace}
 use Rattle.listing_pairs.proofs.tracks.group_trace.Statement.{statement}
 use Rattle.listing_pairs.proofs.tracks.group_trace.Tie as tie
 
--- the test, in the definition's words
+-- the two tests, in the definition's words
+low : (c : tie.After-trace) {b : Bool} → not (c .trace .result ≻ f0) ≡ b
+    → not (trace (now (c .before .before .args .path)) (c .before .before .args .g * groupSize) ≻ f0) ≡ b
+low c e = sym (ap (λ (t : Float). not (t ≻ f0)) (c .trace .ensures)) ∙ e
+
 found : (c : tie.After-next-other)
-    → let a = c .before .before .before .args in
+    → let a = c .before .before .before .before .args in
     let from = a .g * groupSize in
     let t = trace (now (a .path)) from in
     ltb (c .next-other .result) (from + groupSize)
     ≡ ltb (first (other (now (a .path)) t) from (from + groupSize)) (from + groupSize)
 found c =
-    let a = c .before .before .before .args in
+    let a = c .before .before .before .before .args in
     let from = a .g * groupSize in
     ap (λ (k : ℕ). ltb k (from + groupSize))
     (c .next-other .ensures
-    ∙ ap (λ (t : Float). first (other (now (a .path)) t) from (from + groupSize)) (c .before .trace .ensures))
+    ∙ ap (λ (t : Float). first (other (now (a .path)) t) from (from + groupSize)) (c .before .before .trace .ensures))
 
 pub group-trace-spec : {M : Type 1} → statement M
 unfolding groupTrace
@@ -36,8 +42,10 @@ group-trace-spec =
     (tie.spec
     (λ c. search needs) (λ c. search needs)
     (λ c κs. omega (arith, c .before .pre .0))
-    (λ c κs. (omega arith, omega (arith, c .before .before .pre .0)))
+    (λ c. holds _ _ _ _ (low (c .before) (c .if1 .taken)) refl)
+    (λ c κs. (omega arith, omega (arith, c .before .before .before .pre .0)))
     (λ c. let n = c .before in
-    holds _ _ _ _ (sym (found n) ∙ lt-ltb _ _ (c .if1 .taken)) refl)
+    fails _ _ _ _ (low (n .before .before) (n .before .if1 .left)) (holds _ _ _ _ (sym (found n) ∙ lt-ltb _ _ (c .if2 .taken)) refl))
     (λ c. let n = c .before in
-    fails _ _ _ _ (sym (found n) ∙ le-ltb _ _ (c .if1 .left)) (n .before .trace .ensures)))
+    fails _ _ _ _ (low (n .before .before) (n .before .if1 .left))
+    (fails _ _ _ _ (sym (found n) ∙ le-ltb _ _ (c .if2 .left)) (n .before .before .trace .ensures))))
