@@ -4,5 +4,10 @@ pub mod Report
 pub mod Counted
 pub mod Join
 pub mod Given
+pub mod Refusals
+pub mod Totals
+pub mod Run
+pub mod Runs
+pub mod Joined
 pub mod Workings
 pub mod Laws

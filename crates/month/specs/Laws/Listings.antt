@@ -101,6 +101,24 @@ listed-small rows pairs l few most =
     (one-set 1 pairs most
     (one-set 0 1 (omega arith) fresh-adds)))))))
 
+few-in-class : (class : ℕ) (rows : List Row) → inClass class rows ≤ length rows
+few-in-class class [] = zero-le
+few-in-class class (r ∷ rows) = omega (arith, one-if-few (eqb (r .class) class), few-in-class class rows)
+
+pub accepted-small : (rows : List Row) (looked : ℕ) → length rows ≤ looked → looked ≤ mostAdded
+    → Adds (acceptedAdds rows looked)
+unfolding acceptedAdds
+accepted-small rows looked few most =
+    let of : (class : ℕ) → inClass class rows ≤ mostAdded = λ class. omega (arith, few-in-class class rows, few, most) in
+    one-set 7 (inClass 5 rows) (of 5)
+    (one-set 6 (inClass 4 rows) (of 4)
+    (one-set 5 (inClass 3 rows) (of 3)
+    (one-set 4 (inClass 2 rows) (of 2)
+    (one-set 3 (inClass 1 rows) (of 1)
+    (one-set 2 (looked - length rows) (omega (arith, most))
+    (one-set 1 looked most
+    (one-set 0 1 (omega arith) fresh-adds)))))))
+
 pub adds-whole : {l : List ℕ} → Adds l → take words l ≡ l
 adds-whole {l} a = take-all words l (omega (arith, a .long))
 
@@ -146,7 +164,7 @@ pub adds-done : (w report l m : List ℕ) → w ≡ plus report (take words l) �
 adds-done w report l m sum is a = sum ∙ ap (λ (x : List ℕ). plus report (take words x)) is ∙ ap (plus report) (adds-whole a)
 
 -- ---- how many rows and pairs a listing has
-rows-looked : (f : ℕ → ℕ → Look) (ps : List Pair) → length (rowsOf f ps) ≤ lookedAt f ps
+pub rows-looked : (f : ℕ → ℕ → Look) (ps : List Pair) → length (rowsOf f ps) ≤ lookedAt f ps
 rows-looked f [] = zero-le
 rows-looked f (p ∷ ps) = go (f (p .i) (p .j)) (rows-looked f ps)
   where

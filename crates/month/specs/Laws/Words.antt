@@ -31,6 +31,29 @@ word-plus (w ∷ a) [] k h = sym (add-zero (word (w ∷ a) k))
 word-plus (w ∷ a) (x ∷ b) zero h = refl
 word-plus (w ∷ a) (x ∷ b) (suc k) h = word-plus a b k (omega (arith, h))
 
+pub word-same : (a b : List ℕ) (k : ℕ) → word b k ≡ 0 → word (plus a b) k ≡ word a k
+word-same [] [] k e = refl
+word-same [] (x ∷ b) k e = refl
+word-same (w ∷ a) [] k e = refl
+word-same (w ∷ a) (x ∷ b) zero e = omega (arith, e)
+word-same (w ∷ a) (x ∷ b) (suc k) e = word-same a b k e
+
+pub zeros : (n k : ℕ) → word (replicate n 0) k ≡ 0
+zeros zero k = refl
+zeros (suc n) zero = refl
+zeros (suc n) (suc k) = zeros n k
+
+pub plus-nothing : (b : List ℕ) → plus [] b ≡ []
+plus-nothing [] = refl
+plus-nothing (x ∷ b) = refl
+
+pub drop-plus : (n : ℕ) (a b : List ℕ) → drop n (plus a b) ≡ plus (drop n a) (drop n b)
+drop-plus zero a b = refl
+drop-plus (suc n) [] [] = refl
+drop-plus (suc n) [] (x ∷ b) = sym (plus-nothing (drop n b))
+drop-plus (suc n) (w ∷ a) [] = sym (plus-none (drop n a))
+drop-plus (suc n) (w ∷ a) (x ∷ b) = drop-plus n a b
+
 -- ---- is some word above a limit?
 module _ (limit : ℕ) (l : List ℕ) (k t : ℕ) (before : k < t) (long : t ≤ length l) where
   one-more : someAbove limit (slice k t l) ≡ (ltb limit (word l k) || someAbove limit (slice (suc k) t l))
