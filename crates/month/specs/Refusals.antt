@@ -20,7 +20,7 @@ use Rattle.checks.specs.Refusal
 use Rattle.checks.specs.ExactlyWhen.{ExactlyWhen}
 use Rattle.listing_pairs.specs.Look.{tracedLook}
 use Rattle.listing_outcomes.specs.declared.answer.ListingAnswer.the-variants.{Refused}
-use Rattle.listing_calls.specs.Listing.{mutualChecks}
+use Rattle.listing_calls.specs.Listing.{mutualChecks, mutualListing}
 use Rattle.listing_calls.specs.Refusals as listings
 use Rattle.month.specs.declared.join.JoinAnswer.the-variants as joins
 use Rattle.month.specs.declared.mutual_counted.CountedAnswer.{CountedAnswer}
@@ -97,6 +97,13 @@ module _ (first : List Float) (firstClosed : Bool) (second : List Float) (second
         (listings.between first firstClosed second secondClosed epsilon indices points) indices points)
     counted-when = laws.counted-when first firstClosed second secondClosed epsilon indices points report long
 
+  -- a refusal is 19, or the listing's own
+  pub refused-by : (f : Fault)
+      → mutualCounted first firstClosed second secondClosed epsilon indices points report .listing .answer ≡ refusedWith f
+      → (f ≡ whole Refusal.report Report)
+      ⊎ (mutualListing first firstClosed second secondClosed epsilon indices points .answer ≡ Refused f)
+  refused-by = laws.refused-by first firstClosed second secondClosed epsilon indices points report
+
   -- a refusal leaves the rows' slices unchanged
   pub refused-leaves : (f : Fault)
       → mutualCounted first firstClosed second secondClosed epsilon indices points report .listing .answer ≡ refusedWith f
@@ -135,9 +142,9 @@ module _ (into other : List ℕ) where
             laws.join-much into other long long-other
             (laws.much-word into other long long-other (w .k) (w .below) (w .above))
 
-    -- it refuses with nothing else
-    pub join-else : (f : Fault) → join into other .answer ≡ joins.Refused f → f ≡ whole Refusal.report Report
-    join-else f e = laws.join-fault into other f e
+  -- it refuses with nothing else
+  pub join-else : (f : Fault) → join into other .answer ≡ joins.Refused f → f ≡ whole Refusal.report Report
+  join-else f e = laws.join-fault into other f e
 
   -- only a join changes the first report
   pub join-leaves : (join into other .answer ≡ joins.Joined → ⊥) → join into other .into ≡ into

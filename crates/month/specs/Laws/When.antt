@@ -128,6 +128,27 @@ module _ (first : List Float) (firstClosed : Bool) (second : List Float) (second
           let known = mutual-given first firstClosed second secondClosed epsilon indices points f its in
           absurd (true≢false (sym known ∙ ap (λ (n : ℕ). among n given) is))
 
+  pub refused-by : (f : Fault)
+      → mutualCounted first firstClosed second secondClosed epsilon indices points report .listing .answer ≡ Answered (Refused f)
+      → (f ≡ whole Refusal.report Report)
+      ⊎ (mutualListing first firstClosed second secondClosed epsilon indices points .answer ≡ Refused f)
+  refused-by f e =
+      go (ltb (length report) words) (ltb-true (length report) words) (ltb-false (length report) words) (full report) refl
+    where
+      go : (t : Bool) → (t ≡ true → length report < words) → (t ≡ false → words ≤ length report)
+          → (b : Bool) → full report ≡ b
+          → (f ≡ whole Refusal.report Report)
+          ⊎ (mutualListing first firstClosed second secondClosed epsilon indices points .answer ≡ Refused f)
+      go true short long b x =
+          absurd (room-told
+          (sym (ap told (no-room-is first firstClosed second secondClosed epsilon indices points report (short refl))) ∙ e))
+      go false short long true x =
+          inl (sym (same-fault (same-answer
+          (sym (ap told (full-is first firstClosed second secondClosed epsilon indices points report (long refl) x)) ∙ e))))
+      go false short long false x =
+          inr (same-answer
+          (sym (ap told (counted-is first firstClosed second secondClosed epsilon indices points report (long refl) x)) ∙ e))
+
   -- ---- all refusals
   abbrev refusal : Fault → CountedAnswer
   refusal f = Answered (Refused f)
