@@ -1,3 +1,4 @@
 mod Ends
 mod ListingEnds
 mod FindingsEnds
+mod MonthEnds

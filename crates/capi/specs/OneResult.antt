@@ -10,6 +10,9 @@ use Rattle.capi.specs.Handed.{Handed}
 use Rattle.capi.specs.HandedFindings.{HandedFindings}
 use Rattle.listing_outcomes.specs.BoxedOutcome.{BoxedOutcome}
 use Rattle.capi.specs.HandedListing.{Counted, HandedOver, HandedBoxed}
+use Rattle.month.specs.Counted.{CountedOutcome}
+use Rattle.month.specs.Join.{JoinOutcome}
+use Rattle.capi.specs.HandedMonth.{HandedCounted, HandedJoin}
 use Rattle.answers.specs.declared.padded.PaddedAnswer.{PaddedAnswer}
 
 pub handed-one-result : {f : PaddedAnswer} {r s : ℕ} {old a b : List Float} → Handed f r old a → Handed f s old b
@@ -33,3 +36,13 @@ pub boxed-one-result : {o : BoxedOutcome} {r s : ℕ} {c₀ c d i₀ i j : List 
 boxed-one-result x y =
     let same = counted-one-result (x .rows) (y .rows) in
     (same .0, same .1, same .2, same .3, x .boxes ∙ sym (y .boxes))
+
+pub month-one-result : {o : CountedOutcome} {r s : ℕ} {c₀ c d i₀ i j : List ℕ} {p₀ p q : List Float} {w₀ w v : List ℕ}
+    → HandedCounted o r c₀ c i₀ i p₀ p w₀ w → HandedCounted o s c₀ d i₀ j p₀ q w₀ v
+    → (r ≡ s) × (c ≡ d) × (i ≡ j) × (p ≡ q) × (w ≡ v)
+month-one-result x y =
+    let same = counted-one-result (x .rows) (y .rows) in
+    (same .0, same .1, same .2, same .3, x .report ∙ sym (y .report))
+
+pub join-one-result : {o : JoinOutcome} {r s : ℕ} {w v : List ℕ} → HandedJoin o r w → HandedJoin o s v → (r ≡ s) × (w ≡ v)
+join-one-result x y = (x .code-is ∙ sym (y .code-is), x .into ∙ sym (y .into))

@@ -3,15 +3,20 @@
 -- of no room.
 use mathlib.Core.Path.{_≡_, refl, sym, subst}
 use mathlib.Core.Bool.{Bool, false}
+use mathlib.Core.Logic.{inl, inr}
 use mathlib.Core.List.{List, [], _∷_, _++_}
 use Prim.Native.Nat.{ℕ}
+use native.Mathlib.Omega.{arith}
 use lib.Ieee.{Float}
 use Rattle.plane.specs.declared.vector2.Vector2.{Vector2}
 use Rattle.plane.specs.declared.pline_vertex.PlineVertex.{PlineVertex}
+use Rattle.checks.specs.declared.fault.Item.the-variants.{Report}
 use Rattle.checks.specs.declared.fault.Fault.{Fault}
 use Rattle.checks.specs.declared.fault.Checked.{Checked}
 use Rattle.checks.specs.declared.fault.Checked.the-variants.{Fine, Bad}
 use Rattle.checks.specs.Calls as calls
+use Rattle.checks.specs.Fault.{whole}
+use Rattle.checks.specs.Refusal
 use Rattle.checks.specs.Answered.{answered}
 use Rattle.checks.specs.ExactlyWhen.{Distinct, no-number}
 use Rattle.checks.specs.Word.{word}
@@ -41,6 +46,11 @@ use Rattle.listing_calls.specs.Listing.{mutualListing, selfListing}
 use Rattle.listing_calls.specs.Pages.{mutualPage, selfPage}
 use Rattle.listing_calls.specs.Boxed.{mutualBoxed, selfBoxed}
 use Rattle.listing_calls.specs.Laws.RefusalNumbers as laws
+use Rattle.month.specs.declared.mutual_counted.CountedAnswer.the-variants.{Answered}
+use Rattle.month.specs.declared.join.JoinAnswer.the-variants as joins
+use Rattle.month.specs.Counted.{mutualCounted}
+use Rattle.month.specs.Join.{join}
+use Rattle.month.specs.Refusals.{refused-by, join-else}
 use Rattle.capi.specs.Handed.{noRoomCode}
 
 -- the fault fits into a word, and its number is not 1; and its word gives it back
@@ -151,6 +161,23 @@ module _ (path : List Float) (closed : Bool) (eps : Float) (i : List ℕ) (p : L
   self-boxed b =
       of-outcome listings.Refused (λ f g e. cc) _ _ _ i p (laws.self-boxed-small _ b _ i p path closed eps)
       (λ f e. listing-other f e)
+
+-- ---- counted listings and joins: 19, and what the listing refuses
+nineteen : Shown (whole Refusal.report Report)
+nineteen =
+    shown refl (record { known = omega arith; number = omega arith; place = record { owner = omega arith; index = omega arith } })
+
+pub mutual-counted : (first : List Float) (firstClosed : Bool) (second : List Float) (secondClosed : Bool) (eps : Float)
+    (i : List ℕ) (p : List Float) (w : List ℕ) (f : Fault)
+    → mutualCounted first firstClosed second secondClosed eps i p w .listing .answer ≡ Answered (listings.Refused f) → Shown f
+mutual-counted first firstClosed second secondClosed eps i p w f e =
+    elim (refused-by first firstClosed second secondClosed eps i p w f e) [
+      | inl report ↦ subst Shown (sym report) nineteen
+      | inr listing ↦ mutual-listing first firstClosed second secondClosed eps i p f listing
+    ]
+
+pub join-of-reports : (into other : List ℕ) (f : Fault) → join into other .answer ≡ joins.Refused f → Shown f
+join-of-reports into other f e = subst Shown (sym (join-else into other f e)) nineteen
 
 -- ---- the code of no room is no word
 pub no-room-not-refused : refusedIn noRoomCode ≡ false

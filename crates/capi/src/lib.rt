@@ -2,14 +2,15 @@
 // calls are here: each is the function of its name in `floats` or `floats::bits`, with that function's contract. The other
 // calls put their answers into lent slices and promise `Handed`, `HandedListing` or `HandedPage`: `calls` has those of the
 // three kernels and `vj_pair`, which is `fast_pair::pair::pline_seg_intr`; `listing` has the listings, `page` their pages, and
-// `boxed` the boxed listings, which promise `HandedBoxed`; `pair_findings` has the pair call with findings, which promises
-// `HandedFindings`.
+// `boxed` the boxed listings, which promise `HandedBoxed`; `counted` has the counted listing and the join, which promise
+// `HandedCounted` and `HandedJoin`; `pair_findings` has the pair call with findings, which promises `HandedFindings`.
 ghost use mathlib.Core.Path.{_≡_};
 ghost use Rattle.floats.specs.F64;
 ghost use Rattle.floats.specs.Bits;
 
 pub mod boxed;
 pub mod calls;
+pub mod counted;
 pub mod hand_over;
 pub mod listing;
 pub mod page;

@@ -22,6 +22,7 @@ use Rattle.checks.specs.declared.fault.Item.the-variants.{
   Budget,
   Boxes,
   Trace,
+  Report,
 }
 use Rattle.checks.specs.declared.fault.Checked.{Checked}
 use Rattle.checks.specs.declared.fault.Checked.the-variants.{Fine, Bad}
@@ -42,10 +43,11 @@ item Position = 10
 item Budget = 11
 item Boxes = 12
 item Trace = 13
+item Report = 14
 
 -- how many items there are
 abbrev pub items : ℕ
-items = 14
+items = 15
 
 pub item-below : (i : Item) → item i < items
 item-below Epsilon = omega arith
@@ -62,6 +64,7 @@ item-below Position = omega arith
 item-below Budget = omega arith
 item-below Boxes = omega arith
 item-below Trace = omega arith
+item-below Report = omega arith
 
 abbrev pub faultNumbers : Checked → List ℕ
 faultNumbers Fine = 0 ∷ []
@@ -83,7 +86,8 @@ item-back n =
     (cond (eqb n 10) Position
     (cond (eqb n 11) Budget
     (cond (eqb n 12) Boxes
-    Trace))))))))))))
+    (cond (eqb n 13) Trace
+    Report)))))))))))))
 
 pub item-same : (i : Item) → item-back (item i) ≡ i
 unfolding item-back
@@ -101,6 +105,7 @@ item-same Position = refl
 item-same Budget = refl
 item-same Boxes = refl
 item-same Trace = refl
+item-same Report = refl
 
 back : List ℕ → Checked
 back [] = Fine

@@ -1,5 +1,5 @@
--- The scope's numbers of the refusals that the checks of numbers, of a path's length, of a listing's rows and index of boxes, and
--- of a page's position and budget can give.
+-- The scope's numbers of the refusals that the checks of numbers, of a path's length, of a listing's rows and index of boxes, of
+-- a page's position and budget, and of a month's report can give.
 use Prim.Native.Nat.{ℕ}
 
 -- a coordinate of a point or vertex is too large
@@ -56,6 +56,10 @@ trace = 15
 -- a boxed listing's index of boxes does not fit
 abbrev pub boxes : ℕ
 boxes = 17
+
+-- a report is full, or the sum of two reports would be
+abbrev pub report : ℕ
+report = 19
 
 -- every refusal's number is below this, so that a code in C can be this plus the number
 abbrev pub numbersBelow : ℕ

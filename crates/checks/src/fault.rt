@@ -3,7 +3,8 @@ ghost use mathlib.Core.Path.{_≡_};
 ghost use Rattle.checks.specs.Fault as fault;
 
 // Which of the owner's numbers. `Length` is how many numbers a path has, `Rows` how many rows a listing has or has room for;
-// `Position` and `Budget` are a page's, `Boxes` is a boxed listing's index, and `Trace` is a path's vertex's.
+// `Position` and `Budget` are a page's, `Boxes` is a boxed listing's index, `Trace` is a path's vertex's, and `Report` is a
+// counted listing's.
 pub enum Item {
     Epsilon,
     X,
@@ -19,6 +20,7 @@ pub enum Item {
     Budget,
     Boxes,
     Trace,
+    Report,
 }
 
 // Where a number stands in a call.

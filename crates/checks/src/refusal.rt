@@ -1,5 +1,5 @@
-// The scope's numbers of the refusals that the checks of numbers, of a path's length, of a listing's rows and index of boxes, and
-// of a page's position and budget can give. specs/Refusal.antt has the same numbers.
+// The scope's numbers of the refusals that the checks of numbers, of a path's length, of a listing's rows and index of boxes, of
+// a page's position and budget, and of a month's report can give. specs/Refusal.antt has the same numbers.
 
 // a coordinate of a point or vertex is too large
 pub const COORDINATE: u64 = 2;
@@ -41,6 +41,9 @@ pub const TRACE: u64 = 15;
 
 // a boxed listing's index of boxes does not fit
 pub const BOXES: u64 = 17;
+
+// a report is full, or the sum of two reports would be
+pub const REPORT: u64 = 19;
 
 // every refusal's number is below this, so that a code in C can be this plus the number
 pub const NUMBERS_BELOW: u64 = 256;

@@ -36,6 +36,7 @@ pub fn item_number(item: Item) -> u64
         Item::Budget => 11,
         Item::Boxes => 12,
         Item::Trace => 13,
+        Item::Report => 14,
     }
 }
 

@@ -1,0 +1,12 @@
+pub mod Words
+pub mod Classes
+pub mod Given
+pub mod Ends
+pub mod Listings
+pub mod Pairs
+pub mod Cases
+pub mod Added
+pub mod Runs
+pub mod RunWords
+pub mod Joins
+pub mod When
