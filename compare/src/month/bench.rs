@@ -4,20 +4,24 @@ use std::hint::black_box;
 
 use super::model::{Report, WORDS};
 use super::OURS;
-use crate::bench::{head, Row};
+use crate::bench::by_turns;
 use crate::capi::Rows;
 use crate::inputs::Point;
-use crate::listings::bench::{of_sheet, with_traces};
+use crate::listings::bench::of_sheet;
 use crate::listings::draw::{of_each_class, of_pair};
 use crate::listings::layout::Drawn;
 use crate::listings::layout::{Call, Layout};
 use crate::listings::model::Listed;
 use crate::listings::shapes::{coil, crossed, placed, pocket};
-use crate::listings::sheets::{EPSILONS, SHEETS};
+use crate::listings::sheets::SHEETS;
+use crate::listings::traces::{all_of, in_halves};
 use crate::rng::Rng;
 
 /// A listing of fewer pairs than this is repeated until a round has as many.
 const A_ROUND: u64 = 1 << 18;
+const MOST_TIMES: u64 = 1 << 12;
+/// So often each row is timed. The ratio is to be known to a hundredth.
+const TURNS: usize = 3;
 const EPSILON: f64 = 1e-5;
 
 pub fn run() {
@@ -25,16 +29,13 @@ pub fn run() {
     head("counted beside plain, 1,024 by 1,024");
     for sheet in &SHEETS {
         let layout = of_sheet(sheet, 1024, &mut rng);
-        for epsilon in EPSILONS {
-            timed(sheet.name, &layout, epsilon);
-        }
+        timed(sheet.name, &layout, EPSILON);
     }
     head("counted beside plain, whole listings");
     let layout = of_sheet(&SHEETS[0], 4096, &mut rng);
     timed("4,096 lines by 4,096, spread", &layout, EPSILON);
-    for (name, layout) in with_traces(&layout) {
-        timed(name, &layout, EPSILON);
-    }
+    timed("- the same in two tracks", &in_halves(&layout), EPSILON);
+    timed("- the same in one track", &all_of(&layout, 1.0), EPSILON);
     let layout = of_sheet(&SHEETS[1], 4096, &mut rng);
     timed("4,096 lines by 4,096, coils", &layout, EPSILON);
     let winding = coil(2000, 0.5, 0.25);
@@ -75,7 +76,7 @@ pub fn run() {
             EPSILON,
         );
     }
-    head("counted beside plain, small layouts, checks and report included");
+    head("counted beside plain, small layouts");
     timed(
         "a line by an arc",
         &of_pair(&of_each_class()[1], [false; 2]),
@@ -127,18 +128,33 @@ impl Lent {
     }
 }
 
-/// The ratio is the counted listing's time to the plain one's.
+fn head(part: &str) {
+    println!(
+        "{part:52} {:>8} {:>9} {:>7} {:>11} {:>11} {:>7}",
+        "epsilon", "pairs", "rows", "counted us", "plain us", "ratio"
+    );
+}
+
+/// Microseconds of each, the least of some times by turns, and the counted listing's to the plain one's.
 fn timed(name: &str, layout: &Layout, epsilon: f64) {
     let listed = layout.listed(Call::Mutual);
     let found = listed.rows(epsilon);
     let (pairs, rows) = (found.pairs, found.rows.len());
     let (mut lent, mut lent_too) = (Lent::new(rows), Lent::new(rows));
+    // those that are passed over take time too
     let of = layout.first.path().segments() * layout.second.path().segments();
-    let row = Row::new(name).epsilon(epsilon).of(of as u64);
-    row.meeting(rows).timed(
-        A_ROUND,
-        || lent.counted(listed, epsilon),
-        || lent_too.plain(listed, epsilon),
+    let times = (A_ROUND / of as u64).clamp(1, MOST_TIMES);
+    let mut least = [f64::INFINITY; 2];
+    for _ in 0..TURNS {
+        let turn = by_turns(times, &mut || lent.counted(listed, epsilon), &mut || {
+            lent_too.plain(listed, epsilon)
+        });
+        least = [0, 1].map(|side: usize| least[side].min(turn[side] / 1000.0));
+    }
+    let [counted, plain] = least;
+    println!(
+        "{name:52} {epsilon:8.1e} {pairs:9} {rows:7} {counted:11.2} {plain:11.2} {:7.3}",
+        counted / plain
     );
     assert_eq!(lent.counts, [rows as u64, pairs], "{name}: other counts");
     assert_eq!(lent.counts, lent_too.counts, "{name}: the two differ");

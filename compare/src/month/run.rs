@@ -380,7 +380,7 @@ impl Run {
         for layout in [&layout, &traces::in_halves(&layout)] {
             self.ask(layout, Call::Mutual, |known, rng| {
                 let room = Room::of(known.rows());
-                vec![Asked::of(Report::draw(rng), room, rng)]
+                vec![Asked::of(Report::FRESH.with(1, 1 << 40), room, rng)]
             });
         }
     }
