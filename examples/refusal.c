@@ -1,8 +1,8 @@
 /*
  * Where is the bad number? A call that refuses returns a word that tells the
  * refusal's number and the place of the fault. This prints such words in plain
- * English, for listings, the pair call and the kernels. From the repository's
- * root:
+ * English, for listings, the pair call, the kernels and a join. From the
+ * repository's root:
  *
  *   rt staticlib capi
  *   cc -std=c11 -Wall -Wextra -Werror -Iinclude examples/refusal.c \
@@ -42,7 +42,7 @@ static const struct places circles = {
 
 static const char *const items[] = {
     "epsilon", "x", "y", "bulge", "radius", "centre x", "centre y", "chord",
-    "length", "rows", "position", "budget", "boxes", "trace",
+    "length", "rows", "position", "budget", "boxes", "trace", "report",
 };
 
 /* By the refusal's number. A text's refusal, 10, comes from no call. */
@@ -61,6 +61,7 @@ static const char *const reasons[] = {
     [14] = "0",
     [15] = "no whole number from 0 to 255",
     [17] = "more than there is room for",
+    [19] = "full, or the sum of two does not fit",
 };
 
 static void tell_owner(uint64_t word, const struct places *places)
@@ -95,6 +96,7 @@ static void tell(const char *call, uint64_t word, const struct places *places)
     case VJ_ITEM_POSITION:
     case VJ_ITEM_BUDGET:
     case VJ_ITEM_BOXES:
+    case VJ_ITEM_REPORT:
         break;
     default:
         tell_owner(word, places);
@@ -185,6 +187,26 @@ static void boxed(size_t boxes_room)
          &listing);
 }
 
+/* A path with itself, counted in a report of so many layouts; and a join. */
+static void reports(uint64_t layouts)
+{
+    uint64_t report[VJ_REPORT_WORDS] = { 0 }, other[VJ_REPORT_WORDS] = { 0 };
+    uint64_t indices[3], counts[2];
+    double path[4 * VERTICES], points[4];
+
+    draw(path);
+    report[VJ_REPORT_LAYOUTS] = layouts;
+    other[VJ_REPORT_LAYOUTS] = 1;
+    tell("vj_mutual_counted",
+         vj_mutual_counted(path, COUNT(path), false, path, COUNT(path), false,
+                           EPSILON, indices, COUNT(indices), points,
+                           COUNT(points), counts, COUNT(counts), report,
+                           COUNT(report)),
+         &listing);
+    tell("vj_join", vj_join(report, COUNT(report), other, COUNT(other)),
+         &listing);
+}
+
 /* A line from (0, 0) to (4, 0) with this bulge, and one up to (x, 2). */
 static void two_segments(double bulge, double x, size_t room)
 {
@@ -218,6 +240,8 @@ int main(void)
     page(1000, 1);
     page(0, 0);
     boxed(VJ_BOXES_NEEDED(VERTICES) - 1);
+    reports(0);
+    reports(10000);
     two_segments(0, 2, 4);
     two_segments(0, INFINITY, 4);
     two_segments(-1.5, 2, 4);

@@ -137,10 +137,11 @@ uint64_t vj_sqrt_bits(uint64_t b);
 #define VJ_ITEM_BUDGET 11   /* refusal 14: of a page */
 #define VJ_ITEM_BOXES 12    /* refusal 17: of a boxed listing */
 #define VJ_ITEM_TRACE 13    /* of a vertex */
+#define VJ_ITEM_REPORT 14   /* refusal 19: of a counted listing or a join */
 
 /*
- * The owner and the index of epsilon, rows, position, budget and boxes are 0,
- * in every call.
+ * The owner and the index of epsilon, rows, position, budget, boxes and report
+ * are 0, in every call.
  */
 
 /*
@@ -297,10 +298,11 @@ uint64_t vj_pair_findings(double v1x, double v1y, double v1_bulge,
  * above 0 may touch on purpose, as a track and its pad do. They are skipped: the
  * listing does not look at them, and they make no row, however they meet. This
  * holds across the two paths of vj_mutual and for all pairs of vj_self,
- * neighbours too, in the full listings, in pages and in boxed listings. Traces
- * are compared by value, so -0 is 0, and segments of trace 0 are never skipped
- * for it. The last trace of an open path is checked, and plays no part. The pair
- * call, with findings or without, and the kernels have no trace.
+ * neighbours too, in the full listings, in pages, in boxed listings and in
+ * counted ones. Traces are compared by value, so -0 is 0, and segments of trace 0
+ * are never skipped for it. The last trace of an open path is checked, and plays
+ * no part. The pair call, with findings or without, and the kernels have no
+ * trace.
  *
  * Rows go into two slices. From `indices` on, a row has three whole numbers: the
  * segment's index in the first path, the segment's index in the second path, and
@@ -555,6 +557,84 @@ uint64_t vj_self_boxed(const double *path, size_t len, bool closed,
                        uint64_t *indices, size_t indices_room, double *points,
                        size_t points_room, uint64_t *counts,
                        size_t counts_room);
+
+/*
+ * Counted listings: vj_mutual's listing, which also adds to a report. A report
+ * tells of a month's layouts, say, how many there were, how their pairs met, and
+ * for what some were refused. A layout is one call of vj_mutual_counted. A report
+ * has VJ_REPORT_WORDS words, 40, which the caller lends from `report` on:
+ *
+ *   report[0]       layouts, refused ones too
+ *   report[1]       pairs looked at, without those that were skipped
+ *   report[2 + c]   pairs of class c, 0 to 5; class 0 is the pairs looked at less
+ *                   the rows
+ *   report[8 + n]   layouts that were refused with n, n below 32
+ *
+ * A fresh report is all zeros. Lend it to one call after the other: each adds to
+ * what it finds there, and keeps nothing elsewhere. Paths, rows, counts, the
+ * order of faults and their places are vj_mutual's. The call returns
+ *
+ *   VJ_NO_ROOM        if counts_room is below 2, or report_room below 40: nothing
+ *                     is looked at, nothing is written, and nothing is counted;
+ *   refusal 19        else, if the report has 10,000 layouts or more, or one of
+ *                     its other 39 words is above 2^64 - 1 - 67,108,864. This
+ *                     comes before all other checks, and nothing else is read.
+ *                     Nothing is written: a 19 is counted nowhere. Its place has
+ *                     the item report;
+ *   a refusal's word  else, if there is a fault, 8 too: the report has one layout
+ *                     more, and one more that was refused with this number.
+ *                     Nothing else is written;
+ *   0                 else. Rows and counts are written as by vj_mutual, and the
+ *                     report has one layout more, the pairs looked at, and each
+ *                     class.
+ *
+ * The words behind the report's 40th are unchanged, in every case. No word wraps
+ * round: 19 comes before. When a report is full, keep it, and begin a fresh one.
+ *
+ * What looks true and is not:
+ *
+ *   "A layout that was refused with 8 has its pairs in the report." It is counted
+ *     as refused and adds nothing else, though its pairs were looked at. If it is
+ *     listed again with more room, that is one layout more.
+ *   "Class 0 is every pair that does not meet." Pairs that are skipped for their
+ *     trace are in no class, and are not among the pairs.
+ *
+ * examples/month.c prints reports as tables.
+ */
+#define VJ_REPORT_WORDS 40
+#define VJ_REPORT_LAYOUTS 0
+#define VJ_REPORT_PAIRS 1
+#define VJ_REPORT_CLASS(c) (2 + (c))   /* c is 0 to 5 */
+#define VJ_REPORT_REFUSED(n) (8 + (n)) /* n is 0 to 31 */
+
+/* vj_mutual, counted in a report. */
+uint64_t vj_mutual_counted(const double *first, size_t first_len,
+                           bool first_closed, const double *second,
+                           size_t second_len, bool second_closed,
+                           double epsilon, uint64_t *indices,
+                           size_t indices_room, double *points,
+                           size_t points_room, uint64_t *counts,
+                           size_t counts_room, uint64_t *report,
+                           size_t report_room);
+
+/*
+ * Adds a second report to the first, word by word: those of two machines, or of
+ * two weeks. The first is lent from `into` on, the second from `other` on; they
+ * may not overlap. The call returns
+ *
+ *   VJ_NO_ROOM   if into_room or other_len is below 40: nothing is looked at, and
+ *                nothing is written;
+ *   refusal 19   else, if they have more than 10,000 layouts together, or the sum
+ *                of two words does not fit into 64 bits: both reports are as they
+ *                were. The place has the item report;
+ *   0            else. Then each of the first 40 words from `into` on is the sum.
+ *
+ * The second report, and the words behind the 40th, are unchanged in every case.
+ * A sum may be a report that vj_mutual_counted refuses, as 9,999 layouts and one
+ * more are.
+ */
+uint64_t vj_join(uint64_t *into, size_t into_room, const uint64_t *other,
+                 size_t other_len);
 
 #ifdef __cplusplus
 }

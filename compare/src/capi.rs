@@ -179,6 +179,29 @@ mod raw {
             counts: *mut u64,
             counts_room: usize,
         ) -> u64;
+        pub fn vj_mutual_counted(
+            first: *const f64,
+            first_len: usize,
+            first_closed: bool,
+            second: *const f64,
+            second_len: usize,
+            second_closed: bool,
+            epsilon: f64,
+            indices: *mut u64,
+            indices_room: usize,
+            points: *mut f64,
+            points_room: usize,
+            counts: *mut u64,
+            counts_room: usize,
+            report: *mut u64,
+            report_room: usize,
+        ) -> u64;
+        pub fn vj_join(
+            into: *mut u64,
+            into_room: usize,
+            other: *const u64,
+            other_len: usize,
+        ) -> u64;
     }
 }
 
@@ -415,4 +438,45 @@ pub fn vj_self_boxed(path: (&[f64], bool), epsilon: f64, boxes: &mut [f64], rows
             counts.len(),
         )
     }
+}
+
+/// The counted listing of two paths: it also adds to the report.
+#[cfg(feature = "rust-text")]
+pub fn vj_mutual_counted(
+    first: (&[f64], bool),
+    second: (&[f64], bool),
+    epsilon: f64,
+    rows: Rows,
+    report: &mut [u64],
+) -> u64 {
+    let Rows {
+        indices,
+        points,
+        counts,
+    } = rows;
+    unsafe {
+        raw::vj_mutual_counted(
+            first.0.as_ptr(),
+            first.0.len(),
+            first.1,
+            second.0.as_ptr(),
+            second.0.len(),
+            second.1,
+            epsilon,
+            indices.as_mut_ptr(),
+            indices.len(),
+            points.as_mut_ptr(),
+            points.len(),
+            counts.as_mut_ptr(),
+            counts.len(),
+            report.as_mut_ptr(),
+            report.len(),
+        )
+    }
+}
+
+/// Adds a report to another.
+#[cfg(feature = "rust-text")]
+pub fn vj_join(into: &mut [u64], other: &[u64]) -> u64 {
+    unsafe { raw::vj_join(into.as_mut_ptr(), into.len(), other.as_ptr(), other.len()) }
 }

@@ -25,6 +25,8 @@ mod lent;
 #[cfg(feature = "rust-text")]
 mod listings;
 mod met;
+#[cfg(feature = "rust-text")]
+mod month;
 #[cfg_attr(not(feature = "rust-text"), allow(dead_code))]
 mod numbers;
 mod packed;
@@ -60,8 +62,8 @@ usage: compare check [COUNT [SEED]]  compare each float function on COUNT random
                                      COUNT; each function of the plane on a quarter as many accepted ones, an eighth of all bit patterns, and some beside the
                                      limits; each kernel and the pair call until twice as many were answered, and on some
                                      that are refused; listings of whole paths until as many pairs were looked at, and on
-                                     chosen ones; then as compare pages, as compare boxed, as compare joints, as compare
-                                     findings, and as compare edges with a tenth of COUNT
+                                     chosen ones; then as compare pages, as compare boxed, as compare month, as compare joints,
+                                     as compare findings, and as compare edges with a tenth of COUNT
        compare roots [COUNT [SEED]]  compare the root with the machine's own on COUNT patterns (default 10485760, seed 1): at
                                      every exponent its ends, random digits, squares of every count of digits, numbers
                                      next to ties, and the neighbours of these; subnormals of every count of digits
@@ -72,6 +74,9 @@ usage: compare check [COUNT [SEED]]  compare each float function on COUNT random
                                      paths, a tenth of COUNT calls (default 10485760, seed 1)
        compare boxed [COUNT [SEED]]  compare boxed listings: on chosen paths, and on random ones until these have COUNT pairs
                                      (default 10485760, seed 1)
+       compare month [COUNT [SEED]]  compare counted listings and joined reports: on chosen layouts with reports at each limit, on
+                                     a month of 10,000 layouts, and on random ones until these have COUNT / 2 pairs (default
+                                     10485760, seed 1)
        compare joints [COUNT [SEED]] compare self listings where neighbours meet, full, paged and boxed: every short path on a
                                      small grid, if COUNT is at least 1048576, and COUNT / 512 drawn ones (default 10485760,
                                      seed 1)
@@ -103,7 +108,7 @@ usage: compare check [COUNT [SEED]]  compare each float function on COUNT random
        compare record FILE           write the recorded list for the program replay
        compare bench [PART...]       nanoseconds of processor time a call or a pair, ours beside the machine's own and the Rust's,
                                      the least of five rounds or more by turns; all parts, or some of: floats calls findings
-                                     listings pages boxed packed";
+                                     listings pages boxed month packed";
 
 const COUNT: u64 = 10 << 20;
 const ON_AN_EDGE: u64 = 1 << 20;
@@ -113,8 +118,8 @@ const CLIMBED: u64 = 1 << 20;
 const TEXTS: u64 = 3072;
 const MOVED: u64 = 2048;
 const SEED: u64 = 1;
-const BENCHES: [&str; 7] = [
-    "floats", "calls", "findings", "listings", "pages", "boxed", "packed",
+const BENCHES: [&str; 8] = [
+    "floats", "calls", "findings", "listings", "pages", "boxed", "month", "packed",
 ];
 
 fn main() -> ExitCode {
@@ -126,6 +131,7 @@ fn main() -> ExitCode {
         ["edges", ref numbers @ ..] => edges(numbers),
         ["pages", ref numbers @ ..] => pages(numbers),
         ["boxed", ref numbers @ ..] => boxed(numbers),
+        ["month", ref numbers @ ..] => month(numbers),
         ["joints", ref numbers @ ..] => joints(numbers),
         ["findings", ref numbers @ ..] => findings(numbers),
         ["packed", ref numbers @ ..] => packed(numbers),
@@ -191,6 +197,14 @@ fn pages(numbers: &[&str]) -> Result<(), String> {
 fn boxed(numbers: &[&str]) -> Result<(), String> {
     let (count, seed) = count_and_seed(numbers, COUNT)?;
     match check_boxed(count, seed) {
+        0 => Ok(()),
+        differences => Err(format!("{differences} differences")),
+    }
+}
+
+fn month(numbers: &[&str]) -> Result<(), String> {
+    let (count, seed) = count_and_seed(numbers, COUNT)?;
+    match check_month(count, seed) {
         0 => Ok(()),
         differences => Err(format!("{differences} differences")),
     }
@@ -279,6 +293,7 @@ fn time(parts: &[&str]) -> Result<(), String> {
             "listings" => time_listings(),
             "pages" => time_pages(),
             "boxed" => time_boxed(),
+            "month" => time_month(),
             "packed" => packed::bench()?,
             _ => return Err(USAGE.to_string()),
         }
@@ -308,6 +323,7 @@ fn check_text(count: u64, seed: u64) -> u64 {
         + listings::check(count, seed)
         + check_pages(count, seed)
         + check_boxed(count, seed)
+        + check_month(count, seed)
         + check_joints(count, seed)
         + check_findings(count, seed)
         + check_edges(count / 10, seed)
@@ -326,6 +342,11 @@ fn check_pages(count: u64, seed: u64) -> u64 {
 #[cfg(feature = "rust-text")]
 fn check_boxed(count: u64, seed: u64) -> u64 {
     boxed::check(count, seed)
+}
+
+#[cfg(feature = "rust-text")]
+fn check_month(count: u64, seed: u64) -> u64 {
+    month::check(count, seed)
 }
 
 #[cfg(feature = "rust-text")]
@@ -369,6 +390,12 @@ fn check_boxed(_count: u64, _seed: u64) -> u64 {
 }
 
 #[cfg(not(feature = "rust-text"))]
+fn check_month(_count: u64, _seed: u64) -> u64 {
+    println!("rust text not compiled in: nothing was compared with it");
+    0
+}
+
+#[cfg(not(feature = "rust-text"))]
 fn check_joints(_count: u64, _seed: u64) -> u64 {
     println!("rust text not compiled in: nothing was compared with it");
     0
@@ -402,11 +429,19 @@ fn time_boxed() {
     boxed::bench();
 }
 
+#[cfg(feature = "rust-text")]
+fn time_month() {
+    month::bench();
+}
+
 #[cfg(not(feature = "rust-text"))]
 fn time_pages() {}
 
 #[cfg(not(feature = "rust-text"))]
 fn time_boxed() {}
+
+#[cfg(not(feature = "rust-text"))]
+fn time_month() {}
 
 #[cfg(not(feature = "rust-text"))]
 fn time_calls() {}

@@ -25,6 +25,8 @@ pub enum Item {
     Boxes = 12,
     /// Of a path's vertex.
     Trace = 13,
+    /// Of a counted listing or a join.
+    Report = 14,
 }
 
 /// Whose item it is: a path, a segment, a point or a circle of the call, and there which vertex, segment or end. All count from
@@ -139,6 +141,7 @@ mod tests {
         assert_eq!(word(14, Item::Budget, 0, 0), 0x000b_010e);
         assert_eq!(word(17, Item::Boxes, 0, 0), 0x000c_0111);
         assert_eq!(word(15, Item::Trace, 1, 4095), 0xfff_010d_010f);
+        assert_eq!(word(19, Item::Report, 0, 0), 0x000e_0113);
     }
 
     /// At each number NaN comes first, then infinite, then its limits; epsilon has one refusal for all.
