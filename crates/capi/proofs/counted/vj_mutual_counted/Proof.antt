@@ -5,6 +5,13 @@ use Rattle.capi.proofs.MonthEnds.{no-room-counted, handed-counted}
 use Rattle.capi.proofs.counted.vj_mutual_counted.Statement.{statement}
 use Rattle.capi.proofs.counted.vj_mutual_counted.Tie as tie
 
+returns-2 : tie.Need-returns-2
+returns-2 c =
+    let h = c .before .before in
+    let m = h .before .before .before .before .before .before .before .before in
+    handed-counted _ _ _ _ _ (search needs) _ _ _ _ _ _ (m .mutual-counted .ensures) (h .hand-counted .ensures .0)
+    (h .hand-counted .ensures .1)
+
 pub vj-mutual-counted-spec : {M : Type 1} → statement M
 vj-mutual-counted-spec =
     tie.close
@@ -13,4 +20,4 @@ vj-mutual-counted-spec =
     (λ c. search needs)
     (λ c. search needs)
     (λ c. search needs) (λ c. search needs) (λ c. search needs) (λ c. search needs)
-    (λ c. search handed-counted))
+    returns-2)
