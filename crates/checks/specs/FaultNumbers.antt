@@ -23,6 +23,8 @@ use Rattle.checks.specs.declared.fault.Item.the-variants.{
   Boxes,
   Trace,
   Report,
+  Line,
+  Room,
 }
 use Rattle.checks.specs.declared.fault.Checked.{Checked}
 use Rattle.checks.specs.declared.fault.Checked.the-variants.{Fine, Bad}
@@ -44,10 +46,12 @@ item Budget = 11
 item Boxes = 12
 item Trace = 13
 item Report = 14
+item Line = 15
+item Room = 16
 
 -- how many items there are
 abbrev pub items : ℕ
-items = 15
+items = 17
 
 pub item-below : (i : Item) → item i < items
 item-below Epsilon = omega arith
@@ -65,6 +69,8 @@ item-below Budget = omega arith
 item-below Boxes = omega arith
 item-below Trace = omega arith
 item-below Report = omega arith
+item-below Line = omega arith
+item-below Room = omega arith
 
 abbrev pub faultNumbers : Checked → List ℕ
 faultNumbers Fine = 0 ∷ []
@@ -87,7 +93,9 @@ item-back n =
     (cond (eqb n 11) Budget
     (cond (eqb n 12) Boxes
     (cond (eqb n 13) Trace
-    Report)))))))))))))
+    (cond (eqb n 14) Report
+    (cond (eqb n 15) Line
+    Room)))))))))))))))
 
 pub item-same : (i : Item) → item-back (item i) ≡ i
 unfolding item-back
@@ -106,6 +114,8 @@ item-same Budget = refl
 item-same Boxes = refl
 item-same Trace = refl
 item-same Report = refl
+item-same Line = refl
+item-same Room = refl
 
 back : List ℕ → Checked
 back [] = Fine

@@ -18,7 +18,7 @@ epsilon = 4
 abbrev pub chord : ℕ
 chord = 5
 
--- the count of a path's numbers is no multiple of 3
+-- the count of a path's numbers is no multiple of 4
 abbrev pub pathLength : ℕ
 pathLength = 6
 

@@ -13,7 +13,7 @@ pub const EPSILON: u64 = 4;
 // an arc's chord is too short
 pub const CHORD: u64 = 5;
 
-// the count of a path's numbers is no multiple of 3
+// the count of a path's numbers is no multiple of 4
 pub const PATH_LENGTH: u64 = 6;
 
 // a path has too many vertices

@@ -37,6 +37,8 @@ pub fn item_number(item: Item) -> u64
         Item::Boxes => 12,
         Item::Trace => 13,
         Item::Report => 14,
+        Item::Line => 15,
+        Item::Room => 16,
     }
 }
 

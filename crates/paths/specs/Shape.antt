@@ -12,7 +12,7 @@ use Rattle.checks.specs.Fault.{at, refuse, later}
 use Rattle.checks.specs.Refusal
 use Rattle.paths.specs.Path.{numbersAVertex, mostVertices, vertexCount}
 
--- the length is no multiple of 3
+-- the length is no multiple of 4
 abbrev pub broken : List Float → Bool
 broken path = not (eqb (length path % numbersAVertex) 0)
 

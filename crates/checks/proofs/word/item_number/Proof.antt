@@ -9,10 +9,11 @@ item-number-spec =
     (tie.spec
     (λ c. search needs) (λ c. search needs) (λ c. search needs) (λ c. search needs) (λ c. search needs) (λ c. search needs)
     (λ c. search needs) (λ c. search needs) (λ c. search needs) (λ c. search needs) (λ c. search needs) (λ c. search needs)
-    (λ c. search needs) (λ c. search needs) (λ c. search needs)
+    (λ c. search needs) (λ c. search needs) (λ c. search needs) (λ c. search needs) (λ c. search needs)
     (λ c. simp (c .enum-told .given .1)) (λ c. simp (c .enum-told2 .given .1)) (λ c. simp (c .enum-told3 .given .1))
     (λ c. simp (c .enum-told4 .given .1)) (λ c. simp (c .enum-told5 .given .1)) (λ c. simp (c .enum-told6 .given .1))
     (λ c. simp (c .enum-told7 .given .1)) (λ c. simp (c .enum-told8 .given .1)) (λ c. simp (c .enum-told9 .given .1))
     (λ c. simp (c .enum-told10 .given .1)) (λ c. simp (c .enum-told11 .given .1)) (λ c. simp (c .enum-told12 .given .1))
     (λ c. simp (c .enum-told13 .given .1)) (λ c. simp (c .enum-told14 .given .1))
-    (λ c. simp (c .enum-told15 .given .1)))
+    (λ c. simp (c .enum-told15 .given .1)) (λ c. simp (c .enum-told16 .given .1))
+    (λ c. simp (c .enum-told17 .given .1)))

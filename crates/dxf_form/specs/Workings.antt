@@ -1,0 +1,2 @@
+-- The reader, by which Exactly.antt and the code are held to the form.
+pub mod Reader

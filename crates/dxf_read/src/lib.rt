@@ -1,0 +1,8 @@
+// Imports the body of an LWPOLYLINE entity. Crate dxf_form has the form of a text; specs/Import.antt has what an import promises.
+use checks::fault::Fault;
+
+// The number of vertices and whether the path is closed; or a refusal and its place.
+pub enum Imported {
+    Path(usize, bool),
+    Refused(Fault),
+}
