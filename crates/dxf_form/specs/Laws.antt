@@ -6,3 +6,5 @@ pub mod Whole
 pub mod Decimal
 pub mod Skipping
 pub mod Values
+pub mod Pairs
+pub mod Steps

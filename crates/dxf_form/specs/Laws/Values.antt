@@ -111,10 +111,10 @@ module _ (line rest : List ℕ) (g : Group) where
 
 -- ---- what is at fault
 
-same-number : {a b c d : ℕ} → fault a b ≡ fault c d → a ≡ c
+pub same-number : {a b c d : ℕ} → fault a b ≡ fault c d → a ≡ c
 same-number e = cc
 
-same-line : {a b c d : ℕ} → fault a b ≡ fault c d → b ≡ d
+pub same-line : {a b c d : ℕ} → fault a b ≡ fault c d → b ≡ d
 same-line e = cc
 
 module _ (text : List ℕ) {number line : ℕ} where
