@@ -8,3 +8,4 @@ pub mod Skipping
 pub mod Values
 pub mod Pairs
 pub mod Steps
+pub mod Faults
