@@ -9,3 +9,5 @@ pub mod Values
 pub mod Pairs
 pub mod Steps
 pub mod Faults
+pub mod Grammar
+pub mod Once

@@ -127,6 +127,18 @@ same-turn due (y-value w) = refl
 same-turn due (bulge-value w) = refl
 same-turn due (other-value o s) = sym (turn-other due o)
 
+-- every code is in its place somewhere
+pub somewhere : (c : ℕ) → (due : Due) × (outOfPlace (turnAt due c) ≡ false)
+somewhere c = go (code-of c)
+  where
+    go : {d : ℕ} → Code d → (due : Due) × (outOfPlace (turnAt due d) ≡ false)
+    go is-count = (Due·.Count, refl)
+    go is-flags = (Due·.Flags, refl)
+    go is-x = (Due·.Vertex, refl)
+    go is-y = (Due·.Y, refl)
+    go is-bulge = (Due·.Bulge, refl)
+    go (is-other o) = (Due·.Count, rw (turn-other Due·.Count o))
+
 -- ---- a group is read
 
 pub record PairSpelt (due : Due) (text : List ℕ) (g : Group) (rest : List ℕ) : Type 0 where

@@ -48,10 +48,10 @@ TurnValue Turn·.OutOfPlace line g = ⊥
 -- ---- what is read is spelt
 
 -- of two groups that are equal, and of what follows them
-same-group : {g h : Group} {s t : List ℕ} → pair g s ≡ pair h t → g ≡ h
+pub same-group : {g h : Group} {s t : List ℕ} → pair g s ≡ pair h t → g ≡ h
 same-group e = cc
 
-same-rest : {g h : Group} {s t : List ℕ} → pair g s ≡ pair h t → s ≡ t
+pub same-rest : {g h : Group} {s t : List ℕ} → pair g s ≡ pair h t → s ≡ t
 same-rest e = cc
 
 module _ {g : Group} {rest : List ℕ} where
