@@ -8,3 +8,4 @@ pub mod Body
 pub mod Fault
 pub mod Workings
 pub mod Laws
+pub mod Exactly

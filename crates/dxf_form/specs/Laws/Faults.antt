@@ -60,7 +60,7 @@ fault-pair due _ _ _ h (bad-value {line} {c} [] number w o some v) = absurd (ome
 
 -- ---- answers
 
-never-groups : {P : Type 0} {number line : ℕ} {gs : List Group} → faultAt number line ≡ groups gs → P
+pub never-groups : {P : Type 0} {number line : ℕ} {gs : List Group} → faultAt number line ≡ groups gs → P
 never-groups e = let z : _≡_ {A = ℕ} 0 1 = cc in absurd (omega arith)
 
 -- the groups before an answer
@@ -256,7 +256,7 @@ fault-after due lines text rest g e f =
       here = omega (arith, f .here);
     }
 
-same-fault : {a b c d : ℕ} → faultAt a b ≡ faultAt c d → (c ≡ a) × (d ≡ b)
+pub same-fault : {a b c d : ℕ} → faultAt a b ≡ faultAt c d → (c ≡ a) × (d ≡ b)
 same-fault e = (cc, cc)
 
 end-fault : (due : Due) (lines : ℕ) {number line : ℕ} → textEnd due lines ≡ faultAt number line
