@@ -11,3 +11,4 @@ pub mod Steps
 pub mod Faults
 pub mod Grammar
 pub mod Once
+pub mod Divided

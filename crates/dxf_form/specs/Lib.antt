@@ -9,3 +9,4 @@ pub mod Fault
 pub mod Workings
 pub mod Laws
 pub mod Exactly
+pub mod Held
