@@ -10,3 +10,4 @@ pub mod Workings
 pub mod Laws
 pub mod Exactly
 pub mod Held
+pub mod Examples
