@@ -4,20 +4,20 @@ use Prim.Native.Nat.{ℕ}
 use mathlib.Core.Path.{_≡_, refl, sym, ap, _∙_}
 use mathlib.Core.Logic.{_↔_}
 use mathlib.Core.List.{List}
-use native.Mathlib.Omega.{arith}
 use lib.IntN.{ℤ}
 use Rattle.dxf_form.specs.Numbers.{Corner}
-use Rattle.dxf_form.specs.Form.{WholeText, NumberText, Skipped, First, Group, Spells, Gives}
+use Rattle.dxf_form.specs.Form.{WholeText, NumberText, Skipped, First, Group, Spells, Gives, SpellsBody, CountAt}
 use Rattle.dxf_form.specs.Order.{Complete}
-use Rattle.dxf_form.specs.Body.{Body, bodyOf}
-use Rattle.dxf_form.specs.Fault.{NoWhole, NoNumber, FaultAt}
+use Rattle.dxf_form.specs.Body.{bodyOf}
+use Rattle.dxf_form.specs.Fault.{NoWhole, NoNumber, FaultAt, Faulty}
 use Rattle.dxf_form.specs.Workings.Reader.{nothing, got, cut, over, wholeLine, numberLine, skipLine}
-use Rattle.dxf_form.specs.Workings.Reader.{Read, faultAt, groups, readGroups}
+use Rattle.dxf_form.specs.Workings.Reader.{faultAt, groups, readGroups}
 use Rattle.dxf_form.specs.Laws.Whole.{whole-spelt, whole-reads, no-whole, whole-none}
 use Rattle.dxf_form.specs.Laws.Decimal.{number-spelt, number-reads, no-number, number-none}
 use Rattle.dxf_form.specs.Laws.Skipping.{skip-spelt, skip-reads, cut-skipped, skipped-cut}
-use Rattle.dxf_form.specs.Laws.Faults.{groups-reads, fault-reads, read-spelt, read-fault, never-groups, same-fault}
+use Rattle.dxf_form.specs.Laws.Faults.{groups-reads, fault-reads, read-spelt, read-fault, same-fault}
 use Rattle.dxf_form.specs.Laws.Grammar.{complete-gives, gives-taken, gives-complete}
+use Rattle.dxf_form.specs.Laws.Bodies.{faulty-none, none-faulty, count-at}
 use Rattle.dxf_form.specs.Laws.Once.{whole-once, number-once, once}
 use Rattle.dxf_form.specs.declared.order.Due.the-variants as Due·
 
@@ -85,20 +85,14 @@ pub gives-body : (gs : List Group) → Complete Due·.Count gs
 gives-body gs c =
     let s = complete-gives gs c in
     let is = gives-taken gs (s .n) (s .f) (s .vs) (s .gives) in
-    rw (is) (s .gives)
+    rw is (s .gives)
 
 -- and groups that give these are in order
 pub gives-complete-body : (gs : List Group) (n f : ℕ) (vs : List Corner) → Gives gs n f vs
     → Complete Due·.Count gs × (bodyOf gs ≡ record { declared = n; flags-are = f; vertices = vs })
 gives-complete-body gs n f vs g = (gives-complete gs n f vs g, gives-taken gs n f vs g)
 
--- the text spells groups that give this count, these flags and these vertices
-pub record SpellsBody (text : List ℕ) (n f : ℕ) (vs : List Corner) : Type 0 where
-  pub gs : List Group
-  pub spelt : Spells text gs
-  pub gives : Gives gs n f vs
-
--- they are taken of the groups that are read
+-- this count, these flags and these vertices are taken of the groups that are read
 pub record ReadsBody (text : List ℕ) (n f : ℕ) (vs : List Corner) : Type 0 where
   pub gs : List Group
   pub read : readGroups text ≡ groups gs
@@ -119,22 +113,9 @@ accepted text n f vs = (
 )
 
 -- and a text has a fault exactly if it spells no groups that give any
-pub record Faulty (text : List ℕ) : Type 0 where
-  pub number : ℕ
-  pub line : ℕ
-  pub is : FaultAt text number line
-
 pub refused : (text : List ℕ) → Faulty text ↔ ((n f : ℕ) (vs : List Corner) → SpellsBody text n f vs → ⊥)
-refused text = (spells-none, λ none. go none (readGroups text) refl)
-  where
-    spells-none : Faulty text → (n f : ℕ) (vs : List Corner) → SpellsBody text n f vs → ⊥
-    spells-none fault n f vs s =
-        let r = accepted text n f vs .1 s in
-        never-groups (sym (fault-reads text (fault .number) (fault .line) (fault .is)) ∙ r .read)
+refused text = (faulty-none, none-faulty text)
 
-    go : ((n f : ℕ) (vs : List Corner) → SpellsBody text n f vs → ⊥) → (r : Read) → readGroups text ≡ r → Faulty text
-    go none (faultAt number line) e = record { number = number; line = line; is = read-fault text e }
-    go none (groups gs) e =
-        let s = read-spelt text e in
-        let g = complete-gives gs (s .complete) in
-        absurd (none (g .n) (g .f) (g .vs) (record { gs = gs; spelt = s .spelt; gives = g .gives }))
+-- the line of refusal 22 is that of the value of 90: below all groups before it, of two lines each, and its own code
+pub count-stands : (gs : List Group) (n f : ℕ) (vs : List Corner) → Gives gs n f vs → CountAt gs n
+count-stands gs n f vs g = count-at gs n (g .in-order)

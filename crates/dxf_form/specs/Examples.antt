@@ -3,14 +3,15 @@ use Prim.Native.Nat.{ℕ, zero, suc}
 use Prim.Native.Char.{code}
 use Prim.Native.String.{String, len, charAt}
 use mathlib.Core.Path.{_≡_, refl}
+use mathlib.Core.Bool.{true, false}
 use mathlib.Core.List.{List, [], _∷_, _++_, map}
 use lib.ListN.{replicate}
-use lib.IntN.{ℤ, pos, negsuc}
-use lib.Ieee.{Float, binary64, ofBits, ofFields, ofInt, div, round, units, odd, size, span, climb}
+use lib.IntN.{pos, negsuc}
+use lib.Ieee.{binary64, ofBits, ofFields, ofInt, div, round, units, odd, size, span, climb}
 use Rattle.dxf_form.specs.Refusal
 use Rattle.dxf_form.specs.Numbers.{held, value}
-use Rattle.dxf_form.specs.Form.{count, flags, x, y, bulge, other}
-use Rattle.dxf_form.specs.Body.{Body, atLast, taken, takenAll, bodyOf}
+use Rattle.dxf_form.specs.Form.{Group, count, flags, x, y, bulge, other, closedBy, countLine}
+use Rattle.dxf_form.specs.Body.{atLast, taken, takenAll, bodyOf}
 use Rattle.dxf_form.specs.Workings.Reader.{Read, faultAt, groups, readGroups, readFrom, pairOf, wholeLine, numberLine}
 use Rattle.dxf_form.specs.Workings.Reader.{skipLine, lineEnd, signedEnd, afterPoint, afterSign, digitsFrom, pastBlanks}
 
@@ -28,13 +29,15 @@ reads s = readGroups (bytes s)
 -- ---- read
 
 -- a closed body of two vertices, the second one without a bulge
-pub small-read : reads "90\n2\n70\n1\n10\n0.5\n20\n-2\n42\n0.25\n10\n3\n20\n0\n"
-    ≡ groups (count 2 ∷ flags 1 ∷ x (pos 500_000) ∷ y (negsuc 1_999_999) ∷ bulge (pos 250_000) ∷ x (pos 3_000_000) ∷ y (pos 0) ∷ [])
+abbrev smallGroups : List Group
+smallGroups =
+    count 2 ∷ flags 1 ∷ x (pos 500_000) ∷ y (negsuc 1_999_999) ∷ bulge (pos 250_000) ∷ x (pos 3_000_000) ∷ y (pos 0) ∷ []
+
+pub small-read : reads "90\n2\n70\n1\n10\n0.5\n20\n-2\n42\n0.25\n10\n3\n20\n0\n" ≡ groups smallGroups
 unfolding readGroups readFrom pairOf wholeLine numberLine skipLine lineEnd signedEnd afterPoint afterSign digitsFrom pastBlanks
 small-read = refl
 
-pub small-body : bodyOf
-    (count 2 ∷ flags 1 ∷ x (pos 500_000) ∷ y (negsuc 1_999_999) ∷ bulge (pos 250_000) ∷ x (pos 3_000_000) ∷ y (pos 0) ∷ [])
+pub small-body : bodyOf smallGroups
     ≡ record {
       declared = 2;
       flags-are = 1;
@@ -45,6 +48,14 @@ pub small-body : bodyOf
     }
 unfolding takenAll taken atLast
 small-body = refl
+
+-- closed by the first bit only
+pub closed-odd : map closedBy (0 ∷ 1 ∷ 2 ∷ 3 ∷ 128 ∷ 129 ∷ []) ≡ false ∷ true ∷ false ∷ true ∷ false ∷ true ∷ []
+closed-odd = refl
+
+-- the line of the value of 90
+pub count-lines : map countLine (smallGroups ∷ (other ∷ other ∷ smallGroups) ∷ []) ≡ 2 ∷ 6 ∷ []
+count-lines = refl
 
 -- no vertices
 pub none-read : reads "90\n0\n70\n0\n" ≡ groups (count 0 ∷ flags 0 ∷ [])

@@ -1,6 +1,6 @@
--- The float of every number is finite. It is the exact quotient rounded once if the number has at most 2^53 millionths. A number with
--- more has the float of 2^53 millionths, which is beyond the limits of every coordinate and of every bulge: so it is refused too.
-use Prim.Native.Nat.{ℕ, suc, _*_, _^_, _≤_, _<_}
+-- The float of every number is finite. It is the exact quotient rounded once if the number has at most 2^53 millionths. A number
+-- with more has the float of 2^53 millionths, which is beyond the limits of coordinates and of bulges: so it is refused too.
+use Prim.Native.Nat.{ℕ, suc, _*_, _≤_, _<_}
 use mathlib.Core.Path.{_≡_, refl, sym, ap, _∙_}
 use mathlib.Core.Bool.{Bool, true, false}
 use native.Mathlib.Omega.{arith}
@@ -36,7 +36,8 @@ value-rounds z h =
     rw (held-small z h)
     (go (negative z) (magnitude z) (whole-is z h))
   where
-    go : (s : Bool) (n : ℕ) → HasValue (ofInt binary64 z) s n 1 → div binary64 (ofInt binary64 z) scale ≡ round binary64 s n million
+    go : (s : Bool) (n : ℕ) → HasValue (ofInt binary64 z) s n 1
+        → div binary64 (ofInt binary64 z) scale ≡ round binary64 s n million
     go true n v =
         let e : n * 1 ≡ n = omega arith in
         div-count binary64 (ofInt binary64 z) scale true false n million 1 1 (omega arith) (omega arith) (omega arith) v scale-is
@@ -50,8 +51,8 @@ value-rounds z h =
 
 few-finite : (z : ℤ) → magnitude z ≤ most → T (finite (div binary64 (ofInt binary64 z) scale))
 few-finite z h =
-    quotient-finite binary64 (ofInt binary64 z) scale (negative z) (magnitude z) million (omega arith) (whole-is z h) scale-is 53 h
-    (omega arith)
+    quotient-finite binary64 (ofInt binary64 z) scale (negative z) (magnitude z) million (omega arith) (whole-is z h) scale-is
+    53 h (omega arith)
 
 pub value-finite : (z : ℤ) → T (finite (value z))
 unfolding value

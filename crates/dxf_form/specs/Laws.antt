@@ -11,4 +11,5 @@ pub mod Steps
 pub mod Faults
 pub mod Grammar
 pub mod Once
+pub mod Bodies
 pub mod Divided

@@ -6,7 +6,7 @@ use native.Mathlib.Omega.{arith}
 use borrow.Author.Tests.{lt-ltb, le-ltb}
 use lib.Dec.{T, ltb, nltb→le}
 use lib.IntN.{ℤ, pos, negsuc}
-use lib.Ieee.{Float, binary64, div, ofInt}
+use lib.Ieee.{Float, binary64, div}
 use Rattle.layouts.specs.Layout.{magnitude, whole}
 use Rattle.layouts.specs.Exact.{negative as isNegative}
 use Rattle.layouts.specs.Laws.Whole.{size-whole}

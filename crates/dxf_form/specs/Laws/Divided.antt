@@ -1,16 +1,16 @@
 -- A whole number divided by a whole number: one rounding of the exact quotient, and finite.
-use Prim.Native.Nat.{ℕ, zero, suc, _+_, _*_, _^_, _≤_, _<_}
-use mathlib.Core.Path.{_≡_, refl, sym, ap, _∙_}
+use Prim.Native.Nat.{ℕ, _+_, _*_, _^_, _≤_, _<_}
+use mathlib.Core.Path.{_≡_}
 use mathlib.Core.Bool.{Bool, true, false}
 use native.Mathlib.Nat.{mul-le-mul}
 use native.Mathlib.Omega.{arith}
 use lib.Dec.{T}
 use lib.Pow.{pow-add}
-use lib.Ieee.{Float, Format, low, emax, round, div}
+use lib.Ieee.{Float, Format, low, emax, div}
 use lib.Ieee.Exact.{HasValue}
 use lib.Ieee.Scale.{finite}
 use Rattle.float_laws.specs.Signed.{ups, downs, own-diff}
-use Rattle.float_laws.specs.Rounded.{div-count, div-rounded, signed-by}
+use Rattle.float_laws.specs.Rounded.{div-rounded}
 use Rattle.float_laws.specs.Roundings.{rounded-within}
 use Rattle.float_laws.specs.Magnitudes.{within-finite}
 

@@ -1,8 +1,8 @@
 -- Groups that are in order give a count, flags and vertices; groups that give these are in order; and what they give is what is
 -- taken of them one after the other.
 use Prim.Native.Nat.{ℕ}
-use mathlib.Core.Path.{_≡_, refl, sym, ap, _∙_, subst}
-use mathlib.Core.Bool.{Bool, true, false}
+use mathlib.Core.Path.{_≡_, refl, sym, ap, _∙_}
+use mathlib.Core.Bool.{true, false}
 use mathlib.Core.List.{List, [], _∷_, _++_, append-nil, append-assoc}
 use lib.IntN.{ℤ, pos}
 use Rattle.dxf_form.specs.Numbers.{Corner}

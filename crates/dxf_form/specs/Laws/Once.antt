@@ -1,5 +1,5 @@
 -- A line spells one number at most, and a text one list of groups.
-use Prim.Native.Nat.{ℕ, _<_}
+use Prim.Native.Nat.{ℕ}
 use mathlib.Core.Path.{_≡_, refl, sym, ap, _∙_, subst}
 use mathlib.Core.List.{List, [], _∷_, _++_}
 use native.Mathlib.Omega.{arith}
@@ -7,7 +7,7 @@ use lib.ListN.{length, length-append}
 use lib.IntN.{ℤ}
 use Rattle.dxf_form.specs.Form.{WholeText, NumberText, ValueText, Group, Spells, nothing, group}
 use Rattle.dxf_form.specs.Order.{turnAt}
-use Rattle.dxf_form.specs.Workings.Reader.{got, Pair, pair, wholeLine, numberLine, valueFor}
+use Rattle.dxf_form.specs.Workings.Reader.{got, pair, wholeLine, valueFor}
 use Rattle.dxf_form.specs.Laws.Whole.{whole-reads}
 use Rattle.dxf_form.specs.Laws.Decimal.{number-reads}
 use Rattle.dxf_form.specs.Laws.Values.{value-reads, same-group, same-rest}
