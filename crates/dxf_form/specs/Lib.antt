@@ -7,3 +7,7 @@ pub mod Order
 pub mod Body
 pub mod Fault
 pub mod Workings
+pub mod Laws
+pub mod Exactly
+pub mod Held
+pub mod Examples
