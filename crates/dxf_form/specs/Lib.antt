@@ -7,3 +7,4 @@ pub mod Order
 pub mod Body
 pub mod Fault
 pub mod Workings
+pub mod Laws

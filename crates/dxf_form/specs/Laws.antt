@@ -1,0 +1,3 @@
+-- Laws on the reader and on the form, by which Exactly.antt is proved.
+pub mod Turns
+pub mod Capped
