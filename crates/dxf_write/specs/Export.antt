@@ -45,8 +45,11 @@ abbrev pub cornersFrom : List Float → ℕ → ℕ → List Corner
 cornersFrom path i zero = []
 cornersFrom path i (suc k) = cornerAt path i ∷ cornersFrom path (i + 1) k
 
+abbrev pub cornersOf : List Float → List Corner
+cornersOf path = cornersFrom path 0 (vertexCount path)
+
 unfoldable pub bytesOf : List Float → Bool → List ℕ
-bytesOf path closed = bodyBytes closed (cornersFrom path 0 (vertexCount path))
+bytesOf path closed = bodyBytes closed (cornersOf path)
 
 -- ---- the checks after those of the path, in their order: 23, vertex by vertex; 24
 
