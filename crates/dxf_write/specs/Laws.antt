@@ -4,3 +4,4 @@ pub mod Candidate
 pub mod Number
 pub mod Put
 pub mod Passes
+pub mod Ends

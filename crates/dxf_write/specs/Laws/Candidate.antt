@@ -191,7 +191,6 @@ module _ (x : Float) (X k : ℕ) (v : HasValue x false X unit) (small : k ≤ 2 
       less : (a L : ℕ) → a + L ≤ 2 * (2 ^ 41 * L) → a ≤ 2 ^ 42 * L
       less a L h = omega arith
 
-
   raised-part : Part (add binary64 m half) k
   raised-part =
       let H = half-units .0 in

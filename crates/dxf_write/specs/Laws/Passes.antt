@@ -103,6 +103,14 @@ module _ (path : List Float) where
         let both = rw e at told in
         rw (more n i inside, both .1)
 
+    pub bytes-long : {v : Vertex} {x-minus : Bool} {x : ℕ} {y-minus : Bool} {y : ℕ} {b-minus : Bool} {b : ℕ}
+        → VertexTold path i v → v ≡ Vertex·.Numbers x-minus x y-minus y b-minus b
+        → length (bytesFrom i (n - i))
+        ≡ length (vertexBytes (cornerBy x-minus x y-minus y b-minus b)) + length (bytesFrom (i + 1) (n - (i + 1)))
+    bytes-long {v} {x-minus} {x} {y-minus} {y} {b-minus} {b} told e =
+        ap length (bytes-on told e)
+        ∙ length-append (vertexBytes (cornerBy x-minus x y-minus y b-minus b)) (bytesFrom (i + 1) (n - (i + 1)))
+
   module _ {n i : ℕ} (l : Left n i) (past : n ≤ i) where
     none-left : n - i ≡ 0
     none-left = omega arith
@@ -113,3 +121,79 @@ module _ (path : List Float) where
     pub bytes-none : bytesFrom i (n - i) ≡ []
     unfolding verticesBytes
     bytes-none = ap (bytesFrom i) none-left
+
+-- ---- the bytes so far, counted
+
+pub record Counted (path : List Float) (n i size : ℕ) : Type 0 where
+  pub left : Left path n i
+  pub bytes : size + length (bytesFrom path i (n - i)) ≡ length (bytesFrom path 0 n)
+
+pub counted-none : (path : List Float) (n : ℕ) → Counted path n 0 0
+counted-none path n = record { left = left-all path n; bytes = rw sub-zero (omega arith) }
+
+module _ {path : List Float} {n i size : ℕ} (c : Counted path n i size) where
+  pub counted-on : i < n → {v : Vertex} {x-minus : Bool} {x : ℕ} {y-minus : Bool} {y : ℕ} {b-minus : Bool} {b s : ℕ}
+      → VertexTold path i v → v ≡ Vertex·.Numbers x-minus x y-minus y b-minus b
+      → s ≡ length (vertexBytes (cornerBy x-minus x y-minus y b-minus b)) → Counted path n (i + 1) (size + s)
+  counted-on inside told e long =
+      let joined = bytes-long path (c .left) inside told e in
+      record { left = left-on path (c .left) inside told e; bytes = omega (arith, c .bytes, joined, long) }
+
+  pub counted-all : n ≤ i → (checksFrom path 0 n ≡ Fine) × (size ≡ length (bytesFrom path 0 n))
+  counted-all past =
+      let none = ap length (bytes-none path (c .left) past) in
+      (left-none path (c .left) past, omega (arith, c .bytes, none))
+
+-- ---- the bytes so far, put
+
+pub record Putting (path : List Float) (n i : ℕ) (old : List ℕ) (start : ℕ) (now : List ℕ) (next : ℕ) : Type 0 where
+  pub left : Left path n i
+  pub room : next + length (bytesFrom path i (n - i)) ≡ start + length (bytesFrom path 0 n)
+  pub holds : sets now next (bytesFrom path i (n - i)) ≡ sets old start (bytesFrom path 0 n)
+
+pub putting-none : (path : List Float) (n : ℕ) (old : List ℕ) (start : ℕ) → Putting path n 0 old start old start
+putting-none path n old start = record { left = left-all path n; room = rw sub-zero; holds = rw sub-zero }
+
+module _ {path : List Float} {n i : ℕ} {old : List ℕ} {start : ℕ} {now : List ℕ} {next : ℕ}
+    (p : Putting path n i old start now next) where
+  module _ (inside : i < n) {v : Vertex} {x-minus : Bool} {x : ℕ} {y-minus : Bool} {y : ℕ} {b-minus : Bool} {b : ℕ}
+      (told : VertexTold path i v) (e : v ≡ Vertex·.Numbers x-minus x y-minus y b-minus b) where
+    joined : length (bytesFrom path i (n - i))
+        ≡ length (vertexBytes (cornerBy x-minus x y-minus y b-minus b)) + length (bytesFrom path (i + 1) (n - (i + 1)))
+    joined = bytes-long path (p .left) inside told e
+
+    -- the vertex has its room
+    pub putting-room : start + length (bytesFrom path 0 n) ≤ length now
+        → next + length (vertexBytes (cornerBy x-minus x y-minus y b-minus b)) ≤ length now
+    putting-room h = omega (arith, p .room, joined, h)
+
+    pub putting-on : {then : List ℕ} {k : ℕ} → Put (vertexBytes (cornerBy x-minus x y-minus y b-minus b)) now next then k
+        → Putting path n (i + 1) old start then k
+    putting-on {then} {k} put =
+        let rest = bytesFrom path (i + 1) (n - (i + 1)) in
+        let last : Put rest then k (sets then k rest) (k + length rest) = record { holds = refl; after = refl } in
+        let both = put-join put last in
+        record {
+          left = left-on path (p .left) inside told e;
+          room = omega (arith, p .room, joined, put .after);
+          holds = both .holds ∙ ap (sets now next) (sym (bytes-on path (p .left) inside told e)) ∙ p .holds;
+        }
+
+  pub putting-bad : i < n → {v : Vertex} {f : Fault} → VertexTold path i v → v ≡ Vertex·.Refused f
+      → checksFrom path 0 n ≡ Fine → Put (bytesFrom path 0 n) old start now next
+  putting-bad inside told e fine =
+      let z : _≡_ {A = ℕ} 0 1 = sym (ap tagged fine) ∙ ap tagged (left-bad path (p .left) inside told e) in
+      absurd (omega arith)
+    where
+      tagged : Checked → ℕ
+      tagged Fine = 0
+      tagged (Bad f) = 1
+
+  pub putting-all : n ≤ i → Put (bytesFrom path 0 n) old start now next
+  putting-all past =
+      let none = bytes-none path (p .left) past in
+      let long = ap length none in
+      record {
+        holds = sym (ap (sets now next) none) ∙ p .holds;
+        after = omega (arith, p .room, long);
+      }

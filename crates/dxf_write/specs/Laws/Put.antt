@@ -150,8 +150,16 @@ module _ (x-minus : Bool) (x : ℕ) (y-minus : Bool) (y : ℕ) (b-minus : Bool) 
   pub vertex-size : length (vertexBytes (cornerBy x-minus x y-minus y b-minus b))
       ≡ length (numberBytes (whole x-minus x)) + length (numberBytes (whole y-minus y)) + length (numberBytes (whole b-minus b)) + 12
   vertex-size =
-      omega (arith, vertex-long, group-long xCode (numberBytes (whole x-minus x)), group-long yCode (numberBytes (whole y-minus y)),
-      group-long bulgeCode (numberBytes (whole b-minus b)), x-digits, y-digits, bulge-digits)
+      omega (
+        arith,
+        vertex-long,
+        group-long xCode (numberBytes (whole x-minus x)),
+        group-long yCode (numberBytes (whole y-minus y)),
+        group-long bulgeCode (numberBytes (whole b-minus b)),
+        x-digits,
+        y-digits,
+        bulge-digits,
+      )
 
   pub vertex-put : {o o1 o2 o3 : List ℕ} {at p1 p2 p3 : ℕ}
       → Put (groupBytes xCode (numberBytes (whole x-minus x))) o at o1 p1

@@ -13,21 +13,34 @@ add-result c =
 add-result-2 : tie.Need-add-result-2
 add-result-2 c =
     let a = c .before .before .before .args in
-    omega (arith, number-short (a .x-minus) (a .x) (omega arith), number-short (a .y-minus) (a .y) (omega arith),
-    number-short (a .b-minus) (a .b) (omega arith))
+    omega (
+      arith,
+      number-short (a .x-minus) (a .x) (omega arith),
+      number-short (a .y-minus) (a .y) (omega arith),
+      number-short (a .b-minus) (a .b) (omega arith),
+    )
 
 add-result-3 : tie.Need-add-result-3
 add-result-3 c =
     let a = c .before .before .before .args in
-    omega (arith, number-short (a .x-minus) (a .x) (omega arith), number-short (a .y-minus) (a .y) (omega arith),
-    number-short (a .b-minus) (a .b) (omega arith))
+    omega (
+      arith,
+      number-short (a .x-minus) (a .x) (omega arith),
+      number-short (a .y-minus) (a .y) (omega arith),
+      number-short (a .b-minus) (a .b) (omega arith),
+    )
 
 returns : tie.Need-returns
 returns c =
-    let a = c .before .before .before .args in
-    (omega (arith, vertex-size (a .x-minus) (a .x) (a .y-minus) (a .y) (a .b-minus) (a .b)),
-    omega (arith, number-short (a .x-minus) (a .x) (omega arith), number-short (a .y-minus) (a .y) (omega arith),
-    number-short (a .b-minus) (a .b) (omega arith)))
+    let a = c .before .before .before .args in (
+      omega (arith, vertex-size (a .x-minus) (a .x) (a .y-minus) (a .y) (a .b-minus) (a .b)),
+      omega (
+        arith,
+        number-short (a .x-minus) (a .x) (omega arith),
+        number-short (a .y-minus) (a .y) (omega arith),
+        number-short (a .b-minus) (a .b) (omega arith),
+      ),
+    )
 
 pub vertex-size-spec : {M : Type 1} → statement M
 vertex-size-spec =
