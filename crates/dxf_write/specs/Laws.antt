@@ -5,3 +5,5 @@ pub mod Number
 pub mod Put
 pub mod Passes
 pub mod Ends
+pub mod Back
+pub mod Checked

@@ -3,6 +3,8 @@
 -- is given exactly if no number text has that value.
 use mathlib.Core.Path.{_≡_, refl, sym, ap, _∙_, subst}
 use mathlib.Core.Logic.{_↔_}
+use Prim.Native.Nat.{ℕ}
+use mathlib.Core.List.{List}
 use mathlib.Core.Bool.{Bool, true, false, cond, true≢false}
 use lib.Dec.{T, eqb, eqb→eq, eqb-refl}
 use lib.IntN.{ℤ}
@@ -11,7 +13,10 @@ use lib.Ieee.Bits.{is-true, ofBits-toBits}
 use Rattle.floats.specs.F64
 use Rattle.checks.specs.Limit
 use Rattle.dxf_form.specs.Numbers.{value}
+use Rattle.dxf_form.specs.Form.{NumberText}
 use Rattle.dxf_write.specs.Millionths.{Found, none, found, raised, hasPart, candidate, sameBits, tested, millionthsOf}
+use Rattle.dxf_write.specs.Written.{numberBytes}
+use Rattle.dxf_write.specs.Spelt.{number-spelt}
 use Rattle.dxf_write.specs.Laws.Value.{value-fits}
 use Rattle.dxf_write.specs.Laws.Candidate.{raised-held, candidate-is}
 
@@ -37,7 +42,7 @@ same-float x y f g e =
 
 module _ (x : Float) (f64 : T (fits binary64 x)) where
   -- what is found is read as x, whatever x is
-  found-reads : (z : ℤ) → millionthsOf x ≡ found z → value z ≡ x
+  pub found-reads : (z : ℤ) → millionthsOf x ≡ found z → value z ≡ x
   unfolding millionthsOf tested
   found-reads z = go (hasPart (raised x)) (sameBits (value (candidate x)) x) (same-float (value (candidate x)) x (value-fits _) f64)
     where
@@ -74,3 +79,10 @@ module _ (x : Float) (f64 : T (fits binary64 x)) (small : T (le (F64.abs x) Limi
       go : (m : Found) → ((z : ℤ) → m ≡ found z → value z ≡ x) → ((z : ℤ) → value z ≡ x → ⊥) → m ≡ none
       go none reads h = refl
       go (found z) reads h = absurd (h z (reads z refl))
+
+  -- in the words of the form: none are found exactly if no line is a number text with the value x
+  pub no-text : (millionthsOf x ≡ none) ↔ ((line : List ℕ) (z : ℤ) → NumberText line z → value z ≡ x → ⊥)
+  no-text = (
+    λ e line z spelt is. none-when .0 e z is,
+    λ h. none-when .1 (λ z is. h (numberBytes z) z (number-spelt z) is),
+  )

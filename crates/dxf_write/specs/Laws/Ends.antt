@@ -46,7 +46,7 @@ use Rattle.dxf_write.specs.declared.vertices.Measured.the-variants as Me
 
 -- ---- the length of a text
 
-corners-long : (path : List Float) (i k : ℕ) → length (cornersFrom path i k) ≡ k
+pub corners-long : (path : List Float) (i k : ℕ) → length (cornersFrom path i k) ≡ k
 corners-long path i zero = refl
 corners-long path i (suc k) = ap suc (corners-long path (i + 1) k)
 
