@@ -9,3 +9,4 @@ pub mod Laws
 pub mod Spelt
 pub mod OnlyCandidate
 pub mod RoundTrip
+pub mod Examples
