@@ -138,10 +138,12 @@ uint64_t vj_sqrt_bits(uint64_t b);
 #define VJ_ITEM_BOXES 12    /* refusal 17: of a boxed listing */
 #define VJ_ITEM_TRACE 13    /* of a vertex */
 #define VJ_ITEM_REPORT 14   /* refusal 19: of a counted listing or a join */
+#define VJ_ITEM_LINE 15     /* refusals 20, 21 and 22: of a drawing's text */
+#define VJ_ITEM_ROOM 16     /* refusal 24: for a path or a drawing's text */
 
 /*
- * The owner and the index of epsilon, rows, position, budget, boxes and report
- * are 0, in every call.
+ * The owner and the index of epsilon, rows, position, budget, boxes, report and
+ * room are 0, in every call.
  */
 
 /*
@@ -635,6 +637,141 @@ uint64_t vj_mutual_counted(const double *first, size_t first_len,
  */
 uint64_t vj_join(uint64_t *into, size_t into_room, const uint64_t *other,
                  size_t other_len);
+
+/*
+ * Drawings. A path can come from a drawing program, and go to one: as the body
+ * of one LWPOLYLINE entity of a DXF file, by the public DXF Reference. The body
+ * is all that stands between the entity's name and the next entity. No file is
+ * read or written here; tools/dxf_body.py takes a body out of a file.
+ *
+ * A body is text in lines. Each line ends in a newline, the last one too; lines
+ * count from 1. Lines go by pairs, a code and its value, and a pair is a group:
+ *
+ *   90   how many vertices there are
+ *   70   flags: the path is closed exactly if this is odd
+ *   10   x of a vertex
+ *   20   its y
+ *   42   its bulge; if this group is absent the bulge is 0
+ *
+ * They stand in this order: 90, 70, and then for each vertex 10, 20 and perhaps
+ * 42. All groups with other codes are skipped with their values, wherever they
+ * stand and whatever the value is, 0 too.
+ *
+ * A code, and the value of 90 and of 70, is spaces or none and then digits, as
+ * many as there are. The value of 10, 20 and 42 is a number: spaces or none, a
+ * minus or none, digits, and perhaps a point and one to six digits. There is no
+ * minus before a zero number. Leading zeros are fine. Nothing else is: no tab, no
+ * carriage return, no plus, no exponent, no `.5`, no `5.`, no seventh digit, no
+ * space behind a number.
+ *
+ * A number is read as the whole number of its millionths, divided once by
+ * 1,000,000: the binary64 number that is nearest to it. Above 2^53 millionths it
+ * is read as 2^53 of them, and refused with 2 or 3 like all that are too large;
+ * no text is infinite.
+ */
+
+/*
+ * Reads a body of `len` bytes from `text` on, and writes the numbers of its path
+ * from `path` on: x, y, bulge and trace of each vertex, as the listings take
+ * them. Every trace is 0. The caller lends `path_room` numbers, and `told_room`
+ * words from `told` on. The call returns
+ *
+ *   VJ_NO_ROOM        if told_room is below 2: nothing is looked at;
+ *   a refusal's word  else, if there is a fault: nothing is written. The word
+ *                     tells the first fault, in the order below;
+ *   0                 else. Then told[0] is how many vertices there are, and
+ *                     told[1] is 1 if the path is closed, else 0. What follows
+ *                     the last trace, and what follows told[1], is unchanged.
+ *
+ * The order of faults. Over the whole text, by line:
+ *
+ *   20   a bad code or number, or a last line without its newline where a code
+ *        or a number is due
+ *   21   a group out of place or missing: its line is that of the code. A text
+ *        that ends where a code or a value is owed has it at the line after the
+ *        last one: the empty text at line 1. A last line without its newline,
+ *        which is a skipped value, has it too
+ *
+ * then, in this order:
+ *
+ *   22         the vertices are more or fewer than 90 says; at the line of its
+ *              value
+ *   7          there are more than 4,096 vertices
+ *   2, 3       the vertices in order, each x, y and bulge, also the last bulge of
+ *              an open path
+ *   5          its arcs in order
+ *   24         path_room is below 4 times the vertices
+ *
+ * The place of a refusal:
+ *
+ *   item          owner   index
+ *   line          0       the line; one beyond 2^32 - 1 is told as 2^32 - 1
+ *   length        0       0
+ *   x, y, bulge   0       the vertex
+ *   chord         0       the segment
+ *   room          0       0
+ *
+ * Room for 4 * 4,096 numbers, 16,384, is always enough. An import needs some
+ * 130 KiB of stack: a buffer that holds the path back until all is checked.
+ *
+ * What looks true and is not:
+ *
+ *   "Every polyline can be imported." Most programs write 15 to 17 digits, and
+ *     some an exponent. A number of more than six digits is refused with 20, not
+ *     rounded: a drawing is not changed behind your back. tools/dxf_body.py
+ *     --round rounds, if you ask for it, and says how far each number moved.
+ *   "A DXF file is text with lines like these." Many have a carriage return
+ *     before each newline. The same script takes these out.
+ *   "Everything that is drawn comes over." Widths, elevation, thickness and an
+ *     extrusion direction are other groups, and are skipped.
+ *
+ * examples/drawing.c imports a body, lists the path, and exports it again.
+ */
+uint64_t vj_dxf_import(const uint8_t *text, size_t len, double *path,
+                       size_t path_room, uint64_t *told, size_t told_room);
+
+/*
+ * Writes a path as a body, from `text` on: the groups 90 and 70, 70 being 0 or 1,
+ * then 10, 20 and 42 of each vertex, 42 always. Codes and numbers have no blanks
+ * and no needless leading zeros; x, y and bulge have six digits behind the point,
+ * and a minus only if they are not zero. Traces are checked and not written: a
+ * drawing has no place for them. The caller lends `text_room` bytes, and
+ * `told_room` words from `told` on. No 0 byte is put behind the text. The call
+ * returns
+ *
+ *   VJ_NO_ROOM        if told_room is below 1: nothing is looked at;
+ *   a refusal's word  else, if there is a fault: nothing is written;
+ *   0                 else. Then told[0] is how many bytes the text has. What
+ *                     follows the text, and what follows told[0], is unchanged.
+ *
+ * The order of faults: the path's length, refusal 6, then 7; its vertices in
+ * order, each x, y, bulge and trace, refusals 11, 12, 2, 3 and 15; its arcs in
+ * order, refusal 5, all as in a listing; then the vertices once more, each x, y
+ * and bulge, refusal 23 exactly if no text of the form above is read back as that
+ * number, bit for bit; last, refusal 24 if the text does not fit.
+ *
+ * The place of a refusal: as for an import, and of 23 the item x, y or bulge and
+ * the vertex.
+ *
+ * An import of an export gives the same x, y, bulges and flag, bit for bit, and
+ * traces 0. VJ_DXF_BYTES(n) bytes are always enough for n vertices: 208,909 for
+ * 4,096.
+ *
+ * What can be exported are the numbers that six digits spell: 0.1 can, and so can
+ * each whole number and each multiple of 1/64. 1/128 cannot, since it has seven
+ * digits, nor can 0.1 + 0.2, which is not 0.3 in binary64. -0 cannot: no text is
+ * read as -0. Of the bulges n/65,536 only multiples of 1/64 can, and no quarter
+ * circle's can: tan(pi/8) = 0.41421356.. has digits without end. Round such a
+ * number yourself before the call, for one by round(x * 1e6) / 1e6 + 0.0, where
+ * the last sum turns -0 into 0: an export never rounds. A bulge that moves by
+ * 0.0000005 moves the arc's highest point by half the chord times 0.0000005.
+ */
+uint64_t vj_dxf_export(const double *path, size_t len, bool closed,
+                       uint8_t *text, size_t text_room, uint64_t *told,
+                       size_t told_room);
+
+/* The most bytes that the text of n vertices has. */
+#define VJ_DXF_BYTES(n) (13 + 51 * (size_t)(n))
 
 #ifdef __cplusplus
 }

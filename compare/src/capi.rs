@@ -202,6 +202,23 @@ mod raw {
             other: *const u64,
             other_len: usize,
         ) -> u64;
+        pub fn vj_dxf_import(
+            text: *const u8,
+            len: usize,
+            path: *mut f64,
+            path_room: usize,
+            told: *mut u64,
+            told_room: usize,
+        ) -> u64;
+        pub fn vj_dxf_export(
+            path: *const f64,
+            len: usize,
+            closed: bool,
+            text: *mut u8,
+            text_room: usize,
+            told: *mut u64,
+            told_room: usize,
+        ) -> u64;
     }
 }
 
@@ -479,4 +496,33 @@ pub fn vj_mutual_counted(
 #[cfg(feature = "rust-text")]
 pub fn vj_join(into: &mut [u64], other: &[u64]) -> u64 {
     unsafe { raw::vj_join(into.as_mut_ptr(), into.len(), other.as_ptr(), other.len()) }
+}
+
+/// The path of a drawing's body; tells its vertices, and whether it is closed.
+pub fn vj_dxf_import(text: &[u8], path: &mut [f64], told: &mut [u64]) -> u64 {
+    unsafe {
+        raw::vj_dxf_import(
+            text.as_ptr(),
+            text.len(),
+            path.as_mut_ptr(),
+            path.len(),
+            told.as_mut_ptr(),
+            told.len(),
+        )
+    }
+}
+
+/// The body of a path; tells its bytes.
+pub fn vj_dxf_export(path: (&[f64], bool), text: &mut [u8], told: &mut [u64]) -> u64 {
+    unsafe {
+        raw::vj_dxf_export(
+            path.0.as_ptr(),
+            path.0.len(),
+            path.1,
+            text.as_mut_ptr(),
+            text.len(),
+            told.as_mut_ptr(),
+            told.len(),
+        )
+    }
 }

@@ -11,6 +11,7 @@ mod classes;
 mod clock;
 #[cfg(feature = "rust-text")]
 mod crossing;
+mod dxf;
 mod expected;
 #[cfg(feature = "rust-text")]
 mod findings;
@@ -59,7 +60,8 @@ const USAGE: &str = "\
 usage: compare check [COUNT [SEED]]  compare each float function on COUNT random inputs (default 10485760, seed 1), and the
                                      root as compare roots; segments of a path and of its view, and filled parts of rows,
                                      on the stored layouts and on a quarter as many; as compare packed with a quarter of
-                                     COUNT; each function of the plane on a quarter as many accepted ones, an eighth of all bit patterns, and some beside the
+                                     COUNT; as compare dxf; each function of the plane on a quarter as many accepted ones, an
+                                     eighth of all bit patterns, and some beside the
                                      limits; each kernel and the pair call until twice as many were answered, and on some
                                      that are refused; listings of whole paths until as many pairs were looked at, and on
                                      chosen ones; then as compare pages, as compare boxed, as compare month, as compare joints,
@@ -87,6 +89,13 @@ usage: compare check [COUNT [SEED]]  compare each float function on COUNT random
        compare packed [COUNT [SEED]] compare the moves of layouts between text and packed form: on chosen texts and files, on
                                      COUNT / 10 drawn layouts both ways, and on as many damaged files (default 10485760,
                                      seed 1)
+       compare dxf [COUNT [SEED]]    compare import and export of drawings: on the stored bodies with every byte changed, removed
+                                     and doubled, at every limit, on COUNT / 16 drawn bodies, on as many damaged ones and on as
+                                     many paths (default 10485760, seed 1)
+       compare drawings FOLDER       write the model's answer NAME.expected for each body NAME.body there
+       compare dxf-bodies FOLDER [COUNT [SEED]]
+                                     write COUNT drawn paths (default 1024, seed 1) there as our calls export them, NAME.body, and
+                                     the bits of their numbers, NAME.bits
        compare movers FOLDER [COUNT [SEED]]
                                      hold the programs pack and unpack of a folder to the model, on chosen inputs and on COUNT
                                      drawn and damaged ones (default 2048, seed 1)
@@ -108,7 +117,7 @@ usage: compare check [COUNT [SEED]]  compare each float function on COUNT random
        compare record FILE           write the recorded list for the program replay
        compare bench [PART...]       nanoseconds of processor time a call or a pair, ours beside the machine's own and the Rust's,
                                      the least of five rounds or more by turns; all parts, or some of: floats calls findings
-                                     listings pages boxed month packed";
+                                     listings pages boxed month packed dxf";
 
 const COUNT: u64 = 10 << 20;
 const ON_AN_EDGE: u64 = 1 << 20;
@@ -117,9 +126,10 @@ const SEARCHED_ARCS: u64 = 11 << 20;
 const CLIMBED: u64 = 1 << 20;
 const TEXTS: u64 = 3072;
 const MOVED: u64 = 2048;
+const EXPORTED: u64 = 1024;
 const SEED: u64 = 1;
-const BENCHES: [&str; 8] = [
-    "floats", "calls", "findings", "listings", "pages", "boxed", "month", "packed",
+const BENCHES: [&str; 9] = [
+    "floats", "calls", "findings", "listings", "pages", "boxed", "month", "packed", "dxf",
 ];
 
 fn main() -> ExitCode {
@@ -135,6 +145,9 @@ fn main() -> ExitCode {
         ["joints", ref numbers @ ..] => joints(numbers),
         ["findings", ref numbers @ ..] => findings(numbers),
         ["packed", ref numbers @ ..] => packed(numbers),
+        ["dxf", ref numbers @ ..] => dxf(numbers),
+        ["drawings", folder] => drawings(Path::new(folder)),
+        ["dxf-bodies", folder, ref numbers @ ..] => dxf_bodies(Path::new(folder), numbers),
         ["movers", folder, ref numbers @ ..] => movers(Path::new(folder), numbers),
         ["packed-layouts", folder] => packed_layouts(Path::new(folder)),
         ["search", ref numbers @ ..] => search(numbers),
@@ -163,6 +176,7 @@ fn check(numbers: &[&str]) -> Result<(), String> {
         + roots::check(count, seed)
         + views::check(count, seed)
         + packed::check(count / 4, seed)
+        + dxf::check(count, seed)
         + check_text(count, seed);
     match differences {
         0 => Ok(()),
@@ -234,6 +248,26 @@ fn packed(numbers: &[&str]) -> Result<(), String> {
     }
 }
 
+fn dxf(numbers: &[&str]) -> Result<(), String> {
+    let (count, seed) = count_and_seed(numbers, COUNT)?;
+    match dxf::check(count, seed) {
+        0 => Ok(()),
+        differences => Err(format!("{differences} differences")),
+    }
+}
+
+fn drawings(folder: &Path) -> Result<(), String> {
+    let [accepted, refused] = dxf::write(folder)?;
+    println!("{accepted} bodies that are accepted, {refused} that are refused");
+    Ok(())
+}
+
+fn dxf_bodies(folder: &Path, numbers: &[&str]) -> Result<(), String> {
+    let (count, seed) = count_and_seed(numbers, EXPORTED)?;
+    println!("{} bodies", dxf::export_to(folder, count, seed)?);
+    Ok(())
+}
+
 fn movers(folder: &Path, numbers: &[&str]) -> Result<(), String> {
     let (count, seed) = count_and_seed(numbers, MOVED)?;
     match packed::check_programs(folder, count, seed)? {
@@ -295,6 +329,7 @@ fn time(parts: &[&str]) -> Result<(), String> {
             "boxed" => time_boxed(),
             "month" => time_month(),
             "packed" => packed::bench()?,
+            "dxf" => dxf::bench(),
             _ => return Err(USAGE.to_string()),
         }
     }

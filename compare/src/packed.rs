@@ -7,7 +7,7 @@ mod damage;
 mod draw;
 mod examples;
 mod kinds;
-mod lent;
+pub mod lent;
 mod model;
 mod movers;
 mod plain;

@@ -145,6 +145,8 @@ impl<T: Bits> Lent<T> {
 pub enum Behind {
     Byte(u8),
     Lines,
+    /// Of a drawing's body.
+    Groups,
 }
 
 impl Behind {
@@ -159,6 +161,7 @@ impl Behind {
         match self {
             Behind::Byte(byte) => byte,
             Behind::Lines => b"\n0 0 0"[place % 6],
+            Behind::Groups => b"\n10\n0\n20\n5\n42\n0\n1"[place % 17],
         }
     }
 }
