@@ -1,6 +1,9 @@
 // Imports the body of an LWPOLYLINE entity. Crate dxf_form has the form of a text; specs/Import.antt has what an import promises.
 use checks::fault::Fault;
 
+mod digits;
+mod line;
+
 // The number of vertices and whether the path is closed; or a refusal and its place.
 pub enum Imported {
     Path(usize, bool),

@@ -1,0 +1,2 @@
+-- Laws of what the code keeps.
+pub mod Kept

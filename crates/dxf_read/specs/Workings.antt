@@ -1,0 +1,3 @@
+-- What the code keeps of numbers, and what its answers stand for.
+pub mod Kept
+pub mod Shown
