@@ -70,6 +70,12 @@ pub data Skipped : List ℕ → Type 0 where
   none : Skipped []
   more : {b : ℕ} {rest : List ℕ} → eqb b 10 ≡ false → Skipped rest → Skipped (b ∷ rest)
 
+-- the first line of a text is one of which P holds, and the rest follows its newline
+pub record First (P : List ℕ → Type 0) (text rest : List ℕ) : Type 0 where
+  pub line : List ℕ
+  pub is : text ≡ line ++ (10 ∷ rest)
+  pub holds : P line
+
 -- ---- groups
 
 -- the codes that count

@@ -1,3 +1,11 @@
 -- Laws on the reader and on the form, by which Exactly.antt is proved.
 pub mod Turns
 pub mod Capped
+pub mod Bytes
+pub mod Whole
+pub mod Decimal
+pub mod Skipping
+pub mod Values
+pub mod Pairs
+pub mod Steps
+pub mod Faults

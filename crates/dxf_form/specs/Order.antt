@@ -101,3 +101,9 @@ pub data Ordered : Due → List Group → Due → Type 0 where
   none : {due : Due} → Ordered due [] due
   more : {due next : Due} {g : Group} {gs : List Group} → outOfPlace (turnOf due g) ≡ false
       → Ordered (after due (turnOf due g)) gs next → Ordered due (g ∷ gs) next
+
+-- each of the groups is in its place if `due` is due before them, and the text may end after them
+pub record Complete (due : Due) (groups : List Group) : Type 0 where
+  pub next : Due
+  pub ordered : Ordered due groups next
+  pub may-end : mayEnd next ≡ true
