@@ -1,2 +1,3 @@
 -- Laws of what the code keeps.
 pub mod Kept
+pub mod Groups

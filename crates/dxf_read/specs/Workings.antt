@@ -1,3 +1,4 @@
 -- What the code keeps of numbers, and what its answers stand for.
 pub mod Kept
 pub mod Shown
+pub mod Pairs

@@ -3,6 +3,7 @@ use checks::fault::Fault;
 
 mod digits;
 mod line;
+mod pair;
 
 // The number of vertices and whether the path is closed; or a refusal and its place.
 pub enum Imported {

@@ -11,7 +11,13 @@ use Rattle.layouts.specs.Layout.{whole}
 use Rattle.dxf_form.specs.Numbers.{places}
 use Rattle.dxf_form.specs.Form.{Group, count, flags, x, y, bulge, other}
 use Rattle.dxf_form.specs.Workings.Reader as reader
-use Rattle.dxf_form.specs.Workings.Reader.{Got, nothing, got, Run, Pair, fault, pair, isDigit, firstByte, lineEnd, pastBlanks}
+use Rattle.dxf_form.specs.Workings.Reader.{Got, nothing, got, Run, Pair, fault, pair}
+use Rattle.dxf_form.specs.Workings.Reader.{isDigit, isEmpty, firstByte, lineEnd, pastBlanks}
+use Rattle.dxf_form.specs.Order.{turnAt, outOfPlace}
+use Rattle.dxf_form.specs.Refusal
+use Rattle.dxf_form.specs.declared.order.Due.{Due}
+use Rattle.dxf_form.specs.declared.order.Turn.{Turn}
+use Rattle.dxf_form.specs.declared.order.Turn.the-variants as Turn·
 
 -- ---- numbers
 
@@ -101,3 +107,27 @@ keptGroup other = other
 abbrev pub keptPair : Pair → Pair
 keptPair (fault number line) = fault number line
 keptPair (pair g rest) = pair (keptGroup g) rest
+
+-- ---- a group, its numbers as they are kept
+
+abbrev pub valueFor : Turn → List ℕ → Pair
+valueFor Turn·.Count text = reader.wholeValue count (wholeLine text)
+valueFor Turn·.Flags text = reader.wholeValue flags (wholeLine text)
+valueFor Turn·.X text = reader.numberValue x (numberLine text)
+valueFor Turn·.Y text = reader.numberValue y (numberLine text)
+valueFor Turn·.Bulge text = reader.numberValue bulge (numberLine text)
+valueFor Turn·.Other text = reader.skippedValue (reader.skipLine text)
+valueFor Turn·.OutOfPlace text = fault Refusal.group 1
+
+unfoldable pub afterCode : Turn → List ℕ → Pair
+afterCode turn text =
+    cond (outOfPlace turn) (fault Refusal.group 1)
+    (cond (isEmpty text) (fault Refusal.group 2)
+    (valueFor turn text))
+
+abbrev pub byCode : Due → Got ℕ → Pair
+byCode due nothing = fault Refusal.number 1
+byCode due (got c rest) = afterCode (turnAt due c) rest
+
+unfoldable pub pairOf : Due → List ℕ → Pair
+pairOf due text = byCode due (wholeLine text)
