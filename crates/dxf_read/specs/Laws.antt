@@ -1,3 +1,5 @@
 -- Laws of what the code keeps.
 pub mod Kept
 pub mod Groups
+pub mod Bodies
+pub mod Stores

@@ -4,6 +4,9 @@ use checks::fault::Fault;
 mod digits;
 mod line;
 mod pair;
+mod scan;
+mod state;
+mod store;
 
 // The number of vertices and whether the path is closed; or a refusal and its place.
 pub enum Imported {
