@@ -1,5 +1,5 @@
--- What the groups of a text give: the count, the flags and the vertices, one group after the other. Exactly.antt proves that it is
--- what `Gives` of Form.antt says.
+-- What the groups of a text give: the count, the flags and the vertices, one group after the other. Exactly.antt proves that it
+-- is what `Gives` of Form.antt says.
 use Prim.Native.Nat.{ℕ}
 use mathlib.Core.List.{List, [], _∷_, _++_}
 use lib.IntN.{ℤ, pos}

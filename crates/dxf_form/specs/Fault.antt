@@ -1,5 +1,5 @@
--- Which line of a text is at fault, and whether it is 20 or 21, told without the reader: the lines before it spell groups in their
--- places, and the line itself is wrong. Exactly.antt proves that it is the fault told, and that a text has one at most.
+-- Which line of a text is at fault, and whether it is 20 or 21, told without the reader: the lines before it spell groups in
+-- their places, and the line itself is wrong. Exactly.antt proves that it is the fault told, and that a text has one at most.
 use Prim.Native.Nat.{ℕ, _+_, _*_, _<_}
 use mathlib.Core.Path.{_≡_}
 use mathlib.Core.Bool.{true, false}
@@ -58,3 +58,9 @@ pub record FaultAt (text : List ℕ) (number line : ℕ) : Type 0 where
   pub ordered : Ordered Due·.Count groups due
   pub wrong : Wrong due rest number in-pair
   pub here : line ≡ 2 * length groups + in-pair
+
+-- the text has a fault
+pub record Faulty (text : List ℕ) : Type 0 where
+  pub number : ℕ
+  pub line : ℕ
+  pub is : FaultAt text number line

@@ -151,6 +151,12 @@ pub record Gives (groups : List Group) (n f : ℕ) (vs : List Corner) : Type 0 w
   pub in-order : counted groups ≡ count n ∷ flags f ∷ vertexGroups
   pub vertices : Vertices vertexGroups vs
 
+-- the text spells groups that give this count, these flags and these vertices
+pub record SpellsBody (text : List ℕ) (n f : ℕ) (vs : List Corner) : Type 0 where
+  pub gs : List Group
+  pub spelt : Spells text gs
+  pub gives : Gives gs n f vs
+
 -- the first bit of the flags: closed exactly if they are odd
 abbrev pub closedBy : ℕ → Bool
 closedBy f = eqb (f % 2) 1
@@ -164,3 +170,10 @@ countLine (x z ∷ rest) = 2 + countLine rest
 countLine (y z ∷ rest) = 2 + countLine rest
 countLine (bulge z ∷ rest) = 2 + countLine rest
 countLine (other ∷ rest) = 2 + countLine rest
+
+-- the count n is the value of a group behind these, and its line is told
+pub record CountAt (gs : List Group) (n : ℕ) : Type 0 where
+  pub before : List Group
+  pub rest : List Group
+  pub is : gs ≡ before ++ (count n ∷ rest)
+  pub line : countLine gs ≡ 2 * length before + 2

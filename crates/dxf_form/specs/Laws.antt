@@ -9,3 +9,7 @@ pub mod Values
 pub mod Pairs
 pub mod Steps
 pub mod Faults
+pub mod Grammar
+pub mod Once
+pub mod Bodies
+pub mod Divided

@@ -8,3 +8,6 @@ pub mod Body
 pub mod Fault
 pub mod Workings
 pub mod Laws
+pub mod Exactly
+pub mod Held
+pub mod Examples

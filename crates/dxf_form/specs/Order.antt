@@ -5,7 +5,6 @@ use mathlib.Core.Path.{_≡_}
 use mathlib.Core.Bool.{Bool, true, false, cond}
 use mathlib.Core.List.{List, [], _∷_}
 use lib.Dec.{eqb}
-use lib.IntN.{ℤ}
 use Rattle.dxf_form.specs.Form.{Group, count, flags, x, y, bulge, other, countCode, flagsCode, xCode, yCode, bulgeCode}
 use Rattle.dxf_form.specs.declared.order.Due.{Due}
 use Rattle.dxf_form.specs.declared.order.Due.the-variants as Due·

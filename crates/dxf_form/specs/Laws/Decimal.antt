@@ -1,17 +1,17 @@
 -- Lines of a number with a point: what is read is spelt, and what is spelt is read.
-use Prim.Native.Nat.{ℕ, zero, suc, _+_, _*_, _-_, _^_, _≤_, _<_}
-use mathlib.Core.Path.{_≡_, refl, sym, ap, _∙_, subst}
-use mathlib.Core.Bool.{Bool, true, false, not, cond, _&&_, _||_}
+use Prim.Native.Nat.{ℕ, _+_, _*_, _-_, _^_, _≤_, _<_}
+use mathlib.Core.Path.{_≡_, refl, sym, ap, _∙_}
+use mathlib.Core.Bool.{Bool, true, false, cond, _&&_, _||_}
 use mathlib.Core.List.{List, [], _∷_, _++_, append-assoc}
 use native.Mathlib.Nat.{pos-of-ne-zero}
 use native.Mathlib.Omega.{arith}
 use borrow.Author.Tests.{ne-eqb, eqb-false, le-ltb, ltb-false}
-use lib.Dec.{T, ltb, eqb}
+use lib.Dec.{ltb, eqb}
 use lib.ListN.{length, drop}
 use lib.IntN.{ℤ}
 use Rattle.layouts.specs.Layout.{whole}
 use Rattle.dxf_form.specs.Numbers.{places, million}
-use Rattle.dxf_form.specs.Form.{blanks, AllDigits, none, more, wholeFrom, sign, pointed, millionthsOf, NumberText, First}
+use Rattle.dxf_form.specs.Form.{blanks, AllDigits, none, wholeFrom, sign, pointed, millionthsOf, NumberText, First}
 use Rattle.dxf_form.specs.Fault.{NoNumber}
 use Rattle.dxf_form.specs.Workings.Reader.{Got, nothing, got, firstByte, pastBlanks, Run, digitsFrom, lineEnd}
 use Rattle.dxf_form.specs.Workings.Reader.{signedEnd, afterPoint, afterSign, numberLine}
@@ -62,7 +62,8 @@ point-spelt negative n text {z} {rest} e =
     let r = digitsFrom n 0 text in
     go (digitsFrom n 0 text) (digits-spelt text n 0) (eqb (r .many) 0) refl (ltb places (r .many)) refl e
   where
-    go : (r : Run) → Digits n 0 text r → (empty : Bool) → eqb (r .many) 0 ≡ empty → (beyond : Bool) → ltb places (r .many) ≡ beyond
+    go : (r : Run) → Digits n 0 text r → (empty : Bool) → eqb (r .many) 0 ≡ empty → (beyond : Bool)
+        → ltb places (r .many) ≡ beyond
         → cond (empty || beyond) nothing (signedEnd negative (r .number * 10 ^ (places - r .many)) (r .rest)) ≡ got z rest
         → Pointed negative n text z rest
     go r s true i beyond j e = never e
@@ -94,11 +95,13 @@ pub record Unsigned (negative : Bool) (text : List ℕ) (z : ℤ) (rest : List �
   pub value : z ≡ whole negative (millionthsOf digits after)
 
 -- with a point, or without one
-with-point : {negative : Bool} {text : List ℕ} {z : ℤ} {rest : List ℕ} (r : Run) → (s : Digits 0 0 text r) → 0 < length (s .digits)
+with-point : {negative : Bool} {text : List ℕ} {z : ℤ} {rest : List ℕ} (r : Run) → (s : Digits 0 0 text r)
+    → 0 < length (s .digits)
     → r .rest ≡ 46 ∷ drop 1 (r .rest)
     → Pointed negative (r .number) (drop 1 (r .rest)) z rest
     → Unsigned negative text z rest
-with-point {negative} {text} {z} {rest} r s some dot p = go (p .after) (p .all) (p .some) (p .few) (p .is) (rw (s .number) at (p .ends))
+with-point {negative} {text} {z} {rest} r s some dot p =
+    go (p .after) (p .all) (p .some) (p .few) (p .is) (rw (s .number) at (p .ends))
   where
     go : (after : List ℕ) → AllDigits after → 0 < length after → length after ≤ places → drop 1 (r .rest) ≡ after ++ p .end
         → Ended negative (wholeFrom (wholeFrom 0 (s .digits)) after * 10 ^ (places - length after)) (p .end) z rest

@@ -9,11 +9,11 @@ use Rattle.dxf_form.specs.Form.{WholeText, Group, Spells, nothing, group
 use Rattle.dxf_form.specs.Order.{turnAt, turnOf, after, mayEnd, outOfPlace, Ordered, none, more, Complete}
 use Rattle.dxf_form.specs.Refusal
 use Rattle.dxf_form.specs.Fault.{Wrong, missing, bad-code, misplaced, no-value, bad-value, FaultAt}
-use Rattle.dxf_form.specs.Workings.Reader.{Got, got, Pair, fault, pair, wholeLine, valueFor, afterCode, byCode, pairOf}
+use Rattle.dxf_form.specs.Workings.Reader.{Got, got, Pair, fault, pair, wholeLine, valueFor, byCode, pairOf}
 use Rattle.dxf_form.specs.Workings.Reader.{nothing as unread, isEmpty}
 use Rattle.dxf_form.specs.Workings.Reader.{Read, faultAt, groups, before, carriedOn, textEnd, readFrom, readGroups}
 use Rattle.dxf_form.specs.Laws.Whole.{whole-spelt, whole-reads, no-whole, whole-none}
-use Rattle.dxf_form.specs.Laws.Values.{never-pair, never-so, same-number, same-line, value-fault, fault-value}
+use Rattle.dxf_form.specs.Laws.Values.{same-number, same-line, value-fault, fault-value}
 use Rattle.dxf_form.specs.Laws.Pairs.{pair-spelt, pair-reads, pair-shortens}
 use Rattle.dxf_form.specs.Laws.Steps.{read-step}
 use Rattle.dxf_form.specs.declared.order.Due.{Due}
@@ -60,7 +60,7 @@ fault-pair due _ _ _ h (bad-value {line} {c} [] number w o some v) = absurd (ome
 
 -- ---- answers
 
-never-groups : {P : Type 0} {number line : ℕ} {gs : List Group} → faultAt number line ≡ groups gs → P
+pub never-groups : {P : Type 0} {number line : ℕ} {gs : List Group} → faultAt number line ≡ groups gs → P
 never-groups e = let z : _≡_ {A = ℕ} 0 1 = cc in absurd (omega arith)
 
 -- the groups before an answer
@@ -123,7 +123,8 @@ wrong-reads : (due : Due) (lines : ℕ) (text : List ℕ) (number line : ℕ) �
 unfolding readFrom
 wrong-reads due lines [] _ _ (missing m) = rw m
 wrong-reads due lines text _ _ (bad-code _ some w) = wrong-some due lines text _ _ some (bad-code text some w)
-wrong-reads due lines _ _ _ (misplaced {line} rest w o) = wrong-some due lines _ _ _ (joined-length line rest) (misplaced rest w o)
+wrong-reads due lines _ _ _ (misplaced {line} rest w o) =
+    wrong-some due lines _ _ _ (joined-length line rest) (misplaced rest w o)
 wrong-reads due lines _ _ _ (no-value {line} w o) = wrong-some due lines _ _ _ (joined-length line []) (no-value w o)
 wrong-reads due lines _ _ _ (bad-value {line} rest number w o some v) =
     wrong-some due lines _ _ _ (joined-length line rest) (bad-value rest number w o some v)
@@ -256,7 +257,7 @@ fault-after due lines text rest g e f =
       here = omega (arith, f .here);
     }
 
-same-fault : {a b c d : ℕ} → faultAt a b ≡ faultAt c d → (c ≡ a) × (d ≡ b)
+pub same-fault : {a b c d : ℕ} → faultAt a b ≡ faultAt c d → (c ≡ a) × (d ≡ b)
 same-fault e = (cc, cc)
 
 end-fault : (due : Due) (lines : ℕ) {number line : ℕ} → textEnd due lines ≡ faultAt number line

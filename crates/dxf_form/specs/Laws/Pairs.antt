@@ -7,20 +7,17 @@ use native.Mathlib.Omega.{arith}
 use borrow.Author.Tests.{eqb-true}
 use lib.Dec.{eqb}
 use lib.ListN.{length, length-append}
-use Rattle.dxf_form.specs.Form.{WholeText, First, Group, OtherCode, ValueText, count-value, flags-value, x-value, y-value}
+use Rattle.dxf_form.specs.Form.{WholeText, Group, OtherCode, ValueText, count-value, flags-value, x-value, y-value}
 use Rattle.dxf_form.specs.Form.{bulge-value, other-value, countCode, flagsCode, xCode, yCode, bulgeCode}
-use Rattle.dxf_form.specs.Form.{count, flags, x, y, bulge, other}
+use Rattle.dxf_form.specs.Form.{count, flags, x, y, bulge}
 use Rattle.dxf_form.specs.Order.{countTurn, flagsTurn, xTurn, yTurn, bulgeTurn, turnAt, turnOf, outOfPlace}
 use Rattle.dxf_form.specs.Refusal
-use Rattle.dxf_form.specs.Fault.{NoWhole, Wrong, missing, bad-code, misplaced, no-value, bad-value}
-use Rattle.dxf_form.specs.Workings.Reader.{Got, nothing, got, isEmpty, Pair, fault, pair, wholeLine, valueFor, afterCode}
+use Rattle.dxf_form.specs.Workings.Reader.{Got, nothing, got, isEmpty, fault, pair, wholeLine, valueFor}
 use Rattle.dxf_form.specs.Workings.Reader.{byCode, pairOf}
-use Rattle.dxf_form.specs.Laws.Whole.{whole-spelt, whole-reads, no-whole, whole-none}
+use Rattle.dxf_form.specs.Laws.Whole.{whole-spelt, whole-reads}
 use Rattle.dxf_form.specs.Laws.Values.{never-pair, never-so, WholeAs, NumberAs, TurnValue, value-spelt, value-reads}
-use Rattle.dxf_form.specs.Laws.Values.{same-number, same-line, value-fault, fault-value}
 use Rattle.dxf_form.specs.declared.order.Due.{Due}
 use Rattle.dxf_form.specs.declared.order.Due.the-variants as Due·
-use Rattle.dxf_form.specs.declared.order.Turn.{Turn}
 use Rattle.dxf_form.specs.declared.order.Turn.the-variants as Turn·
 
 -- ---- codes
@@ -127,6 +124,18 @@ same-turn due (y-value w) = refl
 same-turn due (bulge-value w) = refl
 same-turn due (other-value o s) = sym (turn-other due o)
 
+-- every code is in its place somewhere
+pub somewhere : (c : ℕ) → (due : Due) × (outOfPlace (turnAt due c) ≡ false)
+somewhere c = go (code-of c)
+  where
+    go : {d : ℕ} → Code d → (due : Due) × (outOfPlace (turnAt due d) ≡ false)
+    go is-count = (Due·.Count, refl)
+    go is-flags = (Due·.Flags, refl)
+    go is-x = (Due·.Vertex, refl)
+    go is-y = (Due·.Y, refl)
+    go is-bulge = (Due·.Bulge, refl)
+    go (is-other o) = (Due·.Count, rw (turn-other Due·.Count o))
+
 -- ---- a group is read
 
 pub record PairSpelt (due : Due) (text : List ℕ) (g : Group) (rest : List ℕ) : Type 0 where
@@ -138,7 +147,8 @@ pub record PairSpelt (due : Due) (text : List ℕ) (g : Group) (rest : List ℕ)
   pub spelt : ValueText c value g
   pub in-place : outOfPlace (turnOf due g) ≡ false
 
-pub pair-spelt : (due : Due) (text : List ℕ) {g : Group} {rest : List ℕ} → pairOf due text ≡ pair g rest → PairSpelt due text g rest
+pub pair-spelt : (due : Due) (text : List ℕ) {g : Group} {rest : List ℕ} → pairOf due text ≡ pair g rest
+    → PairSpelt due text g rest
 unfolding pairOf
 pair-spelt due text {g} {rest} e = go (wholeLine text) refl e
   where

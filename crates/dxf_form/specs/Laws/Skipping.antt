@@ -1,13 +1,13 @@
 -- Values that are skipped: what is passed is a line of any bytes, and every such line is passed.
 use Prim.Native.Nat.{ℕ}
-use mathlib.Core.Path.{_≡_, refl, sym, ap, _∙_}
+use mathlib.Core.Path.{_≡_, refl, sym, ap}
 use mathlib.Core.Bool.{Bool, true, false, cond}
 use mathlib.Core.List.{List, [], _∷_, _++_}
 use native.Mathlib.Omega.{arith}
 use borrow.Author.Tests.{eqb-true}
 use lib.Dec.{eqb}
 use Rattle.dxf_form.specs.Form.{Skipped, none, more, First}
-use Rattle.dxf_form.specs.Workings.Reader.{Passed, cut, over, skipLine}
+use Rattle.dxf_form.specs.Workings.Reader.{cut, over, skipLine}
 
 -- `cut` is never `over`
 pub never-over : {P : Type 0} {rest : List ℕ} → cut ≡ over rest → P

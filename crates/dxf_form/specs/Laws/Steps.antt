@@ -1,13 +1,12 @@
 -- One step of the reader: a group, and then what remains is read.
 use Prim.Native.Nat.{ℕ, zero, suc, _+_, _≤_, _<_}
-use mathlib.Core.Path.{_≡_, refl, sym, ap, _∙_}
-use mathlib.Core.Bool.{Bool, true, false, cond}
+use mathlib.Core.Path.{_≡_, refl, ap}
 use mathlib.Core.List.{List, [], _∷_}
 use native.Mathlib.Omega.{arith}
 use lib.ListN.{length}
 use Rattle.dxf_form.specs.Form.{Group}
 use Rattle.dxf_form.specs.Order.{turnOf, after}
-use Rattle.dxf_form.specs.Workings.Reader.{Pair, fault, pair, Read, before, carriedOn, pairOf, readFrom}
+use Rattle.dxf_form.specs.Workings.Reader.{Pair, fault, pair, before, carriedOn, pairOf, readFrom}
 use Rattle.dxf_form.specs.Laws.Pairs.{pair-shortens}
 use Rattle.dxf_form.specs.declared.order.Due.{Due}
 

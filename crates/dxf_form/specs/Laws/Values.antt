@@ -1,15 +1,15 @@
 -- The value of a group, by what its code is for: what is read is spelt, what is spelt is read, and what is at fault.
 use Prim.Native.Nat.{ℕ}
 use mathlib.Core.Path.{_≡_, refl, sym, ap, _∙_}
-use mathlib.Core.Bool.{Bool, true, false, cond}
-use mathlib.Core.List.{List, [], _∷_, _++_}
+use mathlib.Core.Bool.{true, false}
+use mathlib.Core.List.{List, _∷_, _++_}
 use native.Mathlib.Omega.{arith}
 use lib.IntN.{ℤ}
 use Rattle.dxf_form.specs.Form.{WholeText, NumberText, Skipped, First, Group, count, flags, x, y, bulge, other}
 use Rattle.dxf_form.specs.Order.{outOfPlace}
 use Rattle.dxf_form.specs.Refusal
 use Rattle.dxf_form.specs.Fault.{NoValue}
-use Rattle.dxf_form.specs.Workings.Reader.{Got, nothing, got, Passed, cut, over, Pair, fault, pair}
+use Rattle.dxf_form.specs.Workings.Reader.{Got, nothing, got, Passed, cut, over, fault, pair}
 use Rattle.dxf_form.specs.Workings.Reader.{wholeLine, numberLine, skipLine, wholeValue, numberValue, skippedValue, valueFor}
 use Rattle.dxf_form.specs.Laws.Whole.{whole-spelt, whole-reads, no-whole, whole-none}
 use Rattle.dxf_form.specs.Laws.Decimal.{number-spelt, number-reads, no-number, number-none}
@@ -48,26 +48,30 @@ TurnValue Turn·.OutOfPlace line g = ⊥
 -- ---- what is read is spelt
 
 -- of two groups that are equal, and of what follows them
-same-group : {g h : Group} {s t : List ℕ} → pair g s ≡ pair h t → g ≡ h
+pub same-group : {g h : Group} {s t : List ℕ} → pair g s ≡ pair h t → g ≡ h
 same-group e = cc
 
-same-rest : {g h : Group} {s t : List ℕ} → pair g s ≡ pair h t → s ≡ t
+pub same-rest : {g h : Group} {s t : List ℕ} → pair g s ≡ pair h t → s ≡ t
 same-rest e = cc
 
 module _ {g : Group} {rest : List ℕ} where
-  whole-value : (make : ℕ → Group) (text : List ℕ) → wholeValue make (wholeLine text) ≡ pair g rest → First (λ l. WholeAs make l g) text rest
+  whole-value : (make : ℕ → Group) (text : List ℕ) → wholeValue make (wholeLine text) ≡ pair g rest
+      → First (λ l. WholeAs make l g) text rest
   whole-value make text e = go (wholeLine text) refl e
     where
-      go : (got-it : Got ℕ) → wholeLine text ≡ got-it → wholeValue make got-it ≡ pair g rest → First (λ l. WholeAs make l g) text rest
+      go : (got-it : Got ℕ) → wholeLine text ≡ got-it → wholeValue make got-it ≡ pair g rest
+          → First (λ l. WholeAs make l g) text rest
       go nothing is e = never-pair e
       go (got n r) is e =
           let s = whole-spelt text (is ∙ ap (λ (l : List ℕ). got n l) (same-rest e)) in
           record { line = s .line; is = s .is; holds = record { n = n; spelt = s .holds; is = sym (same-group e) } }
 
-  number-value : (make : ℤ → Group) (text : List ℕ) → numberValue make (numberLine text) ≡ pair g rest → First (λ l. NumberAs make l g) text rest
+  number-value : (make : ℤ → Group) (text : List ℕ) → numberValue make (numberLine text) ≡ pair g rest
+      → First (λ l. NumberAs make l g) text rest
   number-value make text e = go (numberLine text) refl e
     where
-      go : (got-it : Got ℤ) → numberLine text ≡ got-it → numberValue make got-it ≡ pair g rest → First (λ l. NumberAs make l g) text rest
+      go : (got-it : Got ℤ) → numberLine text ≡ got-it → numberValue make got-it ≡ pair g rest
+          → First (λ l. NumberAs make l g) text rest
       go nothing is e = never-pair e
       go (got z r) is e =
           let s = number-spelt text (is ∙ ap (λ (l : List ℕ). got z l) (same-rest e)) in

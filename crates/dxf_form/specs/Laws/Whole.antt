@@ -1,17 +1,18 @@
 -- Lines of a whole number: what is read is spelt, and what is spelt is read.
-use Prim.Native.Nat.{ℕ, zero, suc, _+_, _*_, _-_, _≤_, _<_}
-use mathlib.Core.Path.{_≡_, refl, sym, ap, _∙_, subst}
-use mathlib.Core.Bool.{Bool, true, false, not, cond}
+use Prim.Native.Nat.{ℕ, _+_, _-_, _<_}
+use mathlib.Core.Path.{_≡_, refl, sym, ap, _∙_}
+use mathlib.Core.Bool.{Bool, true, false, cond}
 use mathlib.Core.List.{List, [], _∷_, _++_, append-assoc}
 use native.Mathlib.Nat.{pos-of-ne-zero}
 use native.Mathlib.Omega.{arith}
 use borrow.Author.Tests.{ne-eqb, eqb-false}
-use lib.Dec.{T, ltb, eqb}
+use lib.Dec.{eqb}
 use lib.ListN.{length}
 use Rattle.dxf_form.specs.Form.{blanks, AllDigits, none, more, wholeFrom, WholeText, First}
 use Rattle.dxf_form.specs.Fault.{NoWhole}
 use Rattle.dxf_form.specs.Workings.Reader.{Got, nothing, got, firstByte, pastBlanks, Run, digitsFrom, lineEnd, wholeLine}
-use Rattle.dxf_form.specs.Laws.Bytes.{never, blanks-spelt, blanks-read, Digits, digits-spelt, digits-read, end-spelt, end-read}
+use Rattle.dxf_form.specs.Laws.Bytes.{never, blanks-spelt, blanks-read, Digits, digits-spelt, digits-read}
+use Rattle.dxf_form.specs.Laws.Bytes.{end-spelt, end-read}
 
 pub whole-spelt : (text : List ℕ) {n : ℕ} {rest : List ℕ} → wholeLine text ≡ got n rest → First (λ l. WholeText l n) text rest
 unfolding wholeLine
