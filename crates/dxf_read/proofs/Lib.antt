@@ -2,3 +2,4 @@ pub mod Bytes
 pub mod Runs
 pub mod Lines
 pub mod Pairs
+pub mod Written

@@ -3,3 +3,4 @@ pub mod Kept
 pub mod Groups
 pub mod Bodies
 pub mod Stores
+pub mod Scanning

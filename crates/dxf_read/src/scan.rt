@@ -8,6 +8,7 @@ use super::state::State;
 use super::state::step;
 use super::store::store;
 use dxf_form::order::Due;
+use dxf_form::order::after;
 use dxf_form::order::may_end;
 use dxf_form::refusal;
 
@@ -23,16 +24,16 @@ pub fn scan(text: &[u8], out: &mut [f64]) -> Found
     ensures { λ r. ⌜ Scanned (now (text .entry)) r (now (out .entry)) (now (out .exit)) ⌝ }
 {
     let mut s = State {
-        due: Due::Count,
         vertices: 0,
         count: 0,
         count_line: 0,
         closed: false,
     };
+    let mut due = Due::Count;
     let mut lines: u64 = 0;
     let mut at = 0;
     while at < text.len() {
-        let pair = pair_at(text, at, s.due);
+        let pair = pair_at(text, at, due);
         match pair {
             Pair::Fault(number, line) => {
                 return Found::Fault(number, lines + line);
@@ -40,12 +41,13 @@ pub fn scan(text: &[u8], out: &mut [f64]) -> Found
             Pair::Got(turn, negative, number, next) => {
                 store(out, s.vertices, turn, negative, number);
                 s = step(s, turn, number, lines);
+                due = after(due, turn);
                 at = next;
             }
         }
         lines += 2;
     }
-    if may_end(s.due) {
+    if may_end(due) {
         return Found::Body(s.vertices, s.count, s.count_line, s.closed);
     }
     Found::Fault(refusal::GROUP, lines + 1)

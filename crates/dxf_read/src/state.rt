@@ -2,13 +2,10 @@
 ghost use mathlib.Core.Path.{_≡_};
 ghost use Prim.Native.Nat.{_≤_};
 ghost use Rattle.dxf_read.specs.Workings.Scanning.{stepped};
-use dxf_form::order::Due;
 use dxf_form::order::Turn;
-use dxf_form::order::after;
 
-// What is due; how many vertices there are; the value of 90 and its line; whether the value of 70 is odd.
+// How many vertices there are; the value of 90 and its line; whether the value of 70 is odd.
 pub struct State {
-    pub due: Due,
     pub vertices: usize,
     pub count: u64,
     pub count_line: u64,
@@ -21,52 +18,44 @@ pub fn step(s: State, turn: Turn, number: u64, lines: u64) -> State
     requires { ⌜ lines ≤ 18000000000000000000 ⌝ }
     ensures { λ r. ⌜ r ≡ stepped s turn number lines ⌝ }
 {
-    let due = after(s.due, turn);
     match turn {
         Turn::Count => State {
-            due: due,
             vertices: s.vertices,
             count: number,
             count_line: lines + 2,
             closed: s.closed,
         },
         Turn::Flags => State {
-            due: due,
             vertices: s.vertices,
             count: s.count,
             count_line: s.count_line,
             closed: number % 2 == 1,
         },
         Turn::X => State {
-            due: due,
             vertices: s.vertices + 1,
             count: s.count,
             count_line: s.count_line,
             closed: s.closed,
         },
         Turn::Y => State {
-            due: due,
             vertices: s.vertices,
             count: s.count,
             count_line: s.count_line,
             closed: s.closed,
         },
         Turn::Bulge => State {
-            due: due,
             vertices: s.vertices,
             count: s.count,
             count_line: s.count_line,
             closed: s.closed,
         },
         Turn::Other => State {
-            due: due,
             vertices: s.vertices,
             count: s.count,
             count_line: s.count_line,
             closed: s.closed,
         },
         Turn::OutOfPlace => State {
-            due: due,
             vertices: s.vertices,
             count: s.count,
             count_line: s.count_line,

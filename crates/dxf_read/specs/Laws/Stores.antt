@@ -7,7 +7,7 @@ use native.Mathlib.Omega.{arith}
 use lib.ListN.{length, set}
 use lib.Seq.{sets, set-set, set-comm}
 use lib.IntN.{ℤ, pos}
-use lib.Ieee.{Float, binary64, ofBits, ofInt, div}
+use lib.Ieee.{Float, binary64, ofBits, ofFields, ofInt, div, round, units, odd, size, span, climb}
 use Rattle.dxf_form.specs.Numbers.{Corner, value, trace, pathOf, held, scale}
 use Rattle.dxf_form.specs.Body.{atLast, withY, withBulge}
 
@@ -31,7 +31,7 @@ path-length (v ∷ vs) = let e = path-length vs in omega arith
 -- ---- a vertex more
 
 pub zero-value : value (pos 0) ≡ trace
-unfolding value held ofInt div
+unfolding value held ofInt div round units odd size span climb ofBits ofFields
 zero-value = refl
 
 pub more-path : (vs : List Corner) (old : List Float) (z : ℤ)
@@ -57,10 +57,10 @@ second l i a b c d e =
     let p = set l i a in
     let q = set p (suc i) b in
     sym (
-      set-comm (set q (suc (suc i)) c) (suc (suc (suc i))) (suc i) d e (apart _ _ (omega arith))
-      ∙ ap (λ (m : List Float). set m (suc (suc (suc i))) d)
-        (set-comm q (suc (suc i)) (suc i) c e (apart _ _ (omega arith))
-        ∙ ap (λ (m : List Float). set m (suc (suc i)) c) (set-set p (suc i) b e))
+    set-comm (set q (suc (suc i)) c) (suc (suc (suc i))) (suc i) d e (apart _ _ (omega arith))
+    ∙ ap (λ (m : List Float). set m (suc (suc (suc i))) d)
+    (set-comm q (suc (suc i)) (suc i) c e (apart _ _ (omega arith))
+    ∙ ap (λ (m : List Float). set m (suc (suc i)) c) (set-set p (suc i) b e))
     )
 
 third : (l : List Float) (i : ℕ) (a b c d e : Float)
@@ -68,8 +68,8 @@ third : (l : List Float) (i : ℕ) (a b c d e : Float)
 third l i a b c d e =
     let q = set (set l i a) (suc i) b in
     sym (
-      set-comm (set q (suc (suc i)) c) (suc (suc (suc i))) (suc (suc i)) d e (apart _ _ (omega arith))
-      ∙ ap (λ (m : List Float). set m (suc (suc (suc i))) d) (set-set q (suc (suc i)) c e)
+    set-comm (set q (suc (suc i)) c) (suc (suc (suc i))) (suc (suc i)) d e (apart _ _ (omega arith))
+    ∙ ap (λ (m : List Float). set m (suc (suc (suc i))) d) (set-set q (suc (suc i)) c e)
     )
 
 pub last-y : (vs : List Corner) (l : List Float) (i : ℕ) (z : ℤ) → 0 < length vs

@@ -11,7 +11,6 @@ use Rattle.paths.specs.Path.{numbersAVertex, mostVertices}
 use Rattle.dxf_form.specs.Numbers.{trace, pathOf}
 use Rattle.dxf_form.specs.Form.{Group, closedBy, countLine}
 use Rattle.dxf_form.specs.Body.{bodyOf}
-use Rattle.dxf_form.specs.Order.{after}
 use Rattle.dxf_form.specs.Workings.Reader.{faultAt, groups, readGroups}
 use Rattle.dxf_form.specs.declared.order.Turn.{Turn}
 use Rattle.dxf_form.specs.declared.order.Turn.the-variants as Turn·
@@ -61,7 +60,6 @@ closedAfter Turn·.OutOfPlace number closed = closed
 unfoldable pub stepped : State → Turn → ℕ → ℕ → State
 stepped s turn number lines =
     record {
-      due = after (s .due) turn;
       vertices = verticesAfter turn (s .vertices);
       count = countAfter turn number (s .count);
       «count_line» = lineAfter turn lines (s .«count_line»);
