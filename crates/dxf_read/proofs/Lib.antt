@@ -3,3 +3,4 @@ pub mod Runs
 pub mod Lines
 pub mod Pairs
 pub mod Written
+pub mod Ends

@@ -4,3 +4,4 @@ pub mod Groups
 pub mod Bodies
 pub mod Stores
 pub mod Scanning
+pub mod Finishing

@@ -3,3 +3,4 @@ pub mod Kept
 pub mod Shown
 pub mod Pairs
 pub mod Scanning
+pub mod Finishing
