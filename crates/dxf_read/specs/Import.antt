@@ -9,6 +9,7 @@ use lib.ListN.{length}
 use lib.Seq.{sets}
 use lib.Ieee.{Float}
 use Rattle.checks.specs.declared.fault.Item.the-variants.{Line, Room}
+use Rattle.checks.specs.declared.fault.Fault.{Fault}
 use Rattle.checks.specs.declared.fault.Checked.{Checked}
 use Rattle.checks.specs.declared.fault.Checked.the-variants.{Fine, Bad}
 use Rattle.checks.specs.Fault.{at, refuse, whole}
@@ -31,6 +32,10 @@ mostLine = 4_294_967_295
 
 abbrev pub toldLine : ℕ → ℕ
 toldLine line = cond (ltb mostLine line) mostLine line
+
+-- the fault in a line of the text
+abbrev pub lineFault : ℕ → ℕ → Fault
+lineFault number line = record { number = number; place = at 0 (toldLine line) Line }
 
 -- ---- the checks after those of the text's form, in their order: 22; 7; the vertices' numbers and the arcs; 24
 
@@ -59,7 +64,7 @@ byChecks b old (Bad f) = record { answer = Imported·.Refused f; path = old }
 
 abbrev pub byGroups : List Float → Read → ImportOutcome
 byGroups old (faultAt number line) =
-    record { answer = Imported·.Refused (record { number = number; place = at 0 (toldLine line) Line }); path = old }
+    record { answer = Imported·.Refused (lineFault number line); path = old }
 byGroups old (groups gs) = byChecks (bodyOf gs) old (first (bodyChecks gs old))
 
 unfoldable pub importDxf : List ℕ → List Float → ImportOutcome

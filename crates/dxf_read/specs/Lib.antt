@@ -1,1 +1,3 @@
 pub mod Import
+pub mod Workings
+pub mod Laws

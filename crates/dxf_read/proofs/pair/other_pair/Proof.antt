@@ -1,0 +1,12 @@
+-- `dxf_read::pair::other_pair` meets its contract, case by case.
+use borrow.Author.Needs.{needs}
+use Rattle.dxf_read.specs.Workings.Pairs.{otherPair}
+use Rattle.dxf_read.proofs.pair.other_pair.Statement.{statement}
+use Rattle.dxf_read.proofs.pair.other_pair.Tie as tie
+
+pub other-pair-spec : {M : Type 1} → statement M
+unfolding otherPair
+other-pair-spec =
+    tie.close
+    (tie.spec
+    (λ c. search needs) (λ c. search needs) (λ c. simp (c .enum-told .given .1)) (λ c. simp (c .before .value .given .1)))
