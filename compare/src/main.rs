@@ -60,8 +60,8 @@ const USAGE: &str = "\
 usage: compare check [COUNT [SEED]]  compare each float function on COUNT random inputs (default 10485760, seed 1), and the
                                      root as compare roots; segments of a path and of its view, and filled parts of rows,
                                      on the stored layouts and on a quarter as many; as compare packed with a quarter of
-                                     COUNT; as compare dxf; each function of the plane on a quarter as many accepted ones, an
-                                     eighth of all bit patterns, and some beside the
+                                     COUNT; as compare dxf with half of COUNT; each function of the plane on a quarter as many
+                                     accepted ones, an eighth of all bit patterns, and some beside the
                                      limits; each kernel and the pair call until twice as many were answered, and on some
                                      that are refused; listings of whole paths until as many pairs were looked at, and on
                                      chosen ones; then as compare pages, as compare boxed, as compare month, as compare joints,
@@ -176,7 +176,7 @@ fn check(numbers: &[&str]) -> Result<(), String> {
         + roots::check(count, seed)
         + views::check(count, seed)
         + packed::check(count / 4, seed)
-        + dxf::check(count, seed)
+        + dxf::check(count / 2, seed)
         + check_text(count, seed);
     match differences {
         0 => Ok(()),

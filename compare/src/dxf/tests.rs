@@ -339,8 +339,10 @@ fn found_in_each_call() {
         for ours in [import, export] {
             stand_in::set(defect);
             let mut run = Run::new(ours, SEED, 1);
-            run.chosen();
-            for _ in 0..32 {
+            if OF_THE_LARGEST.contains(defect) {
+                run.chosen();
+            }
+            for _ in 0..64 {
                 run.drawn(1 << 6);
                 run.damaged(1 << 9);
                 run.paths(1 << 9);
