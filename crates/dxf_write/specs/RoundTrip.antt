@@ -43,12 +43,12 @@ use Rattle.dxf_write.specs.declared.Exported.the-variants as Exported·
 
 -- ---- an export that answers bytes
 
-record Written (path : List Float) (closed : Bool) (old : List ℕ) (n : ℕ) : Type 0 where
+pub record Written (path : List Float) (closed : Bool) (old : List ℕ) (n : ℕ) : Type 0 where
   pub fine : first (checksOf path closed ++ (textChecks path ++ (roomCheck path closed old ∷ []))) ≡ Fine
   pub long : n ≡ length (bytesOf path closed)
   pub holds : exportDxf path closed old .text ≡ sets old 0 (bytesOf path closed)
 
-abbrev tagged : Exported → ℕ
+abbrev pub tagged : Exported → ℕ
 tagged (Exported·.Bytes k) = 0
 tagged (Exported·.Refused f) = 1
 
@@ -56,7 +56,7 @@ abbrev count-of : ℕ → Exported → ℕ
 count-of n (Exported·.Bytes k) = k
 count-of n (Exported·.Refused f) = n
 
-written : (path : List Float) (closed : Bool) (old : List ℕ) (n : ℕ) → exportDxf path closed old .answer ≡ Exported·.Bytes n
+pub written : (path : List Float) (closed : Bool) (old : List ℕ) (n : ℕ) → exportDxf path closed old .answer ≡ Exported·.Bytes n
     → Written path closed old n
 unfolding exportDxf exportAfter
 written path closed old n e = go (first (checksOf path closed ++ (textChecks path ++ (roomCheck path closed old ∷ [])))) refl e

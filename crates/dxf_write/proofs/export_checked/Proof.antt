@@ -70,8 +70,8 @@ put-vertices-requires c κs =
     let read = told .before .before in
     let a = read .before .before .before .args in
     vertices-fit _ (a .closed) (now (a .text)) _ (read .measure .ensures) (told .m2 .given .1) _ _
-    (counted .vertex-count .ensures) (sized .decimal-size .ensures) (enough .if1 .left) (count .put-whole-group .ensures) (search needs) _
-    (flag .flags .ensures) (flags .put-whole-group2 .ensures) (search needs)
+    (counted .vertex-count .ensures) (sized .decimal-size .ensures) (enough .if1 .left) (count .put-whole-group .ensures)
+    (search needs) _ (flag .flags .ensures) (flags .put-whole-group2 .ensures) (search needs)
 
 returns-3 : tie.Need-returns-3
 returns-3 c =
