@@ -1,5 +1,6 @@
 -- The text of a number (Millionths, Written), what an export answers (Export), and the path that it gives back (Untraced); then
--- what is proved of them: Spelt, OnlyCandidate, RoundTrip, ExportPromise, Examples. A reader need not believe Workings and Laws.
+-- what is proved of them: Spelt, OnlyCandidate, RoundTrip, ExportPromise, LayoutBulges, Examples. A reader need not believe
+-- Workings and Laws.
 pub mod Millionths
 pub mod Written
 pub mod Export
@@ -10,4 +11,5 @@ pub mod Spelt
 pub mod OnlyCandidate
 pub mod RoundTrip
 pub mod ExportPromise
+pub mod LayoutBulges
 pub mod Examples

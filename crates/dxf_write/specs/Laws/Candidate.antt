@@ -62,7 +62,7 @@ whole-part (fin false n e) W L k w v pos-L l m small =
 
 -- ---- the magnitude of a rounding, by its count of units
 
-abs-sized : (x : Float) (s : Bool) (X c : ℕ) → Diff x (ups s X) (downs s X) c → HasValue (F64.abs x) false X c
+pub abs-sized : (x : Float) (s : Bool) (X c : ℕ) → Diff x (ups s X) (downs s X) c → HasValue (F64.abs x) false X c
 abs-sized x s X c d =
     let w = signed-of x (ups s X) (downs s X) c d in
     subst (λ (n : ℕ). HasValue (F64.abs x) false n c) (same s (w .s) (w .size) (w .is))

@@ -5,6 +5,7 @@ use mathlib.Core.Path.{_≡_, refl, ap, _∙_}
 use mathlib.Core.Bool.{Bool, true, false, not, cond, false≢true}
 use native.Mathlib.Nat.{mul-one}
 use native.Mathlib.Omega.{arith}
+use borrow.Author.Tests.{le-ltb}
 use lib.Dec.{T, ltb, nltb→le}
 use lib.IntN.{ℤ, pos, negsuc}
 use lib.Ieee.{binary64, fits, isNan, ofInt, ofBits, ofFields, round, unlike}
@@ -28,6 +29,9 @@ at-most n = go (ltb most n) (nltb→le most n)
     go : (b : Bool) → (T (not b) → n ≤ most) → cond b most n ≤ most
     go true h = omega arith
     go false h = h tt
+
+pub few-most : (n : ℕ) → n ≤ most → atMost n ≡ n
+few-most n h = rw (le-ltb most n h)
 
 -- some millionths stay some
 pub some-held : (n : ℕ) → 0 < n → 0 < atMost n
