@@ -76,7 +76,12 @@ fn hand_exported(answer: Exported, told: &mut [u64]) -> u64
 
 // Exports a path as a text.
 #[no_mangle]
-pub extern "C" fn vj_dxf_export(path: &[f64], closed: bool, text: &mut [u8], told: &mut [u64]) -> u64
+pub extern "C" fn vj_dxf_export(
+    path: &[f64],
+    closed: bool,
+    text: &mut [u8],
+    told: &mut [u64],
+) -> u64
     ensures { λ r. ⌜
         handed.HandedExport (export_of.exportDxf (now (path .entry)) closed (now (text .entry)))
         r (now (told .entry)) (now (told .exit)) (now (text .entry)) (now (text .exit)) ⌝ }

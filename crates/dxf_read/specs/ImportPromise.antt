@@ -144,9 +144,9 @@ pub exactly : (text : List ℕ) (old : List Float) (r : Imported) (now : List Fl
 exactly text old r now = (
   λ done. rw (done .answer-is, done .path-holds) (tells text old),
   λ t. let e = told text old t in record {
-        answer-is = sym (ap (λ (o : ImportOutcome). o .answer) e);
-        path-holds = sym (ap (λ (o : ImportOutcome). o .path) e);
-      },
+    answer-is = sym (ap (λ (o : ImportOutcome). o .answer) e);
+    path-holds = sym (ap (λ (o : ImportOutcome). o .path) e);
+  },
 )
 
 -- ---- what follows: a refusal writes nothing, and a path is imported exactly if the text spells it and it is fine and fits
