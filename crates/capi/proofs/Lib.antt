@@ -2,3 +2,4 @@ mod Ends
 mod ListingEnds
 mod FindingsEnds
 mod MonthEnds
+mod DxfEnds

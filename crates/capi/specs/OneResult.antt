@@ -13,6 +13,7 @@ use Rattle.capi.specs.HandedListing.{Counted, HandedOver, HandedBoxed}
 use Rattle.month.specs.Counted.{CountedOutcome}
 use Rattle.month.specs.Join.{JoinOutcome}
 use Rattle.capi.specs.HandedMonth.{HandedCounted, HandedJoin}
+use Rattle.capi.specs.HandedDxf.{HandedTold}
 use Rattle.answers.specs.declared.padded.PaddedAnswer.{PaddedAnswer}
 
 pub handed-one-result : {f : PaddedAnswer} {r s : ℕ} {old a b : List Float} → Handed f r old a → Handed f s old b
@@ -46,3 +47,10 @@ month-one-result x y =
 
 pub join-one-result : {o : JoinOutcome} {r s : ℕ} {w v : List ℕ} → HandedJoin o r w → HandedJoin o s v → (r ≡ s) × (w ≡ v)
 join-one-result x y = (x .code-is ∙ sym (y .code-is), x .into ∙ sym (y .into))
+
+-- an import, and an export
+pub told-one-result : {A B : Type 0} {words : ℕ} {count : A → Counted} {answer : A} {left : List B} {r s : ℕ}
+    {t₀ t u : List ℕ} {s₀ p q : List B}
+    → HandedTold words count answer left r t₀ t s₀ p → HandedTold words count answer left s t₀ u s₀ q
+    → (r ≡ s) × (t ≡ u) × (p ≡ q)
+told-one-result x y = (x .code-is ∙ sym (y .code-is), x .told ∙ sym (y .told), x .holds ∙ sym (y .holds))

@@ -51,6 +51,12 @@ use Rattle.month.specs.declared.join.JoinAnswer.the-variants as joins
 use Rattle.month.specs.Counted.{mutualCounted}
 use Rattle.month.specs.Join.{join}
 use Rattle.month.specs.Refusals.{refused-by, join-else}
+use Rattle.dxf_read.specs.declared.Imported.the-variants as imports
+use Rattle.dxf_read.specs.Import.{importDxf}
+use Rattle.dxf_read.specs.Laws.RefusalNumbers.{import-fits}
+use Rattle.dxf_write.specs.declared.Exported.the-variants as exports
+use Rattle.dxf_write.specs.Export.{exportDxf}
+use Rattle.dxf_write.specs.Laws.RefusalNumbers.{export-fits}
 use Rattle.capi.specs.Handed.{noRoomCode}
 
 -- the fault fits into a word, and its number is not 1; and its word gives it back
@@ -178,6 +184,14 @@ mutual-counted first firstClosed second secondClosed eps i p w f e =
 
 pub join-of-reports : (into other : List ℕ) (f : Fault) → join into other .answer ≡ joins.Refused f → Shown f
 join-of-reports into other f e = subst Shown (sym (join-else into other f e)) nineteen
+
+-- ---- imports and exports
+pub dxf-import : (text : List ℕ) (old : List Float) (f : Fault) → importDxf text old .answer ≡ imports.Refused f → Shown f
+dxf-import text old f e = shown refl (import-fits text old f e)
+
+pub dxf-export : (path : List Float) (closed : Bool) (old : List ℕ) (f : Fault)
+    → exportDxf path closed old .answer ≡ exports.Refused f → Shown f
+dxf-export path closed old f e = shown refl (export-fits path closed old f e)
 
 -- ---- the code of no room is no word
 pub no-room-not-refused : refusedIn noRoomCode ≡ false

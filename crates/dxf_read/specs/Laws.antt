@@ -5,3 +5,5 @@ pub mod Bodies
 pub mod Stores
 pub mod Scanning
 pub mod Finishing
+pub mod Order
+pub mod RefusalNumbers

@@ -5,7 +5,7 @@ use Prim.Native.String.{String, len, charAt}
 use mathlib.Core.Path.{_≡_, refl}
 use mathlib.Core.Bool.{true, false}
 use mathlib.Core.List.{List, [], _∷_, map}
-use lib.IntN.{ℤ, pos, negsuc}
+use lib.IntN.{pos, negsuc}
 use lib.Ieee.{
   Float,
   nan,
@@ -83,8 +83,8 @@ pub have-text : map millionthsOf
     ∷ found (negsuc 1_499_999)
     ∷ found (pos 1_048_576_000_000)
     ∷ []
-unfolding millionthsOf tested value held F64.abs ofBits ofFields toBits toUnsigned ofInt odd units size span climb round sum add mul
-    div lt le eq
+unfolding millionthsOf tested value held F64.abs ofBits ofFields toBits toUnsigned ofInt odd units size span climb round sum add
+    mul div lt le eq
 have-text = refl
 
 -- -0; 1/128; the float after 0.1; the bulge of a quarter circle, the tangent of 22.5 degrees; a NaN and an infinity
@@ -97,8 +97,8 @@ pub have-none : map millionthsOf
     ∷ inf false
     ∷ [])
     ≡ none ∷ none ∷ none ∷ none ∷ none ∷ none ∷ []
-unfolding millionthsOf tested value held F64.abs ofBits ofFields toBits toUnsigned ofInt odd units size span climb round sum add mul
-    div lt le eq
+unfolding millionthsOf tested value held F64.abs ofBits ofFields toBits toUnsigned ofInt odd units size span climb round sum add
+    mul div lt le eq
 have-none = refl
 
 -- ---- the text
@@ -128,10 +128,10 @@ one b = float 0x3ff0_0000_0000_0000 ∷ float 0x3fb9_9999_9999_999a ∷ b ∷ fl
 pub one-written : exportDxf (one (float 0x3f90_0000_0000_0000)) false (bytes "...............................................|")
     .text
     ≡ bytes "90\n1\n70\n0\n10\n1.000000\n20\n0.100000\n42\n0.015625\n.|"
-unfolding exportDxf exportAfter bytesOf cornerAt ofTexts refuse later Shape.shape Shape.refused paths.vertex paths.trace vertices.new
-    segmentCount ofVertex Each.coordinate Each.bulge Each.trace Each.finite Each.finiteThen isInfinite beyond isWhole noTrace isNan
-    millionthsOf tested value held bodyBytes verticesBytes vertexBytes groupBytes numberBytes sizeBytes sixDigits decimal decimalIn
-    F64.abs ofBits ofFields toBits toUnsigned ofInt odd units size span climb round sum add mul div lt le eq
+unfolding exportDxf exportAfter bytesOf cornerAt ofTexts refuse later Shape.shape Shape.refused paths.vertex paths.trace
+    vertices.new segmentCount ofVertex Each.coordinate Each.bulge Each.trace Each.finite Each.finiteThen isInfinite beyond isWhole
+    noTrace isNan millionthsOf tested value held bodyBytes verticesBytes vertexBytes groupBytes numberBytes sizeBytes sixDigits
+    decimal decimalIn F64.abs ofBits ofFields toBits toUnsigned ofInt odd units size span climb round sum add mul div lt le eq
 one-written = refl
 
 -- 1/128 has no text: 23 is told before 24, with the vertex and the number, and nothing is written
@@ -140,10 +140,10 @@ pub one-refused : exportDxf (one (float 0x3f80_0000_0000_0000)) false (bytes "to
       answer = Exported·.Refused (record { number = 23; place = at 0 0 Bulge });
       text = bytes "too short";
     }
-unfolding exportDxf exportAfter bytesOf cornerAt ofTexts refuse later Shape.shape Shape.refused paths.vertex paths.trace vertices.new
-    segmentCount ofVertex Each.coordinate Each.bulge Each.trace Each.finite Each.finiteThen isInfinite beyond isWhole noTrace isNan
-    millionthsOf tested value held bodyBytes verticesBytes vertexBytes groupBytes numberBytes sizeBytes sixDigits decimal decimalIn
-    F64.abs ofBits ofFields toBits toUnsigned ofInt odd units size span climb round sum add mul div lt le eq
+unfolding exportDxf exportAfter bytesOf cornerAt ofTexts refuse later Shape.shape Shape.refused paths.vertex paths.trace
+    vertices.new segmentCount ofVertex Each.coordinate Each.bulge Each.trace Each.finite Each.finiteThen isInfinite beyond isWhole
+    noTrace isNan millionthsOf tested value held bodyBytes verticesBytes vertexBytes groupBytes numberBytes sizeBytes sixDigits
+    decimal decimalIn F64.abs ofBits ofFields toBits toUnsigned ofInt odd units size span climb round sum add mul div lt le eq
 one-refused = refl
 
 -- the text does not fit: 24, and nothing is written
@@ -152,8 +152,8 @@ pub one-too-long : exportDxf (one (float 0x3f90_0000_0000_0000)) false (bytes "t
       answer = Exported·.Refused (record { number = 24; place = at 0 0 Room });
       text = bytes "too short";
     }
-unfolding exportDxf exportAfter bytesOf cornerAt ofTexts refuse later Shape.shape Shape.refused paths.vertex paths.trace vertices.new
-    segmentCount ofVertex Each.coordinate Each.bulge Each.trace Each.finite Each.finiteThen isInfinite beyond isWhole noTrace isNan
-    millionthsOf tested value held bodyBytes verticesBytes vertexBytes groupBytes numberBytes sizeBytes sixDigits decimal decimalIn
-    F64.abs ofBits ofFields toBits toUnsigned ofInt odd units size span climb round sum add mul div lt le eq
+unfolding exportDxf exportAfter bytesOf cornerAt ofTexts refuse later Shape.shape Shape.refused paths.vertex paths.trace
+    vertices.new segmentCount ofVertex Each.coordinate Each.bulge Each.trace Each.finite Each.finiteThen isInfinite beyond isWhole
+    noTrace isNan millionthsOf tested value held bodyBytes verticesBytes vertexBytes groupBytes numberBytes sizeBytes sixDigits
+    decimal decimalIn F64.abs ofBits ofFields toBits toUnsigned ofInt odd units size span climb round sum add mul div lt le eq
 one-too-long = refl

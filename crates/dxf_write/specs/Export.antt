@@ -1,5 +1,5 @@
--- What an export answers, and what the lent text holds afterwards, by request 10: the path's own checks, as every call with a path
--- makes them; then whether each number is read back from a text; and last whether the text fits.
+-- What an export answers, and what the lent text holds afterwards, by request 10: the path's own checks, as every call with a
+-- path makes them; then whether each number is read back from a text; and last whether the text fits.
 use Prim.Native.Nat.{ℕ, zero, suc, _+_}
 use mathlib.Core.Path.{_≡_}
 use mathlib.Core.Bool.{Bool}

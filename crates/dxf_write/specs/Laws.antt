@@ -7,3 +7,4 @@ pub mod Passes
 pub mod Ends
 pub mod Back
 pub mod Checked
+pub mod RefusalNumbers

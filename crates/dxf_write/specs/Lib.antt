@@ -1,5 +1,6 @@
--- The text of a number (Millionths, Written), and what an export answers (Export); then what is proved of them: Spelt,
--- OnlyCandidate, RoundTrip. A reader need not believe Workings and Laws.
+-- The text of a number (Millionths, Written), what an export answers (Export), and the path that it gives back (Untraced); then
+-- what is proved of them: Spelt, OnlyCandidate, RoundTrip, ExportPromise, LayoutBulges, Examples. A reader need not believe
+-- Workings and Laws.
 pub mod Millionths
 pub mod Written
 pub mod Export
@@ -9,4 +10,6 @@ pub mod Laws
 pub mod Spelt
 pub mod OnlyCandidate
 pub mod RoundTrip
+pub mod ExportPromise
+pub mod LayoutBulges
 pub mod Examples

@@ -1,7 +1,6 @@
--- Which number text is read back as a float, by request 10. There is one candidate: |x| * 1,000,000, rounded to a whole number of
--- millionths. It is tested by the division itself: what is read from it must have the bits of x. OnlyCandidate.antt proves that no
--- other number text has the value of x.
-use Prim.Native.Nat.{ℕ}
+-- Which number text is read back as a float x, by request 10. There is one candidate: |x| * 1,000,000, rounded to a whole number
+-- of millionths, with the sign of x. It is tested by the division itself: what is read from it must have the bits of x.
+-- OnlyCandidate.antt proves that no other number text has the value of x.
 use mathlib.Core.Bool.{Bool, true, false, cond, _&&_}
 use lib.Dec.{eqb}
 use lib.IntN.{ℤ}

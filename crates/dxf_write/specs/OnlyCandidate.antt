@@ -6,7 +6,7 @@ use mathlib.Core.Logic.{_↔_}
 use Prim.Native.Nat.{ℕ}
 use mathlib.Core.List.{List}
 use mathlib.Core.Bool.{Bool, true, false, cond, true≢false}
-use lib.Dec.{T, eqb, eqb→eq, eqb-refl}
+use lib.Dec.{T, eqb→eq, eqb-refl}
 use lib.IntN.{ℤ}
 use lib.Ieee.{Float, binary64, fits, toBits, ofBits, le}
 use lib.Ieee.Bits.{is-true, ofBits-toBits}
@@ -44,7 +44,9 @@ module _ (x : Float) (f64 : T (fits binary64 x)) where
   -- what is found is read as x, whatever x is
   pub found-reads : (z : ℤ) → millionthsOf x ≡ found z → value z ≡ x
   unfolding millionthsOf tested
-  found-reads z = go (hasPart (raised x)) (sameBits (value (candidate x)) x) (same-float (value (candidate x)) x (value-fits _) f64)
+  found-reads z =
+      let v = value (candidate x) in
+      go (hasPart (raised x)) (sameBits v x) (same-float v x (value-fits (candidate x)) f64)
     where
       go : (a b : Bool) → (b ≡ true → value (candidate x) ≡ x) → cond a (cond b (found (candidate x)) none) none ≡ found z
           → value z ≡ x
@@ -63,7 +65,8 @@ of-value z small =
 
 module _ (x : Float) (f64 : T (fits binary64 x)) (small : T (le (F64.abs x) Limit.coordinate)) where
   reads-found : (z : ℤ) → value z ≡ x → millionthsOf x ≡ found z
-  reads-found z e = ap millionthsOf (sym e) ∙ of-value z (subst (λ (y : Float). T (le (F64.abs y) Limit.coordinate)) (sym e) small)
+  reads-found z e =
+      ap millionthsOf (sym e) ∙ of-value z (subst (λ (y : Float). T (le (F64.abs y) Limit.coordinate)) (sym e) small)
 
   -- the millionths found are those that are read as x: there are no others
   pub found-when : (z : ℤ) → (millionthsOf x ≡ found z) ↔ (value z ≡ x)

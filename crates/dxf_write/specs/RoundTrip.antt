@@ -1,7 +1,7 @@
--- Import of an export gives the same path: the same vertices, bit for bit, and closed as it was. Traces are checked on export and not
--- written, so that they are 0 in the path that is imported.
-use Prim.Native.Nat.{ℕ, _+_, _≤_, _<_}
-use mathlib.Core.Path.{_≡_, refl, sym, ap, _∙_, subst}
+-- Import of an export gives the same path: the same x, y and bulges, bit for bit, and closed as it was. Traces are checked on
+-- export and not written, so that they are 0 in the path that is imported.
+use Prim.Native.Nat.{ℕ, _+_, _≤_}
+use mathlib.Core.Path.{_≡_, refl, sym, ap, _∙_}
 use mathlib.Core.Logic.{Iff·rfl}
 use mathlib.Core.Bool.{Bool, true, false, not}
 use mathlib.Core.List.{List, [], _∷_, _++_}
@@ -25,13 +25,14 @@ use Rattle.paths.specs.Laws.Along.{along-fine}
 use Rattle.dxf_form.specs.Refusal
 use Rattle.dxf_form.specs.Numbers.{Corner, pathOf}
 use Rattle.dxf_form.specs.Form.{Group, closedBy, countLine}
-use Rattle.dxf_form.specs.Body.{Body, bodyOf}
+use Rattle.dxf_form.specs.Body.{bodyOf}
 use Rattle.dxf_form.specs.Workings.Reader.{groups}
-use Rattle.dxf_form.specs.Exactly.{ReadsBody, accepted}
+use Rattle.dxf_form.specs.Exactly.{accepted}
 use Rattle.dxf_read.specs.Import as imports
 use Rattle.dxf_read.specs.declared.Imported.the-variants as Imported·
 use Rattle.dxf_write.specs.Written.{flagOf, bodyBytes}
-use Rattle.dxf_write.specs.Export.{cornersOf, bytesOf, ofTexts, textChecks, roomCheck, checksOf, byChecks, exportAfter, exportDxf}
+use Rattle.dxf_write.specs.Export.{cornersOf, bytesOf, ofTexts, textChecks, roomCheck, checksOf}
+use Rattle.dxf_write.specs.Export.{byChecks, exportAfter, exportDxf}
 use Rattle.dxf_write.specs.Untraced.{untraced}
 use Rattle.dxf_write.specs.Spelt.{body-spelt}
 use Rattle.dxf_write.specs.Laws.Ends.{corners-long}
@@ -42,12 +43,12 @@ use Rattle.dxf_write.specs.declared.Exported.the-variants as Exported·
 
 -- ---- an export that answers bytes
 
-record Written (path : List Float) (closed : Bool) (old : List ℕ) (n : ℕ) : Type 0 where
+pub record Written (path : List Float) (closed : Bool) (old : List ℕ) (n : ℕ) : Type 0 where
   pub fine : first (checksOf path closed ++ (textChecks path ++ (roomCheck path closed old ∷ []))) ≡ Fine
   pub long : n ≡ length (bytesOf path closed)
   pub holds : exportDxf path closed old .text ≡ sets old 0 (bytesOf path closed)
 
-abbrev tagged : Exported → ℕ
+abbrev pub tagged : Exported → ℕ
 tagged (Exported·.Bytes k) = 0
 tagged (Exported·.Refused f) = 1
 
@@ -55,7 +56,7 @@ abbrev count-of : ℕ → Exported → ℕ
 count-of n (Exported·.Bytes k) = k
 count-of n (Exported·.Refused f) = n
 
-written : (path : List Float) (closed : Bool) (old : List ℕ) (n : ℕ) → exportDxf path closed old .answer ≡ Exported·.Bytes n
+pub written : (path : List Float) (closed : Bool) (old : List ℕ) (n : ℕ) → exportDxf path closed old .answer ≡ Exported·.Bytes n
     → Written path closed old n
 unfolding exportDxf exportAfter
 written path closed old n e = go (first (checksOf path closed ++ (textChecks path ++ (roomCheck path closed old ∷ [])))) refl e
@@ -130,7 +131,8 @@ module _ (path : List Float) (closed : Bool) (old : List ℕ) (n : ℕ) (f64 : (
   -- the floats that are read
   read-path : pathOf (cornersOf path) ≡ untraced path
   read-path =
-      path-back path (λ i l. vertex-back path f64 i (along-fine (ofTexts path) (vertexCount path) (λ j. Iff·rfl) .0 (texts .0) i l))
+      path-back path
+      (λ i l. vertex-back path f64 i (along-fine (ofTexts path) (vertexCount path) (λ j. Iff·rfl) .0 (texts .0) i l))
 
   -- the same path is imported, if it has room: the same vertices, with traces of 0, and closed as it was
   pub import-of-export : (room : List Float) → length path ≤ length room

@@ -1,11 +1,11 @@
 -- What an export writes, in the words of the form (dxf_form/specs/Form.antt): a number's bytes are a number text of it, and a
 -- body's bytes spell the groups of its vertices. So every whole number of millionths has a number text.
-use Prim.Native.Nat.{ℕ, zero, suc, _+_, _*_, _-_, _/_, _%_, _^_, _≤_, _<_}
+use Prim.Native.Nat.{ℕ, _+_, _*_, _-_, _/_, _%_, _^_, _≤_, _<_}
 use mathlib.Core.Path.{_≡_, refl, sym, ap, _∙_, subst}
-use mathlib.Core.Bool.{Bool, true, false, false≢true}
+use mathlib.Core.Bool.{Bool, true, false≢true}
 use mathlib.Core.List.{List, [], _∷_, _++_, append-assoc, append-nil}
 use native.Mathlib.Omega.{arith}
-use lib.ListN.{length, length-append}
+use lib.ListN.{length}
 use lib.IntN.{ℤ, pos, negsuc}
 use Rattle.layouts.specs.Layout.{whole, magnitude}
 use Rattle.layouts.specs.Exact.{negative}
@@ -43,7 +43,6 @@ use Rattle.dxf_form.specs.Form.{
   counted,
   Vertices,
   bent,
-  Gives,
   SpellsBody,
 }
 use Rattle.dxf_write.specs.Written.{
@@ -236,12 +235,12 @@ body-spelt closed vs =
     record {
       gs = count (length vs) ∷ flags (flagOf closed) ∷ vertexGroups vs;
       spelt =
-        spelt-group countCode (decimal (length vs)) (count-value (whole-spelt (length vs)))
-        (spelt-group flagsCode (decimal (flagOf closed)) (flags-value (whole-spelt (flagOf closed))) (vertices-spelt vs));
+          spelt-group countCode (decimal (length vs)) (count-value (whole-spelt (length vs)))
+          (spelt-group flagsCode (decimal (flagOf closed)) (flags-value (whole-spelt (flagOf closed))) (vertices-spelt vs));
       gives =
-        record {
-          vertexGroups = vertexGroups vs;
-          in-order = ap (λ (l : List Group). count (length vs) ∷ flags (flagOf closed) ∷ l) (all-counted vs);
-          vertices = vertices-given vs;
-        };
+          record {
+            vertexGroups = vertexGroups vs;
+            in-order = ap (λ (l : List Group). count (length vs) ∷ flags (flagOf closed) ∷ l) (all-counted vs);
+            vertices = vertices-given vs;
+          };
     }

@@ -1,5 +1,5 @@
--- The text of a path, by request 10: 90 and the number of vertices, 70 and 0 or 1, then 10, 20 and 42 of each vertex, 42 always. A
--- number has six digits after its point. No blanks, no needless zero in front, and a minus only before what is not zero.
+-- The text of a path, by request 10: 90 and the number of vertices, 70 and 0 or 1, then 10, 20 and 42 of each vertex, 42 always.
+-- A number has six digits after its point. No blanks, no needless zero in front, and a minus only before what is not zero.
 use Prim.Native.Nat.{ℕ, _+_, _/_, _%_}
 use mathlib.Core.Bool.{Bool, true, false}
 use mathlib.Core.List.{List, [], _∷_, _++_}

@@ -35,7 +35,10 @@ pub enum Exported {
 fn flags(closed: bool) -> u64
     ensures { λ r. ⌜ r ≡ Written.flagOf closed ⌝ }
 {
-    if closed { 1 } else { 0 }
+    if closed {
+        return 1;
+    }
+    0
 }
 
 // Writes the text of a path to the front of `text`; the rest of `text` is unchanged. If a number has no text, or the text does

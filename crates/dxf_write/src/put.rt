@@ -13,7 +13,7 @@ use dxf_form::value::MILLION;
 use put_text::put_byte;
 use put_text::put_decimal;
 
-// The digit k of ten, as a byte.
+// The last digit of a number, as a byte.
 fn digit_byte(n: u64) -> u8
     ensures { λ r. ⌜ r ≡ Written.digit n ⌝ }
 {
@@ -80,7 +80,8 @@ pub fn put_whole_group(out: &mut [u8], at: usize, code: u64, n: u64) -> usize
 // A group whose value is a number, by its sign and its millionths.
 fn put_number_group(out: &mut [u8], at: usize, code: u64, negative: bool, n: u64) -> usize
     requires { ⌜ at + length (Written.groupBytes code (Written.numberBytes (whole negative n))) ≤ length (now out) ⌝ }
-    ensures { λ r. ⌜ Put (Written.groupBytes code (Written.numberBytes (whole negative n))) (now (out .entry)) at (now (out .exit)) r ⌝ }
+    ensures { λ r. ⌜
+        Put (Written.groupBytes code (Written.numberBytes (whole negative n))) (now (out .entry)) at (now (out .exit)) r ⌝ }
 {
     let next = put_line(out, at, code);
     let end = put_number(out, next, negative, n);
@@ -100,7 +101,8 @@ pub fn put_vertex(
 ) -> usize
     requires { ⌜ at + length (Written.vertexBytes (told.cornerBy «x_minus» x «y_minus» y «b_minus» b)) ≤ length (now out) ⌝ }
     ensures { λ r. ⌜
-        Put (Written.vertexBytes (told.cornerBy «x_minus» x «y_minus» y «b_minus» b)) (now (out .entry)) at (now (out .exit)) r ⌝ }
+        Put (Written.vertexBytes (told.cornerBy «x_minus» x «y_minus» y «b_minus» b))
+        (now (out .entry)) at (now (out .exit)) r ⌝ }
 {
     let y_at = put_number_group(out, at, order::X, x_minus, x);
     let b_at = put_number_group(out, y_at, order::Y, y_minus, y);

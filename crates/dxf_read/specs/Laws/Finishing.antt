@@ -78,11 +78,11 @@ module _ (vs : List Corner) where
   vertex-count : length (pathOf vs) / numbersAVertex ≡ length vs
   vertex-count = let e = path-length vs in omega arith
 
-  shape-long : mostVertices < length vs → Shape.shape (pathOf vs) 0 ≡ Bad (whole numbers.vertices Length)
+  pub shape-long : mostVertices < length vs → Shape.shape (pathOf vs) 0 ≡ Bad (whole numbers.vertices Length)
   unfolding Shape.shape refuse later
   shape-long h = rw (whole-vertices, vertex-count, lt-ltb mostVertices (length vs) h)
 
-  shape-fine : length vs ≤ mostVertices → Shape.shape (pathOf vs) 0 ≡ Fine
+  pub shape-fine : length vs ≤ mostVertices → Shape.shape (pathOf vs) 0 ≡ Fine
   unfolding Shape.shape refuse later
   shape-fine h = rw (whole-vertices, vertex-count, le-ltb mostVertices (length vs) h)
 

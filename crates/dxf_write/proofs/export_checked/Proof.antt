@@ -1,5 +1,5 @@
--- `dxf_write::export_checked` meets its contract: the first pass refuses or counts the bytes, and if they fit, the count, the flags
--- and the vertices are put one after the other. Assumes nothing.
+-- `dxf_write::export_checked` meets its contract: the first pass refuses or counts the bytes, and if they fit, the count, the
+-- flags and the vertices are put one after the other. Assumes nothing.
 use native.Mathlib.Omega.{arith}
 use borrow.Author.Needs.{needs}
 use denote.Ref.{now}
@@ -69,9 +69,9 @@ put-vertices-requires c κs =
     let told = counted .before .before in
     let read = told .before .before in
     let a = read .before .before .before .args in
-    vertices-fit _ (a .closed) (now (a .text)) _ (read .measure .ensures) (told .m2 .given .1) _ _ (counted .vertex-count .ensures)
-    (sized .decimal-size .ensures) (enough .if1 .left) (count .put-whole-group .ensures) (search needs) _ (flag .flags .ensures)
-    (flags .put-whole-group2 .ensures) (search needs)
+    vertices-fit _ (a .closed) (now (a .text)) _ (read .measure .ensures) (told .m2 .given .1) _ _
+    (counted .vertex-count .ensures) (sized .decimal-size .ensures) (enough .if1 .left) (count .put-whole-group .ensures)
+    (search needs) _ (flag .flags .ensures) (flags .put-whole-group2 .ensures) (search needs)
 
 returns-3 : tie.Need-returns-3
 returns-3 c =
@@ -86,8 +86,8 @@ returns-3 c =
     let read = told .before .before in
     let a = read .before .before .before .args in
     all-written _ (a .closed) (now (a .text)) _ (read .measure .ensures) (told .m2 .given .1) _ _ (counted .vertex-count .ensures)
-    (sized .decimal-size .ensures) (enough .if1 .left) (count .put-whole-group .ensures) (search needs) _ (flag .flags .ensures)
-    (flags .put-whole-group2 .ensures) (search needs) (vertices .put-vertices .ensures)
+    (sized .decimal-size .ensures) (enough .if1 .left) (count .put-whole-group .ensures) (search needs) _
+    (flag .flags .ensures) (flags .put-whole-group2 .ensures) (search needs) (vertices .put-vertices .ensures)
 
 pub export-checked-spec : {M : Type 1} → statement M
 export-checked-spec =

@@ -1,4 +1,4 @@
--- The vertices of a path and of the same path without its traces; and that what is written of a vertex is read as the same floats.
+-- The vertices of a path, and of the same path without its traces; and what is written of a vertex is read as the same floats.
 use Prim.Native.Nat.{ℕ, zero, suc, _+_, _*_, _/_, _%_, _<_}
 use mathlib.Core.Path.{_≡_, refl, sym, ap, _∙_, subst}
 use mathlib.Core.Bool.{Bool, true, false, true≢false}
@@ -130,7 +130,8 @@ next-corners a b c t rest i (suc k) =
     ap (λ (v : Corner). v ∷ cornersFrom (a ∷ b ∷ c ∷ t ∷ rest) (i + 1 + 1) k) (next-corner a b c t rest i)
     ∙ ap (λ (l : List Corner). cornerAt rest i ∷ l) (next-corners a b c t rest (i + 1) k)
 
-pub path-back : (path : List Float) → ((i : ℕ) → i < vertexCount path → ReadBack (vertex path i)) → pathOf (cornersOf path) ≡ untraced path
+pub path-back : (path : List Float) → ((i : ℕ) → i < vertexCount path → ReadBack (vertex path i))
+    → pathOf (cornersOf path) ≡ untraced path
 unfolding cornerAt vertex vertices.new
 path-back [] back = refl
 path-back (a ∷ []) back = refl
@@ -144,7 +145,8 @@ path-back (a ∷ b ∷ c ∷ t ∷ rest) back =
     (back (suc i) (omega (arith, more-vertices a b c t rest)))) in
     ap (λ (k : ℕ). pathOf (cornersFrom p 0 k)) (more-vertices a b c t rest)
     ∙ ap (λ (l : List Corner). pathOf (cornerAt p 0 ∷ l)) (next-corners a b c t rest 0 n)
-    ∙ ap (λ (l : List Float). value (cornerAt p 0 .x) ∷ value (cornerAt p 0 .y) ∷ value (cornerAt p 0 .bulge) ∷ trace ∷ l) later-ones
+    ∙ ap (λ (l : List Float). value (cornerAt p 0 .x) ∷ value (cornerAt p 0 .y) ∷ value (cornerAt p 0 .bulge) ∷ trace ∷ l)
+    later-ones
     ∙ ap (λ (f : Float). f ∷ value (cornerAt p 0 .y) ∷ value (cornerAt p 0 .bulge) ∷ trace ∷ untraced rest) (v .x-is)
     ∙ ap (λ (f : Float). a ∷ f ∷ value (cornerAt p 0 .bulge) ∷ trace ∷ untraced rest) (v .y-is)
     ∙ ap (λ (f : Float). a ∷ b ∷ f ∷ trace ∷ untraced rest) (v .bulge-is)

@@ -1,14 +1,12 @@
 -- The only candidate: if z millionths are read as a float of at most 2^20 in magnitude, then that float times 1,000,000 is z,
 -- rounded. Every rounding on the way is off by at most 2^-20, since the numbers are small; so the whole part is right.
 use Prim.Native.Nat.{ℕ, zero, suc, _+_, _-_, _*_, _/_, _^_, _≤_, _<_, min}
-use mathlib.Core.Path.{_≡_, refl, sym, ap, _∙_, subst}
-use mathlib.Core.Bool.{Bool, true, false, not, cond, _&&_, true≢false}
+use mathlib.Core.Path.{_≡_, refl, ap, _∙_, subst}
+use mathlib.Core.Bool.{Bool, true, false, not, cond, true≢false}
 use native.Mathlib.Nat.{
-  mul-one,
   mul-le-mul-right,
   le-of-mul-le-mul-right,
   lt-of-mul-lt-mul-right,
-  le-antisymm,
   le-div-iff-mul-le,
   div-lt-iff-lt-mul,
   le-trans,
@@ -25,7 +23,7 @@ use lib.Ieee.Exact.{HasValue}
 use lib.Ieee.Fits.{down-pos, and-i}
 use Rattle.float_laws.specs.Signed.{Diff, SizeOf, ups, downs, signed-of, size-above, diff-same, diff-at, diff-finite, own-diff}
 use Rattle.float_laws.specs.Order.{le-diff, lt-diff, le-over, lt-over}
-use Rattle.float_laws.specs.Rounded.{Rounded, mul-rounded, add-over}
+use Rattle.float_laws.specs.Rounded.{mul-rounded, add-over}
 use Rattle.float_laws.specs.Roundings.{Sized, rounded-at}
 use Rattle.float_laws.specs.Binary64.{unit, unit-pos, zero-is, units64, sized64}
 use Rattle.floats.specs.F64
@@ -64,7 +62,7 @@ whole-part (fin false n e) W L k w v pos-L l m small =
 
 -- ---- the magnitude of a rounding, by its count of units
 
-abs-sized : (x : Float) (s : Bool) (X c : ℕ) → Diff x (ups s X) (downs s X) c → HasValue (F64.abs x) false X c
+pub abs-sized : (x : Float) (s : Bool) (X c : ℕ) → Diff x (ups s X) (downs s X) c → HasValue (F64.abs x) false X c
 abs-sized x s X c d =
     let w = signed-of x (ups s X) (downs s X) c d in
     subst (λ (n : ℕ). HasValue (F64.abs x) false n c) (same s (w .s) (w .size) (w .is))
@@ -165,7 +163,8 @@ half-units =
     let u = units64 half (diff-finite half 1 0 2 half-is) (ofBits-fits binary64 0x3fe0_0000_0000_0000) in
     let same = diff-same half 1 0 2 (u .p) (u .n) unit (zero-lt-suc 1) half-is (u .is) in
     let t = twice (u .p) (u .n) unit same in
-    (u .p - u .n, record { is = diff-at half 1 0 2 (u .p - u .n) 0 unit (zero-lt-suc 1) half-is (back (u .p - u .n) unit t); twice = t })
+    let H = u .p - u .n in
+    (H, record { is = diff-at half 1 0 2 H 0 unit (zero-lt-suc 1) half-is (back H unit t); twice = t })
   where
     twice : (p n L : ℕ) → 1 * L + n * 2 ≡ p * 2 + 0 * L → (p - n) * 2 ≡ L
     twice p n L e = omega arith
@@ -283,7 +282,9 @@ module _ (z : ℤ) (small : T (le (F64.abs (value z)) Limit.coordinate)) where
           → lt (value z) millionths.zero ≡ negative y
       go (pos n) X d l =
           is-false (lt (value z) millionths.zero)
-          (not-T (lt (value z) millionths.zero) (λ t. let w = lt-over (value z) millionths.zero X 0 0 0 unit unit-pos d zero-is .0 t in omega arith))
+          (not-T (lt (value z) millionths.zero) (λ t.
+          let w = lt-over (value z) millionths.zero X 0 0 0 unit unit-pos d zero-is .0 t in
+          omega arith))
       go (negsuc n) X d l =
           is-true (lt (value z) millionths.zero)
           (lt-over (value z) millionths.zero 0 X 0 0 unit unit-pos d zero-is .1

@@ -1,27 +1,23 @@
 -- The checks of a path without its traces: if the path passes, so does it.
-use Prim.Native.Nat.{ℕ, _+_, _-_, _/_, _%_, _<_}
+use Prim.Native.Nat.{ℕ, _/_, _%_, _<_}
 use mathlib.Core.Path.{_≡_, refl, sym, ap, _∙_, subst}
-use mathlib.Core.Bool.{Bool, true, false, not, cond}
+use mathlib.Core.Bool.{Bool, false}
 use mathlib.Core.List.{List}
 use native.Mathlib.Omega.{arith}
-use lib.Dec.{T, eqb, eqb→eq, ltb}
+use lib.Dec.{eqb, eqb→eq}
 use lib.ListN.{length}
 use lib.Ieee.{Float, ofBits, ofFields, lt, le, eq, isNan}
-use Rattle.plane.specs.declared.pline_vertex.PlineVertex.{PlineVertex}
-use Rattle.checks.specs.declared.fault.Checked.{Checked}
-use Rattle.checks.specs.declared.fault.Checked.the-variants.{Fine, Bad}
-use Rattle.checks.specs.Fault.{later}
+use Rattle.checks.specs.declared.fault.Checked.the-variants.{Fine}
 use Rattle.checks.specs.First.{first}
-use Rattle.checks.specs.Number.{outside, isWhole, noTrace}
+use Rattle.checks.specs.Number.{isWhole, noTrace}
 use Rattle.checks.specs.Laws.Fine.{not-denied}
 use Rattle.checks.specs.Laws.Later.{fine-left}
 use Rattle.paths.specs.Path.{vertexCount, vertex}
-use Rattle.paths.specs.Path as paths
 use Rattle.paths.specs.Shape
 use Rattle.paths.specs.Segments.{segmentCount, after, segmentFrom}
 use Rattle.paths.specs.Check.{pathChecks, checkPath}
 use Rattle.paths.specs.PathRefusals as table
-use Rattle.paths.specs.Laws.Fine.{VertexFine, ArcFine, PathFine, path-fine}
+use Rattle.paths.specs.Laws.Fine.{VertexFine, ArcFine, path-fine}
 use Rattle.paths.specs.Laws.Segments.{count-within, after-within}
 use Rattle.dxf_form.specs.Numbers.{trace}
 use Rattle.dxf_write.specs.Untraced.{untraced}
@@ -69,14 +65,17 @@ module _ (path : List Float) (closed : Bool) (shaped : Shape.shape path 0 ≡ Fi
   same-checks e =
       let fine = path-fine Fine path closed 0 .0 (fine-left (first (pathChecks path closed 0)) ∙ e) .1 in
       sym (fine-left (first (pathChecks (untraced path) closed 0)))
-      ∙ path-fine Fine (untraced path) closed 0 .1 (refl, record {
-        vertices = λ i l.
-            let h : i < vertexCount path = subst (λ (n : ℕ). i < n) same-count l in
-            subst VertexFine (sym (untraced-vertex path i h)) (fine .vertices i h);
-        traces = λ i l.
-            let h : i < vertexCount path = subst (λ (n : ℕ). i < n) same-count l in
-            ap noTrace (untraced-trace path i h) ∙ zero-trace;
-        arcs = λ i l.
-            let h : i < segmentCount path closed = subst (λ (n : ℕ). i < n) same-segments l in
-            same-arc i h (fine .arcs i h);
-      })
+      ∙ path-fine Fine (untraced path) closed 0 .1 (
+        refl,
+        record {
+          vertices = λ i l.
+              let h : i < vertexCount path = subst (λ (n : ℕ). i < n) same-count l in
+              subst VertexFine (sym (untraced-vertex path i h)) (fine .vertices i h);
+          traces = λ i l.
+              let h : i < vertexCount path = subst (λ (n : ℕ). i < n) same-count l in
+              ap noTrace (untraced-trace path i h) ∙ zero-trace;
+          arcs = λ i l.
+              let h : i < segmentCount path closed = subst (λ (n : ℕ). i < n) same-segments l in
+              same-arc i h (fine .arcs i h);
+        },
+      )

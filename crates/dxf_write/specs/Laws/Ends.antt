@@ -6,7 +6,6 @@ use mathlib.Core.List.{List, [], _∷_, _++_}
 use native.Mathlib.Omega.{arith}
 use borrow.Author.Tests.{lt-ltb, le-ltb}
 use lib.ListN.{length, length-append}
-use lib.Seq.{sets}
 use lib.Ieee.{Float}
 use Rattle.checks.specs.declared.fault.Item.the-variants.{Room}
 use Rattle.checks.specs.declared.fault.Fault.{Fault}
@@ -64,7 +63,8 @@ flag-digit true = refl
 flag-digit false = refl
 
 -- the two groups in front of the vertices
-count-long : (path : List Float) → length (groupBytes countCode (decimal (vertexCount path))) ≡ length (decimal (vertexCount path)) + 4
+count-long : (path : List Float)
+    → length (groupBytes countCode (decimal (vertexCount path))) ≡ length (decimal (vertexCount path)) + 4
 count-long path = omega (arith, group-long countCode (decimal (vertexCount path)), count-digits)
 
 flags-long : (closed : Bool) → length (groupBytes flagsCode (decimal (flagOf closed))) ≡ 5

@@ -1,7 +1,7 @@
 -- The code's way to the millionths of a float: what its tests say, and that a number with a whole part is no NaN.
 use Prim.Native.Nat.{ℕ}
 use mathlib.Core.Path.{_≡_, refl, sym, ap, _∙_, subst}
-use mathlib.Core.Bool.{Bool, true, false, not, cond, _&&_, true≢false}
+use mathlib.Core.Bool.{Bool, true, false, not, cond, true≢false}
 use borrow.Author.Tests.{ne-eqb, eq-eqb}
 use lib.Dec.{T}
 use lib.IntN.{ℤ, pos}
@@ -11,7 +11,8 @@ use Rattle.float_laws.specs.Chains.{lt-le}
 use Rattle.floats.specs.F64
 use Rattle.layouts.specs.Layout.{whole}
 use Rattle.dxf_form.specs.Numbers.{scale, value}
-use Rattle.dxf_write.specs.Millionths.{Found, none, found, zero, half, top, raised, hasPart, candidate, tested, millionthsOf}
+use Rattle.dxf_write.specs.Millionths.{Found, none, found, zero, half, top}
+use Rattle.dxf_write.specs.Millionths.{raised, hasPart, candidate, tested, millionthsOf}
 
 pub off : {b : Bool} → b ≡ false → T (not b)
 off h = subst (λ (z : Bool). T (not z)) (sym h) tt

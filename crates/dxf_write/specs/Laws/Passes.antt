@@ -1,8 +1,8 @@
 -- The two passes over the vertices of a path: what one vertex says, and what remains to check, to count and to put after it.
-use Prim.Native.Nat.{ℕ, zero, suc, _+_, _-_, _≤_, _<_}
+use Prim.Native.Nat.{ℕ, suc, _+_, _-_, _≤_, _<_}
 use mathlib.Core.Path.{_≡_, refl, sym, ap, _∙_}
 use mathlib.Core.Bool.{Bool}
-use mathlib.Core.List.{List, [], _∷_, _++_}
+use mathlib.Core.List.{List, [], _++_}
 use native.Mathlib.Nat.{sub-zero}
 use native.Mathlib.Omega.{arith}
 use lib.ListN.{length, length-append}
@@ -16,14 +16,14 @@ use Rattle.checks.specs.declared.fault.Checked.the-variants.{Fine, Bad}
 use Rattle.checks.specs.Fault.{refuse, later}
 use Rattle.checks.specs.First.{first}
 use Rattle.checks.specs.Laws.Chains.{first-append}
-use Rattle.paths.specs.Path.{vertexCount, vertex}
+use Rattle.paths.specs.Path.{vertex}
 use Rattle.paths.specs.Check.{along}
 use Rattle.layouts.specs.Layout.{whole}
 use Rattle.put_text.specs.Workings.Put.{Put}
-use Rattle.put_text.specs.Laws.Put.{put-join, put-none}
-use Rattle.dxf_write.specs.Millionths.{Found, none, found, millionthsOf}
+use Rattle.put_text.specs.Laws.Put.{put-join}
+use Rattle.dxf_write.specs.Millionths.{millionthsOf}
 use Rattle.dxf_write.specs.Written.{vertexBytes, verticesBytes}
-use Rattle.dxf_write.specs.Export.{cornerAt, cornersFrom, cornersOf, ofTexts, textChecks}
+use Rattle.dxf_write.specs.Export.{cornerAt, cornersFrom, ofTexts}
 use Rattle.dxf_write.specs.Workings.Told.{foundBy, cornerBy, noText, VertexTold}
 use Rattle.dxf_write.specs.declared.millionths.Number.{Number}
 use Rattle.dxf_write.specs.declared.millionths.Number.the-variants as Number·

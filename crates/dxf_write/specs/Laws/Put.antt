@@ -139,7 +139,8 @@ bulge-digits = refl
 module _ (x-minus : Bool) (x : ℕ) (y-minus : Bool) (y : ℕ) (b-minus : Bool) (b : ℕ) where
   pub vertex-long : length (vertexBytes (cornerBy x-minus x y-minus y b-minus b))
       ≡ length (groupBytes xCode (numberBytes (whole x-minus x)))
-      + (length (groupBytes yCode (numberBytes (whole y-minus y))) + length (groupBytes bulgeCode (numberBytes (whole b-minus b))))
+      + (length (groupBytes yCode (numberBytes (whole y-minus y)))
+      + length (groupBytes bulgeCode (numberBytes (whole b-minus b))))
   unfolding vertexBytes
   vertex-long =
       length-append (groupBytes xCode (numberBytes (whole x-minus x))) _
@@ -148,7 +149,10 @@ module _ (x-minus : Bool) (x : ℕ) (y-minus : Bool) (y : ℕ) (b-minus : Bool) 
 
   -- each code has two digits
   pub vertex-size : length (vertexBytes (cornerBy x-minus x y-minus y b-minus b))
-      ≡ length (numberBytes (whole x-minus x)) + length (numberBytes (whole y-minus y)) + length (numberBytes (whole b-minus b)) + 12
+      ≡ length (numberBytes (whole x-minus x))
+      + length (numberBytes (whole y-minus y))
+      + length (numberBytes (whole b-minus b))
+      + 12
   vertex-size =
       omega (
         arith,

@@ -1,13 +1,14 @@
 -- The float of a whole number of millionths: one rounding of the quotient. It is a number, has the sign, and is close to the
 -- quotient.
 use Prim.Native.Nat.{ℕ, zero, suc, _*_, _^_, _≤_, _<_}
-use mathlib.Core.Path.{_≡_, refl, sym, ap, _∙_, subst}
+use mathlib.Core.Path.{_≡_, refl, ap, _∙_}
 use mathlib.Core.Bool.{Bool, true, false, not, cond, false≢true}
 use native.Mathlib.Nat.{mul-one}
 use native.Mathlib.Omega.{arith}
-use lib.Dec.{T, ltb, ltb→lt, nltb→le}
+use borrow.Author.Tests.{le-ltb}
+use lib.Dec.{T, ltb, nltb→le}
 use lib.IntN.{ℤ, pos, negsuc}
-use lib.Ieee.{Float, binary64, fits, isNan, ofInt, ofBits, ofFields, div, round, unlike}
+use lib.Ieee.{binary64, fits, isNan, ofInt, ofBits, ofFields, round, unlike}
 use lib.Ieee.Exact.{HasValue}
 use lib.Ieee.Back.{round-whole}
 use lib.Ieee.Fits.{div-fits}
@@ -28,6 +29,9 @@ at-most n = go (ltb most n) (nltb→le most n)
     go : (b : Bool) → (T (not b) → n ≤ most) → cond b most n ≤ most
     go true h = omega arith
     go false h = h tt
+
+pub few-most : (n : ℕ) → n ≤ most → atMost n ≡ n
+few-most n h = rw (le-ltb most n h)
 
 -- some millionths stay some
 pub some-held : (n : ℕ) → 0 < n → 0 < atMost n

@@ -1,10 +1,8 @@
--- `dxf_write::millionths::millionths` meets its contract: where there is a whole part, x is a number, and the candidate is tested.
--- Assumes nothing.
-use mathlib.Core.Path.{_≡_, sym, ap, _∙_}
-use mathlib.Core.Bool.{true}
+-- `dxf_write::millionths::millionths` meets its contract: where there is a whole part, x is a number, and the candidate is
+-- tested. Assumes nothing.
+use mathlib.Core.Path.{sym, ap, _∙_}
 use borrow.Author.Needs.{needs}
-use lib.Ieee.{Float}
-use Rattle.dxf_write.specs.Millionths.{raised, hasPart}
+use Rattle.dxf_write.specs.Millionths.{hasPart}
 use Rattle.dxf_write.specs.Laws.Number.{part-above, part-below, part-real, raised-is, tried, untried}
 use Rattle.dxf_write.proofs.millionths.millionths.Statement.{statement}
 use Rattle.dxf_write.proofs.millionths.millionths.Tie as tie

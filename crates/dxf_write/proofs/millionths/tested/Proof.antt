@@ -1,5 +1,5 @@
 -- `dxf_write::millionths::tested` meets its contract: neither number is a NaN, so their bits tell them apart. Assumes nothing.
-use mathlib.Core.Path.{_∙_, ap, sym}
+use mathlib.Core.Path.{_∙_, ap}
 use borrow.Author.Needs.{needs}
 use lib.Ieee.{isNan}
 use Rattle.dxf_write.specs.Laws.Value.{value-real}

@@ -1,5 +1,5 @@
--- `dxf_write::put::put_number` meets its contract: 0 and a number without a sign are their digits, and a minus stands before those
--- of another. Assumes nothing.
+-- `dxf_write::put::put_number` meets its contract: 0 and a number without a sign are their digits, and a minus stands before
+-- those of another. Assumes nothing.
 use native.Mathlib.Omega.{arith}
 use borrow.Author.Needs.{needs}
 use Rattle.dxf_write.specs.Laws.Put.{zero-put, plain-put, minus-put, zero-length, plain-length, minus-length}

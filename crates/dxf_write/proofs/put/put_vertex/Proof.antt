@@ -27,8 +27,8 @@ returns c =
     let second = third .before .before .before .before in
     let first = second .before .before .before .before in
     let a = first .before .before .before .args in
-    vertex-put (a .x-minus) (a .x) (a .y-minus) (a .y) (a .b-minus) (a .b) (first .put-number-group .ensures) (second .put-number-group2 .ensures)
-    (third .put-number-group3 .ensures)
+    vertex-put (a .x-minus) (a .x) (a .y-minus) (a .y) (a .b-minus) (a .b)
+    (first .put-number-group .ensures) (second .put-number-group2 .ensures) (third .put-number-group3 .ensures)
 
 pub put-vertex-spec : {M : Type 1} → statement M
 put-vertex-spec =

@@ -1,6 +1,6 @@
 -- `dxf_write::sizes::decimal_size` meets its contract. The loop's invariant: the digits of the rest, and those counted beyond the
 -- first, are those of the number. Assumes nothing.
-use Prim.Native.Nat.{_+_, _≤_}
+use Prim.Native.Nat.{_+_}
 use mathlib.Core.Path.{_≡_}
 use native.Mathlib.Omega.{arith}
 use borrow.Author.Needs.{needs}

@@ -1,6 +1,5 @@
--- `dxf_write::sizes::number_size` meets its contract: a point and six digits follow the whole part, and a minus stands before what
--- is negative and not zero. Assumes nothing.
-use mathlib.Core.Path.{_∙_}
+-- `dxf_write::sizes::number_size` meets its contract: a point and six digits follow the whole part, and a minus stands before
+-- what is negative and not zero. Assumes nothing.
 use native.Mathlib.Omega.{arith}
 use borrow.Author.Needs.{needs}
 use Rattle.dxf_form.specs.Numbers.{million}

@@ -1,5 +1,5 @@
--- `dxf_write::vertices::measure` meets its contract. The loop's invariant: what is left to check has the first fault of the whole,
--- and what is left to count makes up the whole. Assumes nothing.
+-- `dxf_write::vertices::measure` meets its contract. The loop's invariant: what is left to check has the first fault of the
+-- whole, and what is left to count makes up the whole. Assumes nothing.
 use Prim.Native.Nat.{_-_, _*_, _≤_}
 use native.Mathlib.Omega.{arith}
 use borrow.Author.Needs.{needs}

@@ -1,6 +1,6 @@
 -- `dxf_write::vertices::put_vertices` meets its contract. The loop's invariant: the text of the vertices that are left, put after
 -- what stands now, gives what all of them give. Assumes nothing.
-use Prim.Native.Nat.{_-_, _≤_}
+use Prim.Native.Nat.{_-_}
 use mathlib.Core.Path.{_≡_, refl}
 use native.Mathlib.Omega.{arith}
 use borrow.Author.Needs.{needs}
@@ -26,7 +26,8 @@ put-vertex-requires : tie.Need-put-vertex-requires Inv-loop μ-loop
 put-vertex-requires c κs =
     let told = c .before .before in
     let read = told .before .before in
-    putting-room (read .before .before .loop .inv .0) (search needs) (read .vertex-numbers .ensures) (told .v .given .1) (omega arith)
+    putting-room (read .before .before .loop .inv .0) (search needs) (read .vertex-numbers .ensures) (told .v .given .1)
+    (omega arith)
 
 loop-again : tie.Need-loop-again Inv-loop μ-loop
 loop-again c =
