@@ -105,7 +105,7 @@ pub const BAD_WHOLES: &[&[u8]] = &[
 
 const FIVE: [&str; 5] = ["90", "70", "10", "20", "42"];
 
-pub const DAMAGES: [Damage; 44] = [
+pub const DAMAGES: [Damage; 45] = [
     damage("a byte changed", |parts, rng| {
         at_byte(parts, rng, |_, rng| vec![any_byte(rng)])
     }),
@@ -304,17 +304,23 @@ pub const DAMAGES: [Damage; 44] = [
     damage("a large number", |parts, rng| {
         with_number(parts, rng, |_, rng| large(rng))
     }),
-    damage("a place twice", |parts, _| {
-        let mut pairs = parts.clone();
-        for code in ["10", "20"] {
-            let at = parts.of(code);
-            let value = at.first().map(|at| parts.0[*at].value.clone());
-            for at in at {
-                pairs.0[at].value = value.clone().unwrap_or_default();
+    damage("a place twice", |parts, _| at_one_place(parts).text()),
+    damage(
+        "a place twice, and a number beyond its limit",
+        |parts, rng| {
+            let mut pairs = at_one_place(parts);
+            let (code, value) = rng.pick(&[
+                ("10", "-1048576.000001"),
+                ("20", "1048577"),
+                ("42", "1.000001"),
+                ("42", "-2"),
+            ]);
+            if let Some(last) = parts.of(code).last() {
+                pairs.0[*last].value = value.into();
             }
-        }
-        pairs.text()
-    }),
+            pairs.text()
+        },
+    ),
     damage("a fault and another count", |parts, rng| {
         let text = with_value(parts, "90", rng, |_, _| b"9".to_vec());
         let at = place(text.len(), rng);
@@ -370,6 +376,19 @@ fn at_line(parts: &Parts, rng: &mut Rng, make: fn(&[u8], &mut Rng) -> Vec<u8>) -
     let at = place(lines.len(), rng);
     lines[at] = make(&lines[at], rng);
     joined(&lines)
+}
+
+/// All vertices at the first one's place.
+fn at_one_place(parts: &Parts) -> Parts {
+    let mut pairs = parts.clone();
+    for code in ["10", "20"] {
+        let at = parts.of(code);
+        let value = at.first().map(|at| parts.0[*at].value.clone());
+        for at in at {
+            pairs.0[at].value = value.clone().unwrap_or_default();
+        }
+    }
+    pairs
 }
 
 fn put_in(parts: &Parts, code: &[u8], value: &[u8], rng: &mut Rng) -> Vec<u8> {

@@ -155,6 +155,7 @@ impl Run {
         self.each_vertex();
         self.chords();
         self.exactly = true;
+        self.vast();
         self.largest();
         self.exactly = false;
     }
@@ -355,6 +356,44 @@ impl Run {
                 }
             }
         }
+    }
+
+    /// Very many blanks, zeros or digits in one line of each sort, and very many other groups, with a fault behind them and
+    /// without one.
+    fn vast(&mut self) {
+        const MANY: usize = 1 << 18;
+        const GROUPS: usize = 1 << 19;
+        let lines: Vec<&[u8]> = b"90\n1\n70\n1\n10\n5\n20\n6\n42\n1\n9\n9"
+            .split(|byte| *byte == b'\n')
+            .collect();
+        for at in 0..lines.len() {
+            for filler in [b' ', b'0', b'9'] {
+                let mut lines: Vec<Vec<u8>> = lines.iter().map(|line| line.to_vec()).collect();
+                lines[at].splice(0..0, vec![filler; MANY]);
+                self.import(&joined(&lines));
+                lines[at].pop();
+                lines[at].push(b' ');
+                self.import(&joined(&lines));
+            }
+        }
+        let groups = b"8\n\n".repeat(GROUPS);
+        for end in [
+            "90\n1\n70\n0\n10\n5\n20\n6\n",
+            "90\n2\n70\n0\n10\n5\n20\n6\n",
+            "90\n1\n70\n0\n10\n5\n20\n-0\n",
+            "90\n1\n70\n0\n10\n5\n",
+            "90\n1\n70\n0\n20\n5\n",
+            "90\n1\n70",
+            "x\n1\n",
+            "8\n1",
+            "",
+        ] {
+            self.import(&[&groups, end.as_bytes()].concat());
+        }
+        self.import(&[b"90\n0\n70\n0\n", &groups[..]].concat());
+        self.import(&[b"90\n1\n70\n0\n", &groups[..]].concat());
+        self.import(&vec![b'\n'; MANY]);
+        self.import(&vec![b' '; MANY]);
     }
 
     /// Bodies and paths of 4,096 vertices, of one less and of one more: right, with a fault at the end, and with another count.

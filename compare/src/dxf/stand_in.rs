@@ -51,6 +51,8 @@ fn at_line(number: u64, line: u64) -> u64 {
         _ if number == 22 && is("22 at the line of 90") => line - 1,
         _ if number == 22 && is("22 at line 2") => 2,
         _ if is("no line told") => 0,
+        _ if is("lines of 16 bits") => line & 0xffff,
+        _ if is("lines of 20 bits") => line & 0xf_ffff,
         _ => line,
     };
     word(number, 15, line)

@@ -135,6 +135,8 @@ const OF_IMPORTS: &[&str] = &[
     "22 at the line of 90",
     "22 at line 2",
     "no line told",
+    "lines of 16 bits",
+    "lines of 20 bits",
     "millionths times 1e-6",
     "numbers of 32 bits",
     "whole and fraction added",
@@ -294,6 +296,8 @@ const OF_THE_LARGEST: &[&str] = &[
 ];
 /// No draw comes so close.
 const CHOSEN: &[&str] = &[
+    "lines of 16 bits",
+    "lines of 20 bits",
     "a chord of 2^-40 refused",
     "7 by the count, before all else",
 ];
@@ -372,5 +376,5 @@ fn a_cap_that_does_not_matter() {
 /// docs/COMPARING.md says how many.
 #[test]
 fn how_many_are_tried() {
-    assert_eq!(defects().count(), 160);
+    assert_eq!(defects().count(), 162);
 }
