@@ -56,10 +56,8 @@ fn check_body(buffer: &[f64], n: usize, count: u64, line: u64, closed: bool, roo
     }
     let end = n * NUMBERS;
     let checked = check_path(Checked::Fine, &buffer[..end], closed, 0);
-    later(
-        checked,
-        refuse(room < end, refusal::ROOM, at(0, 0, Item::Room)),
-    )
+    let fits = refuse(room < end, refusal::ROOM, at(0, 0, Item::Room));
+    later(checked, fits)
 }
 
 // Copies the first `many` floats.

@@ -1,6 +1,7 @@
 -- `dxf_read::digits::grown` meets its contract: its test is the definition's.
+use mathlib.Core.Path.{refl}
 use borrow.Author.Needs.{needs}
-use borrow.Author.Tests.{lt-ltb, le-ltb}
+use Rattle.float_laws.specs.Branches.{below, above}
 use Rattle.dxf_read.specs.Workings.Kept.{grown}
 use Rattle.dxf_read.proofs.digits.grown.Statement.{statement}
 use Rattle.dxf_read.proofs.digits.grown.Tie as tie
@@ -10,5 +11,5 @@ unfolding grown
 grown-spec =
     tie.close
     (tie.spec
-    (λ c. search needs) (λ c. simp (lt-ltb _ _ (c .if1 .taken))) (λ c. search needs) (λ c. search needs)
-    (λ c. simp (le-ltb _ _ (c .if1 .left))))
+    (λ c. search needs) (λ c. below _ _ _ _ _ (c .if1 .taken) refl) (λ c. search needs) (λ c. search needs)
+    (λ c. above _ _ _ _ _ (c .if1 .left) refl))
