@@ -1,5 +1,5 @@
--- How an import and an export go to a caller in C: a number is returned, what is told besides goes into a slice of its own, and the
--- path or the text into the slice that the call is lent.
+-- How an import and an export go to a caller in C: a number is returned, what is told besides goes into a slice of its own, and
+-- the path or the text into the slice that the call is lent.
 use Prim.Native.Nat.{ℕ}
 use mathlib.Core.Path.{_≡_}
 use mathlib.Core.Bool.{Bool, true, false, cond}

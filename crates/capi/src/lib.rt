@@ -3,8 +3,8 @@
 // calls put their answers into lent slices and promise `Handed`, `HandedListing` or `HandedPage`: `calls` has those of the
 // three kernels and `vj_pair`, which is `fast_pair::pair::pline_seg_intr`; `listing` has the listings, `page` their pages, and
 // `boxed` the boxed listings, which promise `HandedBoxed`; `counted` has the counted listing and the join, which promise
-// `HandedCounted` and `HandedJoin`; `pair_findings` has the pair call with findings, which promises `HandedFindings`; `dxf` has the
-// import and the export of a drawing's path, which promise `HandedImport` and `HandedExport`.
+// `HandedCounted` and `HandedJoin`; `pair_findings` has the pair call with findings, which promises `HandedFindings`; `dxf` has
+// the import and the export of a drawing's path, which promise `HandedImport` and `HandedExport`.
 ghost use mathlib.Core.Path.{_≡_};
 ghost use Rattle.floats.specs.F64;
 ghost use Rattle.floats.specs.Bits;

@@ -6,7 +6,7 @@ use native.Mathlib.Omega.{arith}
 use borrow.Author.Tests.{eq-eqb, ne-eqb}
 use lib.ListN.{length, drop, getD, drop-of-length-le}
 use lib.Seq.{drop-cons, drop-drop}
-use Rattle.dxf_form.specs.Workings.Reader.{Got, nothing, got, Passed, cut, over, firstByte, pastBlanks, lineEnd, skipLine}
+use Rattle.dxf_form.specs.Workings.Reader.{nothing, got, Passed, cut, over, firstByte, pastBlanks, lineEnd, skipLine}
 
 module _ (text : List ℕ) (i : ℕ) where
   pub first-past : length text ≤ i → 0 ≡ firstByte (drop i text)

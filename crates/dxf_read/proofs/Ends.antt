@@ -1,10 +1,9 @@
 -- The ends of an import: each check that refuses, and a path that is copied.
 use Prim.Native.Nat.{ℕ, _+_, _*_, _<_, _≤_}
-use mathlib.Core.Path.{_≡_, refl, sym, ap, _∙_}
+use mathlib.Core.Path.{_≡_, refl}
 use mathlib.Core.Bool.{Bool}
-use mathlib.Core.List.{List, [], _∷_}
+use mathlib.Core.List.{List, []}
 use native.Mathlib.Numerals.{add-one}
-use native.Mathlib.Omega.{arith}
 use borrow.Author.Tests.{lt-ltb, le-ltb, eq-eqb, ne-eqb}
 use lib.Dec.{ltb}
 use lib.ListN.{length, take, drop, getD, set, drop-of-length-le}
@@ -21,9 +20,9 @@ use Rattle.paths.specs.Path.{numbersAVertex, mostVertices}
 use Rattle.paths.specs.Check.{checkPath}
 use Rattle.dxf_form.specs.Refusal
 use Rattle.dxf_form.specs.Workings.Reader.{faultAt, readGroups}
-use Rattle.dxf_read.specs.Import.{Imports, ImportOutcome, importDxf, lineFault}
+use Rattle.dxf_read.specs.Import.{Imports, importDxf, lineFault}
 use Rattle.dxf_read.specs.Workings.Scanning.{room, BodyRead, Scanned}
-use Rattle.dxf_read.specs.Workings.Finishing.{checkedBy, finishedBy, finished}
+use Rattle.dxf_read.specs.Workings.Finishing.{checkedBy, finished}
 use Rattle.dxf_read.specs.Laws.Finishing.{imported-is, fault-is}
 use Rattle.dxf_read.specs.declared.scan.Found.{Found}
 use Rattle.dxf_read.specs.declared.scan.Found.the-variants as Found·

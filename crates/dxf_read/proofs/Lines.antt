@@ -1,5 +1,5 @@
 -- The lines of a text, by what each call says of their parts.
-use Prim.Native.Nat.{ℕ, _+_, _≤_, _<_}
+use Prim.Native.Nat.{ℕ, _+_}
 use mathlib.Core.Path.{_≡_, sym, ap, _∙_}
 use mathlib.Core.Bool.{Bool, true, false, _&&_, _||_}
 use mathlib.Core.List.{List}
@@ -10,7 +10,7 @@ use lib.Seq.{drop-drop}
 use lib.IntN.{ℤ}
 use Rattle.layouts.specs.Layout.{whole}
 use Rattle.dxf_form.specs.Numbers.{places}
-use Rattle.dxf_form.specs.Workings.Reader.{Got, nothing, got, Run, firstByte, pastBlanks, signedEnd}
+use Rattle.dxf_form.specs.Workings.Reader.{Got, nothing, got, firstByte, pastBlanks, signedEnd}
 use Rattle.dxf_read.specs.Workings.Kept.{digits, millionths, wholeLine, afterPoint, afterSign, numberLine}
 use Rattle.dxf_read.proofs.Bytes.{line-ends, line-goes-on}
 use Rattle.dxf_read.proofs.Runs.{run}

@@ -1,6 +1,6 @@
 -- A group, by what each call says of its lines.
 use Prim.Native.Nat.{ℕ, _≤_, _<_}
-use mathlib.Core.Path.{_≡_, refl, sym, ap, _∙_}
+use mathlib.Core.Path.{_≡_, refl, ap, _∙_}
 use mathlib.Core.Bool.{Bool, true, false}
 use mathlib.Core.List.{List}
 use native.Mathlib.Omega.{arith}
@@ -107,7 +107,8 @@ none-read text t turn e = rw e (refl, tt)
 
 module _ (text : List ℕ) (at : ℕ) (turn : Turn) (out : Bool) (is : out ≡ outOfPlace turn) where
   pub misplaced : out ≡ true
-      → (shownPair text (Pair·.Fault Refusal.group 1) ≡ afterCode turn (drop at text)) × SameTurn turn (Pair·.Fault Refusal.group 1)
+      → (shownPair text (Pair·.Fault Refusal.group 1) ≡ afterCode turn (drop at text))
+      × SameTurn turn (Pair·.Fault Refusal.group 1)
   unfolding shownPair afterCode
   misplaced e = (rw (← is, e), tt)
 

@@ -1,8 +1,8 @@
--- What an import answers, and what the lent path holds afterwards, by request 10: the text's first fault; then the count; then the
--- path's own checks, as every call with a path makes them; and last whether the path fits.
-use Prim.Native.Nat.{ℕ, _*_, _<_}
+-- What an import answers, and what the lent path holds afterwards, by request 10: the text's first fault; then the count; then
+-- the path's own checks, as every call with a path makes them; and last whether the path fits.
+use Prim.Native.Nat.{ℕ}
 use mathlib.Core.Path.{_≡_}
-use mathlib.Core.Bool.{Bool, not, cond}
+use mathlib.Core.Bool.{not, cond}
 use mathlib.Core.List.{List, [], _∷_, _++_}
 use lib.Dec.{ltb, eqb}
 use lib.ListN.{length}
@@ -12,7 +12,7 @@ use Rattle.checks.specs.declared.fault.Item.the-variants.{Line, Room}
 use Rattle.checks.specs.declared.fault.Fault.{Fault}
 use Rattle.checks.specs.declared.fault.Checked.{Checked}
 use Rattle.checks.specs.declared.fault.Checked.the-variants.{Fine, Bad}
-use Rattle.checks.specs.Fault.{at, refuse, whole}
+use Rattle.checks.specs.Fault.{at, refuse}
 use Rattle.checks.specs.First.{first}
 use Rattle.paths.specs.Shape
 use Rattle.paths.specs.Check.{pathChecks}

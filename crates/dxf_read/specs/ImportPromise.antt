@@ -1,5 +1,5 @@
--- An import's promise allows one result only. And it is exactly this: 20 and 21 for the text's fault; of a text that spells a body
--- 22, 7, the path's own checks and 24, in this order; else the path.
+-- An import's promise allows one result only. And it is exactly this: 20 and 21 for the text's fault; of a text that spells a
+-- body 22, 7, the path's own checks and 24, in this order; else the path.
 use Prim.Native.Nat.{ℕ, _*_, _<_, _≤_}
 use mathlib.Core.Path.{_≡_, refl, sym, ap, _∙_}
 use mathlib.Core.Logic.{_↔_}

@@ -42,8 +42,8 @@ pub fn line_fault(number: u64, line: u64) -> Fault
     }
 }
 
-// The first fault of the path of n vertices at the front of `buffer`, if the value of 90 is `count`, in this line, and there is room
-// for so many floats.
+// The first fault of the path of n vertices at the front of `buffer`, if the value of 90 is `count`, in this line, and there is
+// room for so many floats.
 fn check_body(buffer: &[f64], n: usize, count: u64, line: u64, closed: bool, room: usize) -> Checked
     requires { ⌜ scanning.room ≤ length (now buffer) ⌝ }
     ensures { λ r. ⌜ r ≡ checkedBy (now (buffer .entry)) n count line closed room ⌝ }

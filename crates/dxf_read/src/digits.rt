@@ -1,5 +1,5 @@
-// Digits in a text, and the number that they make. A number that a u64 cannot hold is kept as one of two large numbers, by whether
-// it is odd: specs/Workings/Kept.antt says what that still tells.
+// Digits in a text, and the number that they make. A number that a u64 cannot hold is kept as one of two large numbers, by
+// whether it is odd: specs/Workings/Kept.antt says what that still tells.
 ghost use mathlib.Core.Path.{_≡_};
 ghost use Prim.Native.Nat.{_<_};
 ghost use lib.ListN.{length, drop};

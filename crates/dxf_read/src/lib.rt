@@ -20,8 +20,8 @@ pub enum Imported {
     Refused(Fault),
 }
 
-// Imports the path that a text gives: writes its vertices, four floats each, to the front of `path`, and leaves the rest as it is. A
-// refusal writes nothing.
+// Imports the path that a text gives: writes its vertices, four floats each, to the front of `path`, and leaves the rest as it
+// is. A refusal writes nothing.
 pub fn import_dxf(text: &[u8], path: &mut [f64]) -> Imported
     ensures { λ r. ⌜
         import_of.Imports (import_of.importDxf (now (text .entry)) (now (path .entry))) r (now (path .exit)) ⌝ }

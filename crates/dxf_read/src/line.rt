@@ -1,4 +1,5 @@
-// Lines of a text: codes, numbers, and values that are skipped. Each function reads the newline too, and answers the place after it.
+// Lines of a text: codes, numbers, and values that are skipped. Each function reads the newline too, and answers the place after
+// it.
 ghost use mathlib.Core.Path.{_≡_};
 ghost use lib.ListN.{drop};
 ghost use Rattle.dxf_form.specs.Workings.Reader.{pastBlanks, signedEnd, skipLine};

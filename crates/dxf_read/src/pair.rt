@@ -15,8 +15,8 @@ use dxf_form::order::Turn;
 use dxf_form::order::turn_at;
 use dxf_form::refusal;
 
-// A group: what its code is for, the sign and the magnitude of its value, and the place after it. Or a refusal's number and which of
-// the two lines is at fault.
+// A group: what its code is for, the sign and the magnitude of its value, and the place after it. Or a refusal's number and which
+// of the two lines is at fault.
 pub enum Pair {
     Fault(u64, u64),
     Got(Turn, bool, u64, usize),

@@ -12,7 +12,8 @@ use dxf_form::order::after;
 use dxf_form::order::may_end;
 use dxf_form::refusal;
 
-// A refusal's number and the line at fault. Or the number of vertices, the value of 90 and its line, and whether the path is closed.
+// A refusal's number and the line at fault. Or the number of vertices, the value of 90 and its line, and whether the path is
+// closed.
 pub enum Found {
     Fault(u64, u64),
     Body(usize, u64, u64, bool),

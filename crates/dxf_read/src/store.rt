@@ -1,5 +1,5 @@
-// The floats of the vertices, four for each, written as their groups are read. Vertices past the most that a path may have are not
-// written.
+// The floats of the vertices, four for each, written as their groups are read. Vertices past the most that a path may have are
+// not written.
 ghost use mathlib.Core.Path.{_≡_};
 ghost use Prim.Native.Nat.{_≤_, _<_};
 ghost use lib.ListN.{length};

@@ -1,6 +1,5 @@
 -- `dxf_read::import_dxf` meets its contract: a fault of the text is told, and what its groups give is checked and copied.
-use Prim.Native.Nat.{ℕ}
-use mathlib.Core.Path.{_≡_, sym, ap, _∙_}
+use mathlib.Core.Path.{_≡_}
 use native.Mathlib.Omega.{arith}
 use borrow.Author.Needs.{needs}
 use lib.ListN.{length, replicate, length-replicate}

@@ -1,12 +1,11 @@
 -- What groups give is the same, as far as an import asks, if their numbers are kept.
-use Prim.Native.Nat.{ℕ, _%_}
+use Prim.Native.Nat.{ℕ}
 use mathlib.Core.Path.{_≡_, refl, sym, ap, _∙_}
 use mathlib.Core.List.{List, [], _∷_, _++_, map}
 use lib.Dec.{eqb}
 use lib.ListN.{length, length-map}
 use lib.IntN.{ℤ, pos}
-use lib.Ieee.{Float}
-use Rattle.dxf_form.specs.Numbers.{Corner, value, trace, pathOf}
+use Rattle.dxf_form.specs.Numbers.{Corner, pathOf}
 use Rattle.dxf_form.specs.Form.{Group, count, flags, x, y, bulge, other, closedBy}
 use Rattle.dxf_form.specs.Body.{Body, atLast, withY, withBulge, taken, takenAll, emptyBody, bodyOf}
 use Rattle.dxf_read.specs.Workings.Kept.{kept, keptWhole, keptGroup}

@@ -1,7 +1,7 @@
 -- The checks after a pass over the text are those of Import.antt, and so is what they lead to.
 use Prim.Native.Nat.{ℕ, _+_, _*_, _/_, _%_, _<_, _≤_}
 use mathlib.Core.Path.{_≡_, refl, sym, ap, _∙_}
-use mathlib.Core.Bool.{Bool, true, false, not, cond}
+use mathlib.Core.Bool.{Bool, true, false, cond}
 use mathlib.Core.List.{List, [], _∷_, _++_}
 use native.Mathlib.Omega.{arith}
 use borrow.Author.Tests.{le-ltb, lt-ltb, ltb-true, ltb-false, eq-eqb}
@@ -9,7 +9,7 @@ use lib.Dec.{eqb, ltb}
 use lib.ListN.{length, take, drop}
 use lib.Seq.{sets, sets-eq, take-at}
 use lib.Ieee.{Float}
-use Rattle.checks.specs.declared.fault.Item.the-variants.{Line, Length, Room}
+use Rattle.checks.specs.declared.fault.Item.the-variants.{Length, Room}
 use Rattle.checks.specs.declared.fault.Fault.{Fault}
 use Rattle.checks.specs.declared.fault.Checked.{Checked}
 use Rattle.checks.specs.declared.fault.Checked.the-variants.{Fine, Bad}
@@ -23,11 +23,11 @@ use Rattle.paths.specs.Shape
 use Rattle.paths.specs.Check.{checkPath, pathChecks}
 use Rattle.dxf_form.specs.Refusal
 use Rattle.dxf_form.specs.Numbers.{Corner, pathOf}
-use Rattle.dxf_form.specs.Form.{Group, closedBy, countLine}
+use Rattle.dxf_form.specs.Form.{closedBy}
 use Rattle.dxf_form.specs.Body.{bodyOf}
 use Rattle.dxf_form.specs.Workings.Reader.{faultAt, readGroups}
-use Rattle.dxf_read.specs.Import.{ImportOutcome, bodyChecks, byChecks, importDxf, lineFault, toldLine}
-use Rattle.dxf_read.specs.Workings.Kept.{top, kept}
+use Rattle.dxf_read.specs.Import.{bodyChecks, byChecks, importDxf, lineFault}
+use Rattle.dxf_read.specs.Workings.Kept.{top}
 use Rattle.dxf_read.specs.Workings.Scanning.{room, BodyRead}
 use Rattle.dxf_read.specs.Workings.Finishing.{checkedBy, finishedBy, finished}
 use Rattle.dxf_read.specs.Laws.Kept.{eqb-kept}

@@ -1,17 +1,17 @@
 -- A group whose numbers are kept is read as the group of dxf_form's reader; and the turn of a code is that of its group.
 use Prim.Native.Nat.{ℕ}
-use mathlib.Core.Path.{_≡_, refl, sym, ap, _∙_}
+use mathlib.Core.Path.{_≡_, refl, ap, _∙_}
 use mathlib.Core.Bool.{Bool, true, false, cond, true≢false}
 use mathlib.Core.List.{List}
 use native.Mathlib.Omega.{arith}
 use lib.Dec.{eqb}
 use lib.IntN.{ℤ}
-use Rattle.dxf_form.specs.Form.{Group, count, flags, x, y, bulge, other}
+use Rattle.dxf_form.specs.Form.{Group, count, flags, x, y, bulge}
 use Rattle.dxf_form.specs.Form.{countCode, flagsCode, xCode, yCode, bulgeCode}
 use Rattle.dxf_form.specs.Order.{turnAt, turnOf, outOfPlace, countTurn, flagsTurn, xTurn, yTurn, bulgeTurn}
 use Rattle.dxf_form.specs.Refusal
 use Rattle.dxf_form.specs.Workings.Reader as reader
-use Rattle.dxf_form.specs.Workings.Reader.{Got, nothing, got, Pair, fault, pair, Passed, cut, over, isEmpty}
+use Rattle.dxf_form.specs.Workings.Reader.{Got, nothing, got, fault, pair, Passed, cut, over, isEmpty}
 use Rattle.dxf_form.specs.declared.order.Due.{Due}
 use Rattle.dxf_form.specs.declared.order.Due.the-variants as Due·
 use Rattle.dxf_form.specs.declared.order.Turn.{Turn}

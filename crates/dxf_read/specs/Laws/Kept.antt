@@ -7,16 +7,16 @@ use mathlib.Core.Bool.{Bool, true, false, cond, _&&_, _||_}
 use mathlib.Core.List.{List, [], _∷_}
 use native.Mathlib.Nat.{pow-succ'}
 use native.Mathlib.Omega.{arith}
-use borrow.Author.Tests.{lt-ltb, le-ltb, ltb-true, ltb-false, eq-eqb, ne-eqb, eqb-true, eqb-false}
+use borrow.Author.Tests.{lt-ltb, le-ltb, ltb-true, ltb-false, ne-eqb}
 use lib.Dec.{ltb, eqb}
 use lib.ListN.{drop}
 use lib.IntN.{ℤ, pos, negsuc}
-use lib.Ieee.{Float, binary64, ofInt, div}
+use lib.Ieee.{binary64, ofInt, div}
 use Rattle.layouts.specs.Layout.{whole}
 use Rattle.dxf_form.specs.Numbers.{places, million, most, atMost, held, scale, value}
 use Rattle.dxf_form.specs.Laws.Capped.{held-whole}
 use Rattle.dxf_form.specs.Workings.Reader as reader
-use Rattle.dxf_form.specs.Workings.Reader.{Got, nothing, got, Run, isDigit, firstByte, lineEnd, pastBlanks, signedEnd}
+use Rattle.dxf_form.specs.Workings.Reader.{nothing, got, Run, firstByte, lineEnd, pastBlanks, signedEnd}
 use Rattle.dxf_read.specs.Workings.Kept as code
 use Rattle.dxf_read.specs.Workings.Kept.{top, high, kept, grown, zeros, millionths}
 use Rattle.dxf_read.specs.Workings.Kept.{keptWhole, keptRun, keptGot, keptNumber}
@@ -165,7 +165,8 @@ whole-end : (r : Run) → cond (eqb (r .many) 0) nothing (lineEnd (kept (r .numb
     ≡ keptGot (cond (eqb (r .many) 0) nothing (lineEnd (r .number) (r .rest)))
 whole-end r = go (eqb (r .many) 0)
   where
-    go : (c : Bool) → cond c nothing (lineEnd (kept (r .number)) (r .rest)) ≡ keptGot (cond c nothing (lineEnd (r .number) (r .rest)))
+    go : (c : Bool) → cond c nothing (lineEnd (kept (r .number)) (r .rest))
+        ≡ keptGot (cond c nothing (lineEnd (r .number) (r .rest)))
     go true = refl
     go false = end-whole (r .number) (r .rest)
 
@@ -178,7 +179,8 @@ signed-end : (negative : Bool) (m : ℕ) (t : List ℕ) → signedEnd negative (
 unfolding signedEnd
 signed-end negative m t = rw (eqb-kept m 0 (omega arith)) (go (negative && eqb m 0))
   where
-    go : (c : Bool) → cond c nothing (lineEnd (whole negative (kept m)) t) ≡ keptNumber (cond c nothing (lineEnd (whole negative m) t))
+    go : (c : Bool) → cond c nothing (lineEnd (whole negative (kept m)) t)
+        ≡ keptNumber (cond c nothing (lineEnd (whole negative m) t))
     go true = refl
     go false = ap (λ (z : ℤ). lineEnd z t) (sym (whole-kept negative m)) ∙ end-number (whole negative m) t
 

@@ -1,6 +1,6 @@
 -- The checks of a text that spells a body, in their order.
 use Prim.Native.Nat.{ℕ, _*_, _<_, _≤_}
-use mathlib.Core.Path.{_≡_, refl, sym, ap, _∙_}
+use mathlib.Core.Path.{_≡_, ap, _∙_}
 use mathlib.Core.Bool.{Bool, not}
 use mathlib.Core.List.{List, [], _∷_, _++_}
 use native.Mathlib.Omega.{arith}
@@ -23,10 +23,8 @@ use Rattle.paths.specs.Check.{pathChecks}
 use Rattle.dxf_form.specs.Refusal
 use Rattle.dxf_form.specs.Numbers.{Corner, pathOf}
 use Rattle.dxf_form.specs.Form.{SpellsBody, closedBy, countLine}
-use Rattle.dxf_form.specs.Body.{Body, bodyOf}
-use Rattle.dxf_form.specs.Workings.Reader.{groups, readGroups}
 use Rattle.dxf_form.specs.Exactly.{groups-read, gives-complete-body}
-use Rattle.dxf_read.specs.Import.{ImportOutcome, byChecks, importDxf, lineFault, toldLine}
+use Rattle.dxf_read.specs.Import.{byChecks, importDxf, lineFault, toldLine}
 use Rattle.dxf_read.specs.Laws.Finishing.{shape-long, shape-fine}
 use Rattle.dxf_read.specs.Laws.Stores.{path-length}
 

@@ -1,12 +1,11 @@
 -- A fault that an import tells fits into a word: its number is small, and so is its vertex or its line.
 use Prim.Native.Nat.{ℕ, _<_, _≤_}
-use mathlib.Core.Path.{_≡_, refl, sym, ap, subst}
+use mathlib.Core.Path.{_≡_, refl, subst}
 use mathlib.Core.Bool.{Bool, true, false, cond}
-use mathlib.Core.List.{List, [], _∷_}
+use mathlib.Core.List.{List}
 use native.Mathlib.Omega.{arith}
 use borrow.Author.Tests.{ltb-false}
 use lib.Dec.{ltb}
-use lib.ListN.{length}
 use lib.Ieee.{Float}
 use Rattle.checks.specs.declared.fault.Item.the-variants.{Line, Room}
 use Rattle.checks.specs.declared.fault.Fault.{Fault}
@@ -28,7 +27,7 @@ use Rattle.dxf_form.specs.Exactly.{fault-read}
 use Rattle.dxf_form.specs.declared.order.Due.{Due}
 use Rattle.dxf_form.specs.declared.order.Turn.{Turn}
 use Rattle.dxf_form.specs.declared.order.Turn.the-variants as Turn·
-use Rattle.dxf_read.specs.Import.{ImportOutcome, bodyChecks, byChecks, byGroups, importDxf, lineFault, mostLine, toldLine}
+use Rattle.dxf_read.specs.Import.{bodyChecks, byChecks, byGroups, importDxf, mostLine, toldLine}
 use Rattle.dxf_read.specs.declared.Imported.the-variants as Imported·
 
 -- ---- a line, and the numbers of a text's faults

@@ -1,8 +1,8 @@
 -- One pass over a text, group by group: what is left, read after what was read, gives what the whole gives.
-use Prim.Native.Nat.{ℕ, zero, suc, _+_, _*_, _-_, _<_, _≤_}
+use Prim.Native.Nat.{ℕ, _+_, _*_, _-_, _<_, _≤_}
 use mathlib.Core.Path.{_≡_, refl, sym, ap, _∙_}
 use mathlib.Core.Bool.{Bool, true, false, cond, true≢false}
-use mathlib.Core.List.{List, [], _∷_, _++_, map}
+use mathlib.Core.List.{List, [], _∷_, _++_}
 use native.Mathlib.Omega.{arith}
 use borrow.Author.Tests.{lt-ltb, le-ltb, eqb-true, eqb-false}
 use lib.Dec.{eqb, ltb}
@@ -27,11 +27,11 @@ use Rattle.dxf_form.specs.declared.order.Due.the-variants as Due·
 use Rattle.dxf_form.specs.declared.order.Turn.{Turn}
 use Rattle.dxf_form.specs.declared.order.Turn.the-variants as Turn·
 use Rattle.dxf_read.specs.Workings.Kept as code
-use Rattle.dxf_read.specs.Workings.Kept.{kept, keptGroup, keptPair}
+use Rattle.dxf_read.specs.Workings.Kept.{keptGroup, keptPair}
 use Rattle.dxf_read.specs.Workings.Pairs.{groupBy, shownPair, InTurn}
 use Rattle.dxf_read.specs.Workings.Scanning.{stepped, started, changed, stored, lineAfter, verticesAfter, BodyRead}
 use Rattle.dxf_read.specs.Laws.Groups.{pair-of}
-use Rattle.dxf_read.specs.Laws.Bodies.{keptAll, keptBody, keptCorner, body-kept, path-kept, closed-kept, many-kept}
+use Rattle.dxf_read.specs.Laws.Bodies.{keptAll, keptBody, body-kept, path-kept, closed-kept, many-kept}
 use Rattle.dxf_read.specs.Laws.Stores.{more-path, last-y, last-bulge, last-length, last-none}
 use Rattle.dxf_read.specs.declared.state.State.{State}
 use Rattle.dxf_read.specs.declared.pair.Pair.{Pair}
@@ -339,7 +339,8 @@ fault-within due t number line e =
 
 -- ---- the pass
 
-pub record Scanning (text : List ℕ) (old : List Float) (at : ℕ) (due : Due) (lines : ℕ) (s : State) (out : List Float) : Type 0 where
+pub record Scanning (text : List ℕ) (old : List Float) (at : ℕ) (due : Due) (lines : ℕ) (s : State) (out : List Float)
+    : Type 0 where
   pub body : Body
   pub goes-on : done due body lines (s .«count_line») (readFrom (length (drop at text)) due lines (drop at text))
       ≡ done Due·.Count emptyBody 0 0 (readGroups text)
@@ -456,5 +457,7 @@ module _ {text : List ℕ} {old : List Float} {at : ℕ} {due : Due} {lines : �
           line-is = sym (line-read due (s .«count_line») e) ∙ a .line-is;
           closed-is = h .closed-is ∙ ap (λ (c : Body). closedBy (c .flags-are)) (a .body) ∙ closed-kept (b .flags-are);
           few = omega (arith, sc .few-lines, sc .few-vertices);
-          holds = λ few. h .floats few ∙ ap (λ (ws : List Corner). sets old 0 (pathOf ws)) vs ∙ ap (sets old 0) (path-kept (b .vertices));
+          holds =
+              λ few.
+              h .floats few ∙ ap (λ (ws : List Corner). sets old 0 (pathOf ws)) vs ∙ ap (sets old 0) (path-kept (b .vertices));
         }

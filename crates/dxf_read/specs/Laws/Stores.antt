@@ -1,5 +1,5 @@
 -- The floats of vertices, as they are written one group after the other.
-use Prim.Native.Nat.{ℕ, suc, _+_, _*_, _-_, _<_, _≤_}
+use Prim.Native.Nat.{ℕ, suc, _+_, _*_, _-_, _<_}
 use mathlib.Core.Path.{_≡_, refl, sym, ap, _∙_}
 use mathlib.Core.Logic.{_≢_}
 use mathlib.Core.List.{List, [], _∷_, _++_}
@@ -7,8 +7,8 @@ use native.Mathlib.Omega.{arith}
 use lib.ListN.{length, set}
 use lib.Seq.{sets, set-set, set-comm}
 use lib.IntN.{ℤ, pos}
-use lib.Ieee.{Float, binary64, ofBits, ofFields, ofInt, div, round, units, odd, size, span, climb}
-use Rattle.dxf_form.specs.Numbers.{Corner, value, trace, pathOf, held, scale}
+use lib.Ieee.{Float, ofBits, ofFields, ofInt, div, round, units, odd, size, span, climb}
+use Rattle.dxf_form.specs.Numbers.{Corner, value, trace, pathOf, held}
 use Rattle.dxf_form.specs.Body.{atLast, withY, withBulge}
 
 -- ---- lists

@@ -1,6 +1,6 @@
 -- The checks after a pass over the text, and what they lead to, by what the pass answered.
 use Prim.Native.Nat.{ℕ, _*_}
-use mathlib.Core.Bool.{Bool, not, cond}
+use mathlib.Core.Bool.{Bool, cond}
 use mathlib.Core.List.{List}
 use lib.Dec.{eqb, ltb}
 use lib.ListN.{length, take}
@@ -9,7 +9,7 @@ use lib.Ieee.{Float}
 use Rattle.checks.specs.declared.fault.Item.the-variants.{Length, Room}
 use Rattle.checks.specs.declared.fault.Checked.{Checked}
 use Rattle.checks.specs.declared.fault.Checked.the-variants.{Fine, Bad}
-use Rattle.checks.specs.Fault.{at, bad, refuse, later, whole}
+use Rattle.checks.specs.Fault.{at, refuse, later, whole}
 use Rattle.checks.specs.Refusal as numbers
 use Rattle.paths.specs.Path.{numbersAVertex, mostVertices}
 use Rattle.paths.specs.Check.{checkPath}

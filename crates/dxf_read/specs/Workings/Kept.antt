@@ -1,5 +1,5 @@
--- A number as it is kept in a u64: itself, or, if it has too many digits, one of two large numbers, which tells whether it is odd.
--- What is kept still tells every number below `high` from every other, odd from even, and what lies above 2^53 (Laws/Kept). Then
+-- A number as it is kept in a u64: itself, or, if it has too many digits, one of two large numbers, which tells whether it is
+-- odd. What is kept still tells every smaller number from every other, odd from even, and what lies above 2^53 (Laws/Kept). Then
 -- the reader of dxf_form once more, with the numbers as they are kept.
 use Prim.Native.Nat.{ℕ, zero, suc, _+_, _*_, _-_, _/_, _%_}
 use mathlib.Core.Bool.{Bool, true, false, cond, _||_}

@@ -1,12 +1,12 @@
 -- One pass over a text: the state after each group, what a lent slice then holds, and what the pass answers.
-use Prim.Native.Nat.{ℕ, _+_, _*_, _-_, _%_, _≤_}
+use Prim.Native.Nat.{ℕ, _+_, _*_, _-_, _≤_}
 use mathlib.Core.Path.{_≡_}
 use mathlib.Core.Bool.{Bool, cond}
 use mathlib.Core.List.{List, [], _∷_}
 use lib.Dec.{eqb, ltb}
 use lib.ListN.{length, set}
 use lib.Seq.{sets}
-use lib.Ieee.{Float, binary64, ofBits}
+use lib.Ieee.{Float}
 use Rattle.paths.specs.Path.{numbersAVertex, mostVertices}
 use Rattle.dxf_form.specs.Numbers.{trace, pathOf}
 use Rattle.dxf_form.specs.Form.{Group, closedBy, countLine}

@@ -1,5 +1,5 @@
--- `dxf_read::body::check_body` meets its contract: its tests are the definition's, and the path that it checks is the front of the
--- buffer.
+-- `dxf_read::body::check_body` meets its contract: its tests are the definition's, and the path that it checks is the front of
+-- the buffer.
 use mathlib.Core.Path.{sym}
 use native.Mathlib.Omega.{arith}
 use borrow.Author.Needs.{needs}

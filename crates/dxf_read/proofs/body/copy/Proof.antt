@@ -1,8 +1,7 @@
 -- `dxf_read::body::copy` meets its contract. The loop's invariant: to write what is left after what stands gives the whole.
 use Prim.Native.Nat.{_-_}
-use mathlib.Core.Path.{_≡_, refl, _∙_}
+use mathlib.Core.Path.{_≡_, refl}
 use native.Mathlib.Omega.{arith}
-use borrow.Author.Needs.{needs}
 use lib.ListN.{length, take, drop, length-set}
 use lib.Seq.{sets}
 use Rattle.dxf_read.proofs.Ends.{copy-end, copy-more}

@@ -1,5 +1,5 @@
 -- `dxf_read::body::finish` meets its contract: a path that the checks accept is copied, and there is room for it.
-use mathlib.Core.Path.{_≡_, sym, _∙_}
+use mathlib.Core.Path.{sym, _∙_}
 use native.Mathlib.Omega.{arith}
 use borrow.Author.Needs.{needs}
 use Rattle.dxf_read.specs.Laws.Finishing.{fine-room}

@@ -1,5 +1,5 @@
--- `dxf_read::digits::digits` meets its contract. The loop's invariant: what is left of the text, after the digits so far, reads as
--- the whole does.
+-- `dxf_read::digits::digits` meets its contract. The loop's invariant: what is left of the text, after the digits so far, reads
+-- as the whole does.
 use Prim.Native.Nat.{_-_, _≤_}
 use mathlib.Core.Path.{_≡_, refl}
 use native.Mathlib.Omega.{arith}

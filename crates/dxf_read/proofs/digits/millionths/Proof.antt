@@ -1,10 +1,9 @@
 -- `dxf_read::digits::millionths` meets its contract. The loop's invariant: the zeros that are left give what all of them give.
-use Prim.Native.Nat.{ℕ, suc, _+_, _-_, _≤_, _<_}
-use mathlib.Core.Path.{_≡_, refl, sym, ap, _∙_}
+use Prim.Native.Nat.{_-_}
+use mathlib.Core.Path.{_≡_, refl}
 use native.Mathlib.Omega.{arith}
-use borrow.Author.Needs.{needs}
 use Rattle.dxf_form.specs.Numbers.{places}
-use Rattle.dxf_read.specs.Workings.Kept.{zeros, grown}
+use Rattle.dxf_read.specs.Workings.Kept.{zeros}
 use Rattle.dxf_read.proofs.Runs.{zeros-more, zeros-end}
 use Rattle.dxf_read.proofs.digits.millionths.Statement.{statement}
 use Rattle.dxf_read.proofs.digits.millionths.Tie as tie

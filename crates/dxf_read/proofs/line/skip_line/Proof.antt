@@ -1,5 +1,5 @@
--- `dxf_read::line::skip_line` meets its contract. The loop's invariant: after what is left of the line stands what stands after all
--- of it.
+-- `dxf_read::line::skip_line` meets its contract. The loop's invariant: after what is left of the line stands what stands after
+-- all of it.
 use Prim.Native.Nat.{_-_}
 use mathlib.Core.Path.{_≡_, refl}
 use native.Mathlib.Omega.{arith}

@@ -8,7 +8,8 @@ pub after-code-spec : {M : Type 1} → statement M
 after-code-spec =
     tie.close
     (tie.spec
-    (λ c. search needs) (λ c. misplaced _ (c .before .before .before .args .at) _ _ (c .before .out-of-place .ensures) (c .if1 .taken))
+    (λ c. search needs)
+    (λ c. misplaced _ (c .before .before .before .args .at) _ _ (c .before .out-of-place .ensures) (c .if1 .taken))
     (λ c. no-value _ _ _ _ (c .before .before .out-of-place .ensures) (c .before .if1 .left) (c .if2 .taken))
     (λ c. search needs)
     (λ c.

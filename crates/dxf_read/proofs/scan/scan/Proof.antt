@@ -1,7 +1,6 @@
 -- `dxf_read::scan::scan` meets its contract. The loop's invariant: what is left, read after what was read, gives what the whole
 -- gives.
-use Prim.Native.Nat.{ℕ}
-use mathlib.Core.Path.{_≡_, sym, _∙_}
+use mathlib.Core.Path.{sym, _∙_}
 use native.Mathlib.Omega.{arith}
 use borrow.Author.Needs.{needs}
 use lib.ListN.{length, drop}
