@@ -712,7 +712,8 @@ uint64_t vj_join(uint64_t *into, size_t into_room, const uint64_t *other,
  *   room          0       0
  *
  * Room for 4 * 4,096 numbers, 16,384, is always enough. An import needs some
- * 130 KiB of stack: a buffer that holds the path back until all is checked.
+ * 129 KiB of stack: a buffer that holds the path back until all is checked. An
+ * export needs less than 4 KiB.
  *
  * What looks true and is not:
  *

@@ -13,7 +13,6 @@ pub mod model;
 mod run;
 mod score;
 mod seen;
-mod stack;
 #[cfg(test)]
 mod stand_in;
 #[cfg(test)]

@@ -44,6 +44,7 @@ mod record;
 mod rng;
 mod roots;
 mod search;
+mod stack;
 mod tally;
 #[cfg(feature = "rust-text")]
 mod text;

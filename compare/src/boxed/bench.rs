@@ -5,7 +5,7 @@ use std::hint::black_box;
 
 use super::index::floats_needed;
 use super::model::Boxed;
-use super::{stack, OURS};
+use super::OURS;
 use crate::bench::by_turns;
 use crate::capi::Rows;
 use crate::inputs::{Point, Vertex};
@@ -15,6 +15,7 @@ use crate::listings::model::Listed;
 use crate::listings::shapes::{coil, on_grid, placed};
 use crate::listings::sheets::{Sheet, SHEETS};
 use crate::rng::Rng;
+use crate::stack;
 use crate::vertex::VERTEX;
 
 const EPSILON: f64 = 1e-5;

@@ -1,4 +1,5 @@
-//! What a drawing costs: import beside the C library's `strtol` and `strtod` on the same lines, export beside its `snprintf`.
+//! What a drawing costs: import beside the C library's `strtol` and `strtod` on the same lines, export beside its `snprintf`; and
+//! the stack that each takes.
 
 use std::ffi::{c_char, c_int, c_long};
 use std::hint::black_box;
@@ -9,6 +10,7 @@ use super::run::MOST_BYTES;
 use super::{model, OURS};
 use crate::bench::{head, Row};
 use crate::rng::Rng;
+use crate::stack;
 use crate::vertex::VERTEX;
 
 const VERTICES: usize = model::MOST_VERTICES;
@@ -56,6 +58,18 @@ pub fn run() {
         );
         export(&format!("export, {name}"), &plain);
     }
+    of_stack(&any, &mut rng);
+}
+
+/// Bytes of stack that each call takes on a body of 4,096 vertices.
+fn of_stack(vertices: &[Vertex], rng: &mut Rng) {
+    let text = draw::body(vertices, true, Spelling::Plain, rng).text();
+    let mut path = vec![0.0; VERTEX * VERTICES];
+    let mut told = [0; 2];
+    let import = stack::of(|| assert_eq!((OURS.import)(&text, &mut path, &mut told), 0));
+    let mut out = vec![0; MOST_BYTES];
+    let export = stack::of(|| assert_eq!((OURS.export)((&path, true), &mut out, &mut told), 0));
+    println!("stack, bytes: import {import}, export {export}");
 }
 
 fn row(name: &str) -> Row<'_> {
