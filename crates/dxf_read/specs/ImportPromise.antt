@@ -162,3 +162,49 @@ refused-writes-nothing text old now f done = go (exactly text old (Refused f) no
     go (own-fault s met few h) e = refl
     go (no-room s met few h short) e = refl
     go (imported s met few h room) e = let z : _≡_ {A = ℕ} 0 1 = cc in absurd (omega arith)
+
+-- the text spells this many vertices, and a path that is fine and fits
+pub record SpellsPath (text : List ℕ) (old : List Float) (n : ℕ) (closed : Bool) (now : List Float) : Type 0 where
+  pub f : ℕ
+  pub vs : List Corner
+  pub spelt : SpellsBody text n f vs
+  pub met : n ≡ length vs
+  pub closed-is : closed ≡ closedBy f
+  pub few : length vs ≤ mostVertices
+  pub all-fine : AllFine (pathChecks (pathOf vs) (closedBy f) 0)
+  pub room : length vs * 4 ≤ length old
+  pub holds : now ≡ sets old 0 (pathOf vs)
+
+pub imported-when : (text : List ℕ) (old : List Float) (n : ℕ) (closed : Bool) (now : List Float)
+    → Imports (importDxf text old) (Path n closed) now ↔ SpellsPath text old n closed now
+imported-when text old n closed now = (
+  λ done. to (exactly text old (Path n closed) now .0 done) refl,
+  λ s. from s,
+)
+  where
+    to : {r : Imported} {p : List Float} → Tells text old r p → r ≡ Path n closed → SpellsPath text old n closed p
+    to (text-fault w) e = let z : _≡_ {A = ℕ} 0 1 = cc in absurd (omega arith)
+    to (unmet s h) e = let z : _≡_ {A = ℕ} 0 1 = cc in absurd (omega arith)
+    to (too-long s met h) e = let z : _≡_ {A = ℕ} 0 1 = cc in absurd (omega arith)
+    to (own-fault s met few h) e = let z : _≡_ {A = ℕ} 0 1 = cc in absurd (omega arith)
+    to (no-room s met few h short) e = let z : _≡_ {A = ℕ} 0 1 = cc in absurd (omega arith)
+    to (imported {n = k} {f = f} {vs = vs} s met few h room) e =
+        let many : length vs ≡ n = cc in
+        let shut : closedBy f ≡ closed = cc in
+        record {
+          f = f;
+          vs = vs;
+          spelt = rw (← many, ← met) s;
+          met = sym many;
+          closed-is = sym shut;
+          few = few;
+          all-fine = h;
+          room = room;
+          holds = refl;
+        }
+
+    from : SpellsPath text old n closed now → Imports (importDxf text old) (Path n closed) now
+    from s =
+        let t = imported (s .spelt) (s .met) (s .few) (s .all-fine) (s .room) in
+        let done = exactly text old (Path (length (s .vs)) (closedBy (s .f))) (sets old 0 (pathOf (s .vs))) .1 t in
+        rw (s .met, s .closed-is, s .holds) done

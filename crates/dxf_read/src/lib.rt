@@ -6,13 +6,13 @@ use checks::fault::Fault;
 use scan::Found;
 use scan::scan;
 
-pub mod body;
+mod body;
 mod digits;
 mod line;
 mod pair;
-pub mod scan;
+mod scan;
 mod state;
-pub mod store;
+mod store;
 
 // The number of vertices and whether the path is closed; or a refusal and its place.
 pub enum Imported {
