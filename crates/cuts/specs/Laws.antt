@@ -2,3 +2,6 @@
 pub mod Fine
 pub mod Steps
 pub mod Pieces
+pub mod Joined
+pub mod Places
+pub mod Named

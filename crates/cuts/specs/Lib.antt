@@ -4,5 +4,7 @@ pub mod Cut
 pub mod LargeChecks
 pub mod CutPath
 pub mod Written
+pub mod Parts
+pub mod Segments
 pub mod Workings
 pub mod Laws
