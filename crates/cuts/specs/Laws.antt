@@ -5,3 +5,7 @@ pub mod Pieces
 pub mod Joined
 pub mod Places
 pub mod Named
+pub mod Quarters
+pub mod HalfBulge
+pub mod Sound
+pub mod NoCut

@@ -6,5 +6,7 @@ pub mod CutPath
 pub mod Written
 pub mod Parts
 pub mod Segments
+pub mod Accepted
+pub mod Uncut
 pub mod Workings
 pub mod Laws

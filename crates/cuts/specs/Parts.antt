@@ -1,10 +1,14 @@
--- What a segment of the cut path is: a part of an old segment, by the half of its name. The bulge of a segment's end belongs to the
--- next segment, so of an end the position counts.
+-- What is said of the cut: of a half bulge, of a name, and of a segment of the cut path, which is a part of an old one. The bulge of
+-- a segment's end belongs to the next segment, so of an end the position counts.
 use mathlib.Core.Path.{_≡_}
 use mathlib.Core.Bool.{Bool, true, false}
 use mathlib.Core.List.{List}
 use Prim.Native.Nat.{ℕ, zero, suc, _≤_, _<_}
-use lib.Ieee.{Float}
+use lib.Dec.{T}
+use lib.Ieee.{Float, binary64, ofBits}
+use lib.Ieee.Scale.{finite}
+use Rattle.floats.specs.Ops.{_≺_, _≼_, _≽_, f0, f1}
+use Rattle.floats.specs.F64
 use Rattle.plane.specs.declared.pline_vertex.PlineVertex.{PlineVertex}
 use Rattle.paths.specs.declared.path.Segment.{Segment}
 use Rattle.paths.specs.Path.{vertex}
@@ -30,3 +34,14 @@ pub record IsName (path : List Float) (closed : Bool) (n : Name) : Type 0 where
   pub below : n .index < segmentCount path closed
   pub whole : isLarge (vertex path (n .index) .bulge) ≡ false → n .half ≡ 0
   pub cut : isLarge (vertex path (n .index) .bulge) ≡ true → (1 ≤ n .half) × (n .half ≤ 2)
+
+-- 1/64
+abbrev pub halfLeast : Float
+halfLeast = ofBits binary64 0x3f90_0000_0000_0000
+
+-- a half bulge of b: from 1/64 to 1 in magnitude, with the sign of b
+pub record HalfOf (b half : Float) : Type 0 where
+  pub number : T (finite half)
+  pub least : T (F64.abs half ≽ halfLeast)
+  pub most : T (F64.abs half ≼ f1)
+  pub sign : (half ≺ f0) ≡ (b ≺ f0)

@@ -43,15 +43,20 @@ pub record TracedFine (x y b t : Float) : Type 0 where
   pub bulge : Within Limit.largeBulge b
   pub trace : noTrace t ≡ false
 
+pub vertex-passed : (x y : Float) (owner : ℕ) (b : Float) (index : ℕ)
+    → (first (vertexChecks x y b owner index) ≡ Fine) ↔ (PointFine x y × Within Limit.largeBulge b)
+vertex-passed x y owner b index =
+    let last : List Checked = Each.largeBulge b (at owner index Bulge) ∷ [] in
+    append-fine (pointChecks x y owner index) last (point-listed x y owner index)
+    (alone-fine (large-bulge-fine b (at owner index Bulge)))
+
 pub traced-listed : (x y : Float) (owner : ℕ) (b t : Float) (index : ℕ)
     → (first (tracedChecks x y b t owner index) ≡ Fine) ↔ TracedFine x y b t
 traced-listed x y owner b t index =
-    let bulge : List Checked = Each.largeBulge b (at owner index Bulge) ∷ [] in
     let last : List Checked = Each.trace t (at owner index Trace) ∷ [] in
-    let vertex = append-fine (pointChecks x y owner index) bulge (point-listed x y owner index)
-    (alone-fine (large-bulge-fine b (at owner index Bulge))) in
     Iff·trans
-    (append-fine (vertexChecks x y b owner index) last vertex (alone-fine (trace-fine t (at owner index Trace))))
+    (append-fine (vertexChecks x y b owner index) last (vertex-passed x y owner b index)
+    (alone-fine (trace-fine t (at owner index Trace))))
     (λ h. record { point = h .0 .0; bulge = h .0 .1; trace = h .1 }, λ v. ((v .point, v .bulge), v .trace))
 
 -- ---- a segment
