@@ -9,3 +9,6 @@ pub mod Quarters
 pub mod HalfBulge
 pub mod Sound
 pub mod NoCut
+pub mod CutPoint
+pub mod Refused
+pub mod RefusalNumbers

@@ -8,5 +8,7 @@ pub mod Parts
 pub mod Segments
 pub mod Accepted
 pub mod Uncut
+pub mod LargeRefusals
+pub mod Examples
 pub mod Workings
 pub mod Laws
