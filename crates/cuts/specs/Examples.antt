@@ -105,3 +105,48 @@ above-one = refl
 pub below-minus-one : isLarge (ofBits binary64 0xbff0_0000_0000_0001) ≡ true
 unfolding isLarge F64.abs lt ofBits
 below-minus-one = refl
+
+-- ---- 5 is judged on the halves alone: a chord of 2^-40 passes at 1 and fails just above, and one of 2^-43 passes at 16
+abbrev chord40 : Float
+chord40 = ofBits binary64 0x3d70_0000_0000_0000
+
+abbrev chord43 : Float
+chord43 = ofBits binary64 0x3d40_0000_0000_0000
+
+pub short-at-one : first (segmentChecks (from n1) (to chord40) 0 7) ≡ Fine
+unfolding segmentChecks isLarge arcChord Each.chord refuse later vector2.length vector2.sub pos fuzzyEqZeroEps F64.abs
+    F64.sqrt rootOf rootAt isqrt rootIn add sub mul div sum round units odd size span climb lt le neg ofBits ofFields
+short-at-one = refl
+
+pub short-above-one : first (segmentChecks (from (ofBits binary64 0x3ff0_0000_0000_0001)) (to chord40) 0 7) ≡ bad 5 (at 0 7 Chord)
+unfolding segmentChecks isLarge halfBulge cutPoint bent cutVertex vertices.new vector2.new arcChord
+    Each.coordinate Each.finiteThen Each.finite Each.chord isNan isInfinite beyond refuse later
+    vector2.length vector2.sub pos fuzzyEqZeroEps F64.abs
+    F64.sqrt rootOf rootAt isqrt rootIn add sub mul div sum round units odd size span climb lt le neg ofBits ofFields
+short-above-one = refl
+
+pub short-at-16 : first (segmentChecks (from (ofBits binary64 0x4030_0000_0000_0000)) (to chord43) 0 7) ≡ Fine
+unfolding segmentChecks isLarge halfBulge cutPoint bent cutVertex vertices.new vector2.new arcChord
+    Each.coordinate Each.finiteThen Each.finite Each.chord isNan isInfinite beyond refuse later
+    vector2.length vector2.sub pos fuzzyEqZeroEps F64.abs
+    F64.sqrt rootOf rootAt isqrt rootIn add sub mul div sum round units odd size span climb lt le neg ofBits ofFields
+short-at-16 = refl
+
+-- ---- a path: (0, 0) with bulge 8 and trace 3, then (1/8, 0) with bulge -8 and trace 1. If it is open, the last bulge makes no arc
+abbrev two : List Float
+two = n0 ∷ n0 ∷ n8 ∷ n3 ∷ eighth ∷ n0 ∷ m8 ∷ n1 ∷ []
+
+pub open-path : cutPath two false
+    ≡ n0 ∷ n0 ∷ of8 ∷ n3 ∷ sixteenth ∷ mhalf ∷ of8 ∷ n3 ∷ eighth ∷ n0 ∷ m8 ∷ n1 ∷ []
+unfolding cutPath verticesOf segmentCount refused segmentFrom after vertex trace
+    isLarge halfBulge cutPoint bent cutVertex vertices.new vector2.new F64.abs
+    F64.sqrt rootOf rootAt isqrt rootIn add sub mul div sum round units odd size span climb lt neg ofBits ofFields
+open-path = refl
+
+pub open-names : names two false ≡ name 0 1 ∷ name 0 2 ∷ []
+unfolding names namesOf segmentCount refused vertex vertices.new isLarge F64.abs lt ofBits
+open-names = refl
+
+pub closed-names : names two true ≡ name 0 1 ∷ name 0 2 ∷ name 1 1 ∷ name 1 2 ∷ []
+unfolding names namesOf segmentCount refused vertex vertices.new isLarge F64.abs lt ofBits
+closed-names = refl

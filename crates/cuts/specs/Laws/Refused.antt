@@ -35,7 +35,7 @@ use Rattle.cuts.specs.LargeChecks.{vertexChecks, segmentChecks}
 use Rattle.cuts.specs.Parts.{halfLeast}
 use Rattle.cuts.specs.Laws.Fine.{vertex-passed}
 use Rattle.cuts.specs.Laws.HalfBulge.{half-bulge}
-use Rattle.cuts.specs.Laws.CutPoint.{PointFinite} 
+use Rattle.cuts.specs.Laws.CutPoint.{PointFinite}
 use Rattle.cuts.specs.Laws.CutPoint as points
 
 -- ---- a finite coordinate
