@@ -1,5 +1,6 @@
 -- An accepted large arc's halves are accepted arcs of the old mode, and every segment of an accepted path's cut path passes the
--- old mode's checks. The half bulge is from 1/64 to 1 in magnitude and has the sign of the arc's bulge; the cut point is in range.
+-- old mode's checks. The half bulge is from 1/64 to 1 in magnitude and has the sign of the arc's bulge; the cut point is in
+-- range.
 use mathlib.Core.Path.{_≡_}
 use mathlib.Core.Bool.{Bool, true, false}
 use mathlib.Core.List.{List}

@@ -1,11 +1,12 @@
--- Worked examples, computed by the definitions: the arc from (0, 0) to (1/8, 0) with bulge 8 and with bulge -8, the bulges beside 1,
--- the shortest chords beside 1 and at 16, and a path of two vertices. Floats are written by their bits.
+-- Worked examples, computed by the definitions: the arc from (0, 0) to (1/8, 0) with bulge 8 and with bulge -8, the bulges
+-- beside 1, the shortest chords beside 1 and at 16, and a path of two vertices. Floats are written by their bits.
 use mathlib.Core.Path.{_≡_, refl}
 use mathlib.Core.Bool.{true, false}
 use mathlib.Core.List.{List, [], _∷_}
 use Prim.Native.Nat.{ℕ}
 use lib.Dec.{ltb}
-use lib.Ieee.{Float, binary64, ofBits, ofFields, odd, add, sub, mul, div, sum, round, units, size, span, climb, lt, le, neg, isNan}
+use lib.Ieee.{Float, binary64, ofBits, ofFields, odd, add, sub, mul, div, neg, lt, le, isNan}
+use lib.Ieee.{sum, round, units, size, span, climb}
 use Rattle.floats.specs.F64
 use Rattle.floats.specs.F64.{rootOf, rootAt, isqrt, rootIn}
 use Rattle.plane.specs.declared.vector2.Vector2.{Vector2}
@@ -132,7 +133,7 @@ unfolding segmentChecks isLarge halfBulge cutPoint bent cutVertex vertices.new v
     F64.sqrt rootOf rootAt isqrt rootIn add sub mul div sum round units odd size span climb lt le neg ofBits ofFields
 short-at-16 = refl
 
--- ---- a path: (0, 0) with bulge 8 and trace 3, then (1/8, 0) with bulge -8 and trace 1. If it is open, the last bulge makes no arc
+-- ---- a path: (0, 0) with bulge 8 and trace 3, then (1/8, 0) with bulge -8 and trace 1; if it is open, the last bulge stays
 abbrev two : List Float
 two = n0 ∷ n0 ∷ n8 ∷ n3 ∷ eighth ∷ n0 ∷ m8 ∷ n1 ∷ []
 

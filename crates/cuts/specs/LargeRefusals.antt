@@ -1,6 +1,6 @@
 -- The table of refusals in the mode of large arcs: which refusal each check gives, and exactly when. Exactly.antt of the crate
--- `checks` says what `Gives` means. A coordinate and a trace are checked as in the old mode (RefusalTable.antt there), and so is the
--- arc of a segment that is not cut (PathRefusals.antt of `paths`).
+-- `checks` says what `Gives` means. A coordinate and a trace are checked as in the old mode (RefusalTable.antt there), and so
+-- is the arc of a segment that is not cut (PathRefusals.antt of `paths`).
 use mathlib.Core.Path.{_≡_}
 use mathlib.Core.Logic.{_↔_}
 use mathlib.Core.Bool.{Bool, true, false, cond, _||_}

@@ -1,5 +1,5 @@
--- What is said of the cut: of a half bulge, of a name, and of a segment of the cut path, which is a part of an old one. The bulge of
--- a segment's end belongs to the next segment, so of an end the position counts.
+-- What is said of the cut: of a half bulge, of a name, and of a segment of the cut path, which is a part of an old one. The
+-- bulge of a segment's end belongs to the next segment, so of an end the position counts.
 use mathlib.Core.Path.{_≡_}
 use mathlib.Core.Bool.{Bool, true, false}
 use mathlib.Core.List.{List}

@@ -21,7 +21,8 @@ use paths::path;
 use paths::segments;
 use plane::pline_vertex::PlineVertex;
 
-// Whether the numbers of a path's vertex are all fine, by comparisons alone. Most often the trace is 0, and then no sum is needed.
+// Whether the numbers of a path's vertex are all fine, by comparisons alone. Most often the trace is 0, and then no sum is
+// needed.
 fn vertex_inside(x: f64, y: f64, bulge: f64, trace: f64) -> bool
     ensures { λ r. ⌜ r ≡ Inside.vertexInside x y bulge trace ⌝ }
 {
@@ -118,8 +119,8 @@ fn find_in_vertices(f: Checked, path: &[f64], owner: u64) -> Checked
     g
 }
 
-// The first fault of f and of every vertex of the path in order. Most often there is no fault, and the quick test shows it without
-// building places.
+// The first fault of f and of every vertex of the path in order. Most often there is no fault, and the quick test shows it
+// without building places.
 fn check_vertices(f: Checked, path: &[f64], owner: u64) -> Checked
     ensures { λ r. ⌜ r ≡ LargeChecks.checkLargeVertices f (now (path .entry)) owner ⌝ }
 {
@@ -150,8 +151,8 @@ fn check_segments(f: Checked, path: &[f64], closed: bool, owner: u64) -> Checked
     g
 }
 
-// The first fault of f, of the path's vertices, and of its segments. It answers for every slice: if `shape` refuses the slice, its
-// whole vertices are checked and no segments.
+// The first fault of f, of the path's vertices, and of its segments. It answers for every slice: if `shape` refuses the slice,
+// its whole vertices are checked and no segments.
 pub fn check_large_path(f: Checked, path: &[f64], closed: bool, owner: u64) -> Checked
     ensures { λ r. ⌜ r ≡ LargeChecks.checkLargePath f (now (path .entry)) closed owner ⌝ }
 {

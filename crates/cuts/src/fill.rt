@@ -78,8 +78,8 @@ fn put_names(path: &[f64], i: usize, names: &mut [u64], at: usize) -> usize
 // a name is an index times this, plus the half
 pub const HALVES: u64 = 4;
 
-// Writes the names of the cut path's segments to the front of `names`, each as its old index times 4 plus the half (0 uncut, 1, 2),
-// and answers how many there are. There must be room for two names a vertex of the path.
+// Writes the names of the cut path's segments to the front of `names`, each as its old index times 4 plus the half (0 uncut, 1,
+// 2), and answers how many there are. There must be room for two names a vertex of the path.
 pub fn names_into(path: &[f64], closed: bool, names: &mut [u64]) -> usize
     requires { ⌜ path_of.vertexCount (now path) * 2 ≤ length (now names) ⌝ }
     ensures { λ r. ⌜ Put (CutPath.nameWords (now (path .entry)) closed) (now (names .entry)) 0 (now (names .exit)) r ⌝ }

@@ -1,7 +1,8 @@
--- The half bulge (sqrt(1+b*b)-1)/b of a b above 1 and at most 16 in magnitude lies from 1/64 to 1 in magnitude and has the sign of
--- b. The argument: let h be the whole part of 2 * |b|. Then b * b is at most (h+1)^2 / 4, one more is at most (h+2)^2 / 4, and the
--- root at most h / 2 + 1, so the numerator is at most h / 2, which is at most |b|. And one more than b * b is at least 2, its root
--- at least 5 / 4, and the numerator at least 1 / 4, a 64th of 16. All these bounds are floats, so no rounding crosses them.
+-- The half bulge (sqrt(1+b*b)-1)/b of a b above 1 and at most 16 in magnitude lies from 1/64 to 1 in magnitude and has the sign
+-- of b. The argument: let h be the whole part of 2 * |b|. Then b * b is at most (h+1)^2 / 4, one more is at most (h+2)^2 / 4,
+-- and the root at most h / 2 + 1, so the numerator is at most h / 2, which is at most |b|. And one more than b * b is at least
+-- 2, its root at least 5 / 4, and the numerator at least 1 / 4, a 64th of 16. All these bounds are floats, so no rounding
+-- crosses them.
 use mathlib.Core.Path.{_≡_, refl, sym, ap, _∙_, subst}
 use Prim.Native.Nat.{ℕ, _+_, _-_, _*_, _/_, _^_, _≤_, _<_}
 use native.Mathlib.Nat.{
@@ -119,8 +120,9 @@ module _ (b : Float) (t : Bool) (B c : ℕ) (C : 0 < c) (value : HasValue b t B 
   x-within : Within (f1 ⊕ b ⊗ b) 8 ((h + 1) * (h + 1) + 4)
   x-within =
       let q = q-within in
+      let q-is = own-diff (b ⊗ b) false (q .X) unit (q .value) in
       rounded-within (f1 ⊕ b ⊗ b) _ _ (1 * unit) 8 ((h + 1) * (h + 1) + 4)
-      (add-rounded binary64 f1 (b ⊗ b) 1 0 (q .X) 0 1 unit one-pos unit-pos one-is (own-diff (b ⊗ b) false (q .X) unit (q .value)))
+      (add-rounded binary64 f1 (b ⊗ b) 1 0 (q .X) 0 1 unit one-pos unit-pos one-is q-is)
       (mul-pos one-pos unit-pos) (lit< tt) (lit< tt) (squares h h-few)
       (lower (q .X) unit (q .least)) (upper (q .X) unit ((h + 1) * (h + 1)) (q .most))
     where
@@ -187,7 +189,8 @@ module _ (b : Float) (t : Bool) (B c : ℕ) (C : 0 < c) (value : HasValue b t B 
   unfolding halfBulge
   quotient =
       let s = F64.sqrt (f1 ⊕ b ⊗ b) ⊖ f1 in
-      div-rounded binary64 s b (s-within .X) 0 unit t B c unit-pos C some-B (own-diff s false (s-within .X) unit (s-within .value))
+      let w = s-within in
+      div-rounded binary64 s b (w .X) 0 unit t B c unit-pos C some-B (own-diff s false (w .X) unit (w .value))
       value
 
 -- ---- a float from 1/64 to 1 is above zero
@@ -200,7 +203,8 @@ record Above (z : Float) : Type 0 where
 
 above-zero : (z : Float) → T (halfLeast ≼ z) → T (z ≼ f1) → Above z
 unfolding F64.abs neg
-above-zero z l m = go z (between-finite halfLeast z f1 (diff-finite halfLeast 1 0 64 least-is) (diff-finite f1 1 0 1 one-is) l m) l
+above-zero z l m =
+    go z (between-finite halfLeast z f1 (diff-finite halfLeast 1 0 64 least-is) (diff-finite f1 1 0 1 one-is) l m) l
   where
     never : (M d : ℕ) → 0 < d → 1 * d + M * 64 ≤ 0 * 64 + 0 * d → ⊥
     never M d D l = omega arith
@@ -215,8 +219,9 @@ above-zero z l m = go z (between-finite halfLeast z f1 (diff-finite halfLeast 1 
     go nan f l = absurd f
     go (inf s) f l = absurd f
     go (fin true m e) f l =
-        absurd (never (m * up e) (down e) (down-pos e)
-        (le-diff halfLeast (fin true m e) 1 0 64 0 (m * up e) (down e) (lit< tt) (down-pos e) least-is (written-diff true m e) .0 l))
+        let D = down-pos e in
+        absurd (never (m * up e) (down e) D
+        (le-diff halfLeast (fin true m e) 1 0 64 0 (m * up e) (down e) (lit< tt) D least-is (written-diff true m e) .0 l))
     go (fin false m e) f l =
         let z = fin false m e in
         let D = down-pos e in

@@ -1,6 +1,6 @@
--- The cut path's segment k is the part of an old segment that its name says. The argument: place k of the names belongs to one old
--- segment; what that segment's first vertex became stands there in the cut path (Laws/Places); and behind its last part stands
--- what the next vertex became, or the end of the path, from which a closed path runs back to its first vertex.
+-- The cut path's segment k is the part of an old segment that its name says. The argument: place k of the names belongs to one
+-- old segment; what that segment's first vertex became stands there in the cut path (Laws/Places); and behind its last part
+-- stands what the next vertex became, or the end of the path, from which a closed path runs back to its first vertex.
 use mathlib.Core.Path.{_≡_, refl, sym, ap, _∙_, subst}
 use mathlib.Core.Logic.{_⊎_, inl, inr}
 use mathlib.Core.Bool.{Bool, true, false, cond, _&&_, true≢false, false≢true}
@@ -99,7 +99,8 @@ module _ (path : List Float) (n : ℕ) (within : n ≤ vertexCount path) where
       go : (i + 1 ≡ c) ⊎ (i + 1 < c) → Ends k i
       go (inl f) =
           ends-at k i 0 0 (ap (λ (b : Bool). cond b (k + 1) 0) (le-ltb (k + 1) (vertexCount l) (none f)))
-          (ap (λ (b : Bool). cond b (i + 1) 0) (le-ltb (i + 1) c (omega (arith, f)))) refl (omega arith) (omega (arith, h, within))
+          (ap (λ (b : Bool). cond b (i + 1) 0) (le-ltb (i + 1) c (omega (arith, f)))) refl (omega arith)
+          (omega (arith, h, within))
       go (inr f) =
           let g = begins path n (i + 1) in
           let s = first-stands path n c (i + 1) (omega (arith, h)) f (g .u) (trace path (i + 1)) (g .rest) (g .is) in

@@ -1,4 +1,5 @@
--- A path without large segments is its own cut path: each vertex becomes itself, and its four numbers are four numbers of the path.
+-- A path without large segments is its own cut path: each vertex becomes itself, and its four numbers are four numbers of the
+-- path.
 use mathlib.Core.Path.{_≡_, refl, sym, ap, _∙_, subst}
 use mathlib.Core.Bool.{Bool, true, false, cond, _&&_}
 use mathlib.Core.List.{List, [], _∷_, _++_, append-nil}

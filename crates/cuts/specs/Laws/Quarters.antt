@@ -52,7 +52,8 @@ quarters m few =
     (grid-ge binary64 m 4 (m * quarter) (lit< tt) (held m few) (le-of-eq (sym (over (2 ^ low binary64) (sym unit-is ∙ four)))))
     in
     let under : grid binary64 m 4 < overflow binary64 =
-    lt-of-le-of-lt (le-of-eq (made ∙ ap (λ (z : ℕ). m * z) quarter-is)) (lt-trans (shl-lt 53 1072 few) (pow-lt {i = 53 + 1072} {j = low binary64 + suc (emax binary64)} (lit< tt))) in
+    lt-of-le-of-lt (le-of-eq (made ∙ ap (λ (z : ℕ). m * z) quarter-is))
+    (lt-trans (shl-lt 53 1072 few) (pow-lt {i = 53 + 1072} {j = low binary64 + suc (emax binary64)} (lit< tt))) in
     let value = round-count binary64 false m 4 under in
     let counted = own-diff y false (grid binary64 m 4) (2 ^ low binary64) value in
     record {
@@ -93,7 +94,8 @@ rounded-within r P N c lo hi h C some few-lo few-hi l m =
     let under = rounded-ge binary64 r P N c h C (a .y) lo 0 4 four-pos (a .fit) (a .is) (omega arith) in
     let over = rounded-le binary64 r P N c h C (b .y) hi 0 4 four-pos (b .fit) (b .is) (omega arith) in
     let fit = rounded-fits binary64 r P N c h in
-    let finite = between-finite (a .y) r (b .y) (diff-finite (a .y) lo 0 4 (a .is)) (diff-finite (b .y) hi 0 4 (b .is)) under over in
+    let finite =
+    between-finite (a .y) r (b .y) (diff-finite (a .y) lo 0 4 (a .is)) (diff-finite (b .y) hi 0 4 (b .is)) under over in
     let u = units64 r finite fit in
     let lower = le-diff (a .y) r lo 0 4 (u .p) (u .n) unit four-pos unit-pos (a .is) (u .is) .0 under in
     let upper = le-diff r (b .y) (u .p) (u .n) unit hi 0 4 unit-pos four-pos (u .is) (b .is) .0 over in

@@ -1,5 +1,5 @@
--- The checks of a cut segment, where its numbers have passed: the cut point is finite, so 11 and 12 are not given; both halves are
--- arcs, since a half bulge is at least 1/64 in magnitude.
+-- The checks of a cut segment, where its numbers have passed: the cut point is finite, so 11 and 12 are not given; both halves
+-- are arcs, since a half bulge is at least 1/64 in magnitude.
 use mathlib.Core.Path.{_≡_, refl, sym, ap, _∙_, subst}
 use mathlib.Core.Bool.{Bool, true, false, cond, not, _||_, true≢false}
 use mathlib.Core.List.{List, [], _∷_}

@@ -11,7 +11,9 @@ use Rattle.cuts.proofs.check.check_large_path.Tie as tie
 returns : tie.Need-returns
 returns c =
     let a = c .before .before .before .args in
-    let first = ap (λ (f : Checked). checkLargeSegments f (now (a .path)) (a .closed) (a .owner)) (c .before .check-vertices .ensures) in
+    let path = now (a .path) in
+    let first =
+    ap (λ (f : Checked). checkLargeSegments f path (a .closed) (a .owner)) (c .before .check-vertices .ensures) in
     c .check-segments .ensures ∙ first ∙ path-chain (a .f) (now (a .path)) (a .closed) (a .owner)
 
 pub check-large-path-spec : {M : Type 1} → statement M

@@ -1,5 +1,5 @@
--- `cuts::check::check_segments` meets its contract: it is a loop of `Laws/Along` of paths over the segments, as `find_in_vertices` is one
--- over the vertices.
+-- `cuts::check::check_segments` meets its contract: it is a loop of `Laws/Along` of paths over the segments, as
+-- `find_in_vertices` is one over the vertices.
 use Prim.Native.Nat.{_-_}
 use native.Mathlib.Omega.{arith}
 use borrow.Author.Needs.{needs}

@@ -1,6 +1,6 @@
--- `cuts::check::find_in_vertices` meets its contract. It is a loop of `Laws/Along` of paths over the vertices: what is left to check
--- after the check g, from vertex i on, has the first fault of the whole. A fault in g is that first fault; past the last vertex
--- g is the answer.
+-- `cuts::check::find_in_vertices` meets its contract. It is a loop of `Laws/Along` of paths over the vertices: what is left to
+-- check after the check g, from vertex i on, has the first fault of the whole. A fault in g is that first fault; past the last
+-- vertex g is the answer.
 use Prim.Native.Nat.{_-_, _≤_}
 use borrow.Author.Needs.{needs}
 use denote.Ref.{now}
