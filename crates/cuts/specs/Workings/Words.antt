@@ -1,6 +1,6 @@
 -- The names of what one segment becomes, as numbers; and that all of them, one segment after the other, are the names of the cut
 -- path.
-use mathlib.Core.Path.{_≡_, refl, sym, ap, _∙_}
+use mathlib.Core.Path.{_≡_, refl, sym, ap, _∙_, subst}
 use mathlib.Core.Bool.{Bool, true, false, cond}
 use mathlib.Core.List.{List, [], _∷_, _++_, map}
 use Prim.Native.Nat.{ℕ, zero, suc, _+_, _*_, _≤_}
@@ -10,6 +10,7 @@ use lib.Ieee.{Float}
 use Rattle.paths.specs.Path.{vertex}
 use Rattle.paths.specs.Segments.{segmentCount}
 use Rattle.cuts.specs.Cut.{isLarge}
+use Rattle.cuts.specs.Written.{Put}
 use Rattle.cuts.specs.CutPath.{Name, joined, namesOf, names, wordOf, nameWords}
 
 unfoldable pub wordsOf : List Float → ℕ → List ℕ
@@ -44,6 +45,12 @@ all-words path i (suc k) =
     ∙ ap (λ (l : List ℕ). l ++ map wordOf (joined (namesOf path) (i + 1) k)) (sym (words-of path i))
     ∙ sym (map-append wordOf (namesOf path i) (joined (namesOf path) (i + 1) k))
 
-pub words-are : (path : List Float) (closed : Bool) → joined (wordsOf path) 0 (segmentCount path closed) ≡ nameWords path closed
+words-are : (path : List Float) (closed : Bool) → joined (wordsOf path) 0 (segmentCount path closed) ≡ nameWords path closed
 unfolding names
 words-are path closed = all-words path 0 (segmentCount path closed)
+
+-- the names of n segments, if these are all
+pub all-named : (path : List Float) (closed : Bool) (n : ℕ) (old now : List ℕ) (at : ℕ) → n ≡ segmentCount path closed
+    → Put (joined (wordsOf path) 0 n) old 0 now at → Put (nameWords path closed) old 0 now at
+all-named path closed n old now at e p =
+    subst (λ (l : List ℕ). Put l old 0 now at) (ap (joined (wordsOf path) 0) e ∙ words-are path closed) p

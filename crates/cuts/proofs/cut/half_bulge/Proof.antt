@@ -6,4 +6,4 @@ use Rattle.cuts.proofs.cut.half_bulge.Tie as tie
 
 pub half-bulge-spec : {M : Type 1} → statement M
 unfolding halfBulge
-half-bulge-spec = tie.close (tie.spec (λ c. search needs) (λ c. simp (← c .sqrt .ensures)))
+half-bulge-spec = tie.close (tie.spec (λ c. search needs) (λ c. simp (c .sqrt .ensures)))

@@ -4,7 +4,7 @@ use native.Mathlib.Omega.{arith}
 use borrow.Author.Needs.{needs}
 use denote.Ref.{now}
 use Rattle.paths.specs.Laws.Segments.{count-within, few-segments}
-use Rattle.cuts.specs.Workings.Words.{wordsOf, words-short, words-are}
+use Rattle.cuts.specs.Workings.Words.{wordsOf, words-short, all-named}
 use Rattle.cuts.specs.Workings.Writing.{Writing, writing-starts, writing-turn, writing-ends}
 use Rattle.cuts.proofs.fill.names_into.Statement.{statement}
 use Rattle.cuts.proofs.fill.names_into.Tie as tie
@@ -40,7 +40,7 @@ loop-again c =
 returns : tie.Need-returns Inv-loop μ-loop
 returns c =
     let counted = c .before .before in
-    rw (← words-are, ← counted .segment-count .ensures) (writing-ends (c .before .loop .inv) (c .loop-test .left))
+    all-named _ _ _ _ _ _ (counted .segment-count .ensures) (writing-ends (c .before .loop .inv) (c .loop-test .left))
 
 pub names-into-spec : {M : Type 1} → statement M
 names-into-spec =
