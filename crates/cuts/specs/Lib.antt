@@ -6,6 +6,7 @@ pub mod CutPath
 pub mod Written
 pub mod Parts
 pub mod Segments
+pub mod NameWords
 pub mod Accepted
 pub mod Uncut
 pub mod LargeRefusals
