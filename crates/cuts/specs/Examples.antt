@@ -3,13 +3,10 @@
 use mathlib.Core.Path.{_≡_, refl}
 use mathlib.Core.Bool.{true, false}
 use mathlib.Core.List.{List, [], _∷_}
-use Prim.Native.Nat.{ℕ}
-use lib.Dec.{ltb}
 use lib.Ieee.{Float, binary64, ofBits, ofFields, odd, add, sub, mul, div, neg, lt, le, isNan}
 use lib.Ieee.{sum, round, units, size, span, climb}
 use Rattle.floats.specs.F64
 use Rattle.floats.specs.F64.{rootOf, rootAt, isqrt, rootIn}
-use Rattle.plane.specs.declared.vector2.Vector2.{Vector2}
 use Rattle.plane.specs.declared.pline_vertex.PlineVertex.{PlineVertex}
 use Rattle.plane.specs.Vector2 as vector2
 use Rattle.plane.specs.PlineVertex as vertices

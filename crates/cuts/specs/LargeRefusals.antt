@@ -5,7 +5,7 @@ use mathlib.Core.Path.{_≡_}
 use mathlib.Core.Logic.{_↔_}
 use mathlib.Core.Bool.{Bool, true, false, cond, _||_}
 use mathlib.Core.List.{List, [], _∷_}
-use Prim.Native.Nat.{ℕ}
+use Prim.Native.Nat.{ℕ, _<_}
 use lib.Ieee.{Float, isNan}
 use Rattle.floats.specs.Ops.{_≺_, _≻_}
 use Rattle.floats.specs.F64
@@ -25,7 +25,8 @@ use Rattle.checks.specs.FirstFault.{FirstFault, first-bad}
 use Rattle.checks.specs.Lists.{pointChecks}
 use Rattle.checks.specs.RefusalTable
 use Rattle.cuts.specs.Cut.{isLarge, bent, cutVertex}
-use Rattle.cuts.specs.LargeChecks.{vertexChecks, segmentChecks, largePathChecks}
+use Rattle.paths.specs.Segments.{segmentCount, segmentFrom, after}
+use Rattle.cuts.specs.LargeChecks.{vertexChecks, segmentChecks, allVertices, largePathChecks}
 use Rattle.cuts.specs.Laws.Refused as laws
 
 -- 3: a bulge is above 16 in magnitude
@@ -74,7 +75,16 @@ module _ (v1 v2 : PlineVertex) (owner i j : ℕ)
   pub whole-segment : isLarge (v1 .bulge) ≡ false → first (segmentChecks v1 v2 owner index) ≡ arcChord v1 v2 owner index
   whole-segment e = laws.whole-segment v1 v2 owner index e
 
--- ---- a path is refused with its first fault
+-- ---- a path
+-- where its segments are checked, every vertex has passed: so what is said above holds for each segment
+pub at-segment : (numbers : List Float) (closed : Bool) (owner : ℕ) → first (allVertices numbers owner) ≡ Fine
+    → (i : ℕ) → i < segmentCount numbers closed
+    → (let s = segmentFrom numbers i in
+    (first (vertexChecks (s .v1 .x) (s .v1 .y) (s .v1 .bulge) owner i) ≡ Fine)
+    × (first (pointChecks (s .v2 .x) (s .v2 .y) owner (after numbers i)) ≡ Fine))
+at-segment numbers closed owner fine i below = laws.at-segment numbers closed owner fine i below
+
+-- a path is refused with its first fault
 pub path : (numbers : List Float) (closed : Bool) (owner : ℕ) (f : Fault)
     → (first (largePathChecks numbers closed owner) ≡ Bad f) ↔ FirstFault f (largePathChecks numbers closed owner)
 path numbers closed owner f = first-bad (largePathChecks numbers closed owner) f

@@ -11,7 +11,6 @@ use Rattle.paths.specs.Laws.Segments.{count-within, few-segments}
 use Rattle.cuts.specs.CutPath.{cutPath, cutCount, nameAt}
 use Rattle.cuts.specs.Parts.{IsPart, IsName}
 use Rattle.cuts.specs.Laws.Named as laws
-use Rattle.cuts.specs.Laws.Named.{Located}
 
 module _ (path : List Float) (closed : Bool) where
   -- segment k of the cut path is the part that its name says

@@ -1,5 +1,5 @@
 -- A path without large segments is its own cut path: the same numbers, the same count of segments, and every half is 0.
-use mathlib.Core.Path.{_≡_, refl}
+use mathlib.Core.Path.{_≡_}
 use mathlib.Core.Bool.{Bool, false}
 use mathlib.Core.List.{List}
 use Prim.Native.Nat.{ℕ, _*_, _<_}

@@ -1,6 +1,6 @@
 -- The cut point of an arc whose numbers are in range is finite: each coordinate is at most 2^25 in magnitude, since no rounding
 -- crosses a power of two. The numbers may be any, not only those of the format.
-use mathlib.Core.Path.{_≡_, refl, sym, ap, _∙_}
+use mathlib.Core.Path.{_≡_, refl, ap}
 use Prim.Native.Nat.{ℕ, suc, _+_, _*_, _^_, _≤_, _<_}
 use native.Mathlib.Nat.{mul-pos, mul-le-mul, mul-le-mul-right, le-trans, le-of-eq, zero-lt-suc, pow-succ'}
 use native.Mathlib.Omega.{arith}
@@ -14,7 +14,7 @@ use lib.Ieee.Scale.{finite}
 use Rattle.float_laws.specs.Signed.{Diff, ups, downs, own-diff, diff-finite}
 use Rattle.float_laws.specs.Order.{le-diff}
 use Rattle.float_laws.specs.Chains.{written-diff}
-use Rattle.float_laws.specs.Rounded.{Rounded, add-rounded, sub-rounded, mul-rounded, div-rounded, signed-by}
+use Rattle.float_laws.specs.Rounded.{Rounded, add-rounded, sub-rounded, mul-rounded, div-rounded}
 use Rattle.float_laws.specs.Roundings.{rounded-within}
 use Rattle.floats.specs.Ops.{f2}
 use Rattle.floats.specs.F64

@@ -103,7 +103,7 @@ pub record LargePathFine (path : List Float) (closed : Bool) : Type 0 where
   pub segments : (i : ℕ) → i < segmentCount path closed → SegmentFine (segmentFrom path i .v1) (segmentFrom path i .v2)
 
 module _ (path : List Float) (owner i : ℕ) where
-  vertex-fine : (first (ofVertex path owner i) ≡ Fine)
+  pub vertex-fine : (first (ofVertex path owner i) ≡ Fine)
       ↔ TracedFine (vertex path i .x) (vertex path i .y) (vertex path i .bulge) (trace path i)
   unfolding ofVertex
   vertex-fine = let v = vertex path i in traced-listed (v .x) (v .y) owner (v .bulge) (trace path i) i

@@ -5,21 +5,12 @@
 -- crosses them.
 use mathlib.Core.Path.{_≡_, refl, sym, ap, _∙_, subst}
 use Prim.Native.Nat.{ℕ, _+_, _-_, _*_, _/_, _^_, _≤_, _<_}
-use native.Mathlib.Nat.{
-  mul-pos,
-  mul-le-mul,
-  mul-le-mul-right,
-  le-of-lt,
-  lt-of-le-of-lt,
-  le-div-iff-mul-le,
-  div-lt-iff-lt-mul,
-  mul-div-le,
-}
+use native.Mathlib.Nat.{mul-pos, mul-le-mul, mul-le-mul-right, le-of-lt, le-div-iff-mul-le, div-lt-iff-lt-mul}
 use native.Mathlib.Omega.{arith}
-use mathlib.Core.Bool.{Bool, true, false, not, true≢false}
+use mathlib.Core.Bool.{Bool, true, false}
 use lib.Dec.{T, lit<, not-T}
 use lib.IntN.{ℤ}
-use lib.Ieee.{Float, nan, inf, fin, binary64, up, down, ofBits, neg, lt, add, sub, mul, div, fits}
+use lib.Ieee.{Float, nan, inf, fin, binary64, up, down, ofBits, neg}
 use lib.Ieee.Bits.{is-true, is-false, ofBits-fits}
 use lib.Ieee.Exact.{HasValue}
 use lib.Ieee.Fits.{down-pos}
@@ -30,7 +21,7 @@ use Rattle.float_laws.specs.Chains.{written-diff, between-finite}
 use Rattle.float_laws.specs.Rounded.{Rounded, add-rounded, sub-rounded, mul-rounded, div-rounded, signed-by}
 use Rattle.float_laws.specs.Roundings.{rounded-at, rounded-neg, rounded-le, rounded-ge}
 use Rattle.float_laws.specs.Binary64.{unit, unit-pos}
-use Rattle.floats.specs.Ops.{_⊕_, _⊖_, _⊗_, _⊘_, _≺_, _≼_, _≽_, f0, f1}
+use Rattle.floats.specs.Ops.{_⊕_, _⊖_, _⊗_, _≺_, _≼_, f0, f1}
 use Rattle.floats.specs.F64
 use Rattle.checks.specs.Limit
 use Rattle.checks.specs.Laws.Fine as checks

@@ -3,8 +3,8 @@
 -- stands what the next vertex became, or the end of the path, from which a closed path runs back to its first vertex.
 use mathlib.Core.Path.{_≡_, refl, sym, ap, _∙_, subst}
 use mathlib.Core.Logic.{_⊎_, inl, inr}
-use mathlib.Core.Bool.{Bool, true, false, cond, _&&_, true≢false, false≢true}
-use mathlib.Core.List.{List, [], _∷_, _++_}
+use mathlib.Core.Bool.{Bool, true, false, cond, _&&_, true≢false}
+use mathlib.Core.List.{List, [], _∷_}
 use Prim.Native.Nat.{ℕ, zero, suc, _+_, _-_, _*_, _/_, _≤_, _<_}
 use native.Mathlib.Nat.{add-zero, eq-or-lt-of-le}
 use native.Mathlib.Omega.{arith}
@@ -17,10 +17,10 @@ use Rattle.paths.specs.declared.path.Segment.{Segment}
 use Rattle.paths.specs.Path.{vertexCount, vertex, trace}
 use Rattle.paths.specs.Segments.{segmentCount, segmentFrom, after}
 use Rattle.paths.specs.Laws.Segments.{count-within}
-use Rattle.cuts.specs.Cut.{isLarge, bent, cutVertex}
-use Rattle.cuts.specs.CutPath.{Name, name, joined, numbersOf, verticesOf, cutPath, namesOf, names, cutCount, nameAt}
-use Rattle.cuts.specs.Parts.{Runs, IsPart, IsName}
-use Rattle.cuts.specs.Laws.Joined.{Found, joined-at, joined-more, find}
+use Rattle.cuts.specs.Cut.{isLarge, cutVertex}
+use Rattle.cuts.specs.CutPath.{Name, name, joined, verticesOf, cutPath, namesOf, names, cutCount, nameAt}
+use Rattle.cuts.specs.Parts.{IsPart, IsName}
+use Rattle.cuts.specs.Laws.Joined.{joined-at, joined-more, find}
 use Rattle.cuts.specs.Laws.Places.{
   Stands,
   whole-is,

@@ -1,14 +1,14 @@
 -- A path without large segments is its own cut path: each vertex becomes itself, and its four numbers are four numbers of the
 -- path.
-use mathlib.Core.Path.{_≡_, refl, sym, ap, _∙_, subst}
-use mathlib.Core.Bool.{Bool, true, false, cond, _&&_}
-use mathlib.Core.List.{List, [], _∷_, _++_, append-nil}
+use mathlib.Core.Path.{_≡_, refl, sym, ap, _∙_}
+use mathlib.Core.Bool.{Bool, true, false, _&&_}
+use mathlib.Core.List.{List, [], _∷_, _++_}
 use Prim.Native.Nat.{ℕ, zero, suc, _+_, _-_, _*_, _≤_, _<_}
 use native.Mathlib.Nat.{zero-add, add-zero}
 use native.Mathlib.Omega.{arith}
-use borrow.Author.Tests.{ltb-true, lt-ltb}
+use borrow.Author.Tests.{ltb-true}
 use lib.Dec.{ltb}
-use lib.ListN.{length, length-append, getD, drop}
+use lib.ListN.{length, getD, drop}
 use lib.Seq.{drop-cons, drop-length}
 use lib.Ieee.{Float, nan}
 use Rattle.plane.specs.PlineVertex as vertices

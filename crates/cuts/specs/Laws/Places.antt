@@ -1,9 +1,9 @@
 -- Where the vertices of a path stand in its cut path. What vertex i becomes stands from vertex `start i` on: there are as many
 -- vertices before it as the segments before i have names.
-use mathlib.Core.Path.{_≡_, refl, sym, ap, _∙_, subst}
+use mathlib.Core.Path.{_≡_, refl, sym, ap, _∙_}
 use mathlib.Core.Bool.{Bool, true, false, cond, _&&_}
 use mathlib.Core.List.{List, [], _∷_, _++_, append-assoc}
-use Prim.Native.Nat.{ℕ, zero, suc, _+_, _-_, _*_, _/_, _≤_, _<_}
+use Prim.Native.Nat.{ℕ, zero, suc, _+_, _-_, _*_, _≤_, _<_}
 use native.Mathlib.Nat.{add-zero}
 use native.Mathlib.Numerals.{add-one}
 use native.Mathlib.Omega.{arith}
@@ -18,7 +18,7 @@ use Rattle.paths.specs.Path.{vertexCount, vertex, trace}
 use Rattle.paths.specs.Segments.{segmentFrom, after}
 use Rattle.cuts.specs.Cut.{isLarge, bent, cutVertex}
 use Rattle.cuts.specs.CutPath.{joined, numbersOf, verticesOf, name, namesOf}
-use Rattle.cuts.specs.Laws.Joined.{joined-around, joined-more, joined-within}
+use Rattle.cuts.specs.Laws.Joined.{joined-around, joined-more}
 
 -- ---- reading a vertex
 pub record Stands (l : List Float) (k : ℕ) (v : PlineVertex) (t : Float) : Type 0 where

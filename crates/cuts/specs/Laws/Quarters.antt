@@ -1,6 +1,6 @@
 -- Bounds by quarters of whole numbers: m / 4 is a float for every m of few digits, so a rounding, and a root, does not cross it.
 -- `Within r lo hi` says that the float r lies from lo / 4 to hi / 4.
-use mathlib.Core.Path.{_≡_, refl, sym, ap, _∙_, subst}
+use mathlib.Core.Path.{_≡_, refl, sym, ap, _∙_}
 use Prim.Native.Nat.{ℕ, suc, _+_, _-_, _*_, _^_, _≤_, _<_}
 use native.Mathlib.Nat.{mul-pos, mul-le-mul-right, le-antisymm, le-of-eq, lt-trans, lt-of-le-of-lt}
 use native.Mathlib.Omega.{arith}

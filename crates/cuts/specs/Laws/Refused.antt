@@ -1,9 +1,10 @@
 -- The checks of a cut segment, where its numbers have passed: the cut point is finite, so 11 and 12 are not given; both halves
 -- are arcs, since a half bulge is at least 1/64 in magnitude.
-use mathlib.Core.Path.{_≡_, refl, sym, ap, _∙_, subst}
-use mathlib.Core.Bool.{Bool, true, false, cond, not, _||_, true≢false}
+use mathlib.Core.Path.{_≡_, refl, sym, _∙_}
+use mathlib.Core.Bool.{Bool, true, false, cond, _||_}
 use mathlib.Core.List.{List, [], _∷_}
-use Prim.Native.Nat.{ℕ}
+use Prim.Native.Nat.{ℕ, _<_}
+use native.Mathlib.Omega.{arith}
 use lib.Dec.{T}
 use lib.Ieee.{Float, ofBits, isNan, lt, le}
 use lib.Ieee.Bits.{is-false}
@@ -17,8 +18,7 @@ use Rattle.plane.specs.PlineVertex as vertices
 use Rattle.plane.specs.Fuzzy.{fuzzyEpsilon, fuzzyEqZeroEps}
 use Rattle.checks.specs.declared.fault.Item.the-variants.{CutX, CutY, Chord}
 use Rattle.checks.specs.declared.fault.Place.{Place}
-use Rattle.checks.specs.declared.fault.Checked.{Checked}
-use Rattle.checks.specs.declared.fault.Checked.the-variants.{Fine, Bad}
+use Rattle.checks.specs.declared.fault.Checked.the-variants.{Fine}
 use Rattle.checks.specs.Fault.{at, bad, refuse, later}
 use Rattle.checks.specs.Exactly.{Gives, test, gives}
 use Rattle.checks.specs.Number.{isInfinite, beyond}
@@ -31,9 +31,13 @@ use Rattle.checks.specs.Laws.Fine.{of-number, neither}
 use Rattle.checks.specs.Laws.Chains.{point-listed}
 use Rattle.checks.specs.Laws.Later.{fine-right}
 use Rattle.cuts.specs.Cut.{isLarge, halfBulge, bent, cutVertex}
-use Rattle.cuts.specs.LargeChecks.{vertexChecks, segmentChecks}
+use Rattle.paths.specs.Path.{vertexCount}
+use Rattle.paths.specs.Segments.{segmentCount, segmentFrom, after}
+use Rattle.paths.specs.Laws.Segments.{count-within, after-within}
+use Rattle.paths.specs.Laws.Along.{along-fine}
+use Rattle.cuts.specs.LargeChecks.{vertexChecks, segmentChecks, ofVertex, allVertices}
 use Rattle.cuts.specs.Parts.{halfLeast}
-use Rattle.cuts.specs.Laws.Fine.{vertex-passed}
+use Rattle.cuts.specs.Laws.Fine.{vertex-passed, vertex-fine}
 use Rattle.cuts.specs.Laws.HalfBulge.{half-bulge}
 use Rattle.cuts.specs.Laws.CutPoint.{PointFinite}
 use Rattle.cuts.specs.Laws.CutPoint as points
@@ -133,3 +137,19 @@ pub whole-segment : (v1 v2 : PlineVertex) (owner index : ℕ) → isLarge (v1 .b
     → first (segmentChecks v1 v2 owner index) ≡ arcChord v1 v2 owner index
 unfolding segmentChecks
 whole-segment v1 v2 owner index e = rw e (fine-right (arcChord v1 v2 owner index))
+
+-- ---- the segments of a path whose vertices have passed
+pub at-segment : (path : List Float) (closed : Bool) (owner : ℕ) → first (allVertices path owner) ≡ Fine
+    → (i : ℕ) → i < segmentCount path closed
+    → (let s = segmentFrom path i in
+    (first (vertexChecks (s .v1 .x) (s .v1 .y) (s .v1 .bulge) owner i) ≡ Fine)
+    × (first (pointChecks (s .v2 .x) (s .v2 .y) owner (after path i)) ≡ Fine))
+unfolding segmentFrom
+at-segment path closed owner fine i below =
+    let passed = along-fine (ofVertex path owner) (vertexCount path) (vertex-fine path owner) .0 fine in
+    let here : i < vertexCount path = omega (arith, below, count-within path closed) in
+    let v = passed i here in
+    let w = passed (after path i) (after-within path i here) in (
+      vertex-passed _ _ owner _ i .1 (v .point, v .bulge),
+      point-listed _ _ owner (after path i) .1 (w .point),
+    )

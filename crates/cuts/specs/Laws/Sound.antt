@@ -1,5 +1,5 @@
 -- The parts of an accepted segment are accepted segments in the old mode: its bulge is at most 1, or its halves' is.
-use mathlib.Core.Path.{_≡_, refl, sym, ap, _∙_, subst}
+use mathlib.Core.Path.{_≡_, refl, ap, _∙_}
 use mathlib.Core.Bool.{Bool, true, false}
 use mathlib.Core.List.{List}
 use Prim.Native.Nat.{ℕ, zero, suc, _<_, _≤_}
@@ -18,14 +18,14 @@ use Rattle.checks.specs.Number.{noTrace}
 use Rattle.checks.specs.Laws.Fine.{Within}
 use Rattle.checks.specs.Laws.Chains.{PointFine, VertexFine}
 use Rattle.paths.specs.declared.path.Segment.{Segment}
-use Rattle.paths.specs.Path.{vertexCount, vertex, trace}
-use Rattle.paths.specs.Segments.{segmentCount, segmentFrom, after}
+use Rattle.paths.specs.Path.{vertexCount, trace}
+use Rattle.paths.specs.Segments.{segmentFrom, after}
 use Rattle.paths.specs.Laws.Segments.{count-within, after-within}
 use Rattle.paths.specs.Laws.Fine.{ArcFine}
 use Rattle.cuts.specs.Cut.{isLarge, halfBulge, bent, cutVertex}
 use Rattle.cuts.specs.CutPath.{cutPath, cutCount, nameAt}
-use Rattle.cuts.specs.Parts.{Runs, IsPart, IsName}
-use Rattle.cuts.specs.Laws.Fine.{TracedFine, SegmentFine, LargePathFine}
+use Rattle.cuts.specs.Parts.{Runs, IsPart}
+use Rattle.cuts.specs.Laws.Fine.{SegmentFine, LargePathFine}
 use Rattle.cuts.specs.Laws.HalfBulge.{half-bulge}
 use Rattle.cuts.specs.Laws.Named.{located}
 

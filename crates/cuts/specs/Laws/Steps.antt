@@ -1,8 +1,8 @@
 -- One step of each loop of the check: after the next vertex, or segment, the result is the first fault of the result before and
 -- of its list. And the two loops, one after the other, are the check of the path.
-use mathlib.Core.Path.{_≡_, refl, sym, ap, _∙_}
-use mathlib.Core.Bool.{Bool, true, false, cond}
-use mathlib.Core.List.{List, [], _∷_}
+use mathlib.Core.Path.{_≡_, sym, ap, _∙_}
+use mathlib.Core.Bool.{Bool, true, false}
+use mathlib.Core.List.{List, _∷_}
 use Prim.Native.Nat.{ℕ}
 use lib.Ieee.{Float}
 use Rattle.plane.specs.declared.pline_vertex.PlineVertex.{PlineVertex}

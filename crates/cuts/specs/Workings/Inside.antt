@@ -18,7 +18,6 @@ use Rattle.checks.specs.Fault.{later}
 use Rattle.checks.specs.First.{first}
 use Rattle.checks.specs.Limit
 use Rattle.checks.specs.Number.{noTrace}
-use Rattle.checks.specs.Laws.Chains.{PointFine}
 use Rattle.checks.specs.Laws.Fine.{not-denied}
 use Rattle.checks.specs.Laws.Traces.{zero-is-trace}
 use Rattle.checks.specs.Workings.Inside.{inside, of-coordinate, of-large-bulge}

@@ -1,7 +1,5 @@
 -- `cuts::fill::put_vertices` meets its contract: it writes the vertex, or the starts of the two halves, one behind the other.
-use native.Mathlib.Omega.{arith}
 use borrow.Author.Needs.{needs}
-use lib.Seq.{length-sets}
 use Rattle.cuts.specs.Laws.Pieces.{put-whole, put-halves}
 use Rattle.cuts.proofs.fill.put_vertices.Statement.{statement}
 use Rattle.cuts.proofs.fill.put_vertices.Tie as tie
