@@ -32,6 +32,10 @@ coordinate x p = finiteThen x (beyond Limit.coordinate x) Refusal.coordinate p
 unfoldable pub bulge : Float → Place → Checked
 bulge b p = finiteThen b (beyond Limit.bulge b) Refusal.bulge p
 
+-- a bulge in the mode of large arcs: 11, 12, then 3
+unfoldable pub largeBulge : Float → Place → Checked
+largeBulge b p = finiteThen b (beyond Limit.largeBulge b) Refusal.bulge p
+
 -- a circle's radius: 11, 12, then 9
 unfoldable pub radius : Float → Place → Checked
 radius r p = finiteThen r (outside Limit.radiusLeast Limit.radiusMost r) Refusal.circle p

@@ -20,6 +20,7 @@ use Rattle.checks.specs.Limit
 pub record Powers : Type 0 where
   pub coordinate : Limit.coordinate ≡ fin false 1 (pos 20)
   pub bulge : Limit.bulge ≡ fin false 1 (pos 0)
+  pub large-bulge : Limit.largeBulge ≡ fin false 1 (pos 4)
   pub epsilon-least : Limit.epsilonLeast ≡ fin false 1 (negsuc 39)
   pub epsilon-most : Limit.epsilonMost ≡ fin false 1 (negsuc 0)
   pub chord-least : Limit.chordLeast ≡ fin false 1 (negsuc 39)
@@ -33,6 +34,7 @@ powers =
     record {
       coordinate = refl;
       bulge = refl;
+      large-bulge = refl;
       epsilon-least = refl;
       epsilon-most = refl;
       chord-least = refl;
@@ -99,6 +101,8 @@ entries =
     ++ notNumbers Each.coordinate 11 12
     ++ upTo Each.bulge 0x3ff0_0000_0000_0000 3
     ++ notNumbers Each.bulge 11 12
+    ++ upTo Each.largeBulge 0x4030_0000_0000_0000 3
+    ++ notNumbers Each.largeBulge 11 12
     ++ from Each.radius 0x3d50_0000_0000_0000 9
     ++ (entry Each.radius 0x42e0_0000_0000_0000 0 ∷ entry Each.radius 0x42e0_0000_0000_0001 9 ∷ [])
     ++ notNumbers Each.radius 11 12
@@ -112,6 +116,6 @@ unfolding Each.epsilon refuse notFinite isNan isInfinite lt ofBits
 epsilon-edges = refl
 
 pub edges : (p : Place) → found p entries ≡ due p entries
-unfolding Each.finite Each.finiteThen Each.coordinate Each.bulge Each.radius Each.center Each.chord
+unfolding Each.finite Each.finiteThen Each.coordinate Each.bulge Each.largeBulge Each.radius Each.center Each.chord
     refuse later notFinite isNan isInfinite beyond F64.abs lt ofBits
 edges p = refl

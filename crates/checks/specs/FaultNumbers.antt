@@ -25,6 +25,8 @@ use Rattle.checks.specs.declared.fault.Item.the-variants.{
   Report,
   Line,
   Room,
+  CutX,
+  CutY,
 }
 use Rattle.checks.specs.declared.fault.Checked.{Checked}
 use Rattle.checks.specs.declared.fault.Checked.the-variants.{Fine, Bad}
@@ -48,10 +50,12 @@ item Trace = 13
 item Report = 14
 item Line = 15
 item Room = 16
+item CutX = 17
+item CutY = 18
 
 -- how many items there are
 abbrev pub items : ℕ
-items = 17
+items = 19
 
 pub item-below : (i : Item) → item i < items
 item-below Epsilon = omega arith
@@ -71,6 +75,8 @@ item-below Trace = omega arith
 item-below Report = omega arith
 item-below Line = omega arith
 item-below Room = omega arith
+item-below CutX = omega arith
+item-below CutY = omega arith
 
 abbrev pub faultNumbers : Checked → List ℕ
 faultNumbers Fine = 0 ∷ []
@@ -95,7 +101,9 @@ item-back n =
     (cond (eqb n 13) Trace
     (cond (eqb n 14) Report
     (cond (eqb n 15) Line
-    Room)))))))))))))))
+    (cond (eqb n 16) Room
+    (cond (eqb n 17) CutX
+    CutY)))))))))))))))))
 
 pub item-same : (i : Item) → item-back (item i) ≡ i
 unfolding item-back
@@ -116,6 +124,8 @@ item-same Trace = refl
 item-same Report = refl
 item-same Line = refl
 item-same Room = refl
+item-same CutX = refl
+item-same CutY = refl
 
 back : List ℕ → Checked
 back [] = Fine

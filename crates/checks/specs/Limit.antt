@@ -9,6 +9,10 @@ coordinate = ofBits binary64 0x4130_0000_0000_0000
 abbrev pub bulge : Float
 bulge = ofBits binary64 0x3ff0_0000_0000_0000
 
+-- 16: the most that a bulge may be in magnitude in the mode of large arcs
+abbrev pub largeBulge : Float
+largeBulge = ofBits binary64 0x4030_0000_0000_0000
+
 -- 2^-40 and 1/2: the least and the most epsilon
 abbrev pub epsilonLeast : Float
 epsilonLeast = ofBits binary64 0x3d70_0000_0000_0000

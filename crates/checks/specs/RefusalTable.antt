@@ -52,6 +52,12 @@ module _ (x : Float) (p : Place) where
   unfolding Each.bulge beyond
   bulge = then 3 _
 
+  -- 3, in the mode of large arcs: a bulge is above 16 in magnitude
+  pub large-bulge : Gives (Each.largeBulge x p) p
+      (test 11 (isNan x) ∷ test 12 (isInfinite x) ∷ test 3 (F64.abs x ≻ Limit.largeBulge) ∷ [])
+  unfolding Each.largeBulge beyond
+  large-bulge = then 3 _
+
   -- 9: a circle's radius is not in 2^-42..2^47
   pub radius : Gives (Each.radius x p) p
       (test 11 (isNan x) ∷ test 12 (isInfinite x) ∷ test 9 ((x ≺ Limit.radiusLeast) || (x ≻ Limit.radiusMost)) ∷ [])

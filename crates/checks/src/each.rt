@@ -58,6 +58,18 @@ pub fn bulge(b: f64, place: Place) -> Checked
     finite_then(b, number::beyond(limit::BULGE, b), refusal::BULGE, place)
 }
 
+// A bulge in the mode of large arcs: refusal 11 if it is a NaN, 12 if it is infinite, then 3 if it exceeds 16 in magnitude.
+pub fn large_bulge(b: f64, place: Place) -> Checked
+    ensures { λ r. ⌜ r ≡ Each.largeBulge b place ⌝ }
+{
+    finite_then(
+        b,
+        number::beyond(limit::LARGE_BULGE, b),
+        refusal::BULGE,
+        place,
+    )
+}
+
 // A circle's radius: refusal 11 if it is a NaN, 12 if it is infinite, then 9 if it is below 2^-42, as zero and negative ones
 // are, or above 2^47.
 pub fn radius(r: f64, place: Place) -> Checked

@@ -4,8 +4,8 @@ ghost use Rattle.checks.specs.Fault as fault;
 
 // Which of the owner's numbers. `Length` is how many numbers a path has, `Rows` how many rows a listing has or has room for;
 // `Position` and `Budget` are a page's, `Boxes` is a boxed listing's index, `Trace` is a path's vertex's, and `Report` is a
-// counted listing's. `Line` is a line of a drawing's text, by its number from 1 on, and `Room` is the lent slice that an import or an
-// export writes to.
+// counted listing's. `Line` is a line of a drawing's text, by its number from 1 on, and `Room` is the lent slice that an import
+// or an export writes to. `CutX` and `CutY` are the coordinates of the point at which a large arc is cut.
 pub enum Item {
     Epsilon,
     X,
@@ -24,6 +24,8 @@ pub enum Item {
     Report,
     Line,
     Room,
+    CutX,
+    CutY,
 }
 
 // Where a number stands in a call.

@@ -6,6 +6,9 @@ pub const COORDINATE: f64 = 1048576.0;
 // the most that a bulge may be in magnitude: a half circle
 pub const BULGE: f64 = 1.0;
 
+// the most that a bulge may be in magnitude in the mode of large arcs
+pub const LARGE_BULGE: f64 = 16.0;
+
 // 2^-40 and 1/2: the least and the most epsilon
 pub const EPSILON_LEAST: f64 = 1.0 / 1099511627776.0;
 

@@ -39,6 +39,8 @@ pub fn item_number(item: Item) -> u64
         Item::Report => 14,
         Item::Line => 15,
         Item::Room => 16,
+        Item::CutX => 17,
+        Item::CutY => 18,
     }
 }
 

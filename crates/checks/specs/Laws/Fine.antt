@@ -130,6 +130,11 @@ module _ (x : Float) (p : Place) where
   unfolding ofBits isNan
   bulge-fine = Iff·trans (RefusalTable.bulge x p .fine) (Iff·trans (three-no _ _ _ 11 12 3) (within Limit.bulge x refl))
 
+  pub large-bulge-fine : (Each.largeBulge x p ≡ Fine) ↔ Within Limit.largeBulge x
+  unfolding ofBits isNan
+  large-bulge-fine =
+      Iff·trans (RefusalTable.large-bulge x p .fine) (Iff·trans (three-no _ _ _ 11 12 3) (within Limit.largeBulge x refl))
+
   pub radius-fine : (Each.radius x p ≡ Fine) ↔ Between Limit.radiusLeast Limit.radiusMost x
   unfolding ofBits isNan
   radius-fine = Iff·trans (RefusalTable.radius x p .fine)

@@ -100,6 +100,10 @@ module _ (x : Float) (p : Place) (l : FitsPlace p) where
   unfolding Each.bulge Each.finiteThen
   bulge = and finite (refused _ Refusal.bulge p (omega arith) (omega arith) l)
 
+  pub large-bulge : Small (Each.largeBulge x p)
+  unfolding Each.largeBulge Each.finiteThen
+  large-bulge = and finite (refused _ Refusal.bulge p (omega arith) (omega arith) l)
+
   pub trace : Small (Each.trace x p)
   unfolding Each.trace Each.finiteThen
   trace = and finite (refused _ Refusal.trace p (omega arith) (omega arith) l)

@@ -86,6 +86,10 @@ pub of-bulge : (x : Float) → T (inside Limit.bulge x) → Within Limit.bulge x
 unfolding ofBits neg
 of-bulge x h = inside-within Limit.bulge x tt tt h
 
+pub of-large-bulge : (x : Float) → T (inside Limit.largeBulge x) → Within Limit.largeBulge x
+unfolding ofBits neg
+of-large-bulge x h = inside-within Limit.largeBulge x tt tt h
+
 of-center : (x : Float) → T (inside Limit.center x) → Within Limit.center x
 unfolding ofBits neg
 of-center x h = inside-within Limit.center x tt tt h
