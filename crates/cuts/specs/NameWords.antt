@@ -1,5 +1,5 @@
--- The numbers that stand for the cut path's names give the names back: number k divided by 4 is the old index, and what is left is
--- the half.
+-- The numbers that stand for the cut path's names give the names back: number k divided by 4 is the old index, and the remainder
+-- is the half.
 use mathlib.Core.Path.{_≡_, refl, ap, _∙_}
 use mathlib.Core.Bool.{Bool, true, false}
 use mathlib.Core.List.{List}
