@@ -8,3 +8,5 @@ pub mod Ends
 pub mod Back
 pub mod Checked
 pub mod RefusalNumbers
+pub mod Low
+pub mod When

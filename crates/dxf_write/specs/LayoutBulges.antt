@@ -22,7 +22,7 @@ use Rattle.layouts.specs.Exact.{negative, coordinate-exact, bulge-exact}
 use Rattle.dxf_form.specs.Numbers.{million, atMost, value}
 use Rattle.dxf_write.specs.Written.{numberBytes}
 use Rattle.dxf_write.specs.Spelt.{number-spelt}
-use Rattle.dxf_write.specs.ExportPromise.{HasText}
+use Rattle.dxf_write.specs.When.{HasText}
 use Rattle.dxf_write.specs.Laws.Value.{value-is, value-sized, at-most, few-most}
 use Rattle.dxf_write.specs.Laws.Candidate.{abs-sized}
 
