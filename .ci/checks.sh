@@ -231,18 +231,18 @@ check_examples() {
         return
     fi
     make_libraries
-    run_examples examples target/staticlib/libcapi.a
+    run_examples examples target/staticlib/libcapi_large.a target/staticlib/libcapi.a
     note_time "$start"
 }
 
-# Compiles each example against the header and the library, runs it, and compares what it prints with the stored text.
+# Compiles each example against the header and the libraries, runs it, and compares what it prints with the stored text.
 run_examples() {
     local sources=("$1"/*.c) texts=("$1"/*.expected) source text
     local words=(-std=c11 -Wall -Wextra -Werror -Iinclude)
     [ -f "${sources[0]}" ] || fail "no examples are stored"
     for source in "${sources[@]}"; do
         text=${source%.c}.expected
-        quietly cc "${words[@]}" "$source" "$2" -o "$scratch/example" || fail "$source does not compile"
+        quietly cc "${words[@]}" "$source" "${@:2}" -o "$scratch/example" || fail "$source does not compile"
         "$scratch/example" > "$scratch/printed" || fail "$source failed"
         cmp "$scratch/printed" "$text" || fail "$source does not print $text"
     done
@@ -316,7 +316,7 @@ find_rust_text() {
 # again.
 make_libraries() {
     local library
-    for library in capi probe; do
+    for library in capi capi_large probe; do
         if ! cmp -s "target/stamp/$library" "target/staticlib/$library.stamp"; then
             quietly rt staticlib "$library" || fail "rt staticlib $library failed"
             cp "target/stamp/$library" "target/staticlib/$library.stamp"

@@ -25,4 +25,19 @@ fn main() {
         }
         println!("cargo:rustc-link-lib=static={name}");
     }
+    // the calls with large arcs are compared as soon as a library has them
+    println!("cargo:rustc-check-cfg=cfg(large_calls)");
+    println!("cargo:rerun-if-changed={}", folder.display());
+    let wanted = b"vj_mutual_large";
+    let has = |bytes: &Vec<u8>| bytes.windows(wanted.len()).any(|part| part == wanted);
+    let [calls, large] = ["capi", "capi_large"].map(|name| {
+        let archive = folder.join(format!("lib{name}.a"));
+        std::fs::read(archive).ok()
+    });
+    if large.is_some() {
+        println!("cargo:rustc-link-lib=static=capi_large");
+    }
+    if [calls, large].iter().flatten().any(has) {
+        println!("cargo:rustc-cfg=large_calls");
+    }
 }

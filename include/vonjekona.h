@@ -6,7 +6,8 @@
  * between calls. What this file says of each answer is proved of the source from
  * which the library is compiled.
  *
- * Link with target/staticlib/libcapi.a (x86-64 Linux).
+ * Link with target/staticlib/libcapi.a (x86-64 Linux). The calls whose names end
+ * in `_large` are in target/staticlib/libcapi_large.a.
  */
 #ifndef VONJEKONA_H
 #define VONJEKONA_H
@@ -140,6 +141,8 @@ uint64_t vj_sqrt_bits(uint64_t b);
 #define VJ_ITEM_REPORT 14   /* refusal 19: of a counted listing or a join */
 #define VJ_ITEM_LINE 15     /* refusals 20, 21 and 22: of a drawing's text */
 #define VJ_ITEM_ROOM 16     /* refusal 24: for a path or a drawing's text */
+#define VJ_ITEM_CUT_X 17    /* refusal 2: of a large arc's cut point */
+#define VJ_ITEM_CUT_Y 18
 
 /*
  * The owner and the index of epsilon, rows, position, budget, boxes, report and
@@ -773,6 +776,202 @@ uint64_t vj_dxf_export(const double *path, size_t len, bool closed,
 
 /* The most bytes that the text of n vertices has. */
 #define VJ_DXF_BYTES(n) (13 + 51 * (size_t)(n))
+
+/*
+ * Large arcs: calls with bulges up to 16 in magnitude, for arcs beyond a half
+ * circle, such as tuning loops. Each is the call of the same name without
+ * `_large`, with the same arguments, and it differs from that call only as said
+ * here. The calls above are unchanged: they refuse a bulge above 1 with 3.
+ *
+ * An arc whose bulge b is above 1 in magnitude is cut into two halves. 1 itself
+ * and -1 stay whole. The arc from (x1, y1) to (x2, y2) is cut at the point
+ *
+ *   ((x1 + x2) / 2 + (b * (y2 - y1)) / 2,
+ *    (y1 + y2) / 2 - (b * (x2 - x1)) / 2),
+ *
+ * and both halves have the bulge (sqrt(1 + b * b) - 1) / b and the arc's trace.
+ * Each sum, product, quotient and root is one operation on binary64 numbers, in
+ * this order. What is left is the cut path, with a vertex more for each cut. It
+ * has up to 8,192 segments. All else is said of the cut path: the pairs and
+ * their order, positions and budgets, the pairs looked at, boxes and groups of
+ * 16 segments, the room that boxes need, neighbours, traces and reports. The last
+ * bulge of an open path starts no segment, so nothing is cut there.
+ *
+ * A row has five whole numbers from `indices` on:
+ *
+ *   the index of the segment in the first path, before the cut
+ *   its half: 0 if it is not cut, else 1 or 2
+ *   the index of the segment in the second path, before the cut
+ *   its half
+ *   the class, 1 to 5
+ *
+ * and four numbers from `points` on, as ever. So there is room for as many rows
+ * as fit whole, five words and four floats each: lend a multiple of 5 and of 4.
+ * Rows are ordered by the segments of the cut paths, so half 1 comes before
+ * half 2. If no bulge is above 1 in magnitude, the rows are those of the call
+ * without `_large`, with halves 0.
+ *
+ * Refusals. 3 is given for a bulge above 16 in magnitude, also for the last one
+ * of an open path. 7 counts the vertices before the cut. Where the other calls
+ * look at an arc's chord, refusal 5, these look at each segment in order: of an
+ * arc that is cut first at the cut point, refusal 2 if a coordinate is above
+ * 1,048,576 in magnitude, x before y; then at the chord of each half, refusal 5
+ * if it is shorter than 2^-40. The chord of the arc itself may be shorter: down
+ * to 2^-43 at bulge 16. A segment that is not cut is as before. The places:
+ *
+ *   item           owner                           index
+ *   cut x, cut y   0 the first path, 1 the second  the segment, before the cut
+ *   chord          the same                        the same
+ *
+ * Which half has the short chord is not told. All other places count vertices
+ * before the cut.
+ *
+ * What looks true and is not:
+ *
+ *   "A loop makes no row with itself." The two halves of an arc are neighbours
+ *     and share the cut point. They also meet where the loop closes, if its ends
+ *     are nearer to each other than epsilon: so the loop lists itself. The path
+ *     (0, 0) with bulge 8 to (1/8, 0), epsilon 1/4, has the row 0 1 0 2, class 3.
+ *   "A loop and the next segment are neighbours." Only its second half is: the
+ *     first half and the next segment share no vertex. So a line that goes on
+ *     where such a loop closes has a row with the first half.
+ *   "A point on the circle is on a half." Cut points and halves are rounded. How
+ *     far they lie from the circle was measured, not proved: docs/LIMITS.md.
+ *
+ * These calls are in a library of their own, libcapi_large.a, and need more stack
+ * than the others: vj_pair_large about TODO_STACK KiB, a listing or a counted
+ * listing about TODO_STACK KiB, a page about TODO_STACK KiB, a boxed listing about
+ * TODO_STACK KiB.
+ *
+ * examples/loop.c lists a tuning loop.
+ */
+
+/*
+ * vj_pair for bulges up to 16: how each part of v meets each part of u, where a
+ * part is the segment itself, or each of its halves if it is cut. Up to epsilon
+ * the arguments are vj_pair's. The results go into two slices, one after the
+ * other: from `results` on three words each,
+ *
+ *   the half of v: 0, 1 or 2
+ *   the half of u
+ *   the case, 0 to 5, as in vj_pair
+ *
+ * and from `out` on four floats each, the points of the case, +0 in the places
+ * that it does not need. The halves of v are outermost: 1 1, 1 2, 2 1, 2 2 if
+ * both are cut. The call returns
+ *
+ *   VJ_NO_ROOM         if results_room is below 12 or room is below 16: nothing
+ *                      is written. Room for four results is always asked for;
+ *   a refusal's word   else, if a number is refused: nothing is written. The
+ *                      order is vj_pair's; the cut points come with the chords,
+ *                      v's first;
+ *   1, 2 or 4          else: how many results there are. The words and floats
+ *                      behind the last one are unchanged.
+ *
+ * The place of a refusal:
+ *
+ *   item                  owner      index
+ *   x, y                  0 v, 1 u   0 its first vertex, 1 its second
+ *   bulge                 0 v, 1 u   0
+ *   cut x, cut y, chord   0 v, 1 u   0
+ */
+uint64_t vj_pair_large(double v1x, double v1y, double v1_bulge,
+                       double v2x, double v2y, double v2_bulge,
+                       double u1x, double u1y, double u1_bulge,
+                       double u2x, double u2y, double u2_bulge,
+                       double epsilon, uint64_t *results, size_t results_room,
+                       double *out, size_t room);
+
+/* vj_mutual for bulges up to 16. */
+uint64_t vj_mutual_large(const double *first, size_t first_len,
+                         bool first_closed, const double *second,
+                         size_t second_len, bool second_closed, double epsilon,
+                         uint64_t *indices, size_t indices_room,
+                         double *points, size_t points_room, uint64_t *counts,
+                         size_t counts_room);
+
+/*
+ * vj_self for bulges up to 16. A cut path of s segments has s * (s - 1) / 2
+ * pairs. The halves of one arc are neighbours, as are the second half and the
+ * next segment.
+ */
+uint64_t vj_self_large(const double *path, size_t len, bool closed,
+                       double epsilon, uint64_t *indices, size_t indices_room,
+                       double *points, size_t points_room, uint64_t *counts,
+                       size_t counts_room);
+
+/*
+ * vj_mutual_page for bulges up to 16. A position counts pairs of the cut paths,
+ * so one that vj_mutual_page answered is no position here if an arc is cut.
+ */
+uint64_t vj_mutual_page_large(const double *first, size_t first_len,
+                              bool first_closed, const double *second,
+                              size_t second_len, bool second_closed,
+                              double epsilon, uint64_t position,
+                              uint64_t budget, uint64_t *indices,
+                              size_t indices_room, double *points,
+                              size_t points_room, uint64_t *counts,
+                              size_t counts_room);
+
+/* vj_self_page for bulges up to 16. */
+uint64_t vj_self_page_large(const double *path, size_t len, bool closed,
+                            double epsilon, uint64_t position,
+                            uint64_t budget, uint64_t *indices,
+                            size_t indices_room, double *points,
+                            size_t points_room, uint64_t *counts,
+                            size_t counts_room);
+
+/*
+ * vj_mutual_boxed for bulges up to 16. The index has a box for each segment of
+ * the cut path, so each half has its own, and VJ_BOXES_NEEDED is asked for its
+ * segments: a path of n segments, c of which are cut, needs
+ * VJ_BOXES_NEEDED(n + c) numbers.
+ */
+uint64_t vj_mutual_boxed_large(const double *first, size_t first_len,
+                               bool first_closed, const double *second,
+                               size_t second_len, bool second_closed,
+                               double epsilon, double *boxes,
+                               size_t boxes_room, uint64_t *indices,
+                               size_t indices_room, double *points,
+                               size_t points_room, uint64_t *counts,
+                               size_t counts_room);
+
+/* vj_self_boxed for bulges up to 16. */
+uint64_t vj_self_boxed_large(const double *path, size_t len, bool closed,
+                             double epsilon, double *boxes, size_t boxes_room,
+                             uint64_t *indices, size_t indices_room,
+                             double *points, size_t points_room,
+                             uint64_t *counts, size_t counts_room);
+
+/*
+ * vj_mutual_counted for bulges up to 16. A report may have layouts of both
+ * modes: the pairs and classes of this one are those of the cut paths.
+ */
+uint64_t vj_mutual_counted_large(const double *first, size_t first_len,
+                                 bool first_closed, const double *second,
+                                 size_t second_len, bool second_closed,
+                                 double epsilon, uint64_t *indices,
+                                 size_t indices_room, double *points,
+                                 size_t points_room, uint64_t *counts,
+                                 size_t counts_room, uint64_t *report,
+                                 size_t report_room);
+
+/*
+ * vj_dxf_import and vj_dxf_export for bulges up to 16. Where those calls check a
+ * path as a listing does, these check it as a large listing does. The path is
+ * read and written as it is: nothing in it is cut. A bulge may have a digit more
+ * before its point, so a text may be longer: VJ_DXF_BYTES_LARGE(n) bytes are
+ * always enough for n vertices.
+ */
+#define VJ_DXF_BYTES_LARGE(n) (13 + 52 * (size_t)(n))
+
+uint64_t vj_dxf_import_large(const uint8_t *text, size_t len, double *path,
+                             size_t path_room, uint64_t *told,
+                             size_t told_room);
+
+uint64_t vj_dxf_export_large(const double *path, size_t len, bool closed,
+                             uint8_t *text, size_t text_room, uint64_t *told,
+                             size_t told_room);
 
 #ifdef __cplusplus
 }

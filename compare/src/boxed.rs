@@ -6,7 +6,7 @@ mod bench;
 mod case;
 mod draw;
 mod examples;
-mod index;
+pub mod index;
 mod kinds;
 pub mod lent;
 pub mod model;

@@ -2,6 +2,9 @@
 //!
 //! Each call is safe: it takes and gives numbers, accepts any of them, and always returns.
 
+#[cfg(all(feature = "rust-text", large_calls))]
+pub mod large;
+
 unsafe extern "C" {
     pub safe fn vj_abs(x: f64) -> f64;
     pub safe fn vj_min(x: f64, y: f64) -> f64;

@@ -22,6 +22,9 @@ mod inputs;
 #[cfg(feature = "rust-text")]
 mod joints;
 #[cfg(feature = "rust-text")]
+#[cfg_attr(not(large_calls), allow(dead_code))]
+mod large;
+#[cfg(feature = "rust-text")]
 mod lent;
 #[cfg(feature = "rust-text")]
 mod listings;
@@ -65,8 +68,8 @@ usage: compare check [COUNT [SEED]]  compare each float function on COUNT random
                                      accepted ones, an eighth of all bit patterns, and some beside the
                                      limits; each kernel and the pair call until twice as many were answered, and on some
                                      that are refused; listings of whole paths until as many pairs were looked at, and on
-                                     chosen ones; then as compare pages, as compare boxed, as compare month, as compare joints,
-                                     as compare findings, and as compare edges with a tenth of COUNT
+                                     chosen ones; then as compare pages, as compare boxed, as compare month, as compare large,
+                                     as compare joints, as compare findings, and as compare edges with a tenth of COUNT
        compare roots [COUNT [SEED]]  compare the root with the machine's own on COUNT patterns (default 10485760, seed 1): at
                                      every exponent its ends, random digits, squares of every count of digits, numbers
                                      next to ties, and the neighbours of these; subnormals of every count of digits
@@ -80,6 +83,10 @@ usage: compare check [COUNT [SEED]]  compare each float function on COUNT random
        compare month [COUNT [SEED]]  compare counted listings and joined reports: on chosen layouts with reports at each limit, on
                                      a month of 10,000 layouts, and on random ones until these have COUNT / 2 pairs (default
                                      10485760, seed 1)
+       compare large [COUNT [SEED]]  compare the calls with arcs beyond a half circle: listings, pages, boxed and counted ones at
+                                     each limit, on the longest paths, with faults, and on random paths until these have
+                                     COUNT / 4 pairs; COUNT / 16 pairs of segments; and how far the halves of COUNT / 32 arcs
+                                     lie from their circle (default 10485760, seed 1)
        compare joints [COUNT [SEED]] compare self listings where neighbours meet, full, paged and boxed: every short path on a
                                      small grid, if COUNT is at least 1048576, and COUNT / 512 drawn ones (default 10485760,
                                      seed 1)
@@ -118,7 +125,7 @@ usage: compare check [COUNT [SEED]]  compare each float function on COUNT random
        compare record FILE           write the recorded list for the program replay
        compare bench [PART...]       nanoseconds of processor time a call or a pair, ours beside the machine's own and the Rust's,
                                      the least of five rounds or more by turns; all parts, or some of: floats calls findings
-                                     listings pages boxed month packed dxf";
+                                     listings pages boxed month large packed dxf";
 
 const COUNT: u64 = 10 << 20;
 const ON_AN_EDGE: u64 = 1 << 20;
@@ -129,8 +136,9 @@ const TEXTS: u64 = 3072;
 const MOVED: u64 = 2048;
 const EXPORTED: u64 = 1024;
 const SEED: u64 = 1;
-const BENCHES: [&str; 9] = [
-    "floats", "calls", "findings", "listings", "pages", "boxed", "month", "packed", "dxf",
+const BENCHES: [&str; 10] = [
+    "floats", "calls", "findings", "listings", "pages", "boxed", "month", "large", "packed",
+    "dxf",
 ];
 
 fn main() -> ExitCode {
@@ -143,6 +151,7 @@ fn main() -> ExitCode {
         ["pages", ref numbers @ ..] => pages(numbers),
         ["boxed", ref numbers @ ..] => boxed(numbers),
         ["month", ref numbers @ ..] => month(numbers),
+        ["large", ref numbers @ ..] => large(numbers),
         ["joints", ref numbers @ ..] => joints(numbers),
         ["findings", ref numbers @ ..] => findings(numbers),
         ["packed", ref numbers @ ..] => packed(numbers),
@@ -220,6 +229,14 @@ fn boxed(numbers: &[&str]) -> Result<(), String> {
 fn month(numbers: &[&str]) -> Result<(), String> {
     let (count, seed) = count_and_seed(numbers, COUNT)?;
     match check_month(count, seed) {
+        0 => Ok(()),
+        differences => Err(format!("{differences} differences")),
+    }
+}
+
+fn large(numbers: &[&str]) -> Result<(), String> {
+    let (count, seed) = count_and_seed(numbers, COUNT)?;
+    match check_large(count, seed) {
         0 => Ok(()),
         differences => Err(format!("{differences} differences")),
     }
@@ -329,6 +346,7 @@ fn time(parts: &[&str]) -> Result<(), String> {
             "pages" => time_pages(),
             "boxed" => time_boxed(),
             "month" => time_month(),
+            "large" => time_large(),
             "packed" => packed::bench()?,
             "dxf" => dxf::bench(),
             _ => return Err(USAGE.to_string()),
@@ -360,6 +378,7 @@ fn check_text(count: u64, seed: u64) -> u64 {
         + check_pages(count, seed)
         + check_boxed(count, seed)
         + check_month(count, seed)
+        + check_large(count, seed)
         + check_joints(count, seed)
         + check_findings(count, seed)
         + check_edges(count / 10, seed)
@@ -383,6 +402,11 @@ fn check_boxed(count: u64, seed: u64) -> u64 {
 #[cfg(feature = "rust-text")]
 fn check_month(count: u64, seed: u64) -> u64 {
     month::check(count, seed)
+}
+
+#[cfg(feature = "rust-text")]
+fn check_large(count: u64, seed: u64) -> u64 {
+    large::check(count, seed)
 }
 
 #[cfg(feature = "rust-text")]
@@ -427,6 +451,12 @@ fn check_boxed(_count: u64, _seed: u64) -> u64 {
 
 #[cfg(not(feature = "rust-text"))]
 fn check_month(_count: u64, _seed: u64) -> u64 {
+    println!("rust text not compiled in: nothing was compared with it");
+    0
+}
+
+#[cfg(not(feature = "rust-text"))]
+fn check_large(_count: u64, _seed: u64) -> u64 {
     println!("rust text not compiled in: nothing was compared with it");
     0
 }
@@ -478,6 +508,14 @@ fn time_boxed() {}
 
 #[cfg(not(feature = "rust-text"))]
 fn time_month() {}
+
+#[cfg(all(feature = "rust-text", large_calls))]
+fn time_large() {
+    large::bench();
+}
+
+#[cfg(not(all(feature = "rust-text", large_calls)))]
+fn time_large() {}
 
 #[cfg(not(feature = "rust-text"))]
 fn time_calls() {}

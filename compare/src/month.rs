@@ -8,7 +8,7 @@ mod draw;
 mod examples;
 mod kinds;
 mod lent;
-mod model;
+pub mod model;
 mod run;
 mod score;
 #[cfg(test)]
@@ -42,7 +42,7 @@ const OURS: Ours = Ours {
 };
 
 /// Our call of a counted listing on lent paths.
-fn ours(listed: Listed, epsilon: f64, rows: Rows, report: &mut [u64]) -> u64 {
+pub fn ours(listed: Listed, epsilon: f64, rows: Rows, report: &mut [u64]) -> u64 {
     match listed {
         Listed::Mutual(first, second) => vj_mutual_counted(
             (first.numbers, first.closed),

@@ -5,9 +5,9 @@ use std::hint::black_box;
 use std::ptr;
 use std::thread;
 
-const STACK: usize = 2 << 20;
+const STACK: usize = 4 << 20;
 /// Down to here the stack is painted, in words. The nearest ones are left out: who paints has its own frame there.
-const DEEPEST: usize = (1 << 20) / 8;
+const DEEPEST: usize = (3 << 20) / 8;
 const NEAREST: usize = 4096 / 8;
 const PAINT: u64 = 0x7ff4_3c3c_a5a5_c3c3;
 

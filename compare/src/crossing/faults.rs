@@ -27,6 +27,9 @@ pub enum Item {
     Trace = 13,
     /// Of a counted listing or a join.
     Report = 14,
+    /// Of a large arc's cut point.
+    CutX = 17,
+    CutY = 18,
 }
 
 /// Whose item it is: a path, a segment, a point or a circle of the call, and there which vertex, segment or end. All count from

@@ -196,7 +196,7 @@ pub fn no_row_left() -> Fault {
 }
 
 /// A length that is no multiple of 4, or else too many vertices.
-fn shape(path: Path, at: usize) -> Option<Fault> {
+pub fn shape(path: Path, at: usize) -> Option<Fault> {
     let number = if path.numbers.len() % VERTEX != 0 {
         6
     } else if path.vertices() > MOST_VERTICES {

@@ -23,6 +23,16 @@ impl Orders {
         Orders(two.into_iter().map(|two| (two, 0)).collect())
     }
 
+    /// The same with arcs that are cut: of each its point's x, its y, and its halves.
+    pub fn of_large(call: Call) -> Orders {
+        let two = match call {
+            Call::Mutual => each_two_of(2, segment_of_a_large_arc),
+            Call::Own => each_two_of(1, segment_of_a_large_arc),
+            Call::Twice => of_each_path_the_same(),
+        };
+        Orders(two.into_iter().map(|two| (two, 0)).collect())
+    }
+
     /// Counts a refused call by its faults.
     pub fn count(&mut self, faults: &[Fault]) {
         let what = |fault: Fault| (fault.number, fault.place.item, fault.place.owner);
@@ -62,12 +72,23 @@ fn chord(path: usize) -> Vec<What> {
     vec![(5, Item::Chord, path)]
 }
 
-/// Every two in the order of the checks. A path has many vertices and segments, but one length.
+/// What can be wrong with a segment in the mode with large arcs.
+fn segment_of_a_large_arc(path: usize) -> Vec<What> {
+    let mut all = chord(path);
+    all.extend([(2, Item::CutX, path), (2, Item::CutY, path)]);
+    all
+}
+
 fn each_two(paths: usize) -> Vec<[What; 2]> {
+    each_two_of(paths, chord)
+}
+
+/// Every two in the order of the checks. A path has many vertices and segments, but one length.
+fn each_two_of(paths: usize, of_segment: fn(usize) -> Vec<What>) -> Vec<[What; 2]> {
     let mut groups = vec![(false, vec![(4, Item::Epsilon, 0)])];
     groups.extend((0..paths).map(|path| (false, length(path))));
     for path in 0..paths {
-        groups.extend([(true, numbers(path)), (true, chord(path))]);
+        groups.extend([(true, numbers(path)), (true, of_segment(path))]);
     }
     let mut all = Vec::new();
     for (at, (many, group)) in groups.iter().enumerate() {

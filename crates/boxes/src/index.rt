@@ -21,7 +21,7 @@ pub const GROUP: usize = 16;
 
 // How many groups n segments make.
 pub fn group_count(n: usize) -> usize
-    requires { ⌜ n ≤ Path.mostVertices ⌝ }
+    requires { ⌜ n ≤ Path.mostSegments ⌝ }
     ensures { λ r. ⌜ r ≡ groups_of.groupCount n ⌝ }
 {
     (n + (GROUP - 1)) / GROUP
@@ -29,7 +29,7 @@ pub fn group_count(n: usize) -> usize
 
 // How many floats the index of n segments needs.
 pub fn floats_needed(n: usize) -> usize
-    requires { ⌜ n ≤ Path.mostVertices ⌝ }
+    requires { ⌜ n ≤ Path.mostSegments ⌝ }
     ensures { λ r. ⌜ r ≡ index_of.floatsNeeded n ⌝ }
 {
     FLOATS * (n + group_count(n))
@@ -63,7 +63,7 @@ pub fn put_box(boxes: &mut [f64], k: usize, b: Box)
 
 // Where group g ends: after its last segment, or at `limit` if that comes first.
 pub fn group_end(g: usize, limit: usize) -> usize
-    requires { ⌜ g ≤ Path.mostVertices ⌝ }
+    requires { ⌜ g ≤ Path.mostSegments ⌝ }
     ensures { λ r. ⌜ r ≡ min ((g + 1) * groups_of.groupSize) limit ⌝ }
 {
     let end = (g + 1) * GROUP;
@@ -75,7 +75,7 @@ pub fn group_end(g: usize, limit: usize) -> usize
 
 // The box of group g, if the boxes of n segments stand from box `from` on.
 fn group_box(boxes: &[f64], from: usize, n: usize, g: usize) -> Box
-    requires { ⌜ (n ≤ Path.mostVertices) × (g < groups_of.groupCount n) ⌝ }
+    requires { ⌜ (n ≤ Path.mostSegments) × (g < groups_of.groupCount n) ⌝ }
     requires { ⌜ (from + n) * index_of.floatsABox ≤ length (now boxes) ⌝ }
     ensures { λ r. ⌜ r ≡ groups_of.groupBox (Stored.boxesOn (now (boxes .entry)) from) n g ⌝ }
 {
@@ -92,7 +92,7 @@ fn group_box(boxes: &[f64], from: usize, n: usize, g: usize) -> Box
 
 // Stores the boxes of the path's first n segments from box `from` on.
 fn store_segments(path: &[f64], n: usize, epsilon: f64, from: usize, boxes: &mut [f64])
-    requires { ⌜ (n ≤ Path.vertexCount (now path)) × (n ≤ Path.mostVertices) ⌝ }
+    requires { ⌜ (n ≤ Path.vertexCount (now path)) × (n ≤ Path.mostSegments) ⌝ }
     requires { ⌜ (from + n) * index_of.floatsABox ≤ length (now boxes) ⌝ }
     ensures { λ _. ⌜
         now (boxes .exit)
@@ -110,7 +110,7 @@ fn store_segments(path: &[f64], n: usize, epsilon: f64, from: usize, boxes: &mut
 
 // Stores the boxes of the groups of n segments, whose boxes stand from box `from` on, behind these.
 pub fn store_groups(n: usize, from: usize, boxes: &mut [f64])
-    requires { ⌜ n ≤ Path.mostVertices ⌝ }
+    requires { ⌜ n ≤ Path.mostSegments ⌝ }
     requires { ⌜ from * index_of.floatsABox + index_of.floatsNeeded n ≤ length (now boxes) ⌝ }
     ensures { λ _. ⌜
         now (boxes .exit) ≡ Stored.withGroups (now (boxes .entry)) from n ⌝ }
@@ -127,7 +127,7 @@ pub fn store_groups(n: usize, from: usize, boxes: &mut [f64])
 
 // Stores the index of the path's first n segments from box `from` on.
 pub fn store(path: &[f64], n: usize, epsilon: f64, from: usize, boxes: &mut [f64])
-    requires { ⌜ (n ≤ Path.vertexCount (now path)) × (n ≤ Path.mostVertices) ⌝ }
+    requires { ⌜ (n ≤ Path.vertexCount (now path)) × (n ≤ Path.mostSegments) ⌝ }
     requires { ⌜ from * index_of.floatsABox + index_of.floatsNeeded n ≤ length (now boxes) ⌝ }
     ensures { λ _. ⌜
         now (boxes .exit)

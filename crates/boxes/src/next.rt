@@ -29,7 +29,7 @@ fn next_of_each(boxes: &[f64], from: usize, b: Box, j: usize, end: usize) -> usi
 // The same, with a group passed whole if its box does not meet b.
 pub fn next_meeting(boxes: &[f64], from: usize, n: usize, b: Box, j: usize, end: usize) -> usize
     requires { ⌜ next_of.Grouped (now boxes) from n ⌝ }
-    requires { ⌜ (j ≤ end) × (end ≤ n) × (n ≤ Path.mostVertices) ⌝ }
+    requires { ⌜ (j ≤ end) × (end ≤ n) × (n ≤ Path.mostSegments) ⌝ }
     ensures { λ r. ⌜ r ≡ next_of.first (next_of.meets (now (boxes .entry)) from b) j end ⌝ }
 {
     let groups = from + n;
@@ -50,7 +50,7 @@ pub fn next_meeting(boxes: &[f64], from: usize, n: usize, b: Box, j: usize, end:
 
 // The place k, or the first segment of group g if that comes later.
 fn in_group(k: usize, g: usize) -> usize
-    requires { ⌜ g ≤ Path.mostVertices ⌝ }
+    requires { ⌜ g ≤ Path.mostSegments ⌝ }
     ensures { λ r. ⌜ r ≡ next_of.inGroup k g ⌝ }
 {
     let start = g * index::GROUP;
@@ -64,7 +64,7 @@ fn in_group(k: usize, g: usize) -> usize
 // found through these.
 pub fn next_by_groups(boxes: &[f64], from: usize, n: usize, b: Box, j: usize, end: usize) -> usize
     requires { ⌜ next_of.GroupedTwice (now boxes) from n ⌝ }
-    requires { ⌜ (j ≤ end) × (end ≤ n) × (n ≤ Path.mostVertices) ⌝ }
+    requires { ⌜ (j ≤ end) × (end ≤ n) × (n ≤ Path.mostSegments) ⌝ }
     ensures { λ r. ⌜ r ≡ next_of.first (next_of.meets (now (boxes .entry)) from b) j end ⌝ }
 {
     let groups = index::group_count(n);

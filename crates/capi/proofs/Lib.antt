@@ -1,5 +1,3 @@
 mod Ends
-mod ListingEnds
 mod FindingsEnds
-mod MonthEnds
 mod DxfEnds

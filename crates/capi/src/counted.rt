@@ -17,7 +17,7 @@ use month::mutual_counted;
 use month::mutual_counted::CountedAnswer;
 
 // Writes the counts of an answer to the front of `counts` and returns 0. A refusal and too little room for a report write nothing.
-fn hand_counted(answer: CountedAnswer, counts: &mut [u64]) -> u64
+pub fn hand_counted(answer: CountedAnswer, counts: &mut [u64]) -> u64
     requires { ⌜ handed.countPlaces ≤ length (now counts) ⌝ }
     ensures { λ r. ⌜ r ≡ handed_month.ofCounted answer .code ⌝ }
     ensures { λ r. ⌜ now (counts .exit) ≡ sets (now (counts .entry)) 0 (handed_month.ofCounted answer .counts) ⌝ }

@@ -12,10 +12,10 @@ use listing_calls::self_listing;
 use listing_outcomes::answer::ListingAnswer;
 
 // how many counts a listing hands over
-pub(crate) const COUNTS: usize = 2;
+pub const COUNTS: usize = 2;
 
 // Writes the counts of an answer to the front of `counts` and returns 0. A refusal writes nothing and returns its word.
-pub(crate) fn hand_counts(answer: ListingAnswer, counts: &mut [u64]) -> u64
+pub fn hand_counts(answer: ListingAnswer, counts: &mut [u64]) -> u64
     requires { ⌜ handed.countPlaces ≤ length (now counts) ⌝ }
     ensures { λ r. ⌜ r ≡ handed.listing answer .code ⌝ }
     ensures { λ r. ⌜ now (counts .exit) ≡ sets (now (counts .entry)) 0 (handed.listing answer .counts) ⌝ }

@@ -12,10 +12,10 @@ use listing_calls::self_page;
 use listing_outcomes::answer::PageAnswer;
 
 // how many counts a page hands over
-const COUNTS: usize = 4;
+pub const COUNTS: usize = 4;
 
 // Writes the counts of an answer to the front of `counts` and returns 0. A refusal writes nothing and returns its word.
-fn hand_page(answer: PageAnswer, counts: &mut [u64]) -> u64
+pub fn hand_page(answer: PageAnswer, counts: &mut [u64]) -> u64
     requires { ⌜ handed.pagePlaces ≤ length (now counts) ⌝ }
     ensures { λ r. ⌜ r ≡ handed.ofPage answer .code ⌝ }
     ensures { λ r. ⌜ now (counts .exit) ≡ sets (now (counts .entry)) 0 (handed.ofPage answer .counts) ⌝ }

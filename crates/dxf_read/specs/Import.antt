@@ -1,8 +1,9 @@
 -- What an import answers, and what the lent path holds afterwards, by request 10: the text's first fault; then the count; then
--- the path's own checks, as every call with a path makes them; and last whether the path fits.
+-- the path's own checks, as every call with a path makes them; and last whether the path fits. The checks of the path's numbers
+-- and arcs are a parameter, since the mode of large arcs has others.
 use Prim.Native.Nat.{ℕ}
 use mathlib.Core.Path.{_≡_}
-use mathlib.Core.Bool.{not, cond}
+use mathlib.Core.Bool.{Bool, not, cond}
 use mathlib.Core.List.{List, [], _∷_, _++_}
 use lib.Dec.{ltb, eqb}
 use lib.ListN.{length}
@@ -39,14 +40,21 @@ lineFault number line = record { number = number; place = at 0 (toldLine line) L
 
 -- ---- the checks after those of the text's form, in their order: 22; 7; the vertices' numbers and the arcs; 24
 
-abbrev pub bodyChecks : List Group → List Float → List Checked
-bodyChecks gs old =
+-- the checks of a path's numbers and arcs: of its floats, whether it is closed, and its owner
+abbrev pub PathChecks : Type 0
+PathChecks = List Float → Bool → ℕ → List Checked
+
+abbrev pub bodyChecksBy : PathChecks → List Group → List Float → List Checked
+bodyChecksBy own gs old =
     let b = bodyOf gs in
     let path = pathOf (b .vertices) in
     refuse (not (eqb (b .declared) (length (b .vertices)))) Refusal.count (at 0 (toldLine (countLine gs)) Line)
     ∷ Shape.shape path 0
-    ∷ (pathChecks path (closedBy (b .flags-are)) 0
+    ∷ (own path (closedBy (b .flags-are)) 0
     ++ (refuse (ltb (length old) (length path)) Refusal.room (at 0 0 Room) ∷ []))
+
+abbrev pub bodyChecks : List Group → List Float → List Checked
+bodyChecks gs old = bodyChecksBy pathChecks gs old
 
 -- ---- the answer, and what the path holds
 
@@ -62,13 +70,20 @@ byChecks b old Fine =
     }
 byChecks b old (Bad f) = record { answer = Imported·.Refused f; path = old }
 
-abbrev pub byGroups : List Float → Read → ImportOutcome
-byGroups old (faultAt number line) =
+abbrev pub byGroupsBy : PathChecks → List Float → Read → ImportOutcome
+byGroupsBy own old (faultAt number line) =
     record { answer = Imported·.Refused (lineFault number line); path = old }
-byGroups old (groups gs) = byChecks (bodyOf gs) old (first (bodyChecks gs old))
+byGroupsBy own old (groups gs) = byChecks (bodyOf gs) old (first (bodyChecksBy own gs old))
+
+abbrev pub byGroups : List Float → Read → ImportOutcome
+byGroups old r = byGroupsBy pathChecks old r
+
+-- with these checks of the path
+abbrev pub importBy : PathChecks → List ℕ → List Float → ImportOutcome
+importBy own text old = byGroupsBy own old (readGroups text)
 
 unfoldable pub importDxf : List ℕ → List Float → ImportOutcome
-importDxf text old = byGroups old (readGroups text)
+importDxf text old = importBy pathChecks text old
 
 -- ---- the promise
 

@@ -5,5 +5,6 @@ pub mod Bodies
 pub mod Stores
 pub mod Scanning
 pub mod Finishing
+pub mod Ends
 pub mod Order
 pub mod RefusalNumbers

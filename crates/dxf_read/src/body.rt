@@ -1,11 +1,13 @@
-// The checks of a path whose text was read, and the copy of a path that they accept.
+// The checks before and after those of a path whose text was read, and the copy of a path that they accept.
 ghost use mathlib.Core.Path.{_≡_};
 ghost use Prim.Native.Nat.{_≤_};
 ghost use lib.ListN.{length, take};
 ghost use lib.Seq.{sets};
 ghost use Rattle.dxf_read.specs.Import as import_of;
 ghost use Rattle.dxf_read.specs.Workings.Scanning as scanning;
-ghost use Rattle.dxf_read.specs.Workings.Finishing.{checkedBy, finished};
+ghost use Rattle.paths.specs.Path.{mostVertices};
+ghost use Rattle.checks.specs.Fault as faults;
+ghost use Rattle.dxf_read.specs.Workings.Finishing as finishing;
 use super::Imported;
 use checks::fault::Checked;
 use checks::fault::Fault;
@@ -15,7 +17,6 @@ use checks::fault::later;
 use checks::fault::refuse;
 use checks::fault::whole;
 use dxf_form::refusal;
-use paths::check::check_path;
 use paths::path::NUMBERS;
 use paths::path::VERTICES;
 
@@ -42,11 +43,9 @@ pub fn line_fault(number: u64, line: u64) -> Fault
     }
 }
 
-// The first fault of the path of n vertices at the front of `buffer`, if the value of 90 is `count`, in this line, and there is
-// room for so many floats.
-fn check_body(buffer: &[f64], n: usize, count: u64, line: u64, closed: bool, room: usize) -> Checked
-    requires { ⌜ scanning.room ≤ length (now buffer) ⌝ }
-    ensures { λ r. ⌜ r ≡ checkedBy (now (buffer .entry)) n count line closed room ⌝ }
+// The checks before those of the path: the value of 90, in this line, is the number of vertices; they are not too many.
+pub fn check_count(n: usize, count: u64, line: u64) -> Checked
+    ensures { λ r. ⌜ r ≡ finishing.countedBy n count line ⌝ }
 {
     if count != n as u64 {
         return Checked::Bad(line_fault(refusal::COUNT, line));
@@ -54,10 +53,7 @@ fn check_body(buffer: &[f64], n: usize, count: u64, line: u64, closed: bool, roo
     if n > VERTICES {
         return Checked::Bad(whole(checks::refusal::VERTICES, Item::Length));
     }
-    let end = n * NUMBERS;
-    let checked = check_path(Checked::Fine, &buffer[..end], closed, 0);
-    let fits = refuse(room < end, refusal::ROOM, at(0, 0, Item::Room));
-    later(checked, fits)
+    Checked::Fine
 }
 
 // Copies the first `many` floats.
@@ -73,24 +69,29 @@ fn copy(from: &[f64], many: usize, to: &mut [f64])
     }
 }
 
-// Checks the path of n vertices at the front of `buffer`, and copies it if it is fine.
-pub fn finish(
+// Copies the path of n vertices at the front of `buffer`, if the checks so far are fine and there is room for it.
+pub fn hand_over(
     buffer: &[f64],
     n: usize,
-    count: u64,
-    line: u64,
     closed: bool,
+    checked: Checked,
     path: &mut [f64],
 ) -> Imported
+    requires { ⌜ n ≤ mostVertices ⌝ }
     requires { ⌜ scanning.room ≤ length (now buffer) ⌝ }
     ensures { λ r. ⌜
-        import_of.Imports (finished (now (buffer .entry)) n count line closed (now (path .entry))) r (now (path .exit)) ⌝ }
+        import_of.Imports
+        (finishing.finishedBy (now (buffer .entry)) n closed (now (path .entry))
+        (faults.later checked (finishing.roomBy n (length (now (path .entry))))))
+        r (now (path .exit)) ⌝ }
 {
-    let checked = check_body(buffer, n, count, line, closed, path.len());
-    match checked {
+    let end = n * NUMBERS;
+    let fits = refuse(path.len() < end, refusal::ROOM, at(0, 0, Item::Room));
+    let all = later(checked, fits);
+    match all {
         Checked::Bad(fault) => Imported::Refused(fault),
         Checked::Fine => {
-            copy(buffer, n * NUMBERS, path);
+            copy(buffer, end, path);
             Imported::Path(n, closed)
         }
     }

@@ -1,16 +1,24 @@
 // Imports the body of an LWPOLYLINE entity. Crate dxf_form has the form of a text; specs/Import.antt has what an import promises.
+ghost use Prim.Native.Nat.{_≤_};
+ghost use lib.ListN.{length};
 ghost use Rattle.dxf_read.specs.Import as import_of;
-use body::finish;
+ghost use Rattle.dxf_read.specs.Workings.Scanning as scanning;
+ghost use Rattle.dxf_read.specs.Workings.Finishing as finishing;
+use body::check_count;
+use body::hand_over;
 use body::line_fault;
+use checks::fault::Checked;
 use checks::fault::Fault;
+use paths::check::check_path;
+use paths::path::NUMBERS;
 use scan::Found;
 use scan::scan;
 
-mod body;
+pub mod body;
 mod digits;
 mod line;
 mod pair;
-mod scan;
+pub mod scan;
 mod state;
 mod store;
 
@@ -18,6 +26,31 @@ mod store;
 pub enum Imported {
     Path(usize, bool),
     Refused(Fault),
+}
+
+// Checks the path of n vertices at the front of `buffer`, and copies it if it is fine.
+fn finish(
+    buffer: &[f64],
+    n: usize,
+    count: u64,
+    line: u64,
+    closed: bool,
+    path: &mut [f64],
+) -> Imported
+    requires { ⌜ scanning.room ≤ length (now buffer) ⌝ }
+    ensures { λ r. ⌜
+        import_of.Imports (finishing.finished (now (buffer .entry)) n count line closed (now (path .entry))) r
+        (now (path .exit)) ⌝ }
+{
+    let counted = check_count(n, count, line);
+    match counted {
+        Checked::Fine => {}
+        Checked::Bad(fault) => {
+            return Imported::Refused(fault);
+        }
+    }
+    let checked = check_path(counted, &buffer[..n * NUMBERS], closed, 0);
+    hand_over(buffer, n, closed, checked, path)
 }
 
 // Imports the path that a text gives: writes its vertices, four floats each, to the front of `path`, and leaves the rest as it

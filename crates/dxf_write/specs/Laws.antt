@@ -10,3 +10,4 @@ pub mod Checked
 pub mod RefusalNumbers
 pub mod Low
 pub mod When
+pub mod Trip

@@ -42,7 +42,7 @@ use Rattle.listing_pairs.specs.declared.row.Look.{Look}
 use Rattle.listing_pairs.specs.declared.row.Look.the-variants.{Skipped, Nothing, Made}
 use Rattle.listing_pairs.specs.Row.{lookOf}
 use Rattle.listing_pairs.specs.Neighbours.{onlyAt, atJoint}
-use Rattle.listing_pairs.specs.Look.{selfLook, tracedSelfLook}
+use Rattle.listing_pairs.specs.Look.{selfLookOf, tracedSelfLook}
 use Rattle.listing_pairs.specs.Traces.{oneTrace, traced}
 use Rattle.examples.specs.ExampleTable.{n0, n1, n2, n5, eps}
 
@@ -105,7 +105,7 @@ due (e ∷ es) = e .due ∷ due es
 
 pub folds : found table ≡ due table
 unfolding
-    traced oneTrace selfLook lookOf atJoint onlyAt segmentFrom segmentCount after refused vertex trace
+    traced oneTrace selfLookOf lookOf atJoint onlyAt segmentFrom segmentCount after refused vertex trace
     PlineSeg.processLineLineIntr PlineSeg.plineSeg
     Range.onSegment LineLine.crossing LineLine.bothPoints LineLine.firstPoint LineLine.secondPoint LineLine.rising
     LineLine.spanOf LineLine.touchingEnd LineLine.overlap LineLine.parallel LineLine.lineLine

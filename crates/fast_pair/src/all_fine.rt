@@ -13,7 +13,7 @@ fn point_fine(v: PlineVertex) -> bool
 }
 
 // Whether the segment from v1 to v2 is fine: a line, or an arc whose chord is clearly long enough.
-fn segment_fine(v1: PlineVertex, v2: PlineVertex) -> bool
+pub fn segment_fine(v1: PlineVertex, v2: PlineVertex) -> bool
     ensures { λ r. ⌜ r ≡ AllFine.segmentFine v1 v2 ⌝ }
 {
     let chord = v2.pos().sub(v1.pos());
@@ -22,7 +22,7 @@ fn segment_fine(v1: PlineVertex, v2: PlineVertex) -> bool
 }
 
 // Whether epsilon is fine.
-fn epsilon_fine(eps: f64) -> bool
+pub fn epsilon_fine(eps: f64) -> bool
     ensures { λ r. ⌜ r ≡ AllFine.epsilonFine eps ⌝ }
 {
     (eps >= limit::EPSILON_LEAST) & (eps <= limit::EPSILON_MOST)

@@ -93,7 +93,7 @@ fn line_pair_apart(
 }
 
 // The same as `pline_seg_kept`, if nothing is kept of the segments: for one pair, a line's root is not worth its cost.
-fn pline_seg_once(
+pub fn pline_seg_once(
     v1: PlineVertex,
     v2: PlineVertex,
     u1: PlineVertex,

@@ -26,7 +26,7 @@ use Rattle.listing_pairs.specs.declared.row.Row.{Row}
 use Rattle.listing_pairs.specs.declared.row.Look.{Look}
 use Rattle.listing_pairs.specs.declared.row.Look.the-variants.{Skipped, Nothing, Made}
 use Rattle.listing_pairs.specs.Row.{row}
-use Rattle.listing_pairs.specs.Look.{look, selfLook}
+use Rattle.listing_pairs.specs.Look.{look, selfLookOf}
 use Rattle.listing_pairs.specs.Traces.{oneTrace, traced}
 use Rattle.listing_pairs.specs.Neighbours.{sharedVertices, nearSome, atJoint}
 use Rattle.listing_calls.specs.Complete.{pairOf, makes-looked}
@@ -180,7 +180,7 @@ not-skipped true l r e = let z : _≡_ {A = ℕ} 0 1 = cc in absurd (omega (arit
 not-skipped false l r e = refl
 
 pub fold-promise : FoldPromise
-unfolding atJoint selfLook look traced
+unfolding atJoint selfLookOf look traced
 fold-promise path closed e num den small i j (rises, within, beside) p1 p2 q1 q2 (on-v1, on-v2, line-v) (on-u1, on-u2, line-u) = (
   s .only-there,
   (

@@ -21,7 +21,7 @@ use Rattle.listing_pairs.specs.declared.row.Look.the-variants.{Skipped, Nothing
 use Rattle.listing_pairs.specs.Order.{Pair, mutualPairs, selfPairs}
 use Rattle.listing_pairs.specs.Row.{indicesARow, pointsARow, indicesOf, pointsOf, numbersOfRows, row, unlessApart, lookOf}
 use Rattle.listing_pairs.specs.Rows.{rowsOf, count, lookedAt}
-use Rattle.listing_pairs.specs.Look.{look, selfLook, tracedLook, tracedSelfLook}
+use Rattle.listing_pairs.specs.Look.{look, selfLook, selfLookOf, tracedLook, tracedSelfLook}
 use Rattle.listing_pairs.specs.Traces.{oneTrace, tracedPairs}
 use Rattle.listing_pairs.specs.TracedListing.{traced-looked}
 use Rattle.listing_pairs.specs.Neighbours.{atJoint}
@@ -70,7 +70,7 @@ looks first second epsilon i j n =
 
 looks-at-own : (path : List Float) (closed : Bool) (epsilon : Float) (i j n : ℕ)
     → count (selfLook path closed epsilon i j) n ≡ suc n
-unfolding selfLook lookOf
+unfolding selfLookOf lookOf
 looks-at-own path closed epsilon i j n =
     let m = pairOf path path epsilon i j in
     go (atJoint path closed (segmentCount path closed) epsilon i j m) (unlessApart (classOf m) (row i j m))

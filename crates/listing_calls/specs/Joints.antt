@@ -29,7 +29,7 @@ use Rattle.listing_pairs.specs.declared.row.Look.{Look}
 use Rattle.listing_pairs.specs.declared.row.Look.the-variants.{Skipped, Nothing, Made}
 use Rattle.listing_pairs.specs.Row.{row, unlessApart, lookOf}
 use Rattle.listing_pairs.specs.Order.{selfPairs}
-use Rattle.listing_pairs.specs.Look.{selfLook, tracedSelfLook}
+use Rattle.listing_pairs.specs.Look.{selfLook, selfLookOf, tracedSelfLook}
 use Rattle.listing_pairs.specs.Traces.{oneTrace, traced}
 use Rattle.listing_pairs.specs.TracedListing.{not-of-one}
 use Rattle.listing_pairs.specs.Boxed.{boxesMeet, boxedPairs}
@@ -135,7 +135,7 @@ module _ (path : List Float) (closed : Bool) (epsilon : Float) (i j : ℕ) where
 
   -- ---- if the pair is looked at: no row exactly if the two are apart or at a joint
   silent-pair : (selfLook path closed epsilon i j ≡ Nothing) ↔ ((classOf met ≡ 0) ⊎ AtJoint)
-  unfolding selfLook lookOf
+  unfolding selfLookOf lookOf
   silent-pair = (forth (classOf met) silent refl refl, back)
     where
       forth : (class : ℕ) (b : Bool) → classOf met ≡ class → silent ≡ b
@@ -155,7 +155,7 @@ module _ (path : List Float) (closed : Bool) (epsilon : Float) (i j : ℕ) where
 
   -- a row exactly if they meet, and not only at a joint
   row-pair : (selfLook path closed epsilon i j ≡ Made (row i j met)) ↔ ((0 < classOf met) × (AtJoint → ⊥))
-  unfolding selfLook lookOf
+  unfolding selfLookOf lookOf
   row-pair = (forth (classOf met) silent refl refl, back)
     where
       forth : (class : ℕ) (b : Bool) → classOf met ≡ class → silent ≡ b
@@ -183,7 +183,7 @@ module _ (path : List Float) (closed : Bool) (epsilon : Float) (i j : ℕ) where
   split s r never when false = (λ e. (when .0 e, refl), λ h. when .1 (h .0))
 
   pub skipped-when : (tracedSelfLook path closed epsilon i j ≡ Skipped) ↔ (OneTrace ≡ true)
-  unfolding traced selfLook lookOf
+  unfolding traced selfLookOf lookOf
   skipped-when = go OneTrace silent (classOf met)
     where
       clash : {A : Type 0} {s : Look} → s ≡ Nothing → s ≡ Skipped → A

@@ -46,13 +46,14 @@ pub(crate) fn box_for(v: Segment, v_kept: Kept, job: Job) -> Box
 
 // The next indices from j on and before `end` whose boxes meet; of a listing that is not boxed all.
 fn run_of_boxes(kept: &[f64], v_box: Box, job: Job, j: usize, end: usize) -> Run
-    requires { ⌜ (job .boxed ≡ true → Next.GroupedTwice (now kept) Keeping.boxesKept (job .m)) ⌝ }
-    requires { ⌜ (j ≤ end) × (end ≤ job .m) × (job .m ≤ Path.mostVertices) ⌝ }
+    requires { ⌜ (job .boxed ≡ true → Next.GroupedTwice (now kept) (Keeping.boxesKept (job .m)) (job .m)) ⌝ }
+    requires { ⌜ (j ≤ end) × (end ≤ job .m) × (job .m ≤ Path.mostSegments) ⌝ }
     ensures { λ r. ⌜ r ≡ Runs.runOfBoxes (now (kept .entry)) «v_box» job j end ⌝ }
 {
     if job.boxed {
-        let from = next_by_groups(kept, keeping::BOXES, job.m, v_box, j, end);
-        let to = next_apart(kept, keeping::BOXES, v_box, from, end);
+        let boxes = keeping::FRONT + job.m;
+        let from = next_by_groups(kept, boxes, job.m, v_box, j, end);
+        let to = next_apart(kept, boxes, v_box, from, end);
         return Run { from: from, to: to };
     }
     Run { from: j, to: end }
@@ -60,15 +61,22 @@ fn run_of_boxes(kept: &[f64], v_box: Box, job: Job, j: usize, end: usize) -> Run
 
 // The first vertex from j on and before `end` that has another trace than this one, which is above 0; `end` if there is none. A
 // group of which this trace is kept is passed over whole.
-fn next_other_by_groups(path: &[f64], kept: &[f64], trace: f64, j: usize, end: usize) -> usize
-    requires { ⌜ (j ≤ end) × (end ≤ Path.vertexCount (now path)) × (end ≤ Path.mostVertices) ⌝ }
-    requires { ⌜ Tracks.Tracked (now path) (now kept) ⌝ }
+fn next_other_by_groups(
+    path: &[f64],
+    kept: &[f64],
+    n: usize,
+    trace: f64,
+    j: usize,
+    end: usize,
+) -> usize
+    requires { ⌜ (j ≤ end) × (end ≤ n) × (n ≤ Path.vertexCount (now path)) ⌝ }
+    requires { ⌜ Tracks.Tracked (now path) (now kept) n ⌝ }
     requires { ⌜ (trace ≻ f0) ≡ true ⌝ }
     ensures { λ r. ⌜ r ≡ Next.first (Tracks.other (now (path .entry)) trace) j end ⌝ }
 {
     let mut k = j;
     while k < end {
-        let past = past_group(kept, trace, k);
+        let past = past_group(kept, n, trace, k);
         if k < past {
             k = lesser(past, end);
         } else {
@@ -83,14 +91,21 @@ fn next_other_by_groups(path: &[f64], kept: &[f64], trace: f64, j: usize, end: u
 
 // The first vertex from j on and before `end` that has this trace; `end` if there is none. A group of which another trace is kept
 // is passed over whole.
-fn next_same_by_groups(path: &[f64], kept: &[f64], trace: f64, j: usize, end: usize) -> usize
-    requires { ⌜ (j ≤ end) × (end ≤ Path.vertexCount (now path)) × (end ≤ Path.mostVertices) ⌝ }
-    requires { ⌜ Tracks.Tracked (now path) (now kept) ⌝ }
+fn next_same_by_groups(
+    path: &[f64],
+    kept: &[f64],
+    n: usize,
+    trace: f64,
+    j: usize,
+    end: usize,
+) -> usize
+    requires { ⌜ (j ≤ end) × (end ≤ n) × (n ≤ Path.vertexCount (now path)) ⌝ }
+    requires { ⌜ Tracks.Tracked (now path) (now kept) n ⌝ }
     ensures { λ r. ⌜ r ≡ Next.first (Tracks.same (now (path .entry)) trace) j end ⌝ }
 {
     let mut k = j;
     while k < end {
-        let past = past_others(kept, trace, k);
+        let past = past_others(kept, n, trace, k);
         if k < past {
             k = lesser(past, end);
         } else {
@@ -114,17 +129,17 @@ pub(crate) fn next_run(
     j: usize,
     end: usize,
 ) -> Run
-    requires { ⌜ (job .boxed ≡ true → Next.GroupedTwice (now kept) Keeping.boxesKept (job .m)) ⌝ }
-    requires { ⌜ (j ≤ end) × (end ≤ job .m) × (job .m ≤ Path.mostVertices) ⌝ }
+    requires { ⌜ (job .boxed ≡ true → Next.GroupedTwice (now kept) (Keeping.boxesKept (job .m)) (job .m)) ⌝ }
+    requires { ⌜ (j ≤ end) × (end ≤ job .m) × (job .m ≤ Path.mostSegments) ⌝ }
     requires { ⌜ job .m ≤ Path.vertexCount (now second) ⌝ }
-    requires { ⌜ Tracks.Tracked (now second) (now kept) ⌝ }
+    requires { ⌜ Tracks.Tracked (now second) (now kept) (job .m) ⌝ }
     ensures { λ r. ⌜ r ≡ Runs.nextRun (now (second .entry)) (now (kept .entry)) «v_box» trace job j end ⌝ }
 {
     let all = run_of_boxes(kept, v_box, job, j, end);
     if trace > 0.0 {
         let stop = all.to;
-        let from = next_other_by_groups(second, kept, trace, all.from, stop);
-        let to = next_same_by_groups(second, kept, trace, from, stop);
+        let from = next_other_by_groups(second, kept, job.m, trace, all.from, stop);
+        let to = next_same_by_groups(second, kept, job.m, trace, from, stop);
         return Run { from: from, to: to };
     }
     all

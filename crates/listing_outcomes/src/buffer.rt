@@ -32,7 +32,7 @@ const ROWS: usize = 2048;
 
 // As many pairs as there can be: each segment of one path with each of the other.
 fn every_pair(job: Job) -> usize
-    requires { ⌜ (job .n ≤ Path.mostVertices) × (job .m ≤ Path.mostVertices) ⌝ }
+    requires { ⌜ (job .n ≤ Path.mostSegments) × (job .m ≤ Path.mostSegments) ⌝ }
     ensures { λ r. ⌜ r ≡ job .n * job .m ⌝ }
 {
     job.n * job.m
@@ -192,7 +192,32 @@ pub(crate) fn list_kept(
     list_held_back(first, second, kept, job, room, indices, points)
 }
 
-// The listing of a job that is not boxed. If it has more rows than fit, the answer is refusal 8, and nothing is written.
+// The listing of a job that is not boxed. If it has more rows than fit, the answer is refusal 8, and nothing is written to
+// `indices` and `points`. `kept` is for what it keeps of the second path's segments: nothing is read from it that was not
+// written before.
+pub fn list_in(
+    first: &[f64],
+    second: &[f64],
+    job: Job,
+    kept: &mut [f64],
+    indices: &mut [u64],
+    points: &mut [f64],
+) -> ListingAnswer
+    requires { ⌜ Ready.Ready (now first) (now second) job ⌝ }
+    requires { ⌜ job .boxed ≡ false ⌝ }
+    requires { ⌜ Keeping.floatsBefore (job .m) ≤ length (now kept) ⌝ }
+    ensures { λ r. ⌜
+        Outcome.Leaves (outcome_of.listed (Ready.lookBy (now (first .entry)) (now (second .entry)) job) (job_of.every job)
+        (now (indices .entry)) (now (points .entry)))
+        r (now (indices .exit)) (now (points .exit)) ⌝ }
+    ensures { λ _. ⌜ length (now (kept .exit)) ≡ length (now (kept .entry)) ⌝ }
+{
+    tracks::keep_traces(second, job.m, kept);
+    keeping::keep(second, 0, job.m, job.epsilon, kept);
+    list_kept(first, second, kept, job, indices, points)
+}
+
+// The same of a job whose second path has no more segments than a path has vertices.
 pub fn list(
     first: &[f64],
     second: &[f64],
@@ -201,15 +226,13 @@ pub fn list(
     points: &mut [f64],
 ) -> ListingAnswer
     requires { ⌜ Ready.Ready (now first) (now second) job ⌝ }
-    requires { ⌜ job .boxed ≡ false ⌝ }
+    requires { ⌜ (job .boxed ≡ false) × (job .m ≤ Path.mostVertices) ⌝ }
     ensures { λ r. ⌜
         Outcome.Leaves (outcome_of.listed (Ready.lookBy (now (first .entry)) (now (second .entry)) job) (job_of.every job)
         (now (indices .entry)) (now (points .entry)))
         r (now (indices .exit)) (now (points .exit)) ⌝ }
 {
-    // for each segment and each group that a path may have: 130 KiB
+    // for each segment that a path may have and each group that a listing walks: 132 KiB
     let mut kept = [0.0f64; path::VERTICES * keeping::NUMBERS + tracks::GROUPS];
-    tracks::keep_traces(second, job.m, &mut kept);
-    keeping::keep(second, 0, job.m, job.epsilon, &mut kept);
-    list_kept(first, second, &kept, job, indices, points)
+    list_in(first, second, job, &mut kept, indices, points)
 }

@@ -7,7 +7,9 @@ ghost use lib.ListN.{length};
 ghost use Rattle.listing_pairs.specs.Page as page_of;
 ghost use Rattle.listing_pairs.specs.Row as row_of;
 ghost use Rattle.listing_pairs.specs.Workings.Job as job_of;
+ghost use Rattle.listing_pairs.specs.Workings.Keeping;
 ghost use Rattle.listing_pairs.specs.Workings.Ready;
+ghost use Rattle.paths.specs.Path;
 ghost use Rattle.listing_loop.specs.Workings.Filling as filling;
 ghost use Rattle.listing_outcomes.specs.Outcome;
 ghost use Rattle.listing_outcomes.specs.Workings.PageOutcome as outcome_of;
@@ -26,7 +28,8 @@ use listing_pairs::order::Spot;
 use listing_pairs::tracks;
 use paths::path;
 
-// Fills the slices from a pair on, with room for so many rows and a budget of so many pairs.
+// Fills the slices from a pair on, with room for so many rows and a budget of so many pairs. `kept` is for what it keeps of the
+// second path's segments.
 fn fill_from(
     first: &[f64],
     second: &[f64],
@@ -34,11 +37,13 @@ fn fill_from(
     spot: Spot,
     room: usize,
     budget: usize,
+    kept: &mut [f64],
     indices: &mut [u64],
     points: &mut [f64],
 ) -> Filling
     requires { ⌜ Ready.Ready (now first) (now second) job ⌝ }
     requires { ⌜ job .boxed ≡ false ⌝ }
+    requires { ⌜ Keeping.floatsBefore (job .m) ≤ length (now kept) ⌝ }
     requires { ⌜ spot .i ≤ job .n ⌝ }
     requires { ⌜ (room * row_of.indicesARow ≤ length (now indices)) × (room * row_of.pointsARow ≤ length (now points)) ⌝ }
     ensures { λ r. ⌜
@@ -47,10 +52,8 @@ fn fill_from(
         room budget)
         r (now (indices .entry)) (now (indices .exit)) (now (points .entry)) (now (points .exit)) ⌝ }
 {
-    // for each segment and each group that a path may have: 130 KiB
-    let mut kept = [0.0f64; path::VERTICES * keeping::NUMBERS + tracks::GROUPS];
-    tracks::keep_traces(second, job.m, &mut kept);
-    keeping::keep_reached(second, job, spot.i, spot.j, budget, &mut kept);
+    tracks::keep_traces(second, job.m, kept);
+    keeping::keep_reached(second, job, spot.i, spot.j, budget, kept);
     let part = Part {
         i: spot.i,
         j: spot.j,
@@ -59,26 +62,30 @@ fn fill_from(
         budget: budget,
         write: true,
     };
-    fill(first, second, &kept, job, part, indices, points)
+    fill(first, second, kept, job, part, indices, points)
 }
 
 // The page of a job from a position on. If the position is beyond the end, if there is no budget, or if no whole row fits, it is
-// refused, and nothing is written.
-pub fn page(
+// refused, and nothing is written to `indices` and `points`. `kept` is for what it keeps of the second path's segments: nothing
+// is read from it that was not written before.
+pub fn page_in(
     first: &[f64],
     second: &[f64],
     job: Job,
     position: usize,
     budget: usize,
+    kept: &mut [f64],
     indices: &mut [u64],
     points: &mut [f64],
 ) -> PageAnswer
     requires { ⌜ Ready.Ready (now first) (now second) job ⌝ }
     requires { ⌜ job .boxed ≡ false ⌝ }
+    requires { ⌜ Keeping.floatsBefore (job .m) ≤ length (now kept) ⌝ }
     ensures { λ r. ⌜
         Outcome.Leaves (outcome_of.paged (Ready.lookBy (now (first .entry)) (now (second .entry)) job) (job_of.every job)
         position budget (now (indices .entry)) (now (points .entry)))
         r (now (indices .exit)) (now (points .exit)) ⌝ }
+    ensures { λ _. ⌜ length (now (kept .exit)) ≡ length (now (kept .entry)) ⌝ }
 {
     let all = order::count(job);
     if position > all {
@@ -92,11 +99,52 @@ pub fn page(
         return PageAnswer::Refused(whole(refusal::ROWS, Item::Rows));
     }
     let spot = order::locate(job, position);
-    let filled = fill_from(first, second, job, spot, room, budget, indices, points);
+    let filled = fill_from(
+        first,
+        second,
+        job,
+        spot,
+        room,
+        budget,
+        kept,
+        indices,
+        points,
+    );
     PageAnswer::Paged {
         rows: filled.rows,
         pairs: filled.passed,
         next: position + filled.passed,
         all: all,
     }
+}
+
+// The same of a job whose second path has no more segments than a path has vertices.
+pub fn page(
+    first: &[f64],
+    second: &[f64],
+    job: Job,
+    position: usize,
+    budget: usize,
+    indices: &mut [u64],
+    points: &mut [f64],
+) -> PageAnswer
+    requires { ⌜ Ready.Ready (now first) (now second) job ⌝ }
+    requires { ⌜ (job .boxed ≡ false) × (job .m ≤ Path.mostVertices) ⌝ }
+    ensures { λ r. ⌜
+        Outcome.Leaves (outcome_of.paged (Ready.lookBy (now (first .entry)) (now (second .entry)) job) (job_of.every job)
+        position budget (now (indices .entry)) (now (points .entry)))
+        r (now (indices .exit)) (now (points .exit)) ⌝ }
+{
+    // for each segment that a path may have and each group that a listing walks: 132 KiB
+    let mut kept = [0.0f64; path::VERTICES * keeping::NUMBERS + tracks::GROUPS];
+    page_in(
+        first,
+        second,
+        job,
+        position,
+        budget,
+        &mut kept,
+        indices,
+        points,
+    )
 }

@@ -20,13 +20,17 @@ look first second epsilon i j =
     let u = segmentFrom second j in
     lookOf i j (plineSeg (v .v1) (v .v2) (u .v1) (u .v2) epsilon)
 
--- segments i and j of one path
-unfoldable pub selfLook : List Float → Bool → Float → ℕ → ℕ → Look
-selfLook path closed epsilon i j =
+-- segments i and j of one path, of n segments
+unfoldable pub selfLookOf : ℕ → List Float → Bool → Float → ℕ → ℕ → Look
+selfLookOf n path closed epsilon i j =
     let v = segmentFrom path i in
     let u = segmentFrom path j in
     let met = plineSeg (v .v1) (v .v2) (u .v1) (u .v2) epsilon in
-    cond (atJoint path closed (segmentCount path closed) epsilon i j met) Nothing (lookOf i j met)
+    cond (atJoint path closed n epsilon i j met) Nothing (lookOf i j met)
+
+-- of as many as the path has
+abbrev pub selfLook : List Float → Bool → Float → ℕ → ℕ → Look
+selfLook path closed = selfLookOf (segmentCount path closed) path closed
 
 -- ---- in a listing
 abbrev pub tracedLook : List Float → List Float → Float → ℕ → ℕ → Look

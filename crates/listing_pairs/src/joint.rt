@@ -34,7 +34,7 @@ fn near_some(path: &[f64], next: bool, closing: bool, j: usize, epsilon: f64, p:
 // Whether the listing is of one path and its segments i and j, which meet like this, meet only at vertices that they share. A
 // pair that is apart does not, and an overlap never does.
 pub(crate) fn at_joint(path: &[f64], job: Job, i: usize, j: usize, met: PlineSegIntr) -> bool
-    requires { ⌜ (i ≤ Path.mostVertices) × (j < Path.vertexCount (now path)) ⌝ }
+    requires { ⌜ (i ≤ Path.mostSegments) × (j < Path.vertexCount (now path)) ⌝ }
     ensures { λ r. ⌜
         r ≡ (job .own && Neighbours.atJoint (now (path .entry)) (job .closed) (job .m) (job .epsilon) i j met) ⌝ }
 {

@@ -1,6 +1,6 @@
 // What a listing keeps of the second path's segments while it walks the pairs: a few numbers of each segment, one segment after
-// the other, so that no pair computes them again. A boxed listing keeps the path's index of boxes behind these, and the boxes of
-// groups of groups behind that.
+// the other, so that no pair computes them again. The traces of groups stand behind them (`tracks`). A boxed listing keeps the
+// path's index of boxes behind these, and the boxes of groups of groups behind that.
 ghost use mathlib.Core.Path.{_≡_};
 ghost use Prim.Native.Nat.{_≤_, _<_, _+_, _*_};
 ghost use lib.ListN.{length};
@@ -15,26 +15,24 @@ use super::order::Job;
 use super::sizes::greater;
 use super::sizes::less;
 use super::sizes::lesser;
+use super::tracks;
 use boxes::bounds::box_with;
 use boxes::index;
 use fast_pair::kept::Kept;
 use fast_pair::kept::kept_of;
-use paths::path;
 use paths::segments;
 
 // how many numbers are kept of a segment
 pub const NUMBERS: usize = 4;
 
-// where the traces of groups stand: behind the numbers of as many segments as a path may have
-pub const TRACES: usize = path::VERTICES * NUMBERS;
-
-// the box from which on the index stands: behind the traces of as many groups as a path may have
-pub const BOXES: usize = (TRACES + path::VERTICES / index::GROUP) / index::FLOATS;
+// How many segments' places the traces of groups take. So the index of a path of n segments stands from box FRONT + n on: no place
+// depends on how many segments there may be, and the loop's own, j * NUMBERS, depends on nothing.
+pub const FRONT: usize = tracks::GROUPS / NUMBERS;
 
 // Stores what is kept of the path's segments from `from` up to, but not including, `to`.
 pub fn keep(path: &[f64], from: usize, to: usize, epsilon: f64, kept: &mut [f64])
     requires { ⌜ to ≤ Path.vertexCount (now path) ⌝ }
-    requires { ⌜ (to ≤ Path.mostVertices) × (to * Keeping.numbersKept ≤ length (now kept)) ⌝ }
+    requires { ⌜ (to ≤ Path.mostSegments) × (Keeping.floatsBefore to ≤ length (now kept)) ⌝ }
     ensures { λ _. ⌜ now (kept .exit) ≡ Keeping.keep (now (path .entry)) from to epsilon (now (kept .entry)) ⌝ }
 {
     let mut j = from;
@@ -52,12 +50,12 @@ pub fn keep(path: &[f64], from: usize, to: usize, epsilon: f64, kept: &mut [f64]
 
 // Stores the boxes of the path's first n segments behind the numbers that are kept, with the chord lengths that are among these.
 fn keep_segment_boxes(path: &[f64], n: usize, epsilon: f64, kept: &mut [f64])
-    requires { ⌜ (n ≤ Path.vertexCount (now path)) × (n ≤ Path.mostVertices) ⌝ }
+    requires { ⌜ (n ≤ Path.vertexCount (now path)) × (n ≤ Path.mostSegments) ⌝ }
     requires { ⌜ Keeping.AllKept (now path) (now kept) epsilon n ⌝ }
-    requires { ⌜ (Keeping.boxesKept + n) * index_of.floatsABox ≤ length (now kept) ⌝ }
+    requires { ⌜ (Keeping.boxesKept n + n) * index_of.floatsABox ≤ length (now kept) ⌝ }
     ensures { λ _. ⌜
         now (kept .exit)
-        ≡ sets (now (kept .entry)) (Keeping.boxesKept * index_of.floatsABox)
+        ≡ sets (now (kept .entry)) (Keeping.boxesKept n * index_of.floatsABox)
         (index_of.floatsOfBoxes (index_of.boxesFrom (groups_of.segmentBox (now (path .entry)) epsilon) 0 n)) ⌝ }
 {
     let mut j = 0;
@@ -65,7 +63,7 @@ fn keep_segment_boxes(path: &[f64], n: usize, epsilon: f64, kept: &mut [f64])
         let s = segments::segment_from(path, j);
         let k = kept_at(kept, j);
         let b = box_with(s.v1, s.v2, k.chord_or_zero, epsilon);
-        index::put_box(kept, BOXES + j, b);
+        index::put_box(kept, FRONT + n + j, b);
         j += 1;
     }
 }
@@ -73,15 +71,16 @@ fn keep_segment_boxes(path: &[f64], n: usize, epsilon: f64, kept: &mut [f64])
 // Stores the index of the path's first n segments behind the numbers that are kept of them, and the boxes of groups of groups
 // behind the index.
 pub fn keep_boxes(path: &[f64], n: usize, epsilon: f64, kept: &mut [f64])
-    requires { ⌜ (n ≤ Path.vertexCount (now path)) × (n ≤ Path.mostVertices) ⌝ }
+    requires { ⌜ (n ≤ Path.vertexCount (now path)) × (n ≤ Path.mostSegments) ⌝ }
     requires { ⌜ Keeping.AllKept (now path) (now kept) epsilon n ⌝ }
-    requires { ⌜ Keeping.boxesKept * index_of.floatsABox + Keeping.boxFloats n ≤ length (now kept) ⌝ }
+    requires { ⌜ Keeping.floatsBoxed n ≤ length (now kept) ⌝ }
     ensures { λ _. ⌜ now (kept .exit) ≡ Keeping.keepBoxes (now (path .entry)) n epsilon (now (kept .entry)) ⌝ }
 {
     keep_segment_boxes(path, n, epsilon, kept);
-    index::store_groups(n, BOXES, kept);
+    let from = FRONT + n;
+    index::store_groups(n, from, kept);
     let groups = index::group_count(n);
-    index::store_groups(groups, BOXES + n, kept);
+    index::store_groups(groups, from + n, kept);
 }
 
 // Stores what is kept of those segments of the second path that the first `budget` pairs from (i, j) on can reach. If i has
@@ -89,8 +88,8 @@ pub fn keep_boxes(path: &[f64], n: usize, epsilon: f64, kept: &mut [f64])
 // that follow, which start at `low`, as many as the rest of the budget, or all of them. No segment is stored twice.
 pub fn keep_reached(second: &[f64], job: Job, i: usize, j: usize, budget: usize, kept: &mut [f64])
     requires { ⌜ job .m ≤ Path.vertexCount (now second) ⌝ }
-    requires { ⌜ (job .n ≤ Path.mostVertices) × (job .m ≤ Path.mostVertices) ⌝ }
-    requires { ⌜ job .m * Keeping.numbersKept ≤ length (now kept) ⌝ }
+    requires { ⌜ (job .n ≤ Path.mostSegments) × (job .m ≤ Path.mostSegments) ⌝ }
+    requires { ⌜ Keeping.floatsBefore (job .m) ≤ length (now kept) ⌝ }
     ensures { λ _. ⌜ now (kept .exit) ≡ Reached.keepReached (now (second .entry)) job i j budget (now (kept .entry)) ⌝ }
 {
     if job.n <= i {
@@ -110,7 +109,7 @@ pub fn keep_reached(second: &[f64], job: Job, i: usize, j: usize, budget: usize,
 
 // What is kept of segment j.
 pub(crate) fn kept_at(kept: &[f64], j: usize) -> Kept
-    requires { ⌜ (j + 1) * Keeping.numbersKept ≤ length (now kept) ⌝ }
+    requires { ⌜ Keeping.floatsBefore (j + 1) ≤ length (now kept) ⌝ }
     ensures { λ r. ⌜ r ≡ Keeping.keptAt (now (kept .entry)) j ⌝ }
 {
     let at = j * NUMBERS;

@@ -28,7 +28,7 @@ pub fn look(
     requires { ⌜ Keeping.KeptOf (now second) (now kept) (job .epsilon) j ⌝ }
     requires { ⌜ «v_kept» ≡ Keeping.ofSegment v (job .epsilon) ⌝ }
     requires { ⌜ j < job .m ⌝ }
-    requires { ⌜ i ≤ Path.mostVertices ⌝ }
+    requires { ⌜ i ≤ Path.mostSegments ⌝ }
     ensures { λ r. ⌜ r ≡ Ready.lookOn v (now (second .entry)) job i j ⌝ }
 {
     let u = segments::segment_from(second, j);

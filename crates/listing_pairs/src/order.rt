@@ -25,7 +25,7 @@ pub struct Spot {
 
 // The first j of the pairs (i, j). In a self listing it is i + 1: a pair with a smaller j came earlier, as (j, i).
 pub fn from(job: Job, i: usize) -> usize
-    requires { ⌜ i ≤ Path.mostVertices ⌝ }
+    requires { ⌜ i ≤ Path.mostSegments ⌝ }
     ensures { λ r. ⌜ r ≡ job_of.from job i ⌝ }
 {
     if job.own {
@@ -36,7 +36,7 @@ pub fn from(job: Job, i: usize) -> usize
 
 // How many pairs (i, j) there are.
 pub fn pairs_at(job: Job, i: usize) -> usize
-    requires { ⌜ i ≤ Path.mostVertices ⌝ }
+    requires { ⌜ i ≤ Path.mostSegments ⌝ }
     ensures { λ r. ⌜ r ≡ job_of.to job i - job_of.from job i ⌝ }
 {
     let start = from(job, i);
@@ -45,7 +45,7 @@ pub fn pairs_at(job: Job, i: usize) -> usize
 
 // How many pairs there are in all.
 pub fn count(job: Job) -> usize
-    requires { ⌜ (job .n ≤ Path.mostVertices) × (job .m ≤ Path.mostVertices) ⌝ }
+    requires { ⌜ (job .n ≤ Path.mostSegments) × (job .m ≤ Path.mostSegments) ⌝ }
     ensures { λ r. ⌜ r ≡ Position.count job ⌝ }
 {
     let mut sum = 0;
@@ -59,7 +59,7 @@ pub fn count(job: Job) -> usize
 
 // Where a pair stands before which there are `position` others: at the end if there are no more.
 pub fn locate(job: Job, position: usize) -> Spot
-    requires { ⌜ (job .n ≤ Path.mostVertices) × (job .m ≤ Path.mostVertices) ⌝ }
+    requires { ⌜ (job .n ≤ Path.mostSegments) × (job .m ≤ Path.mostSegments) ⌝ }
     ensures { λ r. ⌜ r ≡ Position.locate job position ⌝ }
 {
     let mut rest = position;

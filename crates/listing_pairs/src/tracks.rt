@@ -1,5 +1,5 @@
 // Which groups of the second path's segments are of one trace: a listing keeps that trace, or 0, of each group, so that its loop
-// passes over a group at a time. It is kept behind the numbers of the segments.
+// passes over a group at a time. These traces stand behind what it keeps of the n segments.
 ghost use mathlib.Core.Path.{_≡_};
 ghost use Prim.Native.Nat.{_≤_, _<_, _+_, _*_};
 ghost use lib.ListN.{length};
@@ -11,8 +11,8 @@ use super::keeping;
 use boxes::index;
 use paths::path;
 
-// the most groups that a path may have
-pub const GROUPS: usize = path::VERTICES / index::GROUP;
+// the most groups of segments that a listing walks
+pub const GROUPS: usize = path::SEGMENTS / index::GROUP;
 
 // The first vertex from j on and before `end` that has another trace; `end` if there is none.
 pub fn next_other(path: &[f64], trace: f64, j: usize, end: usize) -> usize
@@ -29,14 +29,17 @@ pub fn next_other(path: &[f64], trace: f64, j: usize, end: usize) -> usize
     end
 }
 
-// The trace of the segments of group g, if it is above 0 and all 16 have it, else 0.
-fn group_trace(path: &[f64], g: usize) -> f64
-    requires { ⌜ (g + 1) * groups_of.groupSize ≤ Path.vertexCount (now path) ⌝ }
+// The trace of the segments of group g of n, if it is above 0 and all 16 have it, else 0. A group of fewer has 0.
+fn group_trace(path: &[f64], n: usize, g: usize) -> f64
+    requires { ⌜ n ≤ Path.vertexCount (now path) ⌝ }
     requires { ⌜ g < tracks.mostGroups ⌝ }
-    ensures { λ r. ⌜ r ≡ tracks.groupTrace (now (path .entry)) g ⌝ }
+    ensures { λ r. ⌜ r ≡ tracks.groupTrace (now (path .entry)) n g ⌝ }
 {
     let from = g * index::GROUP;
     let to = from + index::GROUP;
+    if n < to {
+        return 0.0;
+    }
     let trace = path::trace(path, from);
     if !(trace > 0.0) {
         return 0.0;
@@ -47,41 +50,43 @@ fn group_trace(path: &[f64], g: usize) -> f64
     trace
 }
 
-// Stores the traces of the groups that the path's first n segments fill.
+// Stores the traces of the groups of the path's first n segments.
 pub fn keep_traces(path: &[f64], n: usize, kept: &mut [f64])
-    requires { ⌜ (n ≤ Path.vertexCount (now path)) × (n ≤ Path.mostVertices) ⌝ }
-    requires { ⌜ tracks.tracesKept + tracks.mostGroups ≤ length (now kept) ⌝ }
-    ensures { λ _. ⌜ now (kept .exit) ≡ tracks.keepTraces (now (path .entry)) (tracks.wholeGroups n) (now (kept .entry)) ⌝ }
+    requires { ⌜ (n ≤ Path.vertexCount (now path)) × (n ≤ Path.mostSegments) ⌝ }
+    requires { ⌜ tracks.tracesKept n + tracks.mostGroups ≤ length (now kept) ⌝ }
+    ensures { λ _. ⌜ now (kept .exit) ≡ tracks.keepTraces (now (path .entry)) n (groups_of.groupCount n) (now (kept .entry)) ⌝ }
 {
-    let count = n / index::GROUP;
+    let from = n * keeping::NUMBERS;
+    let count = index::group_count(n);
     let mut g = 0;
     while g < count {
-        kept[keeping::TRACES + g] = group_trace(path, g);
+        kept[from + g] = group_trace(path, n, g);
         g += 1;
     }
 }
 
-// The vertex after the group of vertex k, if all of the group have this trace; else k.
-pub fn past_group(kept: &[f64], trace: f64, k: usize) -> usize
-    requires { ⌜ k < Path.mostVertices ⌝ }
-    requires { ⌜ tracks.tracesKept + tracks.mostGroups ≤ length (now kept) ⌝ }
-    ensures { λ r. ⌜ r ≡ tracks.pastGroup (now (kept .entry)) trace k ⌝ }
+// The vertex after the group of vertex k, if all of the group have this trace; else k. There are n segments.
+pub fn past_group(kept: &[f64], n: usize, trace: f64, k: usize) -> usize
+    requires { ⌜ (n ≤ Path.mostSegments) × (k < n) ⌝ }
+    requires { ⌜ tracks.tracesKept n + tracks.mostGroups ≤ length (now kept) ⌝ }
+    ensures { λ r. ⌜ r ≡ tracks.pastGroup (now (kept .entry)) n trace k ⌝ }
 {
     let g = k / index::GROUP;
-    if trace == kept[keeping::TRACES + g] {
+    if trace == kept[n * keeping::NUMBERS + g] {
         return (g + 1) * index::GROUP;
     }
     k
 }
 
-// The vertex after the group of vertex k, if all of the group have one trace above 0, and not this one; else k.
-pub fn past_others(kept: &[f64], trace: f64, k: usize) -> usize
-    requires { ⌜ k < Path.mostVertices ⌝ }
-    requires { ⌜ tracks.tracesKept + tracks.mostGroups ≤ length (now kept) ⌝ }
-    ensures { λ r. ⌜ r ≡ tracks.pastOthers (now (kept .entry)) trace k ⌝ }
+// The vertex after the group of vertex k, if all of the group have one trace above 0, and not this one; else k. There are n
+// segments.
+pub fn past_others(kept: &[f64], n: usize, trace: f64, k: usize) -> usize
+    requires { ⌜ (n ≤ Path.mostSegments) × (k < n) ⌝ }
+    requires { ⌜ tracks.tracesKept n + tracks.mostGroups ≤ length (now kept) ⌝ }
+    ensures { λ r. ⌜ r ≡ tracks.pastOthers (now (kept .entry)) n trace k ⌝ }
 {
     let g = k / index::GROUP;
-    let other = kept[keeping::TRACES + g];
+    let other = kept[n * keeping::NUMBERS + g];
     if (other > 0.0) & !(trace == other) {
         return (g + 1) * index::GROUP;
     }

@@ -50,7 +50,7 @@ fn listed_adds(rows: usize, pairs: usize, indices: &[u64]) -> [u64; WORDS]
 }
 
 // Adds to a report that is not full what a listing answered; `indices` holds the rows that it wrote.
-pub(crate) fn count(answer: ListingAnswer, indices: &[u64], report: &mut [u64])
+pub fn count(answer: ListingAnswer, indices: &[u64], report: &mut [u64])
     requires { ⌜ Written.Countable answer (now indices) (now report) ⌝ }
     ensures { λ _. ⌜
         now (report .exit) ≡ report_of.plus (now (report .entry)) (Written.addsBy answer (now (indices .entry))) ⌝ }

@@ -2,7 +2,7 @@
 // counted listing is a mutual listing that also adds to a lent report; `join` adds one report to another.
 mod add;
 mod classes;
-mod count;
+pub mod count;
 pub mod join;
 pub mod mutual_counted;
 pub mod report;

@@ -32,7 +32,7 @@ pub const LARGEST: u64 = 18446744073709551615;
 pub const MOST_HELD: u64 = LARGEST - MOST_ADDED;
 
 // Whether no layout can be added: there are as many layouts as there may be, or another word is too large.
-pub(crate) fn full(report: &[u64]) -> bool
+pub fn full(report: &[u64]) -> bool
     requires { ⌜ report_of.words ≤ length (now report) ⌝ }
     ensures { λ r. ⌜ r ≡ report_of.full (now (report .entry)) ⌝ }
 {

@@ -14,6 +14,10 @@ numbersAVertex = 4
 abbrev pub mostVertices : ℕ
 mostVertices = 4096
 
+-- the most segments that a listing walks: twice the vertices, since request 11 cuts an arc in two at most
+abbrev pub mostSegments : ℕ
+mostSegments = 8192
+
 -- how many whole vertices the list has
 abbrev pub vertexCount : List Float → ℕ
 vertexCount path = length path / numbersAVertex

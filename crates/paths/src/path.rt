@@ -11,6 +11,9 @@ pub const NUMBERS: usize = 4;
 // the most vertices that a path may have
 pub const VERTICES: usize = 4096;
 
+// the most segments that a listing walks: twice the vertices, since request 11 cuts an arc in two at most
+pub const SEGMENTS: usize = 2 * VERTICES;
+
 // A segment of a path: it runs from v1 to v2, with the bulge of v1 and the trace that stands with v1.
 pub struct Segment {
     pub v1: PlineVertex,

@@ -4,8 +4,11 @@ use native.Mathlib.Omega.{arith}
 use borrow.Author.Needs.{needs}
 use lib.ListN.{length, replicate, length-replicate}
 use lib.Ieee.{Float, binary64, ofBits}
+use Rattle.paths.specs.Check.{pathChecks}
+use Rattle.dxf_read.specs.Import.{importDxf}
 use Rattle.dxf_read.specs.Workings.Scanning.{room}
-use Rattle.dxf_read.proofs.Ends.{text-fault, body-found}
+use Rattle.dxf_read.specs.Workings.Finishing.{finished}
+use Rattle.dxf_read.specs.Laws.Ends.{text-fault, body-found}
 use Rattle.dxf_read.proofs.import_dxf.Statement.{statement}
 use Rattle.dxf_read.proofs.import_dxf.Tie as tie
 
@@ -21,18 +24,20 @@ finish-requires c κs =
     omega (arith, long, scanned .scan .kept .1 .0)
 
 returns : tie.Need-returns
+unfolding importDxf
 returns c =
     let got = c .before .before in
     let scanned = got .before .before .before in
-    text-fault _ _ _ _ _ (scanned .scan .ensures) _ _ (got .found .given .1) _ (c .line-fault .ensures)
+    text-fault pathChecks _ _ _ _ _ (scanned .scan .ensures) _ _ (got .found .given .1) _ (c .line-fault .ensures)
 
 returns-2 : tie.Need-returns-2
+unfolding importDxf finished
 returns-2 c =
     let done = c .before .before in
     let got = done .before .before .before .before in
     let scanned = got .before .before .before in
-    body-found _ _ _ _ _ (scanned .scan .ensures) _ _ _ _ (got .found2 .given .1) (omega arith) (omega (arith, long)) _ _
-    (done .finish .ensures)
+    body-found pathChecks _ _ _ _ _ (scanned .scan .ensures) _ _ _ _ (got .found2 .given .1) (omega arith)
+    (omega (arith, long)) _ _ (done .finish .ensures)
 
 pub import-dxf-spec : {M : Type 1} → statement M
 import-dxf-spec =

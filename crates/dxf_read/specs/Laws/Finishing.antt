@@ -1,7 +1,7 @@
 -- The checks after a pass over the text are those of Import.antt, and so is what they lead to.
 use Prim.Native.Nat.{ℕ, _+_, _*_, _/_, _%_, _<_, _≤_}
 use mathlib.Core.Path.{_≡_, refl, sym, ap, _∙_}
-use mathlib.Core.Bool.{Bool, true, false, cond}
+use mathlib.Core.Bool.{Bool, true, false, not, cond}
 use mathlib.Core.List.{List, [], _∷_, _++_}
 use native.Mathlib.Omega.{arith}
 use borrow.Author.Tests.{le-ltb, lt-ltb, ltb-true, ltb-false, eq-eqb}
@@ -20,16 +20,16 @@ use Rattle.checks.specs.Laws.Later.{fine-right, later-fine}
 use Rattle.checks.specs.Laws.Chains.{first-append}
 use Rattle.paths.specs.Path.{numbersAVertex, mostVertices}
 use Rattle.paths.specs.Shape
-use Rattle.paths.specs.Check.{checkPath, pathChecks}
+use Rattle.paths.specs.Check.{pathChecks}
 use Rattle.dxf_form.specs.Refusal
 use Rattle.dxf_form.specs.Numbers.{Corner, pathOf}
-use Rattle.dxf_form.specs.Form.{closedBy}
+use Rattle.dxf_form.specs.Form.{Group, closedBy}
 use Rattle.dxf_form.specs.Body.{bodyOf}
 use Rattle.dxf_form.specs.Workings.Reader.{faultAt, readGroups}
-use Rattle.dxf_read.specs.Import.{bodyChecks, byChecks, importDxf, lineFault}
-use Rattle.dxf_read.specs.Workings.Kept.{top}
+use Rattle.dxf_read.specs.Import.{PathChecks, bodyChecksBy, byChecks, importBy, importDxf, lineFault}
+use Rattle.dxf_read.specs.Workings.Kept.{top, kept}
 use Rattle.dxf_read.specs.Workings.Scanning.{room, BodyRead}
-use Rattle.dxf_read.specs.Workings.Finishing.{checkedBy, finishedBy, finished}
+use Rattle.dxf_read.specs.Workings.Finishing.{countedBy, roomBy, checkedBy, finishedBy, finishedWith}
 use Rattle.dxf_read.specs.Laws.Kept.{eqb-kept}
 use Rattle.dxf_read.specs.Laws.Stores.{path-length}
 use Rattle.dxf_read.specs.declared.Imported.the-variants as Imported·
@@ -39,28 +39,30 @@ never e = let z : _≡_ {A = ℕ} 0 1 = cc in absurd (omega arith)
 
 -- ---- a path that is fine is not too long, and there is room for it
 
-no-refusal : (test : Bool) (n : ℕ) (p : Rattle.checks.specs.declared.fault.Place.Place) → refuse test n p ≡ Fine → test ≡ false
-unfolding refuse
-no-refusal true n p e = never e
-no-refusal false n p e = refl
-
-pub fine-room : (buffer : List Float) (n count line : ℕ) (closed : Bool) (floats : ℕ)
-    → checkedBy buffer n count line closed floats ≡ Fine → (n ≤ mostVertices) × (n * numbersAVertex ≤ floats)
-unfolding checkedBy
-fine-room buffer n count line closed floats = go (eqb count n) (ltb mostVertices n) refl
+pub counted-few : (n count line : ℕ) → countedBy n count line ≡ Fine → n ≤ mostVertices
+unfolding countedBy
+counted-few n count line = go (eqb count n) (ltb mostVertices n) refl
   where
     go : (met long : Bool) → ltb mostVertices n ≡ long
-        → cond met
-        (cond long (Bad (whole numbers.vertices Length))
-        (later (checkPath Fine (take (n * numbersAVertex) buffer) closed 0)
-        (refuse (ltb floats (n * numbersAVertex)) Refusal.room (at 0 0 Room))))
-        (Bad (lineFault Refusal.count line))
-        ≡ Fine → (n ≤ mostVertices) × (n * numbersAVertex ≤ floats)
+        → cond met (cond long (Bad (whole numbers.vertices Length)) Fine) (Bad (lineFault Refusal.count line)) ≡ Fine
+        → n ≤ mostVertices
     go false long e h = never h
     go true true e h = never h
-    go true false e h =
-        let both = later-fine (checkPath Fine (take (n * numbersAVertex) buffer) closed 0) _ .0 h in
-        (ltb-false mostVertices n e, ltb-false floats (n * numbersAVertex) (no-refusal _ Refusal.room (at 0 0 Room) (both .1)))
+    go true false e h = ltb-false mostVertices n e
+
+pub room-enough : (n floats : ℕ) → roomBy n floats ≡ Fine → n * numbersAVertex ≤ floats
+unfolding roomBy refuse
+room-enough n floats = go (ltb floats (n * numbersAVertex)) refl
+  where
+    go : (short : Bool) → ltb floats (n * numbersAVertex) ≡ short → refuse short Refusal.room (at 0 0 Room) ≡ Fine
+        → n * numbersAVertex ≤ floats
+    go true e h = never h
+    go false e h = ltb-false floats (n * numbersAVertex) e
+
+checked-few : (own : PathChecks) (buffer : List Float) (n count line : ℕ) (closed : Bool) (floats : ℕ)
+    → checkedBy own buffer n count line closed floats ≡ Fine → n ≤ mostVertices
+unfolding checkedBy
+checked-few own buffer n count line closed floats e = counted-few n count line (later-fine _ _ .0 e .0)
 
 -- ---- the path at the front of the buffer
 
@@ -88,7 +90,7 @@ module _ (vs : List Corner) where
 
 -- ---- after the pass
 
-module _ {text : List ℕ} {n count line : ℕ} {closed : Bool} {buffer₀ buffer : List Float}
+module _ (own : PathChecks) {text : List ℕ} {n count line : ℕ} {closed : Bool} {buffer₀ buffer : List Float}
     (b : BodyRead text n count line closed buffer₀ buffer) (short : length text < 18446744073709551616)
     (wide : room ≤ length buffer₀) (old : List Float) where
   front-is : n ≤ mostVertices → take (n * numbersAVertex) buffer ≡ pathOf (bodyOf (b .gs) .vertices)
@@ -103,84 +105,91 @@ module _ {text : List ℕ} {n count line : ℕ} {closed : Bool} {buffer₀ buffe
       ap (λ (k : ℕ). eqb k n) (b .count-is) ∙ eqb-kept (bodyOf (b .gs) .declared) n small
       ∙ ap (eqb (bodyOf (b .gs) .declared)) (b .n-is)
 
-  room-is : refuse (ltb (length old) (n * numbersAVertex)) Refusal.room (at 0 0 Room)
+  room-is : roomBy n (length old)
       ≡ refuse (ltb (length old) (length (pathOf (bodyOf (b .gs) .vertices)))) Refusal.room (at 0 0 Room)
+  unfolding roomBy
   room-is =
       let vs = bodyOf (b .gs) .vertices in
       let long : n * numbersAVertex ≡ length (pathOf vs) = omega (arith, path-length vs, b .n-is) in
       ap (λ (k : ℕ). refuse (ltb (length old) k) Refusal.room (at 0 0 Room)) long
 
   -- the count is not met; the path is too long; its own checks
-  unmet : eqb count n ≡ false → checkedBy buffer n count line closed (length old) ≡ first (bodyChecks (b .gs) old)
-  unfolding checkedBy refuse later
+  unmet : eqb count n ≡ false
+      → checkedBy own buffer n count line closed (length old) ≡ first (bodyChecksBy own (b .gs) old)
+  unfolding checkedBy countedBy refuse later
   unmet e = rw (e, ← met-is, e, ← b .line-is)
 
   module _ (e : eqb count n ≡ true) where
-    too-long : mostVertices < n → checkedBy buffer n count line closed (length old) ≡ first (bodyChecks (b .gs) old)
-    unfolding checkedBy refuse later
+    too-long : mostVertices < n
+        → checkedBy own buffer n count line closed (length old) ≡ first (bodyChecksBy own (b .gs) old)
+    unfolding checkedBy countedBy refuse later
     too-long h =
         let vs = bodyOf (b .gs) .vertices in
         let far : mostVertices < length vs = omega (arith, b .n-is) in
         rw (e, lt-ltb mostVertices n h, ← met-is, e, shape-long vs far)
 
     module _ (few : n ≤ mostVertices) where
-      own : List Checked
-      own = pathChecks (pathOf (bodyOf (b .gs) .vertices)) (closedBy (bodyOf (b .gs) .flags-are)) 0
+      of-path : List Checked
+      of-path = own (pathOf (bodyOf (b .gs) .vertices)) (closedBy (bodyOf (b .gs) .flags-are)) 0
 
       last : Checked
       last = refuse (ltb (length old) (length (pathOf (bodyOf (b .gs) .vertices)))) Refusal.room (at 0 0 Room)
 
-      defined : first (bodyChecks (b .gs) old) ≡ first (own ++ (last ∷ []))
-      unfolding refuse later own last
+      defined : first (bodyChecksBy own (b .gs) old) ≡ first (of-path ++ (last ∷ []))
+      unfolding refuse later of-path last
       defined =
           let vs = bodyOf (b .gs) .vertices in
           let near : length vs ≤ mostVertices = omega (arith, b .n-is) in
           rw (← met-is, e, shape-fine vs near)
 
-      coded : checkedBy buffer n count line closed (length old)
-          ≡ later (checkPath Fine (take (n * numbersAVertex) buffer) closed 0)
-          (refuse (ltb (length old) (n * numbersAVertex)) Refusal.room (at 0 0 Room))
-      unfolding checkedBy
+      coded : checkedBy own buffer n count line closed (length old)
+          ≡ later (first (own (take (n * numbersAVertex) buffer) closed 0)) (roomBy n (length old))
+      unfolding checkedBy countedBy later
       coded = rw (e, le-ltb mostVertices n few)
 
-      checks-are : checkPath Fine (take (n * numbersAVertex) buffer) closed 0 ≡ first own
-      unfolding checkPath later own
+      checks-are : first (own (take (n * numbersAVertex) buffer) closed 0) ≡ first of-path
+      unfolding of-path
       checks-are = rw (front-is few, b .closed-is)
 
-      not-long : checkedBy buffer n count line closed (length old) ≡ first (bodyChecks (b .gs) old)
+      not-long : checkedBy own buffer n count line closed (length old) ≡ first (bodyChecksBy own (b .gs) old)
       unfolding last
       not-long =
           coded
-          ∙ ap (λ (c : Checked). later c (refuse (ltb (length old) (n * numbersAVertex)) Refusal.room (at 0 0 Room))) checks-are
-          ∙ ap (later (first own)) room-is
-          ∙ sym (first-append own (last ∷ []) ∙ ap (later (first own)) (fine-right last))
+          ∙ ap (λ (c : Checked). later c (roomBy n (length old))) checks-are
+          ∙ ap (later (first of-path)) room-is
+          ∙ sym (first-append of-path (last ∷ []) ∙ ap (later (first of-path)) (fine-right last))
           ∙ sym defined
 
-  pub checked-is : checkedBy buffer n count line closed (length old) ≡ first (bodyChecks (b .gs) old)
+  pub checked-is : checkedBy own buffer n count line closed (length old) ≡ first (bodyChecksBy own (b .gs) old)
   checked-is = go (eqb count n) refl (ltb mostVertices n) refl
     where
       go : (met : Bool) → eqb count n ≡ met → (long : Bool) → ltb mostVertices n ≡ long
-          → checkedBy buffer n count line closed (length old) ≡ first (bodyChecks (b .gs) old)
+          → checkedBy own buffer n count line closed (length old) ≡ first (bodyChecksBy own (b .gs) old)
       go false e long l = unmet e
       go true e true l = too-long e (ltb-true mostVertices n l)
       go true e false l = not-long e (ltb-false mostVertices n l)
 
-  pub finished-is : finished buffer n count line closed old ≡ byChecks (bodyOf (b .gs)) old (first (bodyChecks (b .gs) old))
-  unfolding finished
+  finished-is : finishedWith own buffer n count line closed old
+      ≡ byChecks (bodyOf (b .gs)) old (first (bodyChecksBy own (b .gs) old))
+  unfolding finishedWith finishedBy
   finished-is =
-      go (checkedBy buffer n count line closed (length old)) (fine-room buffer n count line closed (length old))
+      go (checkedBy own buffer n count line closed (length old))
+      (checked-few own buffer n count line closed (length old))
       ∙ ap (byChecks (bodyOf (b .gs)) old) checked-is
     where
-      go : (c : Checked) → (c ≡ Fine → (n ≤ mostVertices) × (n * numbersAVertex ≤ length old))
+      go : (c : Checked) → (c ≡ Fine → n ≤ mostVertices)
           → finishedBy buffer n closed old c ≡ byChecks (bodyOf (b .gs)) old c
-      go Fine fine = rw (front-is (fine refl .0), b .n-is, b .closed-is)
-      go (Bad f) fine = refl
+      go Fine few = rw (front-is (few refl), b .n-is, b .closed-is)
+      go (Bad f) few = refl
 
-  pub imported-is : finished buffer n count line closed old ≡ importDxf text old
-  unfolding importDxf
+  pub imported-is : finishedWith own buffer n count line closed old ≡ importBy own text old
   imported-is = rw (b .read) finished-is
+
+pub fault-by : (own : PathChecks) (text : List ℕ) {number line : ℕ} (old : List Float) → readGroups text ≡ faultAt number line
+    → importBy own text old ≡ record { answer = Imported·.Refused (lineFault number line); path = old }
+fault-by own text old e = rw e
 
 pub fault-is : (text : List ℕ) {number line : ℕ} (old : List Float) → readGroups text ≡ faultAt number line
     → importDxf text old ≡ record { answer = Imported·.Refused (lineFault number line); path = old }
 unfolding importDxf
-fault-is text old e = rw e
+fault-is text old e = fault-by pathChecks text old e

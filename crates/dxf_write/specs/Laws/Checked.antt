@@ -24,7 +24,7 @@ use Rattle.dxf_write.specs.Untraced.{untraced}
 use Rattle.dxf_write.specs.Laws.Back.{untraced-vertex, untraced-trace, untraced-long}
 
 -- 0 is a trace
-zero-trace : noTrace trace ≡ false
+pub zero-trace : noTrace trace ≡ false
 unfolding noTrace isWhole ofBits ofFields lt le eq isNan
 zero-trace = refl
 
@@ -35,14 +35,14 @@ module _ (path : List Float) (closed : Bool) (shaped : Shape.shape path 0 ≡ Fi
   pub same-long : length (untraced path) ≡ length path
   same-long = untraced-long path (whole-vertices path shaped)
 
-  same-count : vertexCount (untraced path) ≡ vertexCount path
+  pub same-count : vertexCount (untraced path) ≡ vertexCount path
   same-count = ap (λ (n : ℕ). n / 4) same-long
 
   pub same-shape : Shape.shape (untraced path) 0 ≡ Fine
   unfolding Shape.shape
   same-shape = rw same-long shaped
 
-  same-segments : segmentCount (untraced path) closed ≡ segmentCount path closed
+  pub same-segments : segmentCount (untraced path) closed ≡ segmentCount path closed
   unfolding segmentCount Shape.refused
   same-segments = rw same-long
 
@@ -50,15 +50,20 @@ module _ (path : List Float) (closed : Bool) (shaped : Shape.shape path 0 ≡ Fi
   unfolding after
   same-after i = rw same-long
 
+  -- each segment has the same ends
+  pub same-ends : (i : ℕ) → i < segmentCount path closed
+      → (segmentFrom (untraced path) i .v1 ≡ segmentFrom path i .v1) × (segmentFrom (untraced path) i .v2 ≡ segmentFrom path i .v2)
+  unfolding segmentFrom
+  same-ends i l =
+      let h : i < vertexCount path = omega (arith, l, count-within path closed) in (
+        untraced-vertex path i h,
+        ap (vertex (untraced path)) (same-after i) ∙ untraced-vertex path (after path i) (after-within path i h),
+      )
+
   same-arc : (i : ℕ) → i < segmentCount path closed
       → ArcFine (segmentFrom path i .v1) (segmentFrom path i .v2)
       → ArcFine (segmentFrom (untraced path) i .v1) (segmentFrom (untraced path) i .v2)
-  unfolding segmentFrom
-  same-arc i l fine =
-      let h : i < vertexCount path = omega (arith, l, count-within path closed) in
-      let one = untraced-vertex path i h in
-      let two = ap (vertex (untraced path)) (same-after i) ∙ untraced-vertex path (after path i) (after-within path i h) in
-      rw (one, two) fine
+  same-arc i l fine = let same = same-ends i l in rw (same .0, same .1) fine
 
   pub same-checks : first (pathChecks path closed 0) ≡ Fine → first (pathChecks (untraced path) closed 0) ≡ Fine
   unfolding checkPath

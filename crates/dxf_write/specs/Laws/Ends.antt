@@ -17,13 +17,13 @@ use Rattle.checks.specs.Laws.Chains.{first-append}
 use Rattle.checks.specs.Laws.Later.{fine-right}
 use Rattle.paths.specs.Path.{vertexCount, mostVertices}
 use Rattle.paths.specs.Shape
-use Rattle.paths.specs.Check.{pathChecks, checkPath}
 use Rattle.paths.specs.Laws.RefusalNumbers.{shape-few}
 use Rattle.put_text.specs.Decimal.{decimal, decimalIn}
 use Rattle.put_text.specs.Workings.Put.{Put}
 use Rattle.put_text.specs.Laws.Put.{put-join}
 use Rattle.dxf_form.specs.Refusal
 use Rattle.dxf_form.specs.Form.{countCode, flagsCode}
+use Rattle.dxf_read.specs.Import.{PathChecks}
 use Rattle.dxf_write.specs.Written.{groupBytes, verticesBytes, flagOf, bodyBytes}
 use Rattle.dxf_write.specs.Export.{
   cornersFrom,
@@ -31,9 +31,7 @@ use Rattle.dxf_write.specs.Export.{
   bytesOf,
   textChecks,
   roomCheck,
-  checksOf,
   exportAfter,
-  exportDxf,
   Exports,
 }
 use Rattle.dxf_write.specs.Workings.Told.{vertexMost, MeasureTold, Written}
@@ -176,36 +174,38 @@ module _ (path : List Float) (closed : Bool) (old : List ℕ) (m : Measured) (to
                 rw (text-is path closed) (rw (counted, flag) at put) in
                 ends-fine [] path closed old (last ∙ rw (le-ltb _ _ fits)) all-put
 
--- ---- the path's own checks
+-- ---- the path's own checks: its shape, then those of its numbers and arcs
 
-module _ (path : List Float) (closed : Bool) (old : List ℕ) {s : Checked} (shaped : s ≡ Shape.shape path 0) where
-  pub shape-refused : {f : Fault} → s ≡ Bad f → Exports (exportDxf path closed old) (Exported·.Refused f) old
-  unfolding exportDxf later
-  shape-refused e = ends-bad (checksOf path closed) path closed old (rw (sym shaped ∙ e))
+-- a path that is not too long
+pub short-enough : (path : List Float) {s : Checked} → s ≡ Shape.shape path 0 → s ≡ Fine → vertexCount path ≤ mostVertices
+short-enough path shaped e = shape-few path 0 (sym shaped ∙ e)
 
-  module _ {c : Checked} (checked : c ≡ checkPath s path closed 0) where
-    own : first (checksOf path closed) ≡ c
-    unfolding checkPath
-    own = sym (checked ∙ ap (λ (t : Checked). later t (first (pathChecks path closed 0))) shaped)
+module _ (checks : PathChecks) (path : List Float) (closed : Bool) (old : List ℕ) {s : Checked}
+    (shaped : s ≡ Shape.shape path 0) where
+  abbrev before : List Checked
+  before = Shape.shape path 0 ∷ checks path closed 0
 
-    in-order : all (checksOf path closed) path closed old ≡ later c (all [] path closed old)
+  pub shape-refused : {f : Fault} → s ≡ Bad f → Exports (exportAfter before path closed old) (Exported·.Refused f) old
+  unfolding later
+  shape-refused e = ends-bad before path closed old (rw (sym shaped ∙ e))
+
+  module _ {c : Checked} (checked : c ≡ later s (first (checks path closed 0))) where
+    own : first before ≡ c
+    own = sym (checked ∙ ap (λ (t : Checked). later t (first (checks path closed 0))) shaped)
+
+    in-order : all before path closed old ≡ later c (all [] path closed old)
     in-order =
-        first-append (checksOf path closed) (textChecks path ++ (roomCheck path closed old ∷ []))
+        first-append before (textChecks path ++ (roomCheck path closed old ∷ []))
         ∙ ap (λ (t : Checked). later t (all [] path closed old)) own
 
-    pub path-refused : {f : Fault} → c ≡ Bad f → Exports (exportDxf path closed old) (Exported·.Refused f) old
-    unfolding exportDxf later
+    pub path-refused : {f : Fault} → c ≡ Bad f → Exports (exportAfter before path closed old) (Exported·.Refused f) old
+    unfolding later
     path-refused e =
-        ends-bad (checksOf path closed) path closed old
-        (in-order ∙ ap (λ (t : Checked). later t (all [] path closed old)) e)
+        ends-bad before path closed old (in-order ∙ ap (λ (t : Checked). later t (all [] path closed old)) e)
 
     pub path-fine : c ≡ Fine → {r : Exported} {now : List ℕ} → Exports (exportAfter [] path closed old) r now
-        → Exports (exportDxf path closed old) r now
-    unfolding exportDxf exportAfter later
+        → Exports (exportAfter before path closed old) r now
+    unfolding exportAfter later
     path-fine e x =
         let same = in-order ∙ ap (λ (t : Checked). later t (all [] path closed old)) e in
         record { answer-is = rw same (x .answer-is); text-holds = rw same (x .text-holds) }
-
-  -- a path that is not too long
-  pub short-enough : s ≡ Fine → vertexCount path ≤ mostVertices
-  short-enough e = shape-few path 0 (sym shaped ∙ e)

@@ -60,7 +60,7 @@ look-fine v1 v2 u1 u2 epsilon e fv fu =
     both-fine (c0 ++ c1 ++ c2 ++ c3 ++ c4) c5 f4 f5
 
 -- ---- from the quick test
-of-epsilon : (x : Float) → T (epsilonFine x) → Between Limit.epsilonLeast Limit.epsilonMost x
+pub of-epsilon : (x : Float) → T (epsilonFine x) → Between Limit.epsilonLeast Limit.epsilonMost x
 unfolding ofBits
 of-epsilon x h =
     let above = and-l (x ≽ Limit.epsilonLeast) (x ≼ Limit.epsilonMost) h in
@@ -86,7 +86,7 @@ of-arc v1 v2 owner h =
     go true long t f = refl
     go false long t f = f (is-true long t)
 
-of-segment : (v1 v2 : PlineVertex) (owner : ℕ) → T (segmentFine v1 v2) → Sound v1 v2 owner
+pub of-segment : (v1 v2 : PlineVertex) (owner : ℕ) → T (segmentFine v1 v2) → Sound v1 v2 owner
 unfolding segmentFine
 of-segment v1 v2 owner h =
     let chord = vector2.sub (pos v2) (pos v1) in

@@ -16,7 +16,7 @@ use Rattle.listing_pairs.specs.declared.row.Look.{Look}
 use Rattle.listing_pairs.specs.declared.order.Job.{Job}
 use Rattle.listing_pairs.specs.Order.{Pair, mutualPairs, selfPairs}
 use Rattle.listing_pairs.specs.Rows.{rowsOf, lookedAt}
-use Rattle.listing_pairs.specs.Look.{look, selfLook, tracedLook, tracedSelfLook}
+use Rattle.listing_pairs.specs.Look.{look, selfLookOf, tracedLook, tracedSelfLook}
 use Rattle.listing_pairs.specs.Boxed.{boxedPairs}
 use Rattle.listing_pairs.specs.Workings.Job.{every}
 use Rattle.listing_pairs.specs.Workings.Ready.{lookOn, boxedLook, lookBy}
@@ -114,7 +114,7 @@ module _ (path : List Float) (closed : Bool) (epsilon : Float) (b₀ : List Floa
       → (j : Job) → j ≡ own-job path closed epsilon true
       → LeavesBoxed (boxed (lookBy path path j) (every j) (indexFor path path j) b₀ i₀ p₀) r b i p
       → LeavesBoxed (selfBoxed path closed epsilon b₀ i₀ p₀) r b i p
-  unfolding selfBoxed checkSelf lookOn selfLook
+  unfolding selfBoxed checkSelf lookOn selfLookOf
   self-boxed b i p r e j is h =
       let k : LeavesBoxed (boxed (boxedLook path path epsilon (tracedSelfLook path closed epsilon)) own (one ++ []) b₀ i₀ p₀) r b i p =
       rw (is, self-every (own-job path closed epsilon true) refl refl) at h in

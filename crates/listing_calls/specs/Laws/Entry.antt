@@ -3,7 +3,7 @@
 use mathlib.Core.Path.{_≡_, refl, sym, ap, _∙_}
 use mathlib.Core.Bool.{Bool, false}
 use mathlib.Core.List.{List, [], _∷_, _++_}
-use Prim.Native.Nat.{ℕ}
+use Prim.Native.Nat.{ℕ, _≤_}
 use lib.Ieee.{Float}
 use lib.ListN.{length}
 use Rattle.checks.specs.declared.fault.Fault.{Fault}
@@ -17,13 +17,15 @@ use Rattle.checks.specs.Laws.Later.{fine-left, fine-right, later-assoc, later-f
 use Rattle.paths.specs.Shape.{shape}
 use Rattle.paths.specs.Segments.{segmentCount}
 use Rattle.paths.specs.Check.{pathChecks, checkPath}
+use Rattle.paths.specs.Path.{mostVertices}
+use Rattle.paths.specs.Laws.Segments.{few-segments}
 use Rattle.paths.specs.Laws.Fine.{PathFine, path-fine}
 use Rattle.listing_pairs.specs.declared.row.Row.{Row}
 use Rattle.listing_pairs.specs.declared.row.Look.{Look}
 use Rattle.listing_pairs.specs.declared.order.Job.{Job}
 use Rattle.listing_pairs.specs.Order.{Pair, mutualPairs, selfPairs}
 use Rattle.listing_pairs.specs.Rows.{rowsOf, lookedAt}
-use Rattle.listing_pairs.specs.Look.{look, selfLook, tracedLook, tracedSelfLook}
+use Rattle.listing_pairs.specs.Look.{look, selfLookOf, tracedLook, tracedSelfLook}
 use Rattle.listing_pairs.specs.Workings.Job.{every}
 use Rattle.listing_pairs.specs.Laws.Sequence.{mutual-every, self-every}
 use Rattle.listing_pairs.specs.Workings.Ready.{lookOn, lookBy, Ready, paths-ready}
@@ -92,6 +94,9 @@ module _ (first : List Float) (firstClosed : Bool) (second : List Float) (second
   abbrev between : List Pair
   between = mutualPairs (segmentCount first firstClosed) (segmentCount second secondClosed)
 
+  pub mutual-few : {boxed : Bool} (j : Job) → j ≡ job boxed → j .m ≤ mostVertices
+  mutual-few {boxed} j is = rw is (few-segments second secondClosed)
+
   pub mutual-chain : checkPath (checkPath shapes first firstClosed 0) second secondClosed 1
       ≡ checkMutual first firstClosed second secondClosed epsilon
   unfolding checkPath checkMutual
@@ -121,8 +126,8 @@ module _ (first : List Float) (firstClosed : Bool) (second : List Float) (second
     mutual-ready {boxed} j is =
         rw is (paths-ready first second firstClosed secondClosed (job boxed) eps (inner .1) (outer .1) refl refl)
 
-    pub mutual-plain : (j : Job) → j ≡ job false → j .boxed ≡ false
-    mutual-plain j is = ap (λ (k : Job). k .boxed) is
+    pub mutual-plain : (j : Job) → j ≡ job false → (j .boxed ≡ false) × (j .m ≤ mostVertices)
+    mutual-plain j is = (ap (λ (k : Job). k .boxed) is, mutual-few j is)
 
     module _ (j : Job) (is : j ≡ job false) (i₀ i : List ℕ) (p₀ p : List Float) where
       pub mutual-listed : (r : ListingAnswer) → Leaves (listed (lookBy first second j) (every j) i₀ p₀) r i p
@@ -169,6 +174,9 @@ module _ (path : List Float) (closed : Bool) (epsilon : Float) where
   abbrev own : List Pair
   own = selfPairs (segmentCount path closed)
 
+  pub self-few : {boxed : Bool} (j : Job) → j ≡ own-job boxed → j .m ≤ mostVertices
+  self-few {boxed} j is = rw is (few-segments path closed)
+
   pub self-chain : checkPath shaped path closed 0 ≡ checkSelf path closed epsilon
   unfolding checkPath checkSelf
   self-chain =
@@ -189,13 +197,13 @@ module _ (path : List Float) (closed : Bool) (epsilon : Float) where
     self-ready {boxed} j is =
         rw is (paths-ready path path closed closed (own-job boxed) self-eps (whole .1) (whole .1) refl refl)
 
-    pub self-plain : (j : Job) → j ≡ own-job false → j .boxed ≡ false
-    self-plain j is = ap (λ (k : Job). k .boxed) is
+    pub self-plain : (j : Job) → j ≡ own-job false → (j .boxed ≡ false) × (j .m ≤ mostVertices)
+    self-plain j is = (ap (λ (k : Job). k .boxed) is, self-few j is)
 
     module _ (j : Job) (is : j ≡ own-job false) (i₀ i : List ℕ) (p₀ p : List Float) where
       pub self-listed : (r : ListingAnswer) → Leaves (listed (lookBy path path j) (every j) i₀ p₀) r i p
           → Leaves (selfListing path closed epsilon i₀ p₀) r i p
-      unfolding selfListing checkSelf lookOn selfLook
+      unfolding selfListing checkSelf lookOn selfLookOf
       self-listed r h =
           let k : Leaves (listed g own i₀ p₀) r i p = rw (is, self-every (own-job false) refl refl) at h in
           rw (listing-fine its g own i₀ p₀ e) k
@@ -203,7 +211,7 @@ module _ (path : List Float) (closed : Bool) (epsilon : Float) where
       pub self-paged : (r : PageAnswer) (position budget : ℕ)
           → Leaves (paged (lookBy path path j) (every j) position budget i₀ p₀) r i p
           → Leaves (selfPage path closed epsilon position budget i₀ p₀) r i p
-      unfolding selfPage checkSelf lookOn selfLook
+      unfolding selfPage checkSelf lookOn selfLookOf
       self-paged r position budget h =
           let k : Leaves (paged g own position budget i₀ p₀) r i p = rw (is, self-every (own-job false) refl refl) at h in
           rw (page-fine its g own position budget i₀ p₀ e) k

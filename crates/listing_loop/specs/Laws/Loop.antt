@@ -8,7 +8,7 @@ use native.Mathlib.Omega.{arith}
 use lib.Ieee.{Float}
 use lib.ListN.{length, take}
 use lib.Seq.{length-sets}
-use Rattle.paths.specs.Path.{mostVertices}
+use Rattle.paths.specs.Path.{mostSegments}
 use Rattle.listing_pairs.specs.declared.row.Row.{Row}
 use Rattle.listing_pairs.specs.declared.row.Look.{Look}
 use Rattle.listing_pairs.specs.declared.row.Look.the-variants.{Skipped, Nothing, Made}
@@ -28,7 +28,7 @@ use Rattle.listing_loop.specs.Workings.Filling.{Left, Stops}
 
 -- ---- at most as many pairs as each segment of one path with each of another
 abbrev pub mostPairs : ℕ
-mostPairs = mostVertices * mostVertices
+mostPairs = mostSegments * mostSegments
 
 pub few-left : (job : Job) (i j : ℕ) → length (job_of.left job i j) ≤ job .n * job .m
 few-left job i j =
@@ -37,7 +37,7 @@ few-left job i j =
     let same : job .m ≤ job .m = omega arith in
     omega (arith, some, mul-le-mul fewer same)
 
-pub few-on-page : (look : ℕ → ℕ → Look) (job : Job) (i j room budget : ℕ) → job .n ≤ mostVertices → job .m ≤ mostVertices
+pub few-on-page : (look : ℕ → ℕ → Look) (job : Job) (i j room budget : ℕ) → job .n ≤ mostSegments → job .m ≤ mostSegments
     → page look (job_of.left job i j) room budget .looked ≤ mostPairs
 few-on-page look job i j room budget n m =
     let ps = job_of.left job i j in
@@ -87,7 +87,7 @@ module _ {first second kept : List Float} {job : Job} {part : Part} {i₀ : List
   abbrev all : Page
   all = whole f job part
 
-  pub few : job .n ≤ mostVertices → job .m ≤ mostVertices → looked ≤ mostPairs
+  pub few : job .n ≤ mostSegments → job .m ≤ mostSegments → looked ≤ mostPairs
   few n m =
       omega (arith, s .left .views, few-on-page f job (part .i) (part .j) (part .room - part .rows) (part .budget) n m)
 

@@ -35,13 +35,14 @@ unfoldable pub boxFor : Segment → Job → Box
 boxFor v job = cond (job .boxed) (boxOf (v .v1) (v .v2) (job .epsilon)) anyBox
 
 -- ---- by boxes: the first index whose box meets b, up to the next whose box does not
-abbrev pub meetingRun : List Float → Box → ℕ → ℕ → Run
-meetingRun kept b j end =
-    let from = first (meets kept boxesKept b) j end in
-    record { from = from; to = first (apart kept boxesKept b) from end }
+abbrev pub meetingRun : List Float → Box → Job → ℕ → ℕ → Run
+meetingRun kept b job j end =
+    let at = boxesKept (job .m) in
+    let from = first (meets kept at b) j end in
+    record { from = from; to = first (apart kept at b) from end }
 
 unfoldable pub runOfBoxes : List Float → Box → Job → ℕ → ℕ → Run
-runOfBoxes kept b job j end = cond (job .boxed) (meetingRun kept b j end) (record { from = j; to = end })
+runOfBoxes kept b job j end = cond (job .boxed) (meetingRun kept b job j end) (record { from = j; to = end })
 
 -- ---- by traces: the first index of another trace than t, up to the next of the same
 abbrev pub otherRun : List Float → Float → Run → Run
@@ -70,12 +71,13 @@ unfolding runOfBoxes
 boxes-within kept b job j end r h e = rw e (go (job .boxed))
   where
     go : (t : Bool)
-        → let a : Run = cond t (meetingRun kept b j end) (record { from = j; to = end }) in
+        → let a : Run = cond t (meetingRun kept b job j end) (record { from = j; to = end }) in
         (a .from ≤ a .to) × (a .to ≤ end)
     go true =
-        let f = first-is (meets kept boxesKept b) j end (first (meets kept boxesKept b) j end) h refl in
-        let from = first (meets kept boxesKept b) j end in
-        let g = first-is (apart kept boxesKept b) from end (first (apart kept boxesKept b) from end) (f .high) refl in
+        let at = boxesKept (job .m) in
+        let from = first (meets kept at b) j end in
+        let f = first-is (meets kept at b) j end from h refl in
+        let g = first-is (apart kept at b) from end (first (apart kept at b) from end) (f .high) refl in
         (g .low, g .high)
     go false = (h, omega arith)
 
@@ -190,24 +192,27 @@ module _ (first′ second kept : List Float) (job : Job) (i j end : ℕ) (b : Bo
       (traced first′ second (eachLook first′ second job)) i k
 
   meeting-runs : BoxesKept second kept job → b ≡ segmentBox first′ (job .epsilon) i
-      → Runs (by true) each j end (meetingRun kept b j end)
+      → Runs (by true) each j end (meetingRun kept b job j end)
   unfolding boxedLook boxesMeet
   meeting-runs boxes is =
-      by-test (meets kept boxesKept b) (apart kept boxesKept b) j end inside (λ k. refl) (by true) each
+      by-test (meets kept at b) (apart kept at b) j end inside (λ k. refl) (by true) each
       (λ k h e. gives k h false e) (λ k h e. gives k h true e)
     where
+      at : ℕ
+      at = boxesKept (job .m)
+
       agree : (k : ℕ) → k < end
-          → meets kept boxesKept b k ≡ meet (segmentBox first′ (job .epsilon) i) (segmentBox second (job .epsilon) k)
+          → meets kept at b k ≡ meet (segmentBox first′ (job .epsilon) i) (segmentBox second (job .epsilon) k)
       agree k h =
           ap (meet b) (boxes .is k (omega (arith, h, within)))
           ∙ ap (λ (c : Box). meet c (segmentBox second (job .epsilon) k)) is
 
-      gives : (k : ℕ) → k < end → (t : Bool) → meets kept boxesKept b k ≡ t → by true k ≡ cond t (each k) Skipped
+      gives : (k : ℕ) → k < end → (t : Bool) → meets kept at b k ≡ t → by true k ≡ cond t (each k) Skipped
       gives k h t e = ap (λ (c : Bool). cond c (each k) Skipped) (sym (agree k h) ∙ e)
 
   runs-of-boxes : (boxed : Bool) → (boxed ≡ true → BoxesKept second kept job) → (v : Segment) → v ≡ segmentFrom first′ i
       → b ≡ cond boxed (boxOf (v .v1) (v .v2) (job .epsilon)) anyBox
-      → Runs (by boxed) each j end (cond boxed (meetingRun kept b j end) (record { from = j; to = end }))
+      → Runs (by boxed) each j end (cond boxed (meetingRun kept b job j end) (record { from = j; to = end }))
   runs-of-boxes true boxes v is for = meeting-runs (boxes refl) (box-of-segment first′ (job .epsilon) i v b is for)
   runs-of-boxes false boxes v is for = all-runs (by false) each j end inside (λ k h. refl)
 

@@ -97,12 +97,12 @@ module _ (first second kept : List Float) (job : Job) (old : List Float) (same :
 
   -- what is copied
   abbrev copied : ℕ → List Float
-  copied count = floatsOfBoxes (boxesFrom (boxesOn kept boxesKept) 0 count)
+  copied count = floatsOfBoxes (boxesFrom (boxesOn kept (boxesKept (job .m))) 0 count)
 
   copied-is : (count : ℕ) → count ≡ job .m + groupCount (job .m) → copied count ≡ two
   copied-is count is =
       ap copied is
-      ∙ index-copied kept second (job .epsilon) boxesKept (job .m) (boxes .is) (boxes .grouped .once .groups)
+      ∙ index-copied kept second (job .epsilon) (boxesKept (job .m)) (job .m) (boxes .is) (boxes .grouped .once .groups)
 
   pub stored-own : (now : List Float) (count : ℕ) → job .own ≡ true → floatsFor job ≤ length old
       → count ≡ job .m + groupCount (job .m) → now ≡ sets old (0 * floatsABox) (copied count)

@@ -14,7 +14,7 @@ use Rattle.checks.specs.declared.fault.Item.the-variants.{Rows}
 use Rattle.checks.specs.declared.fault.Fault.{Fault}
 use Rattle.checks.specs.Fault.{whole, refuse}
 use Rattle.checks.specs.Refusal
-use Rattle.paths.specs.Path.{mostVertices}
+use Rattle.paths.specs.Path.{mostSegments}
 use Rattle.listing_pairs.specs.declared.row.Row.{Row}
 use Rattle.listing_pairs.specs.declared.row.Look.{Look}
 use Rattle.listing_pairs.specs.declared.order.Job.{Job}
@@ -154,7 +154,7 @@ module _ (look : ℕ → ℕ → Look) (job : Job) where
       → Filled job (front start k budget) (page look (job_of.every job) k budget) r i₀ i p₀ p
   filled-first start k b r i₀ i p₀ p e same f = rw (same, sub-zero k, from-first job start e) at f
 
-  pub few-on-every : (k : ℕ) → job .n ≤ mostVertices → job .m ≤ mostVertices
+  pub few-on-every : (k : ℕ) → job .n ≤ mostSegments → job .m ≤ mostSegments
       → page look (job_of.every job) k budget .looked ≤ mostPairs
   few-on-every k n m =
       let start = job_of.from job 0 in

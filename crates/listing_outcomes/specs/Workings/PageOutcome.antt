@@ -39,7 +39,7 @@ use Rattle.listing_outcomes.specs.Outcome.{Outcome, Leaves, overwrite, r
 use Rattle.listing_outcomes.specs.PageOutcome.{positionCheck, budgetCheck, rowCheck, limits, pagedOf}
 use Rattle.listing_outcomes.specs.Laws.Overwrite.{sets-over}
 use Rattle.listing_outcomes.specs.Workings.Outcome.{every-within}
-use Rattle.paths.specs.Path.{mostVertices}
+use Rattle.paths.specs.Path.{mostSegments}
 
 -- the first fault of three checks: the first, or the second, or the third
 in-first : (a b c : Checked) (n : ℕ) (p : Place) → a ≡ bad n p → firstFault (a ∷ b ∷ c ∷ []) ≡ bad n p
@@ -74,7 +74,7 @@ pub from-none : (look : ℕ → ℕ → Look) (job : Job) (i j m budget : ℕ) (
 from-none look job i j m budget r i₀ u p₀ v h = rw (sub-zero m) at h
 
 -- there are not too many pairs
-pub every-few : (job : Job) → job .n ≤ mostVertices → job .m ≤ mostVertices → length (job_of.every job) ≤ mostPairs
+pub every-few : (job : Job) → job .n ≤ mostSegments → job .m ≤ mostSegments → length (job_of.every job) ≤ mostPairs
 every-few job n m = omega (arith, every-within job, mul-le-mul n m)
 
 -- the next position is not beyond the end

@@ -1,4 +1,5 @@
 -- What is kept of the second path's segments: four numbers of each in a list, stored one segment after the other, and read back.
+-- The traces of groups stand behind them, and the boxes of a boxed listing behind these.
 use mathlib.Core.Path.{_≡_, refl, sym, ap, subst, _∙_}
 use mathlib.Core.Bool.{true, false, true≢false}
 use mathlib.Core.List.{List, [], _∷_}
@@ -13,7 +14,6 @@ use Rattle.float_laws.specs.Stores.{four-set, sets-before, sets-behind, sets-re
 use Rattle.fast_pair.specs.declared.kept.Kept.{Kept}
 use Rattle.fast_pair.specs.Workings.Kept.{keptOf, chord-kept}
 use Rattle.paths.specs.declared.path.Segment.{Segment}
-use Rattle.paths.specs.Path.{mostVertices}
 use Rattle.paths.specs.Segments.{segmentFrom}
 use Rattle.boxes.specs.declared.bounds.Box.{Box}
 use Rattle.boxes.specs.Groups.{segmentBox, groupCount, groupBox}
@@ -34,15 +34,30 @@ abbrev pub ofSegment : Segment → Float → Kept
 ofSegment s epsilon = keptOf (s .v1) (s .v2) epsilon
 
 -- ---- four numbers
-unfoldable pub keptAt : List Float → ℕ → Kept
-keptAt l j =
-    let at = j * numbersKept in
+-- where those of segment j stand
+abbrev placeOf : ℕ → ℕ
+placeOf j = j * numbersKept
+
+-- the traces of as many groups as a listing walks stand in the place of so many segments
+abbrev pub frontKept : ℕ
+frontKept = mostGroups / numbersKept
+
+-- how many floats are kept of n segments and of their groups, before the boxes
+abbrev pub floatsBefore : ℕ → ℕ
+floatsBefore n = (frontKept + n) * numbersKept
+
+-- read from a place on
+abbrev keptFrom : List Float → ℕ → Kept
+keptFrom l at =
     record {
       «radius_or_slope» = getD l at nan;
       «center_x_or_root» = getD l (at + 1) nan;
       «center_y_or_zero» = getD l (at + 2) nan;
       «chord_or_zero» = getD l (at + 3) nan;
     }
+
+unfoldable pub keptAt : List Float → ℕ → Kept
+keptAt l j = keptFrom l (placeOf j)
 
 -- stored from a place on
 abbrev numbersOf : Kept → List Float
@@ -54,7 +69,7 @@ putAt l at k =
     (at + 3) (k .«chord_or_zero»)
 
 abbrev put : List Float → ℕ → Kept → List Float
-put l j k = putAt l (j * numbersKept) k
+put l j k = putAt l (placeOf j) k
 
 -- the numbers of `count` segments, from `from` on
 unfoldable pub keepFrom : List Float → ℕ → ℕ → Float → List Float → List Float
@@ -79,7 +94,7 @@ pub keep-length : (path : List Float) (from count : ℕ) (epsilon : Float) (l : 
 unfolding keepFrom
 keep-length path from zero epsilon l = refl
 keep-length path from (suc count) epsilon l =
-    put-length (keepFrom path from count epsilon l) ((from + count) * numbersKept) _ ∙ keep-length path from count epsilon l
+    put-length (keepFrom path from count epsilon l) (placeOf (from + count)) _ ∙ keep-length path from count epsilon l
 
 same-kept : (a b : Kept) → a .«radius_or_slope» ≡ b .«radius_or_slope» → a .«center_x_or_root» ≡ b .«center_x_or_root»
     → a .«center_y_or_zero» ≡ b .«center_y_or_zero» → a .«chord_or_zero» ≡ b .«chord_or_zero» → a ≡ b
@@ -91,43 +106,44 @@ same-kept a b = go (a .«radius_or_slope») (a .«center_x_or_root») (a .«cent
     go x y z w e f g h = rw (e, f, g, h) refl
 
 -- if the numbers are the same, what is kept is
-kept-same : (l m : List Float) (i j : ℕ) → ((n : ℕ) → n < numbersKept → getD l (i * numbersKept + n) nan ≡ getD m (j * numbersKept + n) nan)
-    → keptAt l i ≡ keptAt m j
-unfolding keptAt
+kept-same : (l m : List Float) (i j : ℕ) → ((n : ℕ) → n < numbersKept → getD l (i + n) nan ≡ getD m (j + n) nan)
+    → keptFrom l i ≡ keptFrom m j
 kept-same l m i j same =
     same-kept _ _
-    (at (i * numbersKept) (j * numbersKept) 0 (omega arith) (omega arith) (omega arith))
-    (at (i * numbersKept + 1) (j * numbersKept + 1) 1 (omega arith) (omega arith) (omega arith))
-    (at (i * numbersKept + 2) (j * numbersKept + 2) 2 (omega arith) (omega arith) (omega arith))
-    (at (i * numbersKept + 3) (j * numbersKept + 3) 3 (omega arith) (omega arith) (omega arith))
+    (at i j 0 (omega arith) (omega arith) (omega arith)) (same 1 (omega arith)) (same 2 (omega arith)) (same 3 (omega arith))
   where
-    at : (a b n : ℕ) → a ≡ i * numbersKept + n → b ≡ j * numbersKept + n → n < numbersKept → getD l a nan ≡ getD m b nan
+    at : (a b n : ℕ) → a ≡ i + n → b ≡ j + n → n < numbersKept → getD l a nan ≡ getD m b nan
     at a b n e f few =
         ap (λ (k : ℕ). getD l k nan) e ∙ same n few ∙ sym (ap (λ (k : ℕ). getD m k nan) f)
 
--- the segment's own numbers are read back
-put-same : (l : List Float) (j : ℕ) (k : Kept) → suc j * numbersKept ≤ length l → keptAt (put l j k) j ≡ k
-unfolding keptAt
-put-same l j k h =
-    kept-same (put l j k) (numbersOf k) j 0 (λ n few.
-    ap (λ (a : List Float). getD a (j * numbersKept + n) nan) (put-sets l (j * numbersKept) k)
-    ∙ sets-read l (numbersOf k) (j * numbersKept) n nan (omega (arith, h)) few
+-- what is stored from a place on is read back from there
+read-back : (l : List Float) (a : ℕ) (k : Kept) → a + numbersKept ≤ length l → keptFrom (putAt l a k) a ≡ k
+read-back l a k h =
+    kept-same (putAt l a k) (numbersOf k) a 0 (λ n few.
+    ap (λ (m : List Float). getD m (a + n) nan) (put-sets l a k)
+    ∙ sets-read l (numbersOf k) a n nan (omega (arith, h)) few
     ∙ zero n)
   where
-    zero : (n : ℕ) → getD (numbersOf k) n nan ≡ getD (numbersOf k) (0 * numbersKept + n) nan
-    zero n = let e : n ≡ 0 * numbersKept + n = omega arith in ap (λ (m : ℕ). getD (numbersOf k) m nan) e
+    zero : (n : ℕ) → getD (numbersOf k) n nan ≡ getD (numbersOf k) (0 + n) nan
+    zero n = let e : n ≡ 0 + n = omega arith in ap (λ (m : ℕ). getD (numbersOf k) m nan) e
+
+-- the segment's own numbers are read back
+put-same : (l : List Float) (j : ℕ) (k : Kept) → floatsBefore (suc j) ≤ length l → keptAt (put l j k) j ≡ k
+unfolding keptAt
+put-same l j k h = read-back l (placeOf j) k (omega (arith, h))
 
 -- another segment's numbers are unchanged
 put-other : (l : List Float) (i j : ℕ) (k : Kept) → (i < j) ⊎ (j < i) → keptAt (put l j k) i ≡ keptAt l i
+unfolding keptAt
 put-other l i j k apart =
-    kept-same (put l j k) l i i (λ n few.
-    ap (λ (a : List Float). getD a (i * numbersKept + n) nan) (put-sets l (j * numbersKept) k)
+    kept-same (put l j k) l (placeOf i) (placeOf i) (λ n few.
+    ap (λ (a : List Float). getD a (placeOf i + n) nan) (put-sets l (placeOf j) k)
     ∙ other n few apart)
   where
     other : (n : ℕ) → n < numbersKept → (i < j) ⊎ (j < i)
-        → getD (sets l (j * numbersKept) (numbersOf k)) (i * numbersKept + n) nan ≡ getD l (i * numbersKept + n) nan
-    other n few (inl h) = sets-before l (numbersOf k) (j * numbersKept) (i * numbersKept + n) nan (omega (arith, few, h))
-    other n few (inr h) = sets-behind l (numbersOf k) (j * numbersKept) (i * numbersKept + n) nan (omega (arith, h))
+        → getD (sets l (placeOf j) (numbersOf k)) (placeOf i + n) nan ≡ getD l (placeOf i + n) nan
+    other n few (inl h) = sets-before l (numbersOf k) (placeOf j) (placeOf i + n) nan (omega (arith, few, h))
+    other n few (inr h) = sets-behind l (numbersOf k) (placeOf j) (placeOf i + n) nan (omega (arith, h))
 
 -- a segment that is not among those that are stored
 pub keep-other : (path : List Float) (from count : ℕ) (epsilon : Float) (l : List Float) (j : ℕ)
@@ -148,7 +164,7 @@ keep-other path from (suc count) epsilon l j out =
 
 -- one that is
 pub keep-at : (path : List Float) (from count : ℕ) (epsilon : Float) (l : List Float)
-    → (from + count) * numbersKept ≤ length l → (j : ℕ) → from ≤ j → j < from + count
+    → floatsBefore (from + count) ≤ length l → (j : ℕ) → from ≤ j → j < from + count
     → keptAt (keepFrom path from count epsilon l) j ≡ ofSegment (segmentFrom path j) epsilon
 unfolding keepFrom
 keep-at path from zero epsilon l h j a b = absurd (omega (arith, a, b))
@@ -204,7 +220,7 @@ storing-turn {path} {old} {now} {from} {to} {j} {epsilon} s k so-far below f g =
           ∙ ap (λ (n : ℕ). keepFrom path from n epsilon old) next;
       started = omega (arith, so-far .started);
       within = omega (arith, so-far .started, below);
-      long = put-length now (j * numbersKept) k ∙ so-far .long;
+      long = put-length now (placeOf j) k ∙ so-far .long;
     }
 
 pub storing-ends : {path old now : List Float} {from to j : ℕ} {epsilon : Float}
@@ -216,7 +232,7 @@ storing-ends {path} {old} {now} {from} {to} {j} {epsilon} so-far beyond =
 -- ---- what a listing's loop needs: checked paths, and what is kept of the second
 -- what is kept of segment j stands in its place
 pub record KeptOf (second kept : List Float) (epsilon : Float) (j : ℕ) : Type 0 where
-  pub room : (j + 1) * numbersKept ≤ length kept
+  pub room : floatsBefore (j + 1) ≤ length kept
   pub is : keptAt kept j ≡ ofSegment (segmentFrom second j) epsilon
 
 -- so of the first n segments
@@ -228,34 +244,39 @@ unfoldable pub KeptFor : List Float → List Float → Float → List Pair → T
 KeptFor second kept epsilon [] = Unit {0}
 KeptFor second kept epsilon (p ∷ ps) = KeptOf second kept epsilon (p .j) × KeptFor second kept epsilon ps
 
--- the index of the second path's boxes stands behind the traces of as many groups as a path may have
-abbrev pub boxesKept : ℕ
-boxesKept = (tracesKept + mostGroups) / floatsABox
+-- the index of the second path's n segments stands behind what is kept of them and of their groups, from this box on
+abbrev pub boxesKept : ℕ → ℕ
+boxesKept n = frontKept + n
 
 -- how many floats the index of n segments needs, with the boxes of groups of groups behind it
 abbrev pub boxFloats : ℕ → ℕ
 boxFloats n = floatsNeeded n + floatsABox * groupCount (groupCount n)
 
+-- how many floats a boxed listing keeps of n segments
+abbrev pub floatsBoxed : ℕ → ℕ
+floatsBoxed n = boxesKept n * floatsABox + boxFloats n
+
 unfoldable pub keepBoxes : List Float → ℕ → Float → List Float → List Float
-keepBoxes path n epsilon l = withGroups (sets l (boxesKept * floatsABox) (index path epsilon n)) (boxesKept + n) (groupCount n)
+keepBoxes path n epsilon l =
+    withGroups (sets l (boxesKept n * floatsABox) (index path epsilon n)) (boxesKept n + n) (groupCount n)
 
 pub record BoxesKept (second kept : List Float) (job : Job) : Type 0 where
-  pub grouped : GroupedTwice kept boxesKept (job .m)
-  pub is : (j : ℕ) → j < job .m → boxesOn kept boxesKept j ≡ segmentBox second (job .epsilon) j
+  pub grouped : GroupedTwice kept (boxesKept (job .m)) (job .m)
+  pub is : (j : ℕ) → j < job .m → boxesOn kept (boxesKept (job .m)) j ≡ segmentBox second (job .epsilon) j
 
 -- the first `budget` pairs from (i, j) on can be looked at
 pub record Ready (first second kept : List Float) (job : Job) (i j budget : ℕ) : Type 0 where
   pub pairs : paths.Ready first second job
   pub keeps : KeptFor second kept (job .epsilon) (take budget (job_of.left job i j))
   pub boxes : job .boxed ≡ true → BoxesKept second kept job
-  pub tracks : Tracked second kept
+  pub tracks : Tracked second kept (job .m)
 
 -- every pair can be looked at
 pub record AllReady (first second kept : List Float) (job : Job) : Type 0 where
   pub pairs : paths.Ready first second job
   pub keeps : AllKept second kept (job .epsilon) (job .m)
   pub boxes : job .boxed ≡ true → BoxesKept second kept job
-  pub tracks : Tracked second kept
+  pub tracks : Tracked second kept (job .m)
 
 -- a listing that is not boxed needs no boxes
 pub no-boxes : {second kept : List Float} {job : Job} → job .boxed ≡ false → job .boxed ≡ true → BoxesKept second kept job
@@ -263,10 +284,10 @@ no-boxes f e = absurd (true≢false (sym e ∙ f))
 
 -- ---- after a call of `keep`
 -- what is kept of each of its segments stands in its place
-pub kept-inside : (path l : List Float) (from to : ℕ) (epsilon : Float) → to * numbersKept ≤ length l
+pub kept-inside : (path l : List Float) (from to : ℕ) (epsilon : Float) → floatsBefore to ≤ length l
     → (j : ℕ) → from ≤ j → j < to → KeptOf path (keep path from to epsilon l) epsilon j
 kept-inside path l from to epsilon room j a b =
-    let enough : (from + (to - from)) * numbersKept ≤ length l = omega (arith, room, a, b) in
+    let enough : floatsBefore (from + (to - from)) ≤ length l = omega (arith, room, a, b) in
     let inside : j < from + (to - from) = omega (arith, a, b) in
     record {
       room = omega (arith, room, b, keep-length path from (to - from) epsilon l);
@@ -274,7 +295,7 @@ kept-inside path l from to epsilon room j a b =
     }
 
 -- and what stood in its place before still does
-pub kept-still : (path l : List Float) (from to : ℕ) (epsilon : Float) → to * numbersKept ≤ length l
+pub kept-still : (path l : List Float) (from to : ℕ) (epsilon : Float) → floatsBefore to ≤ length l
     → (j : ℕ) → KeptOf path l epsilon j → KeptOf path (keep path from to epsilon l) epsilon j
 kept-still path l from to epsilon room j was = at (lt-or-le j from)
   where
@@ -293,45 +314,47 @@ kept-still path l from to epsilon room j was = at (lt-or-le j from)
     at (inl h) = unchanged (inl h)
     at (inr h) = from-on h (lt-or-le j to)
 
--- the traces of groups stand as they did
-keep-behind : (path : List Float) (from count : ℕ) (epsilon : Float) (l : List Float) (a : ℕ) → from + count ≤ mostVertices
-    → tracesKept ≤ a → getD (keepFrom path from count epsilon l) a nan ≡ getD l a nan
+-- the traces of groups of n segments stand as they did
+keep-behind : (path : List Float) (from count n : ℕ) (epsilon : Float) (l : List Float) (a : ℕ) → from + count ≤ n
+    → tracesKept n ≤ a → getD (keepFrom path from count epsilon l) a nan ≡ getD l a nan
 unfolding keepFrom
-keep-behind path from zero epsilon l a few high = refl
-keep-behind path from (suc count) epsilon l a few high =
+keep-behind path from zero n epsilon l a few high = refl
+keep-behind path from (suc count) n epsilon l a few high =
     let now = keepFrom path from count epsilon l in
-    let at = (from + count) * numbersKept in
+    let at = placeOf (from + count) in
     let k = ofSegment (segmentFrom path (from + count)) epsilon in
     ap (λ (m : List Float). getD m a nan) (put-sets now at k)
     ∙ sets-behind now (numbersOf k) at a nan (omega (arith, few, high))
-    ∙ keep-behind path from count epsilon l a (omega (arith, few)) high
+    ∙ keep-behind path from count n epsilon l a (omega (arith, few)) high
 
 none-stored : (path l : List Float) (from : ℕ) (epsilon : Float) → keepFrom path from 0 epsilon l ≡ l
 unfolding keepFrom
 none-stored path l from epsilon = refl
 
-pub keep-tracked : (path l : List Float) (from to : ℕ) (epsilon : Float) → to ≤ mostVertices → Tracked path l
-    → Tracked path (keep path from to epsilon l)
-keep-tracked path l from to epsilon few was = go (lt-or-le from to)
+pub keep-tracked : (path l : List Float) (from to n : ℕ) (epsilon : Float) → to ≤ n → Tracked path l n
+    → Tracked path (keep path from to epsilon l) n
+keep-tracked path l from to n epsilon few was = go (lt-or-le from to)
   where
-    go : (from < to) ⊎ (to ≤ from) → Tracked path (keep path from to epsilon l)
+    go : (from < to) ⊎ (to ≤ from) → Tracked path (keep path from to epsilon l) n
     go (inl some) =
-        tracked-still path l (keep path from to epsilon l) (keep-length path from (to - from) epsilon l)
-        (λ g below. keep-behind path from (to - from) epsilon l (tracesKept + g) (omega (arith, few, some)) (omega arith)) was
+        tracked-still path l (keep path from to epsilon l) n (keep-length path from (to - from) epsilon l)
+        (λ g below. keep-behind path from (to - from) n epsilon l (tracesKept n + g) (omega (arith, few, some)) (omega arith)) was
     go (inr none) =
         let e : to - from ≡ 0 = omega (arith, none) in
-        subst (λ (m : List Float). Tracked path m)
-        (sym (ap (λ (n : ℕ). keepFrom path from n epsilon l) e ∙ none-stored path l from epsilon)) was
+        subst (λ (m : List Float). Tracked path m n)
+        (sym (ap (λ (k : ℕ). keepFrom path from k epsilon l) e ∙ none-stored path l from epsilon)) was
 
--- and if boxes are stored behind the numbers, it still does
-pub kept-before : (path l vs : List Float) (epsilon : Float) (j : ℕ) → j < mostVertices → KeptOf path l epsilon j
-    → KeptOf path (sets l (boxesKept * floatsABox) vs) epsilon j
-kept-before path l vs epsilon j few was =
-    let at = boxesKept * floatsABox in
+-- and if boxes are stored behind the numbers of n segments, what is kept of these still does
+pub kept-before : (path l vs : List Float) (epsilon : Float) (n j : ℕ) → j < n → KeptOf path l epsilon j
+    → KeptOf path (sets l (boxesKept n * floatsABox) vs) epsilon j
+unfolding keptAt
+kept-before path l vs epsilon n j below was =
+    let at = boxesKept n * floatsABox in
     record {
       room = omega (arith, was .room, length-sets l at vs);
       is =
-          kept-same (sets l at vs) l j j (λ n h. sets-before l vs at (j * numbersKept + n) nan (omega (arith, few, h)))
+          kept-same (sets l at vs) l (placeOf j) (placeOf j)
+          (λ k h. sets-before l vs at (placeOf j + k) nan (omega (arith, below, h)))
           ∙ was .is;
     }
 
@@ -343,75 +366,75 @@ chord-known path kept epsilon j s k was e f arc =
     chord-kept (s .v1) (s .v2) k epsilon (f ∙ was .is ∙ ap (λ (t : Segment). ofSegment t epsilon) (sym e)) arc
 
 -- while boxes are stored, the numbers stand as they did
-pub kept-while : {path old now : List Float} {epsilon : Float} {n i : ℕ} (box : ℕ → Box) → n ≤ mostVertices
-    → AllKept path old epsilon n → StoringBoxes box boxesKept n old now i → AllKept path now epsilon n
-kept-while {path} {old} {now} {epsilon} {n} {i} box few was so-far j below =
-    rw (so-far .is)
-    (kept-before path old (floatsOfBoxes (boxesFrom box 0 i)) epsilon j (omega (arith, few, below)) (was j below))
+pub kept-while : {path old now : List Float} {epsilon : Float} {n i : ℕ} (box : ℕ → Box)
+    → AllKept path old epsilon n → StoringBoxes box (boxesKept n) n old now i → AllKept path now epsilon n
+kept-while {path} {old} {now} {epsilon} {n} {i} box was so-far j below =
+    rw (so-far .is) (kept-before path old (floatsOfBoxes (boxesFrom box 0 i)) epsilon n j below (was j below))
 
 -- from what three calls left: the boxes of segments, of groups, of groups of groups
-pub boxes-stored : (path l m r s : List Float) (epsilon : Float) (n groups : ℕ)
-    → boxesKept * floatsABox + boxFloats n ≤ length l
-    → m ≡ sets l (boxesKept * floatsABox) (floatsOfBoxes (boxesFrom (segmentBox path epsilon) 0 n))
-    → r ≡ withGroups m boxesKept n → groups ≡ groupCount n → s ≡ withGroups r (boxesKept + n) groups
+pub boxes-stored : (path l m r s : List Float) (epsilon : Float) (n groups : ℕ) → floatsBoxed n ≤ length l
+    → m ≡ sets l (boxesKept n * floatsABox) (floatsOfBoxes (boxesFrom (segmentBox path epsilon) 0 n))
+    → r ≡ withGroups m (boxesKept n) n → groups ≡ groupCount n → s ≡ withGroups r (boxesKept n + n) groups
     → s ≡ keepBoxes path n epsilon l
 unfolding keepBoxes
 boxes-stored path l m r s epsilon n groups room to-m to-r is to-s =
     to-s
-    ∙ ap (λ (k : ℕ). withGroups r (boxesKept + n) k) is
-    ∙ ap (λ (d : List Float). withGroups d (boxesKept + n) (groupCount n))
-    (stores-index l m r path epsilon boxesKept n (omega (arith, room)) to-m to-r)
+    ∙ ap (λ (k : ℕ). withGroups r (boxesKept n + n) k) is
+    ∙ ap (λ (d : List Float). withGroups d (boxesKept n + n) (groupCount n))
+    (stores-index l m r path epsilon (boxesKept n) n (omega (arith, room)) to-m to-r)
 
 -- what the boxes are, and that the numbers stand as they did
-module _ (path l : List Float) (epsilon : Float) (n : ℕ) (room : boxesKept * floatsABox + boxFloats n ≤ length l) where
+module _ (path l : List Float) (epsilon : Float) (n : ℕ) (room : floatsBoxed n ≤ length l) where
   abbrev front : List Float
-  front = sets l (boxesKept * floatsABox) (index path epsilon n)
+  front = sets l (boxesKept n * floatsABox) (index path epsilon n)
 
   -- the boxes of groups of groups
   abbrev outer : List Float
   outer =
       floatsOfBoxes
-      (boxesFrom (groupBox (boxesOn front (boxesKept + n)) (groupCount n)) 0 (groupCount (groupCount n)))
+      (boxesFrom (groupBox (boxesOn front (boxesKept n + n)) (groupCount n)) 0 (groupCount (groupCount n)))
+
+  -- and where they stand
+  abbrev behind : ℕ
+  behind = (boxesKept n + n + groupCount n) * floatsABox
 
   long : length front ≡ length l
-  long = length-sets l (boxesKept * floatsABox) (index path epsilon n)
+  long = length-sets l (boxesKept n * floatsABox) (index path epsilon n)
 
-  first-room : boxesKept * floatsABox + floatsNeeded n ≤ length l
+  first-room : boxesKept n * floatsABox + floatsNeeded n ≤ length l
   first-room = omega (arith, room)
 
-  pub boxes-grouped : GroupedTwice (keepBoxes path n epsilon l) boxesKept n
+  pub boxes-grouped : GroupedTwice (keepBoxes path n epsilon l) (boxesKept n) n
   unfolding keepBoxes
   boxes-grouped =
       record {
         once =
-            still-grouped front outer boxesKept n ((boxesKept + n + groupCount n) * floatsABox) (omega arith)
-            (index-grouped l path epsilon boxesKept n first-room);
-        twice = groups-stored front (boxesKept + n) (groupCount n) (omega (arith, room, long));
+            still-grouped front outer (boxesKept n) n behind (omega arith)
+            (index-grouped l path epsilon (boxesKept n) n first-room);
+        twice = groups-stored front (boxesKept n + n) (groupCount n) (omega (arith, room, long));
       }
 
-  pub boxes-are : (j : ℕ) → j < n → boxesOn (keepBoxes path n epsilon l) boxesKept j ≡ segmentBox path epsilon j
+  pub boxes-are : (j : ℕ) → j < n → boxesOn (keepBoxes path n epsilon l) (boxesKept n) j ≡ segmentBox path epsilon j
   unfolding keepBoxes
   boxes-are j below =
-      box-before front outer ((boxesKept + n + groupCount n) * floatsABox) (boxesKept + j) (omega (arith, below))
-      ∙ index-segments l path epsilon boxesKept n first-room j below
+      box-before front outer behind (boxesKept n + j) (omega (arith, below))
+      ∙ index-segments l path epsilon (boxesKept n) n first-room j below
 
-  pub still-kept : n ≤ mostVertices → AllKept path l epsilon n → AllKept path (keepBoxes path n epsilon l) epsilon n
-  unfolding keepBoxes
-  still-kept few was j below =
-      let inside : j < mostVertices = omega (arith, few, below) in
+  pub still-kept : AllKept path l epsilon n → AllKept path (keepBoxes path n epsilon l) epsilon n
+  unfolding keepBoxes keptAt
+  still-kept was j below =
       record {
-        room = omega (arith, was j below .room, long, length-sets front ((boxesKept + n + groupCount n) * floatsABox) outer);
+        room = omega (arith, was j below .room, long, length-sets front behind outer);
         is =
-            kept-same (sets front ((boxesKept + n + groupCount n) * floatsABox) outer) front j j (λ m h.
-            sets-before front outer ((boxesKept + n + groupCount n) * floatsABox) (j * numbersKept + m) nan (omega (arith, inside, h)))
-            ∙ kept-before path l (index path epsilon n) epsilon j inside (was j below) .is;
+            kept-same (sets front behind outer) front (placeOf j) (placeOf j)
+            (λ m h. sets-before front outer behind (placeOf j + m) nan (omega (arith, below, h)))
+            ∙ kept-before path l (index path epsilon n) epsilon n j below (was j below) .is;
       }
 
-  pub still-tracked : Tracked path l → Tracked path (keepBoxes path n epsilon l)
+  pub still-tracked : Tracked path l n → Tracked path (keepBoxes path n epsilon l) n
   unfolding keepBoxes
   still-tracked was =
-      let behind = (boxesKept + n + groupCount n) * floatsABox in
-      tracked-still path l (sets front behind outer) (length-sets front behind outer ∙ long)
-      (λ g below. sets-before front outer behind (tracesKept + g) nan (omega (arith, below))
-      ∙ sets-before l (index path epsilon n) (boxesKept * floatsABox) (tracesKept + g) nan (omega (arith, below)))
+      tracked-still path l (sets front behind outer) n (length-sets front behind outer ∙ long)
+      (λ g below. sets-before front outer behind (tracesKept n + g) nan (omega (arith, below))
+      ∙ sets-before l (index path epsilon n) (boxesKept n * floatsABox) (tracesKept n + g) nan (omega (arith, below)))
       was

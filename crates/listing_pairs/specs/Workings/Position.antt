@@ -11,7 +11,7 @@ use borrow.Author.Tests.{lt-ltb, le-ltb, ltb-true, ltb-false}
 use lib.Dec.{ltb}
 use lib.ListN.{length, length-append, drop}
 use lib.Seq.{drop-nil, drop-append-le, drop-append-add}
-use Rattle.paths.specs.Path.{mostVertices}
+use Rattle.paths.specs.Path.{mostSegments}
 use Rattle.listing_pairs.specs.declared.order.Job.{Job}
 use Rattle.listing_pairs.specs.declared.order.Spot.{Spot}
 use Rattle.listing_pairs.specs.Order.{Pair, along, pairsFrom}
@@ -157,7 +157,7 @@ located-within job position =
 -- ---- the loop that counts: `sum` pairs before those of i
 pub record Counting (job : Job) (sum i : ℕ) : Type 0 where
   pub with-rest : sum + countFrom (job_of.from job) (job_of.to job) i (job .n - i) ≡ count job
-  pub few : sum ≤ i * mostVertices
+  pub few : sum ≤ i * mostSegments
   pub within : i ≤ job .n
 
 pub counting-starts : (job : Job) → Counting job 0 0
@@ -168,8 +168,8 @@ counting-starts job =
     record { with-rest = omega (arith, f); few = omega arith; within = omega arith }
 
 module _ {job : Job} {sum i : ℕ} (here : ℕ) (so-far : Counting job sum i) (below : i < job .n)
-    (is : here ≡ job_of.to job i - job_of.from job i) (m-few : job .m ≤ mostVertices) where
-  pub counting-few : job .n ≤ mostVertices → sum + here ≤ mostVertices * mostVertices
+    (is : here ≡ job_of.to job i - job_of.from job i) (m-few : job .m ≤ mostSegments) where
+  pub counting-few : job .n ≤ mostSegments → sum + here ≤ mostSegments * mostSegments
   counting-few n-few = omega (arith, is, job_of.to-within job i, m-few, n-few, below, so-far .few)
 
   pub counting-turn : Counting job (sum + here) (i + 1)

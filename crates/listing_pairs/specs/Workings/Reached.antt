@@ -4,6 +4,7 @@ use mathlib.Core.Bool.{Bool, true, false, cond, _||_, true≢false}
 use mathlib.Core.Logic.{_⊎_, inl, inr}
 use mathlib.Core.List.{List, [], _∷_, _++_}
 use Prim.Native.Nat.{ℕ, zero, suc, _+_, _-_, _*_, _≤_, _<_, min}
+use native.Mathlib.Nat.{le-refl}
 use native.Mathlib.Numerals.{add-one}
 use native.Mathlib.Omega.{arith}
 use borrow.Author.Tests.{le-leb, lt-leb, leb-false}
@@ -11,15 +12,14 @@ use lib.Dec.{leb}
 use lib.Ieee.{Float}
 use lib.ListN.{length, take}
 use lib.Seq.{take-append-le, take-append-add}
-use Rattle.paths.specs.Path.{mostVertices}
-use Rattle.boxes.specs.Index.{floatsABox}
+use Rattle.paths.specs.Path.{mostSegments}
 use Rattle.listing_pairs.specs.declared.order.Job.{Job}
 use Rattle.listing_pairs.specs.Order.{Pair, along, pairsFrom}
 use Rattle.listing_pairs.specs.Laws.Order.{lt-or-le, along-length, left-end}
 use Rattle.listing_pairs.specs.Workings.Job as job_of
 use Rattle.listing_pairs.specs.Workings.Ready as paths
 use Rattle.listing_pairs.specs.Workings.Keeping.{
-  numbersKept,
+  floatsBefore,
   keep,
   keep-length,
   KeptOf,
@@ -27,8 +27,7 @@ use Rattle.listing_pairs.specs.Workings.Keeping.{
   Ready,
   AllReady,
   AllKept,
-  boxesKept,
-  boxFloats,
+  floatsBoxed,
   keepBoxes,
   BoxesKept,
   no-boxes,
@@ -102,32 +101,33 @@ all-ready {first} {second} {kept} {job} h i j budget =
 
 -- so after all of them were stored
 pub kept-ready : (first second l kept : List Float) (job : Job) → paths.Ready first second job → job .boxed ≡ false
-    → job .m * numbersKept ≤ length l → Tracked second l → kept ≡ keep second 0 (job .m) (job .epsilon) l
+    → floatsBefore (job .m) ≤ length l → Tracked second l (job .m) → kept ≡ keep second 0 (job .m) (job .epsilon) l
     → AllReady first second kept job
 kept-ready first second l kept job ready plain room tracks e =
     record {
       pairs = ready;
       keeps = λ j b. rw e (kept-inside second l 0 (job .m) (job .epsilon) room j (omega arith) b);
       boxes = no-boxes plain;
-      tracks = rw e (keep-tracked second l 0 (job .m) (job .epsilon) (ready .few-second) tracks);
+      tracks = rw e (keep-tracked second l 0 (job .m) (job .m) (job .epsilon) (le-refl (job .m)) tracks);
     }
 
 -- and after the boxes were stored behind them
 module _ (first second l front : List Float) (job : Job) (ready : paths.Ready first second job)
-    (room : boxesKept * floatsABox + boxFloats (job .m) ≤ length l) (tracks : Tracked second l) (e : front ≡ keep second 0 (job .m) (job .epsilon) l) where
+    (room : floatsBoxed (job .m) ≤ length l) (tracks : Tracked second l (job .m))
+    (e : front ≡ keep second 0 (job .m) (job .epsilon) l) where
   long : length front ≡ length l
   long = ap length e ∙ keep-length second 0 (job .m - 0) (job .epsilon) l
 
-  pub front-room : boxesKept * floatsABox + boxFloats (job .m) ≤ length front
+  pub front-room : floatsBoxed (job .m) ≤ length front
   front-room = omega (arith, room, long)
 
   pub front-kept : AllKept second front (job .epsilon) (job .m)
   front-kept j b =
       rw e
-      (kept-inside second l 0 (job .m) (job .epsilon) (omega (arith, ready .few-second, room)) j (omega arith) b)
+      (kept-inside second l 0 (job .m) (job .epsilon) (omega (arith, room)) j (omega arith) b)
 
-  front-tracked : Tracked second front
-  front-tracked = rw e (keep-tracked second l 0 (job .m) (job .epsilon) (ready .few-second) tracks)
+  front-tracked : Tracked second front (job .m)
+  front-tracked = rw e (keep-tracked second l 0 (job .m) (job .m) (job .epsilon) (le-refl (job .m)) tracks)
 
   module _ (kept : List Float) (f : kept ≡ keepBoxes second (job .m) (job .epsilon) front) where
     pub boxes-kept : BoxesKept second kept job
@@ -142,7 +142,7 @@ module _ (first second l front : List Float) (job : Job) (ready : paths.Ready fi
     boxes-ready =
         record {
           pairs = ready;
-          keeps = rw f (still-kept second front (job .epsilon) (job .m) front-room (ready .few-second) front-kept);
+          keeps = rw f (still-kept second front (job .epsilon) (job .m) front-room front-kept);
           boxes = λ t. boxes-kept;
           tracks = rw f (still-tracked second front (job .epsilon) (job .m) front-room front-tracked);
         }
@@ -247,7 +247,7 @@ module _ (second kept : List Float) (epsilon : Float) (from to : ℕ → ℕ) wh
           (each-above second kept epsilon from to m (from i) rises within (λ h a b. all h a (omega (arith, a, b, many, up)))
           i (from i) (suc count) (omega arith) (rises i))
 
-module _ (second l : List Float) (job : Job) (room : job .m * numbersKept ≤ length l) (i j budget : ℕ) where
+module _ (second l : List Float) (job : Job) (room : floatsBefore (job .m) ≤ length l) (i j budget : ℕ) where
   abbrev Enough : List Float → Type 0
   Enough kept = KeptFor second kept (job .epsilon) (take budget (job_of.left job i j))
 
@@ -257,7 +257,7 @@ module _ (second l : List Float) (job : Job) (room : job .m * numbersKept ≤ le
       let end = job_of.to job i in
       let stop = end - (end - j - budget) in
       let up = job_of.to-within job i in
-      let fits : stop * numbersKept ≤ length l = omega (arith, room, up) in
+      let fits : floatsBefore stop ≤ length l = omega (arith, room, up) in
       rw e
       (here second (keepHere second job i j budget l) (job .epsilon) (job_of.from job) (job_of.to job) i j
       (job .n - suc i) budget few
@@ -287,10 +287,10 @@ module _ (second l : List Float) (job : Job) (room : job .m * numbersKept ≤ le
       kept : List Float
       kept = keepBeyond second job i j budget l
 
-      high-room : high * numbersKept ≤ length l
+      high-room : floatsBefore high ≤ length l
       high-room = omega (arith, room)
 
-      end-room : end * numbersKept ≤ length once
+      end-room : floatsBefore end ≤ length once
       end-room =
           omega (arith, room, job_of.to-within job i, keep-length second (min j low) (high - min j low) (job .epsilon) l)
 
@@ -321,7 +321,7 @@ module _ (second l : List Float) (job : Job) (room : job .m * numbersKept ≤ le
       let kept = keepHere second job i j budget l in
       let stop = end - (end - j - budget) in
       let up = job_of.to-within job i in
-      let fits : stop * numbersKept ≤ length l = omega (arith, room, up) in
+      let fits : floatsBefore stop ≤ length l = omega (arith, room, up) in
       rw e
       (each-take second kept (job .epsilon) budget (along i j (end - j) ++ [])
       (each-append second kept (job .epsilon) (along i j (end - j)) []
@@ -355,8 +355,8 @@ module _ (second l : List Float) (job : Job) (room : job .m * numbersKept ≤ le
 
 -- ---- the code's steps
 -- a range that ends at s may be stored
-pub may-keep : {s m vertices room : ℕ} → s ≤ m → m ≤ vertices → m ≤ mostVertices → m * numbersKept ≤ room
-    → (s ≤ vertices) × ((s ≤ mostVertices) × (s * numbersKept ≤ room))
+pub may-keep : {s m vertices room : ℕ} → s ≤ m → m ≤ vertices → m ≤ mostSegments → floatsBefore m ≤ room
+    → (s ≤ vertices) × ((s ≤ mostSegments) × (floatsBefore s ≤ room))
 may-keep up a b c = (omega (arith, up, a), (omega (arith, up, b), omega (arith, up, c)))
 
 -- the budget is more than i has
@@ -371,7 +371,7 @@ pub less-most : {a m : ℕ} (b : ℕ) → a ≤ m → a - b ≤ m
 less-most b h = omega (arith, h)
 
 pub room-left : (second l : List Float) (from to m : ℕ) (epsilon : Float) {now : List Float}
-    → now ≡ keep second from to epsilon l → m * numbersKept ≤ length l → m * numbersKept ≤ length now
+    → now ≡ keep second from to epsilon l → floatsBefore m ≤ length l → floatsBefore m ≤ length now
 room-left second l from to m epsilon {now} e room =
     let long = ap length e ∙ keep-length second from (to - from) epsilon l in omega (arith, room, long)
 
@@ -409,34 +409,35 @@ module _ (second : List Float) (job : Job) (i j budget : ℕ) (l : List Float) {
       (sym (ap (λ (n : ℕ). isHere job i n budget) counted) ∙ test))
 
 -- the traces of groups stand as they did
-reached-tracked : (second : List Float) (job : Job) (i j budget : ℕ) (l : List Float) → job .m ≤ mostVertices → Tracked second l
-    → Tracked second (keepReached second job i j budget l)
+reached-tracked : (second : List Float) (job : Job) (i j budget : ℕ) (l : List Float) → Tracked second l (job .m)
+    → Tracked second (keepReached second job i j budget l) (job .m)
 unfolding keepReached
-reached-tracked second job i j budget l few was =
+reached-tracked second job i j budget l was =
     go (leb (job .n) i) (isHere job i (job_of.to job i - j) budget)
   where
     end : ℕ
     end = job_of.to job i
 
     go : (a b : Bool)
-        → Tracked second (cond a l (cond b (keepHere second job i j budget l) (keepBeyond second job i j budget l)))
+        → Tracked second (cond a l (cond b (keepHere second job i j budget l) (keepBeyond second job i j budget l))) (job .m)
     go true b = was
     go false true =
-        keep-tracked second l j (end - (end - j - budget)) (job .epsilon) (omega (arith, few, job_of.to-within job i)) was
+        keep-tracked second l j (end - (end - j - budget)) (job .m) (job .epsilon) (omega arith) was
     go false false =
         let low = job_of.from job (i + 1) in
         let high = highOf (job .m) low (budget - (end - j)) in
         let once = keep second (min j low) high (job .epsilon) l in
-        keep-tracked second once (greater j high) end (job .epsilon) (omega (arith, few, job_of.to-within job i))
-        (keep-tracked second l (min j low) high (job .epsilon) (omega (arith, few)) was)
+        keep-tracked second once (greater j high) end (job .m) (job .epsilon) (le-refl (job .m))
+        (keep-tracked second l (min j low) high (job .m) (job .epsilon) (omega arith) was)
 
 pub reached-ready : (first second l kept : List Float) (job : Job) (i j budget : ℕ) → paths.Ready first second job
-    → job .boxed ≡ false → job .m * numbersKept ≤ length l → Tracked second l → kept ≡ keepReached second job i j budget l
+    → job .boxed ≡ false → floatsBefore (job .m) ≤ length l → Tracked second l (job .m)
+    → kept ≡ keepReached second job i j budget l
     → Ready first second kept job i j budget
 reached-ready first second l kept job i j budget ready plain room tracks e =
     record {
       pairs = ready;
       keeps = rw e (reached-kept second l job room i j budget);
       boxes = no-boxes plain;
-      tracks = rw e (reached-tracked second job i j budget l (ready .few-second) tracks);
+      tracks = rw e (reached-tracked second job i j budget l tracks);
     }

@@ -14,7 +14,7 @@ use Rattle.arcs.specs.declared.pline_seg_intr.PlineSegIntr.the-variants.{NoInte
 use Rattle.crossing.specs.PlineSeg.{plineSeg}
 use Rattle.fast_pair.specs.Laws.AllFine.{Sound, look-fine}
 use Rattle.paths.specs.declared.path.Segment.{Segment}
-use Rattle.paths.specs.Path.{mostVertices, vertexCount}
+use Rattle.paths.specs.Path.{mostSegments, vertexCount}
 use Rattle.paths.specs.Segments.{segmentFrom, segmentCount}
 use Rattle.paths.specs.Laws.Segments.{count-within, few-segments}
 use Rattle.paths.specs.Laws.Fine.{SegmentFine, PathFine, arc-fine, segment-fine}
@@ -22,7 +22,7 @@ use Rattle.listing_pairs.specs.declared.row.Look.{Look}
 use Rattle.listing_pairs.specs.declared.row.Look.the-variants.{Skipped, Nothing}
 use Rattle.listing_pairs.specs.declared.order.Job.{Job}
 use Rattle.listing_pairs.specs.Row.{lookOf}
-use Rattle.listing_pairs.specs.Look.{look, selfLook}
+use Rattle.listing_pairs.specs.Look.{look, selfLook, selfLookOf}
 use Rattle.listing_pairs.specs.Neighbours.{atJoint}
 use Rattle.listing_pairs.specs.Traces.{traced}
 use Rattle.listing_pairs.specs.Boxed.{boxesMeet}
@@ -84,10 +84,14 @@ pub each-of-two : (first second : List Float) (job : Job) → job .own ≡ false
 unfolding lookOn look
 each-of-two first second job own i j = rw own refl
 
+pub each-of-own : (path : List Float) (closed : Bool) (n : ℕ) (job : Job) → job .own ≡ true → job .closed ≡ closed
+    → job .m ≡ n → (i j : ℕ) → eachLook path path job i j ≡ selfLookOf n path closed (job .epsilon) i j
+unfolding lookOn selfLookOf
+each-of-own path closed n job own flag count i j = rw (own, flag, count) refl
+
 pub each-of-one : (path : List Float) (closed : Bool) (job : Job) → job .own ≡ true → job .closed ≡ closed
     → job .m ≡ segmentCount path closed → (i j : ℕ) → eachLook path path job i j ≡ selfLook path closed (job .epsilon) i j
-unfolding lookOn selfLook
-each-of-one path closed job own flag count i j = rw (own, flag, count) refl
+each-of-one path closed job = each-of-own path closed (segmentCount path closed) job
 
 abbrev PairFine : Segment → Segment → Float → Type 0
 PairFine v u epsilon = checkPlineSeg (v .v1) (v .v2) (u .v1) (u .v2) epsilon ≡ Fine
@@ -100,8 +104,8 @@ pub record SegmentReady (v : Segment) (second : List Float) (job : Job) : Type 0
 pub record Ready (first second : List Float) (job : Job) : Type 0 where
   pub n-within : job .n ≤ vertexCount first
   pub m-within : job .m ≤ vertexCount second
-  pub few : job .n ≤ mostVertices
-  pub few-second : job .m ≤ mostVertices
+  pub few : job .n ≤ mostSegments
+  pub few-second : job .m ≤ mostSegments
   pub fine : (i j : ℕ) → i < job .n → j < job .m → PairFine (segmentFrom first i) (segmentFrom second j) (job .epsilon)
 
 pub at-segment : (v : Segment) (first second : List Float) (job : Job) (i : ℕ) → Ready first second job → i < job .n

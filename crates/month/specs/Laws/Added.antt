@@ -46,7 +46,7 @@ module _ (n : ℕ) where
       getD-set-other (set fresh layouts 1) (refusals + n) k 1 0 b ∙ getD-set-other fresh layouts k 1 0 a ∙ zeros words k
 
 -- ---- an accepted one
-accepted-else : (rows : List Row) (looked k : ℕ) → refusals ≤ k → word (acceptedAdds rows looked) k ≡ 0
+pub accepted-else : (rows : List Row) (looked k : ℕ) → refusals ≤ k → word (acceptedAdds rows looked) k ≡ 0
 unfolding acceptedAdds
 accepted-else rows looked k far =
     sets-behind fresh

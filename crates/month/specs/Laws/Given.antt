@@ -33,7 +33,7 @@ use Rattle.month.specs.Given.{among, given}
 pub record Known (c : Checked) : Type 0 where
   pub known : (f : Fault) → c ≡ Bad f → among (f .number) given ≡ true
 
-fine : Known Fine
+pub fine : Known Fine
 fine = record { known = λ f e. absurd (never e) }
   where
     is-bad : Checked → Bool
@@ -43,7 +43,7 @@ fine = record { known = λ f e. absurd (never e) }
     never : {f : Fault} → Fine ≡ Bad f → ⊥
     never {f} e = true≢false (sym (ap is-bad e))
 
-refused : (test : Bool) (n : ℕ) (p : Place) → among n given ≡ true → Known (refuse test n p)
+pub refused : (test : Bool) (n : ℕ) (p : Place) → among n given ≡ true → Known (refuse test n p)
 unfolding refuse
 refused true n p h = record { known = λ f e. ap (λ (m : ℕ). among m given) (same e) ∙ h }
   where
@@ -56,23 +56,23 @@ unfolding later
 both Fine b ha hb = hb
 both (Bad f) b ha hb = ha
 
-and : {a b : Checked} → Known a → Known b → Known (later a b)
+pub and : {a b : Checked} → Known a → Known b → Known (later a b)
 and {a} {b} = both a b
 
-append : (cs ds : List Checked) → Known (firstFault cs) → Known (firstFault ds) → Known (firstFault (cs ++ ds))
+pub append : (cs ds : List Checked) → Known (firstFault cs) → Known (firstFault ds) → Known (firstFault (cs ++ ds))
 append cs ds a b = subst Known (sym (first-append cs ds)) (and a b)
 
 -- ---- each number's check
-epsilon : (x : Float) → Known (Each.epsilon x)
+pub epsilon : (x : Float) → Known (Each.epsilon x)
 unfolding Each.epsilon
 epsilon x = refused _ Refusal.epsilon _ refl
 
 module _ (x : Float) (p : Place) where
-  finite : Known (Each.finite x p)
+  pub finite : Known (Each.finite x p)
   unfolding Each.finite
   finite = and (refused _ Refusal.nan p refl) (refused _ Refusal.infinite p refl)
 
-  coordinate : Known (Each.coordinate x p)
+  pub coordinate : Known (Each.coordinate x p)
   unfolding Each.coordinate Each.finiteThen
   coordinate = and finite (refused _ Refusal.coordinate p refl)
 
@@ -80,7 +80,7 @@ module _ (x : Float) (p : Place) where
   unfolding Each.bulge Each.finiteThen
   bulge = and finite (refused _ Refusal.bulge p refl)
 
-  trace : Known (Each.trace x p)
+  pub trace : Known (Each.trace x p)
   unfolding Each.trace Each.finiteThen
   trace = and finite (refused _ Refusal.trace p refl)
 
@@ -89,16 +89,16 @@ module _ (x : Float) (p : Place) where
   chord true = fine
   chord false = refused _ Refusal.chord p refl
 
-arc-chord : (a b : PlineVertex) (owner index : ℕ) → Known (arcChord a b owner index)
+pub arc-chord : (a b : PlineVertex) (owner index : ℕ) → Known (arcChord a b owner index)
 unfolding arcChord
 arc-chord a b owner index = chord _ _ (bulgeIsZero a)
 
 -- ---- a path's checks
-of-shape : (path : List Float) (owner : ℕ) → Known (shape path owner)
+pub of-shape : (path : List Float) (owner : ℕ) → Known (shape path owner)
 unfolding shape
 of-shape path owner = and (refused _ Refusal.pathLength _ refl) (refused _ Refusal.vertices _ refl)
 
-each : (checks : ℕ → List Checked) → ((i : ℕ) → Known (firstFault (checks i))) → (i k : ℕ) → Known (firstFault (along checks i k))
+pub each : (checks : ℕ → List Checked) → ((i : ℕ) → Known (firstFault (checks i))) → (i k : ℕ) → Known (firstFault (along checks i k))
 each checks small i zero = fine
 each checks small i (suc k) = append (checks i) (along checks (i + 1) k) (small i) (each checks small (i + 1) k)
 

@@ -177,7 +177,7 @@ never : {f : Fault} {k m : ℕ} → Refused f ≡ Listed k m → ⊥
 never e = let z : _≡_ {A = ℕ} 0 1 = cc in omega (arith, z)
 
 -- ---- what is read from the rows that were written is what the definition adds
-same-adds : (c : Checked) (rows : List Row) (looked : ℕ) (i : List ℕ) (p : List Float)
+pub same-adds : (c : Checked) (rows : List Row) (looked : ℕ) (i : List ℕ) (p : List Float)
     → addsBy (listedOf c rows looked i p .answer) (listedOf c rows looked i p .indices)
     ≡ adds (listedOf c rows looked i p .answer) rows
 unfolding listedAdds acceptedAdds

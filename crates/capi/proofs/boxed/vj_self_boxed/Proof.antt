@@ -1,6 +1,6 @@
 -- `capi::boxed::vj_self_boxed` meets its contract: without room for the counts nothing is done; else the listing is handed over.
 use borrow.Author.Needs.{needs}
-use Rattle.capi.proofs.ListingEnds.{no-room-boxed, handed-boxed}
+use Rattle.capi.specs.Laws.ListingEnds.{no-room-boxed, handed-boxed}
 use Rattle.capi.proofs.boxed.vj_self_boxed.Statement.{statement}
 use Rattle.capi.proofs.boxed.vj_self_boxed.Tie as tie
 

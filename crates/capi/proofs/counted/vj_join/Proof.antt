@@ -1,6 +1,6 @@
 -- `capi::counted::vj_join` meets its contract: what the join answers is handed over.
 use borrow.Author.Needs.{needs}
-use Rattle.capi.proofs.MonthEnds.{handed-join}
+use Rattle.capi.specs.Laws.MonthEnds.{handed-join}
 use Rattle.capi.proofs.counted.vj_join.Statement.{statement}
 use Rattle.capi.proofs.counted.vj_join.Tie as tie
 

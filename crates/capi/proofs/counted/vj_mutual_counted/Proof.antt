@@ -1,7 +1,7 @@
 -- `capi::counted::vj_mutual_counted` meets its contract: without room for the counts nothing is done; else the listing is handed
 -- over, and its report.
 use borrow.Author.Needs.{needs}
-use Rattle.capi.proofs.MonthEnds.{no-room-counted, handed-counted}
+use Rattle.capi.specs.Laws.MonthEnds.{no-room-counted, handed-counted}
 use Rattle.capi.proofs.counted.vj_mutual_counted.Statement.{statement}
 use Rattle.capi.proofs.counted.vj_mutual_counted.Tie as tie
 

@@ -1,6 +1,6 @@
 -- `capi::listing::vj_mutual` meets its contract: without room for the counts nothing is done; else the listing is handed over.
 use borrow.Author.Needs.{needs}
-use Rattle.capi.proofs.ListingEnds.{no-room, handed}
+use Rattle.capi.specs.Laws.ListingEnds.{no-room, handed}
 use Rattle.capi.proofs.listing.vj_mutual.Statement.{statement}
 use Rattle.capi.proofs.listing.vj_mutual.Tie as tie
 

@@ -1,6 +1,6 @@
 -- `capi::listing::vj_self` meets its contract: without room for the counts nothing is done; else the listing is handed over.
 use borrow.Author.Needs.{needs}
-use Rattle.capi.proofs.ListingEnds.{no-room, handed}
+use Rattle.capi.specs.Laws.ListingEnds.{no-room, handed}
 use Rattle.capi.proofs.listing.vj_self.Statement.{statement}
 use Rattle.capi.proofs.listing.vj_self.Tie as tie
 

@@ -1,6 +1,6 @@
 -- `capi::page::vj_self_page` meets its contract: without room for the counts nothing is done; else the page is handed over.
 use borrow.Author.Needs.{needs}
-use Rattle.capi.proofs.ListingEnds.{no-room, handed}
+use Rattle.capi.specs.Laws.ListingEnds.{no-room, handed}
 use Rattle.capi.proofs.page.vj_self_page.Statement.{statement}
 use Rattle.capi.proofs.page.vj_self_page.Tie as tie
 

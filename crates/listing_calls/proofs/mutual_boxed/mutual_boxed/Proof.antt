@@ -5,7 +5,7 @@ use borrow.Author.Needs.{needs}
 use denote.Ref.{now}
 use Rattle.checks.specs.declared.fault.Checked.the-variants.{Fine}
 use Rattle.listing_calls.specs.Listing.{checkMutual}
-use Rattle.listing_calls.specs.Laws.Entry.{mutual-ready}
+use Rattle.listing_calls.specs.Laws.Entry.{mutual-ready, mutual-few}
 use Rattle.listing_calls.specs.Laws.BoxedEntry as entry
 use Rattle.listing_calls.proofs.mutual_boxed.mutual_boxed.Statement.{statement}
 use Rattle.listing_calls.proofs.mutual_boxed.mutual_boxed.Tie as tie
@@ -22,7 +22,8 @@ fine c = sym (c .before .before .check-mutual .ensures) ∙ c .enum-told .given 
 list-boxed-requires : tie.Need-list-boxed-requires
 list-boxed-requires c κs =
     let j = c .before .before .before in
-    (mutual-ready _ _ _ _ _ (fine (j .before)) _ (j .mutual-job .ensures), entry.two-paths _ _ _ _ _ _ _ (j .mutual-job .ensures))
+    let is = j .mutual-job .ensures in
+    (mutual-ready _ _ _ _ _ (fine (j .before)) _ is, (entry.two-paths _ _ _ _ _ _ _ is, mutual-few _ _ _ _ _ _ is))
 
 returns : tie.Need-returns
 returns c =

@@ -5,7 +5,7 @@ use borrow.Author.Needs.{needs}
 use denote.Ref.{now}
 use Rattle.checks.specs.declared.fault.Checked.the-variants.{Fine}
 use Rattle.listing_calls.specs.Listing.{checkSelf}
-use Rattle.listing_calls.specs.Laws.Entry.{self-ready}
+use Rattle.listing_calls.specs.Laws.Entry.{self-ready, self-few}
 use Rattle.listing_calls.specs.Laws.BoxedEntry as entry
 use Rattle.listing_calls.proofs.self_boxed.self_boxed.Statement.{statement}
 use Rattle.listing_calls.proofs.self_boxed.self_boxed.Tie as tie
@@ -22,7 +22,8 @@ fine c = sym (c .before .before .check-self .ensures) ∙ c .enum-told .given .1
 list-boxed-requires : tie.Need-list-boxed-requires
 list-boxed-requires c κs =
     let j = c .before .before .before in
-    (self-ready _ _ _ (fine (j .before)) _ (j .self-job .ensures), entry.one-path _ _ _ _ _ (j .self-job .ensures))
+    let is = j .self-job .ensures in
+    (self-ready _ _ _ (fine (j .before)) _ is, (entry.one-path _ _ _ _ _ is, self-few _ _ _ _ is))
 
 returns : tie.Need-returns
 returns c =

@@ -2,22 +2,21 @@
 -- it stops at has not.
 use mathlib.Core.Path.{ap}
 use mathlib.Core.Bool.{not}
-use Prim.Native.Nat.{_-_, _<_}
+use Prim.Native.Nat.{_-_}
 use native.Mathlib.Omega.{arith}
 use borrow.Author.Needs.{needs}
 use lib.Ieee.{Float}
 use Rattle.floats.specs.Ops.{_≈_}
-use Rattle.paths.specs.Path.{mostVertices}
 use Rattle.boxes.specs.Workings.Next.{Finding, finding-starts, finding-here, finding-on, finding-over, finding-ends}
 use Rattle.listing_pairs.specs.Workings.Tracks.{other, past-clear}
 use Rattle.listing_loop.proofs.run.next_other_by_groups.Statement.{statement}
 use Rattle.listing_loop.proofs.run.next_other_by_groups.Tie as tie
 
 abbrev Inv-loop : tie.InvT-loop
-Inv-loop path kept trace j end k₀ k = Finding (other path trace) j end k
+Inv-loop path kept n trace j end k₀ k = Finding (other path trace) j end k
 
 abbrev μ-loop : tie.MeasureT-loop
-μ-loop path kept trace j end k₀ k = end - k
+μ-loop path kept n trace j end k₀ k = end - k
 
 abbrev start : tie.In-loop Inv-loop μ-loop → tie.Start Inv-loop μ-loop
 start l = l .before .before .before .before
@@ -29,11 +28,9 @@ passed c =
     let g = t .before in
     let l = g .before in
     let p = start l .pre in
-    let k = l .before .loop .k in
-    let few : k < mostVertices = omega (arith, l .loop-test .taken, p .0 .2) in
     finding-over (l .before .loop .inv) _
     (omega (arith, c .lesser .ensures, t .if1 .taken, l .loop-test .taken)) (omega (arith, c .lesser .ensures))
-    (λ h low high. past-clear _ _ _ _ (p .1 .0) (p .1 .1) few h low
+    (λ h low high. past-clear _ _ _ _ _ (p .1 .0) (p .1 .1) (omega (arith, l .loop-test .taken, p .0 .1)) h low
     (rw (← g .past-group .ensures) (omega (arith, c .lesser .ensures, high))))
 
 pub next-other-by-groups-spec : {M : Type 1} → statement M
@@ -42,7 +39,9 @@ next-other-by-groups-spec =
     (tie.spec
     Inv-loop μ-loop
     (λ c. finding-starts _ _ _ (c .before .before .pre .0 .0))
-    (λ c κs. let p = start c .pre in (omega (arith, c .loop-test .taken, p .0 .2), p .1 .0 .room))
+    (λ c κs. let p = start c .pre in
+    let t = p .1 .0 in
+    ((t .few, omega (arith, c .loop-test .taken, p .0 .1)), t .room))
     (λ c. search needs)
     (λ c. let t = c .before in
     let l = t .before .before in

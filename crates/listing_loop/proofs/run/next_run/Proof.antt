@@ -22,13 +22,17 @@ next-run-spec =
     (tie.spec
     (λ c κs. let p = c .before .before .pre in (p .0, p .1 .0))
     (λ c κs. let w = within (c .before) in
-    let p = c .before .before .before .before .pre in
-    ((w .0, omega (arith, w .1, p .1 .0, p .1 .1 .0), omega (arith, w .1, p .1 .0)), (p .1 .1 .1, c .if1 .taken)))
+    let p = c .before .before .before .before .pre in (
+      (w .0, omega (arith, w .1, p .1 .0), p .1 .1 .0),
+      (p .1 .1 .1, c .if1 .taken),
+    ))
     (λ c κs. let b = c .before .before in
     let w = within b in
     let f = first-is _ _ _ _ (w .0) (c .next-other-by-groups .ensures) in
-    let p = b .before .before .before .pre in
-    ((f .high, omega (arith, w .1, p .1 .0, p .1 .1 .0), omega (arith, w .1, p .1 .0)), p .1 .1 .1))
+    let p = b .before .before .before .pre in (
+      (f .high, omega (arith, w .1, p .1 .0), p .1 .1 .0),
+      p .1 .1 .1,
+    ))
     (λ c. let t = c .before .before in
     holds _ _ _ _ (t .if1 .taken)
     (other-of _ _ _ _ _ _ (t .before .run-of-boxes .ensures) (c .before .next-other-by-groups .ensures) (c .next-same-by-groups .ensures)))

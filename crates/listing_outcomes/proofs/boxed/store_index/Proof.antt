@@ -12,7 +12,7 @@ use Rattle.listing_outcomes.proofs.boxed.store_index.Statement.{stateme
 use Rattle.listing_outcomes.proofs.boxed.store_index.Tie as tie
 
 abbrev start : tie.After-group-count → tie.Start
-start c = c .before .before .before .before .before
+start c = c .before .before .before .before .before .before
 
 -- how many boxes are copied
 count : (c : tie.After-group-count) → let m = start c .args .job .m in m + c .group-count .result ≡ m + groupCount m
@@ -77,5 +77,5 @@ pub store-index-spec : {M : Type 1} → statement M
 store-index-spec =
     tie.close
     (tie.spec
-    (λ c κs. search needs) (λ c. search needs) copy-requires (λ c. search needs) returns
+    (λ c. search needs) (λ c κs. search needs) (λ c. search needs) copy-requires (λ c. search needs) returns
     store-requires (λ c κs. search needs) (λ c. search needs) copy-requires-2 (λ c. search needs) returns-2)

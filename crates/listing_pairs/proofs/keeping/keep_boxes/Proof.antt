@@ -19,5 +19,6 @@ pub keep-boxes-spec : {M : Type 1} → statement M
 keep-boxes-spec =
     tie.close
     (tie.spec
-    (λ c κs. search needs) (λ c κs. search needs) (λ c κs. search needs) (λ c. search needs) (λ c κs. search needs)
+    (λ c κs. search needs) (λ c. search needs) (λ c κs. search needs) (λ c κs. search needs) (λ c. search needs)
+    (λ c κs. search needs)
     (λ c. search needs) returns)

@@ -10,7 +10,7 @@ use Rattle.listing_pairs.proofs.keeping.keep_segment_boxes.Statement.{s
 use Rattle.listing_pairs.proofs.keeping.keep_segment_boxes.Tie as tie
 
 abbrev Inv-loop : tie.InvT-loop
-Inv-loop path n epsilon kept₀ j₀ kept j = Storing (segmentBox path epsilon) boxesKept n kept₀ kept j
+Inv-loop path n epsilon kept₀ j₀ kept j = Storing (segmentBox path epsilon) (boxesKept n) n kept₀ kept j
 
 abbrev μ-loop : tie.MeasureT-loop
 μ-loop path n epsilon kept₀ j₀ kept j = n - j
@@ -27,7 +27,7 @@ still c =
     let l = c .before in
     let s = start l in
     let p = s .pre in
-    kept-while (segmentBox (now (s .args .path)) (s .args .epsilon)) (p .0 .1) (p .1 .0) (l .loop .inv) (l .loop .j) (c .loop-test .taken)
+    kept-while (segmentBox (now (s .args .path)) (s .args .epsilon)) (p .1 .0) (l .loop .inv) (l .loop .j) (c .loop-test .taken)
 
 pub keep-segment-boxes-spec : {M : Type 1} → statement M
 keep-segment-boxes-spec =
@@ -38,8 +38,9 @@ keep-segment-boxes-spec =
     (λ c κs. omega (arith, c .loop-test .taken, start (c .before) .pre .0))
     (λ c κs. omega (arith, still (c .before .before) .room))
     (λ c κs. let g = c .before .before in chord-known _ _ _ _ _ _ (still (g .before)) (g .segment-from .ensures) (c .kept-at .ensures))
+    (λ c. let l = c .before .before .before .before .before in omega (arith, start (l .before) .pre .0))
     (λ c. let l = c .before .before .before .before .before in
-    omega (arith, l .loop-test .taken, start (l .before) .pre))
+    omega (arith, l .loop-test .taken, start (l .before) .pre .0))
     (λ c κs. let l = c .before .before .before .before .before in
     omega (arith, l .loop-test .taken, l .before .loop .inv .long, start (l .before) .pre))
     (λ c. let l = c .before .before .before .before .before .before .before .before in

@@ -17,19 +17,22 @@ use Rattle.listing_pairs.specs.Workings.Tracks.{other, groupTrace}
 use Rattle.listing_pairs.proofs.tracks.group_trace.Statement.{statement}
 use Rattle.listing_pairs.proofs.tracks.group_trace.Tie as tie
 
--- the two tests, in the definition's words
+abbrev start : tie.After-trace → tie.Start
+start c = c .before .before .before
+
+-- the tests of traces, in the definition's words
 low : (c : tie.After-trace) {b : Bool} → not (c .trace .result ≻ f0) ≡ b
-    → not (trace (now (c .before .before .args .path)) (c .before .before .args .g * groupSize) ≻ f0) ≡ b
+    → not (trace (now (start c .args .path)) (start c .args .g * groupSize) ≻ f0) ≡ b
 low c e = sym (ap (λ (t : Float). not (t ≻ f0)) (c .trace .ensures)) ∙ e
 
 found : (c : tie.After-next-other)
-    → let a = c .before .before .before .before .args in
+    → let a = start (c .before .before) .args in
     let from = a .g * groupSize in
     let t = trace (now (a .path)) from in
     ltb (c .next-other .result) (from + groupSize)
     ≡ ltb (first (other (now (a .path)) t) from (from + groupSize)) (from + groupSize)
 found c =
-    let a = c .before .before .before .before .args in
+    let a = start (c .before .before) .args in
     let from = a .g * groupSize in
     ap (λ (k : ℕ). ltb k (from + groupSize))
     (c .next-other .ensures
@@ -40,12 +43,18 @@ unfolding groupTrace
 group-trace-spec =
     tie.close
     (tie.spec
-    (λ c. search needs) (λ c. search needs)
-    (λ c κs. omega (arith, c .before .pre .0))
-    (λ c. holds _ _ _ _ (low (c .before) (c .if1 .taken)) refl)
-    (λ c κs. (omega arith, omega (arith, c .before .before .before .pre .0)))
+    (λ c. omega (arith, c .before .pre .1)) (λ c. omega (arith, c .before .pre .1))
+    (λ c. holds _ _ _ _ (lt-ltb _ _ (c .if1 .taken)) refl)
+    (λ c κs. omega (arith, c .if1 .left, c .before .before .pre .0))
+    (λ c. let t = c .before in
+    fails _ _ _ _ (le-ltb _ _ (t .before .if1 .left)) (holds _ _ _ _ (low t (c .if2 .taken)) refl))
+    (λ c κs. let e = c .before .before in (omega arith, omega (arith, e .if1 .left, e .before .before .pre .0)))
     (λ c. let n = c .before in
-    fails _ _ _ _ (low (n .before .before) (n .before .if1 .left)) (holds _ _ _ _ (sym (found n) ∙ lt-ltb _ _ (c .if2 .taken)) refl))
+    let t = n .before .before in
+    fails _ _ _ _ (le-ltb _ _ (t .before .if1 .left))
+    (fails _ _ _ _ (low t (n .before .if2 .left)) (holds _ _ _ _ (sym (found n) ∙ lt-ltb _ _ (c .if3 .taken)) refl)))
     (λ c. let n = c .before in
-    fails _ _ _ _ (low (n .before .before) (n .before .if1 .left))
-    (fails _ _ _ _ (sym (found n) ∙ le-ltb _ _ (c .if2 .left)) (n .before .before .trace .ensures))))
+    let t = n .before .before in
+    fails _ _ _ _ (le-ltb _ _ (t .before .if1 .left))
+    (fails _ _ _ _ (low t (n .before .if2 .left))
+    (fails _ _ _ _ (sym (found n) ∙ le-ltb _ _ (c .if3 .left)) (t .trace .ensures)))))

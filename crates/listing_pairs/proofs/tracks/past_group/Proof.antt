@@ -12,7 +12,8 @@ unfolding pastGroup
 past-group-spec =
     tie.close
     (tie.spec
-    (λ c. omega (arith, c .pre .0)) (λ c. omega (arith, c .pre .0)) (λ c. let p = c .before .pre in omega (arith, p))
+    (λ c. omega (arith, c .pre .0)) (λ c. omega (arith, c .pre .0)) (λ c. omega (arith, c .pre .0))
+    (λ c. let p = c .before .pre in omega (arith, p))
     (λ c. omega (arith, c .before .before .pre .0)) (λ c. omega (arith, c .before .before .pre .0))
     (λ c. holds _ _ _ _ (c .if1 .taken) refl)
     (λ c. fails _ _ _ _ (c .if1 .left) refl))

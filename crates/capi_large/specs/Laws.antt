@@ -1,0 +1,2 @@
+-- Laws that only proofs need. A reader need not believe them: they are proved.
+pub mod RefusalNumbers

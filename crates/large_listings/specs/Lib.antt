@@ -1,0 +1,16 @@
+-- Listings of the mode of large arcs, by request 11: the calls (LargeListings) and the counted listing (LargeCounted), and what
+-- is proved of them. A reader need not believe Workings and Laws.
+pub mod LargeListings
+pub mod OverCutPath
+pub mod NoLarge
+pub mod BesideOld
+pub mod LargeRefusals
+pub mod LargePageRefusals
+pub mod LargeBoxedRefusals
+pub mod LargeTraced
+pub mod HasLargeRow
+pub mod LargeComplete
+pub mod LargeChain
+pub mod LargeChained
+pub mod Workings
+pub mod Laws
