@@ -5,8 +5,8 @@ import shutil
 
 ROOT = pathlib.Path(__file__).resolve().parent.parent
 HEAD = re.compile(r'^ *(?:pub(?:\(crate\))? )?(?:extern "C" )?fn (\w+)', re.M)
-# a line of specs/ or proofs/ that imports something of its own crate
-IMPORT = re.compile(r"^((?:pub )?use Rattle·\w+·(specs|proofs)\.\2\.)([^\s{]+)", re.M)
+# a line of specs/ or proofs/ that imports something of a crate: of its own by `·specs.specs.`, of another one by `.specs.`
+IMPORT = re.compile(r"^((?:pub )?use Rattle·)(\w+)(?:(·)(specs|proofs)\.\4|\.(specs|proofs))\.([^\s{]+)", re.M)
 MOD = re.compile(r"^(?:pub )?mod \w+\n", re.M)
 # the ending of a right function that stands beside itself
 RIGHT = "_not"
@@ -38,7 +38,39 @@ class Trial:
     @property
     def of_laws(self):
         """Whether only laws must reject it: files of specs/ or proofs/."""
-        return self.kind == "law" and all("/" in name for name in self.refused)
+        return self.kind in ("law", "above") and all("/" in name for name in self.refused)
+
+    @property
+    def top(self):
+        """The crate that must reject it: its own, or one above."""
+        return self.refused[0].partition("/")[0] if self.kind == "above" else self.crate
+
+    def place(self, name):
+        """What must reject it, in that crate."""
+        return name.partition("/")[2] if self.kind == "above" else name
+
+
+def crate_lines():
+    """The crates of crates.txt, in the file's order, each with those that it uses."""
+    for line in (ROOT / "crates.txt").read_text().splitlines():
+        name, found, uses = line.partition(":")
+        if found and not line.startswith("#"):
+            yield name.strip(), uses.split()
+
+
+def closure(top, uses):
+    """A crate with all crates below it; those that it uses come first."""
+    found = []
+
+    def visit(crate):
+        for name in uses[crate]:
+            if name in uses:
+                visit(name)
+        if crate not in found:
+            found.append(crate)
+
+    visit(top)
+    return found
 
 
 def proof_of(function):
@@ -207,72 +239,85 @@ def own_text(text):
 # ---- laws beside the right ones
 
 
+class Import:
+    """What a line of specs/ or proofs/ imports: the crate, whether that is its own, the folder, the path, and the file if it is
+    among these texts. Else it is declared in src, or a function's module, or in another crate."""
+
+    def __init__(self, found, texts):
+        self.start, self.crate, self.own, one, other, self.path = found
+        self.library, parts = one or other, self.path.rstrip(".").split(".")
+        files = ("/".join([self.crate, self.library, *parts[:end]]) + ".antt" for end in range(len(parts), 0, -1))
+        self.file = next((file for file in files if file in texts), None)
+
+
 def texts_with(trial):
-    """All files of the trial's crate, by their names, with its changes; and what is wrong with these, or None."""
-    folder = ROOT / "crates" / trial.crate
-    paths = [path for part in ("src", "specs", "proofs") for path in sorted((folder / part).rglob("*.*t"))]
-    texts = {str(path.relative_to(folder)): path.read_text() for path in paths}
-    return texts, changed_texts(texts, trial)
-
-
-def imported(library, path, texts):
-    """The file that an import names, or None: what is declared in src, or a function's module."""
-    parts = path.rstrip(".").split(".")
-    for end in range(len(parts), 0, -1):
-        file = "/".join([library, *parts[:end]]) + ".antt"
-        if file in texts:
-            return file
-    return None
+    """The files of the trial's crate, and of specs/ up to the crate that must reject it, as CRATE/FILE, with the trial's changes;
+    and what is wrong with these, or None."""
+    texts, defect = {}, None
+    for crate in closure(trial.top, dict(crate_lines())) if trial.kind == "above" else [trial.crate]:
+        folder, parts = ROOT / "crates" / crate, ("src", "specs", "proofs") if crate == trial.crate else ("specs",)
+        paths = [path for part in parts for path in sorted((folder / part).rglob("*.*t"))]
+        found = {str(path.relative_to(folder)): path.read_text() for path in paths}
+        if crate == trial.crate:
+            defect = changed_texts(found, trial)
+        texts.update({f"{crate}/{file}": text for file, text in found.items()})
+    return texts, defect
 
 
 def copies_for(trial, texts):
     """The files that a trial of laws needs a copy of, if these are the texts with its changes: those by which a place that must
     reject it depends on a changed file. None if not all that such a file imports can be told: it imports a function's module,
     or all that stands below a file."""
-    uses = {
-        file: {(imported(library, path, texts), path) for _, library, path in IMPORT.findall(text)}
-        for file, text in texts.items()
-    }
+    uses = {file: [Import(found, texts) for found in IMPORT.findall(text)] for file, text in texts.items()}
     reach = {}
 
     def visit(file):
         if file not in reach:
-            reach[file] = {file}
-            for used, _ in uses[file]:
-                if used:
-                    reach[file] |= visit(used)
+            reach[file] = {file}.union(*(visit(one.file) for one in uses[file] if one.file))
         return reach[file]
 
-    places = {f"{name}.antt" for name in trial.refused}
-    copies = {file for place in places if place in texts for file in visit(place) if visit(file) & trial.files}
+    places = {f"{trial.top}/{trial.place(name)}.antt" for name in trial.refused}
+    changed_files = {f"{trial.crate}/{file}" for file in trial.files}
+    copies = {file for place in places if place in texts for file in visit(place) if visit(file) & changed_files}
     for file in copies:
-        for used, path in uses[file]:
-            below = used and used.removesuffix(".antt") + "/"
-            if not used and not path.startswith("declared.") or used and any(other.startswith(below) for other in texts):
+        for one in uses[file]:
+            below = one.file and one.file.removesuffix(".antt") + "/"
+            unknown = not one.file and one.own and not one.path.startswith("declared.")
+            if unknown or one.file and any(other.startswith(below) for other in texts):
                 return None
     return copies
 
 
 def put_laws_beside(folder, trial, name):
     """Puts copies of the changed laws, and of what is between them and the places that must reject them, into a folder of this
-    name beside the right ones. They import one another, and all else from the right files. Returns what is wrong, or None."""
+    name beside the right ones, in a copy of the crate that must reject them. They import one another, and all else from the
+    right files. Returns what is wrong, or None."""
     texts, defect = texts_with(trial)
     if defect:
         return defect
     copies = copies_for(trial, texts)
+    if copies is None:
+        return f"{trial}: not all that is between the change and what must reject it can be told"
+
+    def parts_of(file):
+        """The file's library, and its path in the folder: with its crate's name, if it is of a crate below."""
+        crate, library, *parts = file.removesuffix(".antt").split("/")
+        return library, [name, *([] if crate == trial.top else [f"of_{crate}"]), *parts]
 
     def renamed(found):
-        start, library, path = found.groups()
-        return start + (f"{name}." if imported(library, path, texts) in copies else "") + path
+        one = Import(found.groups(), texts)
+        if one.file in copies:
+            below = "" if one.crate == trial.top else f"of_{one.crate}."
+            return f"{one.start}{trial.top}·{one.library}.{one.library}.{name}.{below}{one.path}"
+        return f"{one.start}{one.crate}.{one.library}.{one.path}" if one.own and one.crate != trial.top else found.group()
 
-    below = {}
+    nodes = {}
     for file in copies:
-        library, *parts = [*file.removesuffix(".antt").split("/")]
-        parts = [name, *parts]
+        library, parts = parts_of(file)
         for end in range(len(parts)):
-            below.setdefault((library, *parts[:end]), set()).add(parts[end])
+            nodes.setdefault((library, *parts[:end]), set()).add(parts[end])
         write(folder / library / pathlib.Path(*parts).with_suffix(".antt"), IMPORT.sub(renamed, MOD.sub("", texts[file])))
-    for (library, *parts), names in below.items():
+    for (library, *parts), names in nodes.items():
         path = folder / library / pathlib.Path(*parts, "Lib" if not parts else "").with_suffix(".antt")
         there = path.read_text() if path.is_file() else ""
         write(path, "".join(f"pub mod {one}\n" for one in sorted(names)) + there)
