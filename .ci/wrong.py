@@ -7,6 +7,8 @@ ROOT = pathlib.Path(__file__).resolve().parent.parent
 HEAD = re.compile(r'^ *(?:pub(?:\(crate\))? )?(?:extern "C" )?fn (\w+)', re.M)
 # a line of specs/ or proofs/ that imports something of a crate: of its own by `·specs.specs.`, of another one by `.specs.`
 IMPORT = re.compile(r"^((?:pub )?use Rattle·)(\w+)(?:(·)(specs|proofs)\.\4|\.(specs|proofs))\.([^\s{]+)", re.M)
+# a type that is declared in src: laws can see it
+TYPE = re.compile(r"^(?:pub(?:\(crate\))? )?(?:struct|enum|type) [^;{]*(?:;|\{.*?^\})", re.M | re.S)
 MOD = re.compile(r"^(?:pub )?mod \w+\n", re.M)
 # the ending of a right function that stands beside itself
 RIGHT = "_not"
@@ -266,8 +268,12 @@ def texts_with(trial):
 
 def copies_for(trial, texts):
     """The files that a trial of laws needs a copy of, if these are the texts with its changes: those by which a place that must
-    reject it depends on a changed file. None if not all that such a file imports can be told: it imports a function's module,
-    or all that stands below a file."""
+    reject it depends on a changed file. None if a type of src changes, or if not all that such a file imports can be told: it
+    imports a function's module, or all that stands below a file."""
+    for file in trial.files:
+        right = (ROOT / "crates" / trial.crate / file).read_text()
+        if file.endswith(".rt") and TYPE.findall(right) != TYPE.findall(texts[f"{trial.crate}/{file}"]):
+            return None
     uses = {file: [Import(found, texts) for found in IMPORT.findall(text)] for file, text in texts.items()}
     reach = {}
 
@@ -279,10 +285,11 @@ def copies_for(trial, texts):
     places = {f"{trial.top}/{trial.place(name)}.antt" for name in trial.refused}
     changed_files = {f"{trial.crate}/{file}" for file in trial.files}
     copies = {file for place in places if place in texts for file in visit(place) if visit(file) & changed_files}
+    crates = {file.partition("/")[0] for file in texts}
     for file in copies:
         for one in uses[file]:
             below = one.file and one.file.removesuffix(".antt") + "/"
-            unknown = not one.file and one.own and not one.path.startswith("declared.")
+            unknown = not one.file and one.crate in crates and not one.path.startswith("declared.")
             if unknown or one.file and any(other.startswith(below) for other in texts):
                 return None
     return copies
@@ -297,7 +304,7 @@ def put_laws_beside(folder, trial, name):
         return defect
     copies = copies_for(trial, texts)
     if copies is None:
-        return f"{trial}: not all that is between the change and what must reject it can be told"
+        return f"{trial}: a type changes, or not all that is between the change and what must reject it can be told"
 
     def parts_of(file):
         """The file's library, and its path in the folder: with its crate's name, if it is of a crate below."""
