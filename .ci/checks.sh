@@ -1,8 +1,9 @@
 # The checks of the gate, one function each. `.ci/run` calls them in order; `.ci/test` tests that each can fail.
 
 scratch=$(mktemp -d)
-trap 'rm -rf "$scratch"' EXIT
+trap 'end_trials; rm -rf "$scratch"' EXIT
 quick=
+trials=
 times=()
 
 fail() {
@@ -36,23 +37,37 @@ say_times() {
 
 # ---- proofs
 
-# rt ci removes target/, so it comes first and nothing is proved twice. Its last line is printed at the end.
+# rt ci removes target/, so it comes first and nothing is proved twice. Its last line is printed at the end. It leaves a core idle
+# for much of the time, so the wrong functions of a crate are tried as soon as it is proved. target/ is removed before: what is in
+# target/stamp is then proved in this run. If rt ci fails, the trials end with the gate.
 prove() {
     local start=$SECONDS
     command -v rt > /dev/null || fail "the Rattle kit's rt is not on the PATH"
+    rm -rf target
+    .ci/trials until "$scratch/proved" > "$scratch/trials" 2>&1 &
+    trials=$!
     if ! rt ci 2>&1 | tee "$scratch/rt" | sed -u '$d'; then
         tail -n 1 "$scratch/rt"
         fail "rt ci failed"
     fi
     verdict=$(tail -n 1 "$scratch/rt")
     [[ $verdict =~ ^[1-9][0-9]*\ passed,\ 0\ failed$ ]] || fail "rt ci ended with '$verdict'"
+    : > "$scratch/proved"
     note_time "$start"
+}
+
+# Ends the trials, if they still run.
+end_trials() {
+    [ -n "$trials" ] || return 0
+    kill "$trials" 2> /dev/null || true
+    wait "$trials" || true
+    trials=
 }
 
 # Proves what has changed, then the product that uses it, and tries the wrong functions at the same time. What only the comparison
 # needs is proved during the comparison, and `prove_rest` waits for it.
 prove_changed() {
-    local start=$SECONDS changed trials=
+    local start=$SECONDS changed
     quick=yes
     command -v rt > /dev/null || fail "the Rattle kit's rt is not on the PATH"
     changed=$(.ci/trials changed) || fail "what has changed could not be found out: $changed"
@@ -68,7 +83,7 @@ prove_changed() {
     quietly rt check &
     rest=$!
     if [ -n "$trials" ]; then
-        wait "$trials" || fail "a wrong function was not rejected as it should be: $(cat "$scratch/trials")"
+        wait_for_trials
         say "$(tail -n 1 "$scratch/trials") ($(echo $changed))"
     fi
     note_time "$start"
@@ -79,12 +94,17 @@ prove_rest() {
     check_replaying
 }
 
-# Tries wrong functions, many at a time. rt ci has tried the must-fail edits one by one. It needs the proved crates.
+# Waits for the wrong functions, which are tried many at a time. rt ci has tried the must-fail edits one by one.
 try_functions() {
-    local start=$SECONDS said
-    said=$(.ci/trials) || fail "a wrong function was not rejected as it should be: $said"
-    say "$said"
+    local start=$SECONDS
+    wait_for_trials
+    say "$(cat "$scratch/trials")"
     note_time "$start"
+}
+
+wait_for_trials() {
+    wait "$trials" || fail "a wrong function was not rejected as it should be: $(cat "$scratch/trials")"
+    trials=
 }
 
 # ---- texts
@@ -274,8 +294,9 @@ check_root() {
 
 # ---- the comparison
 
-# Compares the static libraries (the product's, and the one for the comparison only) with Rust, and makes the recorded list again.
-compare_with_rust() {
+# Builds the static libraries (the product's, and the one for the comparison only) and what compares them with Rust. Wrong
+# functions are still tried at that time.
+build_comparison() {
     local start=$SECONDS
     if ! can_compare; then
         say "no cargo on this machine: NOTHING WAS COMPARED WITH RUST"
@@ -287,8 +308,16 @@ compare_with_rust() {
     export RUSTFLAGS="-D warnings"
     quietly cargo build "${words[@]}" "${features[@]}" || fail "compare does not build"
     quietly cargo test "${words[@]}" "${features[@]}" "${packages[@]}" || fail "compare's own tests failed"
-    run_comparison target/compare/release/compare
     note_time "$start"
+}
+
+# Compares the libraries and the programs with Rust, and makes the recorded list again.
+compare_with_rust() {
+    local start=$SECONDS
+    if can_compare; then
+        run_comparison target/compare/release/compare
+        note_time "$start"
+    fi
 }
 
 can_compare() {
