@@ -22,7 +22,6 @@ mod inputs;
 #[cfg(feature = "rust-text")]
 mod joints;
 #[cfg(feature = "rust-text")]
-#[cfg_attr(not(large_calls), allow(dead_code))]
 mod large;
 #[cfg(feature = "rust-text")]
 mod lent;
@@ -137,8 +136,7 @@ const MOVED: u64 = 2048;
 const EXPORTED: u64 = 1024;
 const SEED: u64 = 1;
 const BENCHES: [&str; 10] = [
-    "floats", "calls", "findings", "listings", "pages", "boxed", "month", "large", "packed",
-    "dxf",
+    "floats", "calls", "findings", "listings", "pages", "boxed", "month", "large", "packed", "dxf",
 ];
 
 fn main() -> ExitCode {
@@ -509,12 +507,12 @@ fn time_boxed() {}
 #[cfg(not(feature = "rust-text"))]
 fn time_month() {}
 
-#[cfg(all(feature = "rust-text", large_calls))]
+#[cfg(feature = "rust-text")]
 fn time_large() {
     large::bench();
 }
 
-#[cfg(not(all(feature = "rust-text", large_calls)))]
+#[cfg(not(feature = "rust-text"))]
 fn time_large() {}
 
 #[cfg(not(feature = "rust-text"))]
