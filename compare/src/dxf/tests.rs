@@ -379,6 +379,7 @@ const CHOSEN: &[&str] = &[
     "the first half not checked",
     "the second half not checked",
     "5 if both halves are short",
+    "5 by the arc's own chord",
     "5 by the arc's own chord too",
 ];
 
@@ -475,12 +476,10 @@ fn with(defect: &'static str, call: impl FnOnce() -> u64) -> u64 {
 /// A cap higher than 2^53 is no defect: what is larger is refused with 2 or 3 anyway.
 #[test]
 fn a_cap_that_does_not_matter() {
-    for ours in [HALF, LARGE] {
-        stand_in::set("no cap");
-        let mut run = Run::new(ours, SEED, 1);
-        run.all(&stored::read().expect("bodies"), 0);
-        assert_eq!(run.report(), 0);
-    }
+    stand_in::set("no cap");
+    let mut run = Run::new(HALF, SEED, 1);
+    run.all(&stored::read().expect("bodies"), 0);
+    assert_eq!(run.report(), 0);
 }
 
 /// docs/COMPARING.md says how many.
