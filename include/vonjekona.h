@@ -963,10 +963,10 @@ uint64_t vj_mutual_counted_large(const double *first, size_t first_len,
                                  size_t report_room);
 
 /*
- * vj_dxf_import for bulges up to 16. Where that call checks a path as a listing
- * does, 2, 3 and 5, this one checks it as a large listing does: 3 beyond 16, and
- * 2 of a cut point in the place of 5. The path is written uncut, as the body has
- * it: hand it to any of the calls above.
+ * vj_dxf_import for bulges up to 16. The path's own checks are those of a large
+ * listing: 3 beyond 16, and in the place of 5, for each segment in order, 2 of a
+ * cut point, x before y, and then 5 of each half. The path is written uncut, as
+ * the body has it: hand it to any of the calls above.
  *
  * The place of a refusal: as for vj_dxf_import, and
  *
