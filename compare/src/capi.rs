@@ -2,7 +2,7 @@
 //!
 //! Each call is safe: it takes and gives numbers, accepts any of them, and always returns.
 
-#[cfg(all(feature = "rust-text", large_calls))]
+#[cfg_attr(not(feature = "rust-text"), allow(dead_code))]
 pub mod large;
 
 unsafe extern "C" {
