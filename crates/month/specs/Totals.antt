@@ -67,7 +67,9 @@ module _ (first : List Float) (firstClosed : Bool) (second : List Float) (second
   accepted-totals rows looked e =
       let told = told-listed first firstClosed second secondClosed epsilon indices points report rows looked e in
       let its = mutual-counts first firstClosed second secondClosed epsilon indices points rows looked (told .listed) in
-      let l = accepted-adds first firstClosed second secondClosed epsilon looked (its .1) in
+      let l =
+      accepted-adds first second epsilon (mutualPairs (segmentCount first firstClosed) (segmentCount second secondClosed)) looked
+      (its .1) in
       let at : (k : ℕ) → k < words → word w k ≡ word report k + word (acceptedAdds (mutualRows first firstClosed second
       secondClosed epsilon) looked) k =
       λ k h. ap (λ (x : List ℕ). word x k) (told .sum) ∙ word-plus report _ k (omega (arith, h, told .long)) in

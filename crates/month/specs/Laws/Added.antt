@@ -61,12 +61,13 @@ unfolding acceptedAdds
 adds-one-layout (Refused f) rows = refused-layout (f .number)
 adds-one-layout (Listed n looked) rows = refl
 
-module _ (first : List Float) (firstClosed : Bool) (second : List Float) (secondClosed : Bool) (epsilon : Float) where
+-- of the pairs ps of two paths, taken by traces
+module _ (first second : List Float) (epsilon : Float) (ps : List Pair) where
   abbrev kept : List Pair
-  kept = tracedPairs first second (mutualPairs (segmentCount first firstClosed) (segmentCount second secondClosed))
+  kept = tracedPairs first second ps
 
   abbrev rows : List Row
-  rows = mutualRows first firstClosed second secondClosed epsilon
+  rows = rowsOf (tracedLook first second epsilon) ps
 
   -- the words of what an accepted layout adds
   pub record Accepts (l : List ℕ) : Type 0 where
@@ -75,24 +76,17 @@ module _ (first : List Float) (firstClosed : Bool) (second : List Float) (second
     pub each-class : (class : ℕ) → class < 6 → word l (classes + class) ≡ length (those (isOf first second epsilon class) kept)
     pub no-refusal : (k : ℕ) → refusals ≤ k → word l k ≡ 0
 
-  same-rows : mutualRows first firstClosed second secondClosed epsilon ≡ rowsOf (look first second epsilon) kept
-  same-rows =
-      traced-rows first second (look first second epsilon)
-      (mutualPairs (segmentCount first firstClosed) (segmentCount second secondClosed))
+  same-rows : rowsOf (tracedLook first second epsilon) ps ≡ rowsOf (look first second epsilon) kept
+  same-rows = traced-rows first second (look first second epsilon) ps
 
   class-rows : (c : ℕ) → 0 < c → inClass c rows ≡ length (those (isOf first second epsilon c) kept)
   class-rows c h = ap (inClass c) same-rows ∙ rows-of-class first second epsilon c h kept
 
-  pub accepted-adds : (looked : ℕ)
-      → looked
-      ≡ lookedAt (tracedLook first second epsilon)
-      (mutualPairs (segmentCount first firstClosed) (segmentCount second secondClosed))
-      → Accepts (acceptedAdds (mutualRows first firstClosed second secondClosed epsilon) looked)
+  pub accepted-adds : (looked : ℕ) → looked ≡ lookedAt (tracedLook first second epsilon) ps
+      → Accepts (acceptedAdds (rowsOf (tracedLook first second epsilon) ps) looked)
   unfolding acceptedAdds
   accepted-adds looked is =
-      let all : looked ≡ length kept =
-      is ∙ mutual-looked first second epsilon
-      (mutualPairs (segmentCount first firstClosed) (segmentCount second secondClosed)) in
+      let all : looked ≡ length kept = is ∙ mutual-looked first second epsilon ps in
       let none : looked - length rows ≡ length (those (isOf first second epsilon 0) kept) =
       omega (arith, all, ap length same-rows, pairs-without-row first second epsilon kept) in
       record {
