@@ -1,0 +1,13 @@
+-- What the mode of large arcs inherits. Self listings: how many pairs there are (SelfPairs), which segments of the cut path are
+-- neighbours (LargeNeighbours), and that no row is left out (LargeJoints). Chains of pages join to the listing (LargeChainedCalls).
+-- No touching pair of grid lines is missed: the statement (LargePromise) and its proof (LargeProved). A run of counted listings of
+-- both modes (LargeRun), and what its report has (LargeRuns). A reader must believe only LargePromise and LargeRun.
+pub mod SelfPairs
+pub mod Places
+pub mod LargeNeighbours
+pub mod LargeJoints
+pub mod LargeChainedCalls
+pub mod LargePromise
+pub mod LargeProved
+pub mod LargeRun
+pub mod LargeRuns
