@@ -25,6 +25,9 @@ use Rattle.large_promise.specs.Places.{place, Stands, is-part, first-sta
 abbrev pub largeShared : List Float → Bool → ℕ → ℕ → List ℕ
 largeShared path closed a b = sharedVertices (cutCount path closed) closed a b
 
+abbrev startOnly : List ℕ
+startOnly = 0 ∷ []
+
 -- an arc that is cut, where it stands in the cut path
 module _ (path : List Float) (closed : Bool) (i : ℕ) (below : i < segmentCount path closed)
     (large : isLarge (vertex path i .bulge) ≡ true) where
@@ -78,11 +81,11 @@ module _ (path : List Float) (closed : Bool) (i : ℕ) (below : i < segmentCount
       ∙ no-ends (k + 2 + 1) (cutCount path closed) k closed refl (λ e f g. other (e, f, omega (arith, g)))
     where
       no-ends : (j n i : ℕ) (c : Bool) → closed ≡ c → (closed ≡ true → i ≡ 0 → j ≡ n → ⊥)
-          → [] ++ cond (c && eqb i 0 && eqb j n) (0 ∷ []) [] ≡ []
+          → [] ++ cond (c && eqb i 0 && eqb j n) startOnly [] ≡ []
       no-ends j n i false e not = refl
       no-ends j n i true e not = go (eqb i 0) refl (eqb j n) refl
         where
-          go : (a : Bool) → eqb i 0 ≡ a → (b : Bool) → eqb j n ≡ b → [] ++ cond (true && a && b) (0 ∷ []) [] ≡ []
+          go : (a : Bool) → eqb i 0 ≡ a → (b : Bool) → eqb j n ≡ b → [] ++ cond (true && a && b) startOnly [] ≡ []
           go false f b g = refl
           go true f false g = refl
           go true f true g = absurd (not e (eqb-true i 0 f) (eqb-true j n g))
@@ -95,6 +98,6 @@ module _ (path : List Float) (closed : Bool) (i : ℕ) (below : i < segmentCount
       let inner : eqb (k + 1) n ≡ false = ne-eqb (k + 1) n (λ e. omega (arith, e, end)) in
       rw (far, inner) (go closed)
     where
-      go : (c : Bool) → [] ++ cond (c && eqb 0 0 && false) (0 ∷ []) [] ≡ []
+      go : (c : Bool) → [] ++ cond (c && eqb 0 0 && false) startOnly [] ≡ []
       go true = refl
       go false = refl

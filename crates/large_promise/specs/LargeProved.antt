@@ -5,7 +5,7 @@ use mathlib.Core.Bool.{Bool, true, false, _||_}
 use mathlib.Core.List.{List}
 use Prim.Native.Nat.{ℕ, _<_}
 use lib.Dec.{T}
-use lib.Ieee.{Float, ofBits, lt, le}
+use lib.Ieee.{Float, ofBits, lt, le, eq}
 use lib.Ieee.Bits.{is-false}
 use Rattle.float_laws.specs.Chains.{lt-le, le-not-lt}
 use Rattle.floats.specs.Ops.{_≼_, f1}
@@ -44,7 +44,7 @@ not-large : (b : Float) → T (fuzzyEqZeroEps b fuzzyEpsilon) → isLarge b ≡ 
 unfolding isLarge fuzzyEqZeroEps le
 not-large b h =
     let x = F64.abs b in
-    is-false _ (le-not-lt x f1 (or-left _ _ (lt-le x fuzzyEpsilon f1 h line-small)))
+    is-false _ (le-not-lt x f1 (or-left (lt x f1) (eq x f1) (lt-le x fuzzyEpsilon f1 h line-small)))
 
 -- ---- it stands in the cut path
 record LineStands (path : List Float) (closed : Bool) (i : ℕ) (a b : Spot) : Type 0 where

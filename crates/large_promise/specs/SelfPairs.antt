@@ -1,6 +1,6 @@
 -- How many pairs a self listing has: of n segments n * (n - 1) / 2, each with every later one. In the mode of large arcs they are
 -- the segments of the cut path.
-use mathlib.Core.Path.{_≡_}
+use mathlib.Core.Path.{_≡_, sym, ap, _∙_}
 use mathlib.Core.Bool.{Bool}
 use mathlib.Core.List.{List}
 use Prim.Native.Nat.{ℕ, zero, suc, _+_, _-_, _*_}
@@ -29,7 +29,10 @@ self-length n = go n (length (selfPairs n)) (from-there n 0 n (omega arith))
   where
     go : (n l : ℕ) → 2 * l + n ≡ n * n → 2 * l ≡ n * (n - 1)
     go zero l e = omega (arith, e)
-    go (suc n) l e = omega (arith, e)
+    go (suc n) l e =
+        let less : suc n - 1 ≡ n = omega arith in
+        let whole : 2 * l ≡ suc n * n = omega (arith, e) in
+        whole ∙ ap (λ (m : ℕ). suc n * m) (sym less)
 
 pub large-self-length : (path : List Float) (closed : Bool)
     → 2 * length (selfLargePairs path closed) ≡ cutCount path closed * (cutCount path closed - 1)
