@@ -20,10 +20,11 @@ use Rattle.listing_pairs.specs.Traces.{tracedPairs}
 use Rattle.listing_pairs.specs.TracedListing.{traced-rows}
 use Rattle.listing_outcomes.specs.declared.answer.ListingAnswer.{ListingAnswer}
 use Rattle.listing_outcomes.specs.declared.answer.ListingAnswer.the-variants.{Refused, Listed}
+use Rattle.listing_outcomes.specs.Outcome.{Outcome}
 use Rattle.listing_calls.specs.Listing.{mutualListing}
 use Rattle.listing_calls.specs.ChainedCalls.{mutual-looked}
 use Rattle.month.specs.Report.{words, layouts, pairs, classes, refusals, refusalNumbers, fresh, word, full, plus}
-use Rattle.month.specs.Counted.{CountedOutcome, inClass, refusedAdds, acceptedAdds, adds, mutualRows, mutualCounted}
+use Rattle.month.specs.Counted.{CountedOutcome, inClass, refusedAdds, acceptedAdds, adds, countedListing, mutualRows}
 use Rattle.month.specs.Laws.Words.{zeros, drop-plus, plus-none}
 use Rattle.month.specs.Laws.Listings.{Adds, refused-small, accepted-small, few-looked-at, rows-looked, mutual-counts}
 use Rattle.month.specs.Laws.Pairs.{isOf, rows-of-class, pairs-without-row}
@@ -123,28 +124,25 @@ module _ (first : List Float) (firstClosed : Bool) (second : List Float) (second
           (omega (arith, is .1, rows-looked (tracedLook first second epsilon) ps))
           (omega (arith, is .1, few-looked-at first firstClosed second secondClosed epsilon indices points))
 
+-- ---- words behind the report's are unchanged, by any listing that adds no more words
+module _ (listing : Outcome ListingAnswer) (rows : List Row) (indices : List ℕ) (points : List Float)
+    (few : Adds (adds (listing .answer) rows)) where
   pub unchanged-behind : (report : List ℕ)
-      → drop words (mutualCounted first firstClosed second secondClosed epsilon indices points report .report)
-      ≡ drop words report
+      → drop words (countedListing listing rows indices points report .report) ≡ drop words report
   unchanged-behind report =
       go (ltb (length report) words) (ltb-true (length report) words) (ltb-false (length report) words) (full report) refl
     where
       go : (t : Bool) → (t ≡ true → length report < words) → (t ≡ false → words ≤ length report)
           → (b : Bool) → full report ≡ b
-          → drop words (mutualCounted first firstClosed second secondClosed epsilon indices points report .report)
-          ≡ drop words report
+          → drop words (countedListing listing rows indices points report .report) ≡ drop words report
       go true short long b f =
-          ap (λ (x : CountedOutcome). drop words (x .report))
-          (no-room-is first firstClosed second secondClosed epsilon indices points report (short refl))
+          ap (λ (x : CountedOutcome). drop words (x .report)) (no-room-is listing rows indices points report (short refl))
       go false short long true f =
-          ap (λ (x : CountedOutcome). drop words (x .report))
-          (full-is first firstClosed second secondClosed epsilon indices points report (long refl) f)
+          ap (λ (x : CountedOutcome). drop words (x .report)) (full-is listing rows indices points report (long refl) f)
       go false short long false f =
-          let l = adds (mutualListing first firstClosed second secondClosed epsilon indices points .answer)
-          (mutualRows first firstClosed second secondClosed epsilon) in
-          let none : drop words l ≡ [] = drop-of-length-le l {i = words} (omega (arith, mutual-small .long)) in
-          ap (λ (x : CountedOutcome). drop words (x .report))
-          (counted-is first firstClosed second secondClosed epsilon indices points report (long refl) f)
+          let l = adds (listing .answer) rows in
+          let none : drop words l ≡ [] = drop-of-length-le l {i = words} (omega (arith, few .long)) in
+          ap (λ (x : CountedOutcome). drop words (x .report)) (counted-is listing rows indices points report (long refl) f)
           ∙ drop-plus words report l
           ∙ ap (plus (drop words report)) none
           ∙ plus-none (drop words report)

@@ -21,8 +21,10 @@ use Rattle.listing_pairs.specs.Traces.{oneTrace, tracedPairs}
 use Rattle.listing_pairs.specs.Laws.Order.{lt-or-le}
 use Rattle.listing_outcomes.specs.declared.answer.ListingAnswer.{ListingAnswer}
 use Rattle.listing_outcomes.specs.declared.answer.ListingAnswer.the-variants.{Refused, Listed}
+use Rattle.listing_outcomes.specs.Outcome.{Outcome}
+use Rattle.listing_calls.specs.Listing.{mutualListing}
 use Rattle.month.specs.Report.{words, layouts, pairs, classes, refusals, refusalNumbers, fresh, word, plus}
-use Rattle.month.specs.Counted.{CountedOutcome, oneIf, refusedAdds, acceptedAdds, adds, mutualRows}
+use Rattle.month.specs.Counted.{CountedOutcome, oneIf, refusedAdds, acceptedAdds, adds, mutualRows, mutualCounted}
 use Rattle.month.specs.Given.{among, given}
 use Rattle.month.specs.Run.{Layout, after, sixClasses, sumWords, answer, accepted, refused, refusedWith, ifAccepted}
 use Rattle.month.specs.Run.{pairsBetween, pairsOf, sumOf}
@@ -226,6 +228,10 @@ module _ (first second : List Float) (epsilon : Float) (n m looked : ℕ)
 abbrev pub oldRows : Layout → List Row
 oldRows l = mutualRows (l .first) (l .firstClosed) (l .second) (l .secondClosed) (l .epsilon)
 
+abbrev its-listing : Layout → Outcome ListingAnswer
+its-listing l =
+    mutualListing (l .first) (l .firstClosed) (l .second) (l .secondClosed) (l .epsilon) (l .indices) (l .points)
+
 looked-is : (l : Layout) (count looked : ℕ) → answer l ≡ Listed count looked
     → looked ≡ lookedAt (tracedLook (l .first) (l .second) (l .epsilon))
     (mutualPairs (segmentCount (l .first) (l .firstClosed)) (segmentCount (l .second) (l .secondClosed)))
@@ -233,14 +239,11 @@ looked-is l count looked e =
     mutual-counts (l .first) (l .firstClosed) (l .second) (l .secondClosed) (l .epsilon) (l .indices) (l .points) count looked e .1
 
 pub old-kind : Kind after answer oldRows pairsOf
+unfolding mutualCounted
 old-kind =
     record {
-      if-full =
-          λ r l long e. ap (λ (o : CountedOutcome). o .report)
-          (full-is (l .first) (l .firstClosed) (l .second) (l .secondClosed) (l .epsilon) (l .indices) (l .points) r long e);
-      if-not =
-          λ r l long e. ap (λ (o : CountedOutcome). o .report)
-          (counted-is (l .first) (l .firstClosed) (l .second) (l .secondClosed) (l .epsilon) (l .indices) (l .points) r long e);
+      if-full = λ r l long e. ap (λ (o : CountedOutcome). o .report) (full-is (its-listing l) (oldRows l) (l .indices) (l .points) r long e);
+      if-not = λ r l long e. ap (λ (o : CountedOutcome). o .report) (counted-is (its-listing l) (oldRows l) (l .indices) (l .points) r long e);
       small =
           λ l. mutual-small (l .first) (l .firstClosed) (l .second) (l .secondClosed) (l .epsilon) (l .indices) (l .points);
       known =
