@@ -6,15 +6,11 @@ use mathlib.Core.Bool.{Bool, true, false}
 use mathlib.Core.List.{List}
 use Prim.Native.Nat.{ℕ, zero, suc, _+_, _-_, _≤_, _<_}
 use native.Mathlib.Omega.{arith}
-use borrow.Author.Tests.{ltb-true, ltb-false, lt-ltb, le-ltb}
-use lib.Dec.{ltb}
 use lib.Ieee.{Float}
 use lib.ListN.{length}
-use Rattle.checks.specs.declared.fault.Item.the-variants.{Report}
 use Rattle.checks.specs.declared.fault.Fault.{Fault}
 use Rattle.checks.specs.declared.fault.Checked.{Checked}
 use Rattle.checks.specs.declared.fault.Checked.the-variants.{Fine, Bad}
-use Rattle.checks.specs.Fault.{whole, refuse}
 use Rattle.checks.specs.First.{first as firstFault}
 use Rattle.checks.specs.Refusal
 use Rattle.cuts.specs.CutPath.{cutPath}
@@ -25,24 +21,15 @@ use Rattle.listing_pairs.specs.Traces.{tracedPairs}
 use Rattle.listing_outcomes.specs.declared.answer.ListingAnswer.{ListingAnswer}
 use Rattle.listing_outcomes.specs.declared.answer.ListingAnswer.the-variants.{Refused, Listed}
 use Rattle.large_outcomes.specs.LargeOutcome.{largeListedOf, largeOutcome}
-use Rattle.month.specs.declared.mutual_counted.CountedAnswer.the-variants.{NoRoom, Answered}
-use Rattle.month.specs.Report.{words, layouts, pairs, classes, refusals, refusalNumbers, word, full, plus}
+use Rattle.month.specs.declared.mutual_counted.CountedAnswer.the-variants.{Answered}
+use Rattle.month.specs.Report.{words, layouts, pairs, classes, refusals, refusalNumbers, word}
 use Rattle.month.specs.Given.{among, given}
-use Rattle.month.specs.Counted.{
-  CountedOutcome,
-  refusedAdds,
-  acceptedAdds,
-  adds,
-  unchanged,
-  counted,
-  countedOf,
-  reportCheck,
-}
+use Rattle.month.specs.Counted.{CountedOutcome, refusedAdds, acceptedAdds, adds}
 use Rattle.month.specs.Totals.{classCount, WithRefused}
 use Rattle.month.specs.Laws.Words.{word-plus, word-same}
 use Rattle.month.specs.Laws.Given.{Known, given-below, append, and, fine}
 use Rattle.month.specs.Laws.Pairs.{isOf}
-use Rattle.month.specs.Laws.Cases.{same-answer, room-told, kinds-differ, same-fault}
+use Rattle.month.specs.Laws.Cases.{kinds-differ, same-fault, told-listed, told-refused}
 use Rattle.month.specs.Laws.Added.{accepted-adds, refused-layout, refused-number, refused-else}
 use Rattle.large_listings.specs.LargeListings.{
   mutualNumbers,
@@ -87,53 +74,11 @@ module _ (first : List Float) (firstClosed : Bool) (second : List Float) (second
   abbrev rows : List Row
   rows = mutualLargeRows first firstClosed second secondClosed epsilon
 
-  -- ---- what an answer tells: there was room, and the report was not full
   module _ (indices : List ℕ) (points : List Float) (report : List ℕ) where
     abbrev o : CountedOutcome
     o = mutualCountedLarge first firstClosed second secondClosed epsilon indices points report
 
-    record Told (x : ListingAnswer) : Type 0 where
-      pub long : words ≤ length report
-      pub listed : mutualLarge first firstClosed second secondClosed epsilon indices points .answer ≡ x
-      pub sum : o .report ≡ plus report (adds x rows)
-
-    no-room-is : length report < words → o ≡ unchanged NoRoom indices points report
-    unfolding mutualCountedLarge
-    no-room-is h = rw (lt-ltb (length report) words h) refl
-
-    pub full-is : words ≤ length report → full report ≡ true
-        → o ≡ unchanged (Answered (Refused (whole Refusal.report Report))) indices points report
-    unfolding mutualCountedLarge reportCheck refuse
-    full-is long e = rw (le-ltb (length report) words long, e) refl
-
-    pub counted-is : words ≤ length report → full report ≡ false
-        → o ≡ counted (mutualLarge first firstClosed second secondClosed epsilon indices points) rows report
-    unfolding mutualCountedLarge reportCheck refuse
-    counted-is long e = rw (le-ltb (length report) words long, e) refl
-
-    told : (x : ListingAnswer) → o .listing .answer ≡ Answered x → (x ≡ Refused (whole Refusal.report Report) → ⊥) → Told x
-    told x e other =
-        go (ltb (length report) words) (ltb-true (length report) words) (ltb-false (length report) words) (full report) refl
-      where
-        go : (t : Bool) → (t ≡ true → length report < words) → (t ≡ false → words ≤ length report)
-            → (f : Bool) → full report ≡ f → Told x
-        go true short long f g =
-            absurd (room-told (sym (ap (λ (y : CountedOutcome). y .listing .answer) (no-room-is (short refl))) ∙ e))
-        go false short long true g =
-            absurd (other
-            (sym (same-answer (sym (ap (λ (y : CountedOutcome). y .listing .answer) (full-is (long refl) g)) ∙ e))))
-        go false short long false g =
-            let is = counted-is (long refl) g in
-            let its : mutualLarge first firstClosed second secondClosed epsilon indices points .answer ≡ x =
-            same-answer (sym (ap (λ (y : CountedOutcome). y .listing .answer) is) ∙ e) in
-            record {
-              long = long refl;
-              listed = its;
-              sum =
-                  ap (λ (y : CountedOutcome). y .report) is
-                  ∙ ap (λ (y : ListingAnswer). plus report (adds y rows)) its;
-            }
-
+    -- ---- an accepted layout
     pub looked-is : (n k : ℕ) → mutualLarge first firstClosed second secondClosed epsilon indices points .answer ≡ Listed n k
         → k ≡ lookedAt (mutualLargeLook first firstClosed second secondClosed epsilon)
         (mutualLargePairs first firstClosed second secondClosed)
@@ -155,8 +100,11 @@ module _ (first : List Float) (firstClosed : Bool) (second : List Float) (second
         go (Bad g) e = absurd (kinds-differ e)
 
     pub accepted-totals : (n looked : ℕ) → o .listing .answer ≡ Answered (Listed n looked) → WithAccepted report (o .report)
+    unfolding mutualCountedLarge
     accepted-totals n looked e =
-        let t = told (Listed n looked) e (λ x. kinds-differ (sym x)) in
+        let t =
+        told-listed (mutualLarge first firstClosed second secondClosed epsilon indices points) rows indices points report n looked
+        e in
         let l = accepted-adds a b epsilon ps looked (looked-is n looked (t .listed)) in
         let at : (k : ℕ) → k < words → word (o .report) k ≡ word report k + word (acceptedAdds rows looked) k =
         λ k h. ap (λ (x : List ℕ). word x k) (t .sum) ∙ word-plus report _ k (omega (arith, h, t .long)) in
@@ -191,8 +139,11 @@ module _ (first : List Float) (firstClosed : Bool) (second : List Float) (second
 
     pub refused-totals : (f : Fault) → o .listing .answer ≡ Answered (Refused f) → (f .number ≡ Refusal.report → ⊥)
         → WithRefused (f .number) report (o .report)
+    unfolding mutualCountedLarge
     refused-totals f e other =
-        let t = told (Refused f) e (λ x. other (ap (λ (g : Fault). g .number) (same-fault x))) in
+        let t =
+        told-refused (mutualLarge first firstClosed second secondClosed epsilon indices points) rows indices points report f e
+        other in
         let n = f .number in
         let below : n < refusalNumbers = given-below n (refusal-given f (t .listed)) in
         let at : (k : ℕ) → k < words → word (o .report) k ≡ word report k + word (refusedAdds n) k =

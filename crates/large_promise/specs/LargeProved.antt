@@ -47,18 +47,20 @@ not-large b h =
     is-false _ (le-not-lt x f1 (or-left (lt x f1) (eq x f1) (lt-le x fuzzyEpsilon f1 h line-small)))
 
 -- ---- it stands in the cut path
-record LineStands (path : List Float) (closed : Bool) (i : ℕ) (a b : Spot) : Type 0 where
+pub record LineStands (path : List Float) (closed : Bool) (i : ℕ) (a b : Spot) : Type 0 where
+  pub whole : isLarge (vertex path i .bulge) ≡ false
   pub stands : Stands path closed (place path i) (name i 0)
   pub line : GridLine (cutPath path closed) (place path i) a b
   pub traced : segmentFrom (cutPath path closed) (place path i) .trace ≡ segmentFrom path i .trace
 
-line-stands : (path : List Float) (closed : Bool) (i : ℕ) (a b : Spot) → i < segmentCount path closed → GridLine path i a b
+pub line-stands : (path : List Float) (closed : Bool) (i : ℕ) (a b : Spot) → i < segmentCount path closed → GridLine path i a b
     → LineStands path closed i a b
 unfolding segmentFrom
 line-stands path closed i a b below (start, end, line) =
     let s = whole-stands path closed i below (not-large (vertex path i .bulge) line) in
     let r = is-part path closed (place path i) (name i 0) s in
     record {
+      whole = not-large (vertex path i .bulge) line;
       stands = s;
       line = (
         subst (λ (v : PlineVertex). On v a) (sym (r .starts)) start,

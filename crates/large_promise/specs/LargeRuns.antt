@@ -9,7 +9,7 @@ use Prim.Native.Nat.{ℕ, _≤_, _<_}
 use native.Mathlib.Nat.{mul-le-mul}
 use native.Mathlib.Omega.{arith}
 use lib.Ieee.{Float}
-use lib.ListN.{length}
+use lib.ListN.{length, drop}
 use Rattle.checks.specs.declared.fault.Fault.{Fault}
 use Rattle.cuts.specs.CutPath.{cutPath, cutCount}
 use Rattle.cuts.specs.Segments.{few}
@@ -20,6 +20,7 @@ use Rattle.listing_pairs.specs.Rows.{lookedAt}
 use Rattle.listing_loop.specs.Laws.Pages.{few-looked}
 use Rattle.listing_outcomes.specs.declared.answer.ListingAnswer.{ListingAnswer}
 use Rattle.listing_outcomes.specs.declared.answer.ListingAnswer.the-variants.{Refused, Listed}
+use Rattle.listing_outcomes.specs.Outcome.{Outcome}
 use Rattle.month.specs.declared.join.JoinAnswer.the-variants.{Joined}
 use Rattle.month.specs.Report.{words, mostAdded, fresh, word, full, plus}
 use Rattle.month.specs.Counted.{CountedOutcome, acceptedAdds, adds}
@@ -31,11 +32,13 @@ use Rattle.month.specs.Joined.{join-of-runs-of}
 use Rattle.month.specs.Given.{among, given}
 use Rattle.month.specs.Laws.Pairs.{mutual-length}
 use Rattle.month.specs.Laws.Listings.{Adds, refused-small, accepted-small, rows-looked}
+use Rattle.month.specs.Laws.Cases.{full-is, counted-is}
+use Rattle.month.specs.Laws.Added.{unchanged-behind}
 use Rattle.month.specs.Laws.Runs.{Kind}
 use Rattle.month.specs.Laws.RunWords.{six-added, pairs-added, oldRows, old-kind}
-use Rattle.large_listings.specs.LargeListings.{mutualLargeLook, mutualLargePairs}
-use Rattle.large_counted.specs.LargeCounted.{mutualLargeRows}
-use Rattle.large_counted.specs.LargeTotals.{full-is, counted-is, looked-is, refusal-given}
+use Rattle.large_listings.specs.LargeListings.{mutualLargeLook, mutualLargePairs, mutualLarge}
+use Rattle.large_counted.specs.LargeCounted.{mutualLargeRows, mutualCountedLarge}
+use Rattle.large_counted.specs.LargeTotals.{looked-is, refusal-given}
 use Rattle.large_promise.specs.LargeRun.{
   afterLarge,
   answerLarge,
@@ -50,6 +53,10 @@ use Rattle.large_promise.specs.LargeRun.{
 -- ---- the layouts of the mode of large arcs are a kind
 abbrev largeRows : Layout → List Row
 largeRows l = mutualLargeRows (l .first) (l .firstClosed) (l .second) (l .secondClosed) (l .epsilon)
+
+abbrev its-listing : Layout → Outcome ListingAnswer
+its-listing l =
+    mutualLarge (l .first) (l .firstClosed) (l .second) (l .secondClosed) (l .epsilon) (l .indices) (l .points)
 
 module _ (l : Layout) where
   abbrev f : ℕ → ℕ → Look
@@ -82,14 +89,15 @@ module _ (l : Layout) where
           accepted-small (largeRows l) k (omega (arith, looked n k e, rows-looked f ps)) (omega (arith, looked n k e, few-pairs))
 
 large-kind : Kind afterLarge answerLarge largeRows pairsOfLarge
+unfolding mutualCountedLarge
 large-kind =
     record {
       if-full =
           λ r l long e. ap (λ (o : CountedOutcome). o .report)
-          (full-is (l .first) (l .firstClosed) (l .second) (l .secondClosed) (l .epsilon) (l .indices) (l .points) r long e);
+          (full-is (its-listing l) (largeRows l) (l .indices) (l .points) r long e);
       if-not =
           λ r l long e. ap (λ (o : CountedOutcome). o .report)
-          (counted-is (l .first) (l .firstClosed) (l .second) (l .secondClosed) (l .epsilon) (l .indices) (l .points) r long e);
+          (counted-is (its-listing l) (largeRows l) (l .indices) (l .points) r long e);
       small = λ l. small l;
       known =
           λ l g e. refusal-given (l .first) (l .firstClosed) (l .second) (l .secondClosed) (l .epsilon) (l .indices) (l .points)
@@ -101,6 +109,11 @@ large-kind =
           λ l n k e. pairs-added (cutPath (l .first) (l .firstClosed)) (cutPath (l .second) (l .secondClosed)) (l .epsilon)
           (cutCount (l .first) (l .firstClosed)) (cutCount (l .second) (l .secondClosed)) k (looked l n k e);
     }
+
+-- words behind the report's are unchanged
+pub large-behind : (l : Layout) (report : List ℕ) → drop words (afterLarge report l) ≡ drop words report
+unfolding mutualCountedLarge
+large-behind l report = unchanged-behind (its-listing l) (largeRows l) (l .indices) (l .points) (small l) report
 
 -- ---- layouts of both modes are a kind
 abbrev rows : ModeLayout → List Row

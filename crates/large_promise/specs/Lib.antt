@@ -9,5 +9,8 @@ pub mod LargeJoints
 pub mod LargeChainedCalls
 pub mod LargePromise
 pub mod LargeProved
+pub mod LargeFolds
+pub mod OldOverCutPath
+pub mod LargeCountedRefusals
 pub mod LargeRun
 pub mod LargeRuns

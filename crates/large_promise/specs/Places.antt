@@ -1,20 +1,20 @@
 -- Where a segment of a path stands in its cut path: as many parts stand before its first part as the segments before it have. A
 -- segment that is not cut stands there whole, and the two halves of one that is cut stand there and behind it.
 use mathlib.Core.Path.{_≡_, refl, sym, ap, _∙_, subst}
-use mathlib.Core.Bool.{Bool, true, false}
+use mathlib.Core.Bool.{Bool, true, false, cond}
 use mathlib.Core.List.{List, [], _∷_}
-use Prim.Native.Nat.{ℕ, _+_, _≤_, _<_}
+use Prim.Native.Nat.{ℕ, zero, suc, _+_, _-_, _<_}
 use native.Mathlib.Nat.{add-zero}
 use native.Mathlib.Omega.{arith}
 use lib.Ieee.{Float}
 use lib.ListN.{length, getD}
 use Rattle.paths.specs.Path.{vertex}
 use Rattle.paths.specs.Segments.{segmentCount, segmentFrom}
-use Rattle.cuts.specs.Cut.{isLarge, bent, cutVertex}
+use Rattle.cuts.specs.Cut.{isLarge}
 use Rattle.cuts.specs.CutPath.{Name, name, joined, cutPath, namesOf, names, cutCount, nameAt}
-use Rattle.cuts.specs.Parts.{Runs, IsPart}
+use Rattle.cuts.specs.Parts.{IsPart}
 use Rattle.cuts.specs.Segments.{segments}
-use Rattle.cuts.specs.Laws.Joined.{joined-at, joined-within}
+use Rattle.cuts.specs.Laws.Joined.{joined-at, joined-within, find}
 
 abbrev pub place : List Float → ℕ → ℕ
 place path i = length (joined (namesOf path) 0 i)
@@ -55,6 +55,10 @@ module _ (path : List Float) (closed : Bool) (i : ℕ) (below : i < segmentCount
   whole-stands e =
       subst (λ (k : ℕ). Stands path closed k (name i 0)) (add-zero (place path i)) (at (name i 0 ∷ []) (one-name e) 0 (omega arith))
 
+  -- it has one part
+  pub one-part : isLarge (vertex path i .bulge) ≡ false → length (namesOf path i) ≡ 1
+  one-part e = ap length (one-name e)
+
   module _ (large : isLarge (vertex path i .bulge) ≡ true) where
     pub first-stands : Stands path closed (place path i) (name i 1)
     first-stands =
@@ -64,7 +68,7 @@ module _ (path : List Float) (closed : Bool) (i : ℕ) (below : i < segmentCount
     pub second-stands : Stands path closed (place path i + 1) (name i 2)
     second-stands = at (name i 1 ∷ name i 2 ∷ []) (two-names large) 1 (omega arith)
 
-    -- how many parts it has
+    -- it has two parts
     pub two-parts : length (namesOf path i) ≡ 2
     two-parts = ap length (two-names large)
 
@@ -76,3 +80,41 @@ some-stands path closed i below = go (isLarge (vertex path i .bulge)) refl
     go : (b : Bool) → isLarge (vertex path i .bulge) ≡ b → nameAt path closed (place path i) .index ≡ i
     go true e = ap (λ (n : Name). n .index) (first-stands path closed i below e .named)
     go false e = ap (λ (n : Name). n .index) (whole-stands path closed i below e .named)
+
+-- ---- a name stands in one place only
+-- name m of segment j has the index j, and tells m
+own-name : (path : List Float) (j m : ℕ) → m < length (namesOf path j)
+    → (getD (namesOf path j) m (name 0 0) .index ≡ j) × (getD (namesOf path j) m (name 0 0) .half - 1 ≡ m)
+unfolding namesOf
+own-name path j m inside = go (isLarge (vertex path j .bulge)) m inside
+  where
+    go : (b : Bool) (m : ℕ) → m < length (cond b (name j 1 ∷ name j 2 ∷ []) (name j 0 ∷ []))
+        → (getD (cond b (name j 1 ∷ name j 2 ∷ []) (name j 0 ∷ [])) m (name 0 0) .index ≡ j)
+        × (getD (cond b (name j 1 ∷ name j 2 ∷ []) (name j 0 ∷ [])) m (name 0 0) .half - 1 ≡ m)
+    go true zero h = (refl, refl)
+    go true (suc zero) h = (refl, refl)
+    go true (suc (suc m)) h = absurd (omega (arith, h))
+    go false zero h = (refl, refl)
+    go false (suc m) h = absurd (omega (arith, h))
+
+pub stands-once : (path : List Float) (closed : Bool) (k : ℕ) (n : Name) → Stands path closed k n
+    → k ≡ place path (n .index) + (n .half - 1)
+unfolding names
+stands-once path closed k n s =
+    let f = find (namesOf path) (segmentCount path closed) k (s .inside) in
+    let is : getD (namesOf path (f .j)) (f .m) (name 0 0) ≡ n =
+    sym (joined-at (namesOf path) (segmentCount path closed) (f .j) (f .m) (name 0 0) (f .below) (f .inside))
+    ∙ ap (λ (z : ℕ). getD (joined (namesOf path) 0 (segmentCount path closed)) z (name 0 0)) (sym (f .at))
+    ∙ s .named in
+    let own = own-name path (f .j) (f .m) (f .inside) in
+    f .at
+    ∙ ap (λ (z : ℕ). place path (f .j) + z) (sym (own .1))
+    ∙ ap (λ (j : ℕ). place path j + (getD (namesOf path (f .j)) (f .m) (name 0 0) .half - 1)) (sym (own .0))
+    ∙ ap (λ (a : Name). place path (a .index) + (a .half - 1)) is
+
+-- so two segments of the cut path have two names
+pub names-once : (path : List Float) (closed : Bool) (k m : ℕ) → k < cutCount path closed → m < cutCount path closed
+    → nameAt path closed k ≡ nameAt path closed m → k ≡ m
+names-once path closed k m hk hm e =
+    stands-once path closed k (nameAt path closed m) (record { inside = hk; named = e })
+    ∙ sym (stands-once path closed m (nameAt path closed m) (record { inside = hm; named = refl }))
