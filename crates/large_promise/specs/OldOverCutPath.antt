@@ -41,20 +41,21 @@ same-count path closed t =
         → cond (ltb d 2) 0 (cond b d (d - 1)) ≡ m
     go b c d n m is sum least most = few (ltb c 2) (ltb-true c 2) (ltb-false c 2) is
       where
-        none : {A : Type 0} {x y : A} → d < 2 → cond (ltb d 2) x y ≡ x
-        none h = ap (λ (t : Bool). cond t _ _) (lt-ltb d 2 h)
+        none : (x : ℕ) → d < 2 → cond (ltb d 2) 0 x ≡ 0
+        none x h = ap (λ (t : Bool). cond t 0 x) (lt-ltb d 2 h)
 
-        some : {A : Type 0} {x y : A} → 2 ≤ d → cond (ltb d 2) x y ≡ y
-        some h = ap (λ (t : Bool). cond t _ _) (le-ltb d 2 h)
+        some : (x : ℕ) → 2 ≤ d → cond (ltb d 2) 0 x ≡ x
+        some x h = ap (λ (t : Bool). cond t 0 x) (le-ltb d 2 h)
 
         few : (t : Bool) → (t ≡ true → c < 2) → (t ≡ false → 2 ≤ c) → n ≡ cond t 0 (cond b c (c - 1))
             → cond (ltb d 2) 0 (cond b d (d - 1)) ≡ m
-        few true short long e = none (omega (arith, short refl, e, sum, least, most)) ∙ omega (arith, e, least, most)
+        few true short long e =
+            none (cond b d (d - 1)) (omega (arith, short refl, e, sum, least, most)) ∙ omega (arith, e, least, most)
         few false short long e = by b e
           where
             by : (b : Bool) → n ≡ cond b c (c - 1) → cond (ltb d 2) 0 (cond b d (d - 1)) ≡ m
-            by true f = some (omega (arith, long refl, f, sum, least)) ∙ omega (arith, f, sum)
-            by false f = some (omega (arith, long refl, f, sum, least)) ∙ omega (arith, long refl, f, sum)
+            by true f = some d (omega (arith, long refl, f, sum, least)) ∙ omega (arith, f, sum)
+            by false f = some (d - 1) (omega (arith, long refl, f, sum, least)) ∙ omega (arith, long refl, f, sum)
 
 -- ---- the rows
 pub mutual-rows-same : (first : List Float) (firstClosed : Bool) (second : List Float) (secondClosed : Bool) (epsilon : Float)
