@@ -106,8 +106,8 @@ record Between (path : List Float) (e : Float) (i j : ℕ) (ks : List ℕ) : Typ
   pub near : (p : Vector2) → vector2.fuzzyEqEps p (vertex.pos (vertexAt path k)) e ≡ true → nearSome path e ks p ≡ true
 
 -- of a path of n segments, which has a vertex for each, and no more if it is closed
-module _ (n : ℕ) (path : List Float) (closed : Bool) (all : n ≤ vertexCount path) (whole : closed ≡ true → 0 < n → n ≡ vertexCount path)
-    (e : Float) (i j : ℕ) (rises : i < j) (within : j < n) where
+module _ (n : ℕ) (path : List Float) (closed : Bool) (all : n ≤ vertexCount path)
+    (whole : closed ≡ true → 0 < n → n ≡ vertexCount path) (e : Float) (i j : ℕ) (rises : i < j) (within : j < n) where
   next : (ks : List ℕ) → j ≡ i + 1 → Between path e i j (j ∷ ks)
   unfolding segmentFrom
   next ks is =
@@ -179,8 +179,9 @@ not-skipped true l r e = let z : _≡_ {A = ℕ} 0 1 = cc in absurd (omega (arit
 not-skipped false l r e = refl
 
 -- the same of a path of n segments
-module _ (n : ℕ) (path : List Float) (closed : Bool) (all : n ≤ vertexCount path) (whole : closed ≡ true → 0 < n → n ≡ vertexCount path)
-    (e : Float) (num den : ℕ) (small : Epsilon e num den) (i j : ℕ) (rises : i < j) (within : j < n)
+module _ (n : ℕ) (path : List Float) (closed : Bool) (all : n ≤ vertexCount path)
+    (whole : closed ≡ true → 0 < n → n ≡ vertexCount path) (e : Float) (num den : ℕ) (small : Epsilon e num den) (i j : ℕ)
+    (rises : i < j) (within : j < n)
     (beside : (j ≡ i + 1) ⊎ ((closed ≡ true) × (i ≡ 0) × (j + 1 ≡ n)))
     (p1 p2 q1 q2 : Spot) (v : GridLine path i p1 p2) (u : GridLine path j q1 q2) where
   abbrev one : Bool

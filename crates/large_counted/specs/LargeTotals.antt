@@ -1,10 +1,10 @@
 -- What a counted listing of the mode of large arcs adds, word by word. If the layout is accepted: each class total grows by the
 -- number of pairs of the cut paths of that class, by the pair's own definition, among the pairs that are not of one trace. If it
 -- is refused: one layout, and one refused with its number, which is one of the old mode's.
-use mathlib.Core.Path.{_≡_, refl, sym, ap, _∙_}
-use mathlib.Core.Bool.{Bool, true, false}
+use mathlib.Core.Path.{_≡_, sym, ap, _∙_}
+use mathlib.Core.Bool.{Bool, true}
 use mathlib.Core.List.{List}
-use Prim.Native.Nat.{ℕ, zero, suc, _+_, _-_, _≤_, _<_}
+use Prim.Native.Nat.{ℕ, _+_, _-_, _≤_, _<_}
 use native.Mathlib.Omega.{arith}
 use lib.Ieee.{Float}
 use lib.ListN.{length}
@@ -18,7 +18,6 @@ use Rattle.listing_pairs.specs.declared.row.Row.{Row}
 use Rattle.listing_pairs.specs.Order.{Pair, those}
 use Rattle.listing_pairs.specs.Rows.{lookedAt}
 use Rattle.listing_pairs.specs.Traces.{tracedPairs}
-use Rattle.listing_outcomes.specs.declared.answer.ListingAnswer.{ListingAnswer}
 use Rattle.listing_outcomes.specs.declared.answer.ListingAnswer.the-variants.{Refused, Listed}
 use Rattle.large_outcomes.specs.LargeOutcome.{largeListedOf, largeOutcome}
 use Rattle.month.specs.declared.mutual_counted.CountedAnswer.the-variants.{Answered}
@@ -31,13 +30,7 @@ use Rattle.month.specs.Laws.Given.{Known, given-below, append, and, fine}
 use Rattle.month.specs.Laws.Pairs.{isOf}
 use Rattle.month.specs.Laws.Cases.{kinds-differ, same-fault, told-listed, told-refused}
 use Rattle.month.specs.Laws.Added.{accepted-adds, refused-layout, refused-number, refused-else}
-use Rattle.large_listings.specs.LargeListings.{
-  mutualNumbers,
-  mutualLargeChecks,
-  mutualLargeLook,
-  mutualLargePairs,
-  mutualLarge,
-}
+use Rattle.large_listings.specs.LargeListings.{mutualNumbers, mutualLargeChecks, mutualLargeLook, mutualLargePairs, mutualLarge}
 use Rattle.large_counted.specs.LargeCounted.{mutualLargeRows, mutualCountedLarge}
 use Rattle.large_listings.specs.LargeRefusals.{all}
 use Rattle.large_counted.specs.Laws.LargeGiven.{mutual-checks-known, room-known}

@@ -1,9 +1,9 @@
 -- No row is left out in the mode of large arcs: if two paths were listed, every pair of segments of the cut paths that meets, in
 -- any class except NoIntersect, and is not of one trace has a row with both names. In a boxed listing this holds for every such
 -- pair whose boxes meet.
-use mathlib.Core.Path.{_≡_, refl, _∙_}
+use mathlib.Core.Path.{_≡_}
 use mathlib.Core.Bool.{Bool, true, false}
-use mathlib.Core.List.{List, []}
+use mathlib.Core.List.{List}
 use Prim.Native.Nat.{ℕ, _<_, zero-le}
 use native.Mathlib.Omega.{arith}
 use lib.Ieee.{Float}
@@ -18,14 +18,13 @@ use Rattle.cuts.specs.CutPath.{Name, cutPath, cutCount, nameAt}
 use Rattle.listing_pairs.specs.declared.row.Row.{Row}
 use Rattle.listing_pairs.specs.declared.row.Look.{Look}
 use Rattle.listing_pairs.specs.declared.row.Look.the-variants.{Made}
-use Rattle.listing_pairs.specs.Row.{row, numbersOfRows}
+use Rattle.listing_pairs.specs.Row.{row}
 use Rattle.listing_pairs.specs.Order.{Pair, mutualPairs}
 use Rattle.listing_pairs.specs.Rows.{rowsOf, lookedAt}
 use Rattle.listing_pairs.specs.Look.{tracedLook}
 use Rattle.listing_pairs.specs.Traces.{oneTrace}
 use Rattle.listing_pairs.specs.Boxed.{boxesMeet, boxedPairs}
 use Rattle.listing_outcomes.specs.declared.answer.ListingAnswer.the-variants.{Refused, Listed}
-use Rattle.listing_outcomes.specs.Outcome.{overwrite}
 use Rattle.listing_calls.specs.Complete.{pairOf, makes}
 use Rattle.listing_calls.specs.Laws.Complete.{Within, pairs-have, those-have, row-of-pair}
 use Rattle.large_outcomes.specs.LargeRow.{largeIndicesOf}
@@ -33,7 +32,6 @@ use Rattle.large_outcomes.specs.LargeOutcome.{largeListedOf, largeOutcome, larg
 use Rattle.large_listings.specs.LargeListings.{
   mutualNumbers,
   mutualLargeChecks,
-  mutualLargeLook,
   mutualLargePairs,
   mutualLargeIndex,
   mutualLarge,

@@ -2,7 +2,7 @@
 -- old mode: calls from position 0 to the end, none refused, join to the listing's rows, as read from its slices, and pass all
 -- pairs of the cut paths. No row is left out of the joined rows. A call at the end gives nothing.
 use mathlib.Core.Path.{_≡_, refl, sym, ap, _∙_}
-use mathlib.Core.Bool.{Bool, true, false}
+use mathlib.Core.Bool.{Bool, false}
 use mathlib.Core.List.{List, [], _∷_, _++_}
 use Prim.Native.Nat.{ℕ, _+_, _-_, _*_, _<_}
 use native.Mathlib.Omega.{arith}
@@ -52,13 +52,7 @@ use Rattle.large_listings.specs.LargeListings.{
 }
 use Rattle.large_listings.specs.HasLargeRow.{HasLargeRow}
 use Rattle.large_listings.specs.LargeComplete as complete
-use Rattle.large_listings.specs.LargeChained.{
-  LargeWhole,
-  mutualLargeChain,
-  mutual-large-whole,
-  selfLargeChain,
-  self-large-whole,
-}
+use Rattle.large_listings.specs.LargeChained.{LargeWhole, mutualLargeChain, mutual-large-whole, selfLargeChain, self-large-whole}
 use Rattle.large_listings.specs.Laws.LargeChains.{as-called}
 use Rattle.large_listings.specs.Laws.LargeComplete.{large-row-in-slice}
 use Rattle.large_promise.specs.LargeJoints.{metLarge, AtLargeJoint, OneLargeTrace, large-row-when}
@@ -148,7 +142,8 @@ module _ (first : List Float) (firstClosed : Bool) (second : List Float) (second
 
     pub mutual-large-chain : (indices : List ℕ) (points : List Float) (rows pairs : ℕ)
         → mutualLarge first firstClosed second secondClosed epsilon indices points .answer ≡ Listed rows pairs
-        → LargeSameAs (mutualLarge first firstClosed second secondClosed epsilon indices points) ps (tracedPairs a b ps) rows pairs j
+        → LargeSameAs (mutualLarge first firstClosed second secondClosed epsilon indices points) ps (tracedPairs a b ps) rows pairs
+        j
     unfolding mutualLarge
     mutual-large-chain indices points rows pairs e =
         same-outcome (nameAt first firstClosed) (nameAt second secondClosed) f ps j all (tracedPairs a b ps)
@@ -160,7 +155,8 @@ module _ (first : List Float) (firstClosed : Bool) (second : List Float) (second
         → HasLargeRow (j .rows) (j .indices) (nameAt first firstClosed x) (nameAt second secondClosed y)
     large-chain-complete x y hx hy meets other =
         joined-row (nameAt first firstClosed) (nameAt second secondClosed) f ps j all x y (pairOf a b epsilon x y)
-        (complete.between (cutCount first firstClosed) (cutCount second secondClosed) x y hx hy) (makes a b epsilon x y meets other)
+        (complete.between (cutCount first firstClosed) (cutCount second secondClosed) x y hx hy)
+        (makes a b epsilon x y meets other)
 
 -- ---- one path
 module _ (path : List Float) (closed : Bool) (epsilon : Float) where
@@ -203,8 +199,8 @@ module _ (path : List Float) (closed : Bool) (epsilon : Float) where
         (large-row-when path closed epsilon x y .1 ((meets, elsewhere), other))
 
 -- ---- one call
-called-at-end : {look : ℕ → ℕ → Look} {ps : List Pair} {position budget : ℕ} {i : List ℕ} {p : List Float} {o : Outcome PageAnswer}
-    {rows pairs next all : ℕ} → Called look ps position budget i p o rows pairs next all → position ≡ length ps
+called-at-end : {look : ℕ → ℕ → Look} {ps : List Pair} {position budget : ℕ} {i : List ℕ} {p : List Float}
+    {o : Outcome PageAnswer} {rows pairs next all : ℕ} → Called look ps position budget i p o rows pairs next all → position ≡ length ps
     → (rows ≡ 0) × (pairs ≡ 0) × (next ≡ position) × (all ≡ position)
 called-at-end {look} {ps} {position} {budget} {i} {p} {o} {rows} {pairs} {next} c end =
     let q = joins look (drop position ps) (room i p) budget in
@@ -216,7 +212,8 @@ called-at-end {look} {ps} {position} {budget} {i} {p} {o} {rows} {pairs} {next} 
     (no-row, no-pair, here, omega (arith, c .all-are, end))
 
 module _ (numbers : Row → List ℕ) (wide : (r : Row) → length (numbers r) ≡ largeIndicesARow) (checks : List Checked)
-    (look : ℕ → ℕ → Look) (ps : List Pair) (position budget : ℕ) (indices : List ℕ) (points : List Float) {rows pairs next all : ℕ}
+    (look : ℕ → ℕ → Look) (ps : List Pair) (position budget : ℕ) (indices : List ℕ) (points : List Float)
+    {rows pairs next all : ℕ}
     (e : largePageOutcome numbers checks look ps position budget indices points .answer ≡ Paged rows pairs next all) where
   -- before the end it passes a pair
   pub large-goes-forward : position < length ps → 0 < pairs

@@ -1,5 +1,5 @@
--- When exactly a counted listing of the mode of large arcs refuses, and what it leaves then, as Refusals.antt of the crate `month`
--- has it for the old mode: 19 comes before all other checks, and all other refusals are the listing's.
+-- When exactly a counted listing of the mode of large arcs refuses, and what it leaves then, as Refusals.antt of the crate
+-- `month` has it for the old mode: 19 comes before all other checks, and all other refusals are the listing's.
 use mathlib.Core.Path.{_≡_, refl}
 use mathlib.Core.Bool.{Bool, true}
 use mathlib.Core.Logic.{_↔_, _⊎_}
@@ -31,13 +31,7 @@ use Rattle.month.specs.Counted.{unchanged, reportCheck}
 use Rattle.month.specs.Refusals.{TooLarge, full-when, refusedWith, accepted}
 use Rattle.month.specs.Laws.Cases.{no-room-is, full-is}
 use Rattle.month.specs.Laws.When as laws
-use Rattle.large_listings.specs.LargeListings.{
-  mutualNumbers,
-  mutualLargeChecks,
-  mutualLargeLook,
-  mutualLargePairs,
-  mutualLarge,
-}
+use Rattle.large_listings.specs.LargeListings.{mutualNumbers, mutualLargeChecks, mutualLargeLook, mutualLargePairs, mutualLarge}
 use Rattle.large_listings.specs.LargeRefusals as large
 use Rattle.large_counted.specs.LargeCounted.{mutualLargeRows, mutualCountedLarge}
 use Rattle.large_counted.specs.LargeTotals.{refusal-given}

@@ -1,10 +1,10 @@
 -- The proof of the promise on neighbouring lines in the mode of large arcs: lines are not cut, so neighbours that are lines stand
 -- one behind the other in the cut path, or first and last, and the grid's promise holds of a path of any number of segments.
-use mathlib.Core.Path.{_≡_, refl, sym, ap, _∙_, subst}
+use mathlib.Core.Path.{_≡_, sym, ap, _∙_, subst}
 use mathlib.Core.Logic.{_⊎_, inl, inr, _↔_}
-use mathlib.Core.Bool.{Bool, true, false}
+use mathlib.Core.Bool.{Bool, true}
 use mathlib.Core.List.{List}
-use Prim.Native.Nat.{ℕ, _+_, _-_, _≤_, _<_}
+use Prim.Native.Nat.{ℕ, _+_, _-_, _<_}
 use native.Mathlib.Omega.{arith}
 use lib.Ieee.{Float}
 use lib.ListN.{length}
@@ -16,7 +16,6 @@ use Rattle.cuts.specs.Laws.Joined.{joined-more}
 use Rattle.cuts.specs.Laws.Places.{start-least}
 use Rattle.listing_pairs.specs.Traces.{sameTrace, oneTrace}
 use Rattle.grid.specs.Promise.{Spot, Epsilon, ShareMore, GridLine, OtherTraces}
-use Rattle.grid.specs.Joints.{Neighbours}
 use Rattle.grid.specs.JointsProved.{closed-count, fold-of}
 use Rattle.large_promise.specs.Places.{place, Stands, one-part, stands-once}
 use Rattle.large_promise.specs.LargePromise.{MakesLargeRow, LargeFoldPromise}

@@ -1,6 +1,6 @@
--- Neighbours in a self listing of the mode of large arcs: when exactly a pair of the cut path makes a row, and that no such row is
--- left out of a listing, boxed or not. This is Joints.antt of the crate `listing_calls` over the cut path; a row has the names of
--- both segments. A pair of one trace is passed over, so also the two halves of an arc of a trace above 0.
+-- Neighbours in a self listing of the mode of large arcs: when exactly a pair of the cut path makes a row, and that no such row
+-- is left out of a listing, boxed or not. This is Joints.antt of the crate `listing_calls` over the cut path; a row has the names
+-- of both segments. A pair of one trace is passed over, so also the two halves of an arc of a trace above 0.
 use mathlib.Core.Path.{_≡_}
 use mathlib.Core.Bool.{Bool, true, false}
 use mathlib.Core.Logic.{_↔_, _⊎_}

@@ -4,22 +4,21 @@
 -- share its start. Places are those of the cut path.
 use mathlib.Core.Path.{_≡_, refl, sym, ap, _∙_}
 use mathlib.Core.Bool.{Bool, true, false, cond, _&&_}
-use mathlib.Core.Logic.{_⊎_, inl, inr, _≢_}
+use mathlib.Core.Logic.{_⊎_, inl, inr}
 use mathlib.Core.List.{List, [], _∷_, _++_}
-use Prim.Native.Nat.{ℕ, zero, suc, _+_, _≤_, _<_}
+use Prim.Native.Nat.{ℕ, _+_, _≤_, _<_}
 use native.Mathlib.Nat.{eq-or-lt-of-le}
 use native.Mathlib.Omega.{arith}
 use borrow.Author.Tests.{eq-eqb, ne-eqb, eqb-true}
 use lib.Dec.{eqb}
 use lib.Ieee.{Float}
-use lib.ListN.{length}
 use Rattle.paths.specs.Path.{vertex}
 use Rattle.paths.specs.Segments.{segmentCount, segmentFrom}
 use Rattle.cuts.specs.Cut.{isLarge, cutVertex}
-use Rattle.cuts.specs.CutPath.{Name, name, cutPath, namesOf, names, cutCount, nameAt}
+use Rattle.cuts.specs.CutPath.{name, cutPath, namesOf, names, cutCount, nameAt}
 use Rattle.cuts.specs.Laws.Joined.{joined-more}
 use Rattle.listing_pairs.specs.Neighbours.{sharedVertices}
-use Rattle.large_promise.specs.Places.{place, Stands, is-part, first-stands, second-stands, two-parts, some-stands}
+use Rattle.large_promise.specs.Places.{place, is-part, first-stands, second-stands, two-parts, some-stands}
 
 -- the vertices of the cut path that its segments a < b share
 abbrev pub largeShared : List Float → Bool → ℕ → ℕ → List ℕ
@@ -76,8 +75,8 @@ module _ (path : List Float) (closed : Bool) (i : ℕ) (below : i < segmentCount
       → largeShared path closed (place path i) (place path i + 2) ≡ []
   first-half-apart other =
       let far : eqb (k + 2) (k + 1) ≡ false = ne-eqb (k + 2) (k + 1) (λ e. omega (arith, e)) in
-      ap (λ (b : Bool). cond b ((k + 2) ∷ []) [] ++ cond (closed && eqb k 0 && eqb (k + 2 + 1) (cutCount path closed)) (0 ∷ []) [])
-      far
+      ap (λ (b : Bool). cond b ((k + 2) ∷ []) []
+      ++ cond (closed && eqb k 0 && eqb (k + 2 + 1) (cutCount path closed)) startOnly []) far
       ∙ no-ends (k + 2 + 1) (cutCount path closed) k closed refl (λ e f g. other (e, f, omega (arith, g)))
     where
       no-ends : (j n i : ℕ) (c : Bool) → closed ≡ c → (closed ≡ true → i ≡ 0 → j ≡ n → ⊥)

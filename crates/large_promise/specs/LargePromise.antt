@@ -1,7 +1,7 @@
 -- The promise on the plant's grid in the mode of large arcs, by demand 3's last sentence: a listing of one path against another
--- that is not refused omits no touching pair of lines. Segments i and j of the paths before the cut are lines between grid points,
--- so they are not cut: their row has the names i, half 0 and j, half 0. It is stated here in the words of Promise.antt of the
--- crate `grid`, and proved in LargeProved.
+-- that is not refused omits no touching pair of lines. Segments i and j of the paths before the cut are lines between grid
+-- points, so they are not cut: their row has the names i, half 0 and j, half 0. It is stated here in the words of Promise.antt of
+-- the crate `grid`, and proved in LargeProved; what is said of neighbours is proved in LargeFolds.
 use Prim.Native.Nat.{ℕ, _<_}
 use mathlib.Core.Path.{_≡_}
 use mathlib.Core.Logic.{_↔_}

@@ -1,6 +1,6 @@
--- The proof of the promise in the mode of large arcs. A line is not cut, so it is a segment of the cut path with the same ends and
--- the same trace; the grid's promise says that the two meet, and no row is left out.
-use mathlib.Core.Path.{_≡_, refl, sym, ap, _∙_, subst}
+-- The proof of the promise in the mode of large arcs. A line is not cut, so it is a segment of the cut path with the same ends
+-- and the same trace; the grid's promise says that the two meet, and no row is left out.
+use mathlib.Core.Path.{_≡_, sym, ap, _∙_, subst}
 use mathlib.Core.Bool.{Bool, true, false, _||_}
 use mathlib.Core.List.{List}
 use Prim.Native.Nat.{ℕ, _<_}
@@ -17,8 +17,7 @@ use Rattle.crossing.specs.PlineSegIntr.{classOf}
 use Rattle.paths.specs.Path.{vertex}
 use Rattle.paths.specs.Segments.{segmentCount, segmentFrom}
 use Rattle.cuts.specs.Cut.{isLarge}
-use Rattle.cuts.specs.CutPath.{Name, name, cutPath, cutCount, nameAt}
-use Rattle.cuts.specs.Parts.{Runs}
+use Rattle.cuts.specs.CutPath.{Name, name, cutPath, nameAt}
 use Rattle.listing_pairs.specs.Traces.{sameTrace, oneTrace}
 use Rattle.listing_pairs.specs.Boxed.{boxesMeet}
 use Rattle.listing_calls.specs.Complete.{pairOf}

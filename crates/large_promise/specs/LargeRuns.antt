@@ -1,14 +1,13 @@
 -- A report after any run from zeros of counted listings of both modes, as Runs.antt and Joined.antt of the crate `month` have it
 -- for the old mode. The six classes sum to the pairs of all accepted layouts, worked out from the segments and traces of their
--- paths, cut where the mode says so; a refused layout adds only to the layouts and to its refusal's word. The join of two runs, if
--- it is not refused, is what one run over both would have given.
-use mathlib.Core.Path.{_≡_, refl, ap, _∙_}
+-- paths, cut where the mode says so; a refused layout adds only to the layouts and to its refusal's word. The join of two runs,
+-- if it is not refused, is what one run over both would have given.
+use mathlib.Core.Path.{_≡_, refl, ap}
 use mathlib.Core.Bool.{Bool, true, false, cond}
 use mathlib.Core.List.{List, _++_}
-use Prim.Native.Nat.{ℕ, _≤_, _<_}
+use Prim.Native.Nat.{ℕ, _≤_}
 use native.Mathlib.Nat.{mul-le-mul}
 use native.Mathlib.Omega.{arith}
-use lib.Ieee.{Float}
 use lib.ListN.{length, drop}
 use Rattle.checks.specs.declared.fault.Fault.{Fault}
 use Rattle.cuts.specs.CutPath.{cutPath, cutCount}
@@ -39,16 +38,7 @@ use Rattle.month.specs.Laws.RunWords.{six-added, pairs-added, oldRows, old-kind
 use Rattle.large_listings.specs.LargeListings.{mutualLargeLook, mutualLargePairs, mutualLarge}
 use Rattle.large_counted.specs.LargeCounted.{mutualLargeRows, mutualCountedLarge}
 use Rattle.large_counted.specs.LargeTotals.{looked-is, refusal-given}
-use Rattle.large_promise.specs.LargeRun.{
-  afterLarge,
-  answerLarge,
-  pairsOfLarge,
-  ModeLayout,
-  after,
-  answer,
-  pairsOf,
-  run,
-}
+use Rattle.large_promise.specs.LargeRun.{afterLarge, answerLarge, pairsOfLarge, ModeLayout, after, answer, pairsOf, run}
 
 -- ---- the layouts of the mode of large arcs are a kind
 abbrev largeRows : Layout → List Row
@@ -130,7 +120,8 @@ mode-kind =
       all = λ l. all (l .layout) (l .large);
     }
   where
-    if-full : (r : List ℕ) (l : Layout) (b : Bool) → words ≤ length r → full r ≡ true → cond b (afterLarge r l) (old.after r l) ≡ r
+    if-full : (r : List ℕ) (l : Layout) (b : Bool) → words ≤ length r → full r ≡ true
+        → cond b (afterLarge r l) (old.after r l) ≡ r
     if-full r l true = large-kind .if-full r l
     if-full r l false = old-kind .if-full r l
 
@@ -144,7 +135,8 @@ mode-kind =
     its-small l true = small l
     its-small l false = old-kind .small l
 
-    known : (l : Layout) (b : Bool) (g : Fault) → cond b (answerLarge l) (old.answer l) ≡ Refused g → among (g .number) given ≡ true
+    known : (l : Layout) (b : Bool) (g : Fault) → cond b (answerLarge l) (old.answer l) ≡ Refused g
+        → among (g .number) given ≡ true
     known l true = large-kind .known l
     known l false = old-kind .known l
 

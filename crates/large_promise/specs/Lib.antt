@@ -1,7 +1,9 @@
--- What the mode of large arcs inherits. Self listings: how many pairs there are (SelfPairs), which segments of the cut path are
--- neighbours (LargeNeighbours), and that no row is left out (LargeJoints). Chains of pages join to the listing (LargeChainedCalls).
--- No touching pair of grid lines is missed: the statement (LargePromise) and its proof (LargeProved). A run of counted listings of
--- both modes (LargeRun), and what its report has (LargeRuns). A reader must believe only LargePromise and LargeRun.
+-- What the mode of large arcs inherits. Which segment of the cut path has which name (Places). Self listings: how many pairs
+-- there are (SelfPairs), which segments are neighbours (LargeNeighbours), and that no row is left out (LargeJoints). Chains of
+-- pages join to the listing (LargeChainedCalls). No touching pair of grid lines is missed: the statement (LargePromise) and its
+-- proofs (LargeProved, LargeFolds). The rows are the old mode's of the cut paths, where a call takes these (OldOverCutPath). When
+-- a counted listing refuses (LargeCountedRefusals), a run of counted listings of both modes (LargeRun), and what its report has
+-- (LargeRuns). A reader must believe only LargePromise and LargeRun, and what they name.
 pub mod SelfPairs
 pub mod Places
 pub mod LargeNeighbours

@@ -1,5 +1,5 @@
--- If a call of the old mode takes the cut path, that is if it has at most 4,096 vertices, then the old mode finds as many segments
--- in it, and the rows of the mode of large arcs are the old mode's rows of the cut paths.
+-- If a call of the old mode takes the cut path, that is if it has at most 4,096 vertices, then the old mode finds as many
+-- segments in it, and the rows of the mode of large arcs are the old mode's rows of the cut paths.
 use mathlib.Core.Path.{_≡_, refl, sym, ap, _∙_}
 use mathlib.Core.Bool.{Bool, true, false, cond}
 use mathlib.Core.List.{List}

@@ -32,7 +32,8 @@ is-part path closed k n s =
     (segments path closed k (s .inside))
 
 module _ (path : List Float) (closed : Bool) (i : ℕ) (below : i < segmentCount path closed) where
-  at : (ns : List Name) → namesOf path i ≡ ns → (m : ℕ) → m < length ns → Stands path closed (place path i + m) (getD ns m (name 0 0))
+  at : (ns : List Name) → namesOf path i ≡ ns → (m : ℕ) → m < length ns
+      → Stands path closed (place path i + m) (getD ns m (name 0 0))
   unfolding names
   at ns is m inside =
       let n = segmentCount path closed in
@@ -53,7 +54,8 @@ module _ (path : List Float) (closed : Bool) (i : ℕ) (below : i < segmentCount
 
   pub whole-stands : isLarge (vertex path i .bulge) ≡ false → Stands path closed (place path i) (name i 0)
   whole-stands e =
-      subst (λ (k : ℕ). Stands path closed k (name i 0)) (add-zero (place path i)) (at (name i 0 ∷ []) (one-name e) 0 (omega arith))
+      subst (λ (k : ℕ). Stands path closed k (name i 0)) (add-zero (place path i))
+      (at (name i 0 ∷ []) (one-name e) 0 (omega arith))
 
   -- it has one part
   pub one-part : isLarge (vertex path i .bulge) ≡ false → length (namesOf path i) ≡ 1

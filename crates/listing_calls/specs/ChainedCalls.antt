@@ -15,10 +15,10 @@ use Rattle.checks.specs.declared.fault.Checked.the-variants.{Fine, Bad}
 use Rattle.checks.specs.First.{first as firstFault}
 use Rattle.arcs.specs.declared.pline_seg_intr.PlineSegIntr.{PlineSegIntr}
 use Rattle.crossing.specs.PlineSegIntr.{classOf}
-use Rattle.paths.specs.Segments.{segmentFrom, segmentCount}
+use Rattle.paths.specs.Segments.{segmentCount}
 use Rattle.listing_pairs.specs.declared.row.Row.{Row}
 use Rattle.listing_pairs.specs.declared.row.Look.{Look}
-use Rattle.listing_pairs.specs.declared.row.Look.the-variants.{Skipped, Nothing, Made}
+use Rattle.listing_pairs.specs.declared.row.Look.the-variants.{Nothing, Made}
 use Rattle.listing_pairs.specs.Order.{Pair, mutualPairs, selfPairs}
 use Rattle.listing_pairs.specs.Row.{indicesARow, pointsARow, indicesOf, pointsOf, numbersOfRows, row, unlessApart, lookOf}
 use Rattle.listing_pairs.specs.Rows.{rowsOf, count, lookedAt}
@@ -33,10 +33,10 @@ use Rattle.listing_outcomes.specs.declared.answer.PageAnswer.{PageAnswer}
 use Rattle.listing_outcomes.specs.Outcome.{Outcome, overwrite, roomCheck, listedOf, outcome}
 use Rattle.listing_calls.specs.Listing.{mutualChecks, mutualListing, selfChecks, selfListing}
 use Rattle.listing_calls.specs.Pages.{mutualPage, selfPage}
-use Rattle.listing_calls.specs.HasRow.{HasRow, RowAt}
+use Rattle.listing_calls.specs.HasRow.{HasRow}
 use Rattle.listing_calls.specs.Complete.{pairOf, makes}
 use Rattle.listing_calls.specs.Chain.{Lent, Joined, chain}
-use Rattle.listing_calls.specs.Chained.{pagesOf, Whole, whole}
+use Rattle.listing_calls.specs.Chained.{Whole, whole}
 use Rattle.listing_calls.specs.Joints.{AtJoint, own-pair, row-when}
 use Rattle.listing_calls.specs.Laws.Complete.{Within, pairs-have, row-of-pair, row-in-slice, overwrite-none}
 

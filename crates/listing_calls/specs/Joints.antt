@@ -1,6 +1,6 @@
 -- Neighbours in a self listing: when exactly a pair makes a row; that a pair which shares no vertex, and an overlap, makes one
--- whenever it meets; and that no such row is left out of a listing, boxed or not. A pair of one trace is passed over. What is said
--- of a pair is said of a path of n segments, for any n: a cut path has more of them than a call takes.
+-- whenever it meets; and that no such row is left out of a listing, boxed or not. A pair of one trace is passed over. What is
+-- said of a pair is said of a path of n segments, for any n: the cut path of a large arc may have more than a call takes.
 use mathlib.Core.Path.{_≡_, refl, sym, ap, subst, _∙_}
 use mathlib.Core.Bool.{Bool, true, false, cond, _&&_, _||_, true≢false}
 use mathlib.Core.Logic.{_↔_, _⊎_, inl, inr}
@@ -32,7 +32,6 @@ use Rattle.listing_pairs.specs.Row.{row, unlessApart, lookOf}
 use Rattle.listing_pairs.specs.Order.{selfPairs}
 use Rattle.listing_pairs.specs.Look.{selfLookOf, tracedSelfLook}
 use Rattle.listing_pairs.specs.Traces.{oneTrace, traced}
-use Rattle.listing_pairs.specs.TracedListing.{not-of-one}
 use Rattle.listing_pairs.specs.Boxed.{boxesMeet, boxedPairs}
 use Rattle.listing_pairs.specs.Neighbours.{sharedVertices, nearSome, onlyAt, atJoint}
 use Rattle.listing_outcomes.specs.declared.answer.ListingAnswer.the-variants.{Listed}
@@ -206,14 +205,15 @@ module _ (n : ℕ) (path : List Float) (closed : Bool) (epsilon : Float) (i j : 
   pub no-row-when : (inListing ≡ Nothing) ↔ (((classOf met ≡ 0) ⊎ AtJoint) × (OneTrace ≡ false))
   unfolding traced
   no-row-when =
-      split (selfLookOf n path closed epsilon i j) Nothing (λ e. let z : _≡_ {A = ℕ} 0 1 = cc in omega (arith, z)) silent-pair OneTrace
+      split (selfLookOf n path closed epsilon i j) Nothing (λ e. let z : _≡_ {A = ℕ} 0 1 = cc in omega (arith, z)) silent-pair
+      OneTrace
 
   -- it makes a row exactly if they meet, and not only at a joint
   pub row-when : (inListing ≡ Made (row i j met)) ↔ (((0 < classOf met) × (AtJoint → ⊥)) × (OneTrace ≡ false))
   unfolding traced
   row-when =
-      split (selfLookOf n path closed epsilon i j) (Made (row i j met)) (λ e. let z : _≡_ {A = ℕ} 0 1 = cc in omega (arith, z)) row-pair
-      OneTrace
+      split (selfLookOf n path closed epsilon i j) (Made (row i j met))
+      (λ e. let z : _≡_ {A = ℕ} 0 1 = cc in omega (arith, z)) row-pair OneTrace
 
   -- a pair that shares no vertex is never at a joint, and neither is an overlap
   pub no-neighbours : shared ≡ [] → AtJoint → ⊥
@@ -246,7 +246,8 @@ own-pair n i j order last =
 
 module _ (path : List Float) (closed : Bool) (epsilon : Float) (rows pairs i j : ℕ) (order : i < j)
     (last : j < segmentCount path closed) (meets : 0 < classOf (pairOf path path epsilon i j))
-    (elsewhere : AtJoint (segmentCount path closed) path closed epsilon i j → ⊥) (other : oneTrace path path (record { i = i; j = j }) ≡ false) where
+    (elsewhere : AtJoint (segmentCount path closed) path closed epsilon i j → ⊥)
+    (other : oneTrace path path (record { i = i; j = j }) ≡ false) where
   here : Within (record { i = i; j = j }) (selfPairs (segmentCount path closed))
   here = own-pair (segmentCount path closed) i j order last
 

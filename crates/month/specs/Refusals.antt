@@ -1,14 +1,11 @@
 -- When exactly a counted listing and a join refuse, and what they leave then. 19 comes before all other checks of a counted
 -- listing: exactly if the report has 10,000 layouts or more, or one of its words 1 to 39 is too large. It leaves everything
 -- unchanged, whatever the paths, epsilon and slices are. All other refusals are the listing's.
-use mathlib.Core.Path.{_≡_, refl, sym, ap, _∙_}
-use mathlib.Core.Bool.{Bool, true, false, true≢false, _||_}
+use mathlib.Core.Path.{_≡_, refl}
+use mathlib.Core.Bool.{Bool, true}
 use mathlib.Core.Logic.{_↔_, _⊎_, inl, inr}
-use mathlib.Core.List.{List, [], _∷_, _++_}
+use mathlib.Core.List.{List, _∷_}
 use Prim.Native.Nat.{ℕ, _+_, _≤_, _<_}
-use native.Mathlib.Omega.{arith}
-use borrow.Author.Tests.{ltb-true, ltb-false, lt-ltb, le-ltb}
-use lib.Dec.{ltb}
 use lib.Ieee.{Float}
 use lib.ListN.{length}
 use Rattle.checks.specs.declared.fault.Item.the-variants.{Report}
@@ -32,8 +29,8 @@ use Rattle.month.specs.declared.join.JoinAnswer.the-variants as joins
 use Rattle.month.specs.declared.mutual_counted.CountedAnswer.{CountedAnswer}
 use Rattle.month.specs.declared.mutual_counted.CountedAnswer.the-variants.{NoRoom, Answered}
 use Rattle.month.specs.Report.{words, layouts, pairs, mostLayouts, largest, mostHeld, word, full}
-use Rattle.month.specs.Counted.{CountedOutcome, unchanged, reportCheck, mutualRows, mutualCounted}
-use Rattle.month.specs.Join.{JoinOutcome, tooMuch, join}
+use Rattle.month.specs.Counted.{unchanged, reportCheck, mutualRows, mutualCounted}
+use Rattle.month.specs.Join.{join}
 use Rattle.month.specs.Laws.Cases.{no-room-is, full-is}
 use Rattle.month.specs.Laws.Listings.{mutual-given}
 use Rattle.month.specs.Laws.Joins as cases

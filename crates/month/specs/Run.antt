@@ -1,6 +1,6 @@
 -- A run: one layout after the other, counted in one report. What is not said of this layout's kind alone is said of any kind, so
 -- that a run of the mode of large arcs, or of both modes, is described by the same words.
-use mathlib.Core.Bool.{Bool, true, false, cond}
+use mathlib.Core.Bool.{Bool, cond}
 use mathlib.Core.List.{List, [], _∷_}
 use Prim.Native.Nat.{ℕ, _+_, _-_, _*_}
 use lib.Dec.{eqb}

@@ -1,8 +1,8 @@
 -- A report after any run from zeros. The six classes sum to the pairs of all accepted layouts, worked out from their segments and
 -- traces. The layouts are those accepted and those refused, each refusal stands in its own word, and the words of numbers that no
 -- listing gives are 0. Only the first 10,000 layouts are counted, and no word ever comes near the limit of 19.
-use mathlib.Core.Path.{_≡_, refl, sym, ap, _∙_}
-use mathlib.Core.Bool.{Bool, false}
+use mathlib.Core.Path.{_≡_, sym, ap, _∙_}
+use mathlib.Core.Bool.{false}
 use mathlib.Core.List.{List}
 use Prim.Native.Nat.{ℕ, _+_, _≤_, _<_}
 use native.Mathlib.Omega.{arith}

@@ -16,10 +16,9 @@ use Rattle.listing_pairs.specs.declared.row.Row.{Row}
 use Rattle.listing_outcomes.specs.declared.answer.ListingAnswer.{ListingAnswer}
 use Rattle.listing_outcomes.specs.declared.answer.ListingAnswer.the-variants.{Refused, Listed}
 use Rattle.listing_outcomes.specs.Outcome.{Outcome}
-use Rattle.month.specs.declared.mutual_counted.CountedAnswer.{CountedAnswer}
 use Rattle.month.specs.declared.mutual_counted.CountedAnswer.the-variants.{NoRoom, Answered}
 use Rattle.month.specs.Report.{words, full, plus}
-use Rattle.month.specs.Counted.{CountedOutcome, adds, unchanged, counted, countedOf, reportCheck, countedListing}
+use Rattle.month.specs.Counted.{CountedOutcome, adds, unchanged, counted, reportCheck, countedListing}
 
 pub same-answer : {a b : ListingAnswer} → Answered a ≡ Answered b → a ≡ b
 same-answer e = cc

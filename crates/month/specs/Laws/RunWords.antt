@@ -1,17 +1,16 @@
--- The words of what a run adds: the classes, and the refusals. First for layouts of any kind; then that the layouts of the old mode
--- are such a kind.
+-- The words of what a run adds: the classes, and the refusals. First for layouts of any kind; then that the layouts of the old
+-- mode are such a kind.
 use mathlib.Core.Path.{_≡_, refl, sym, ap, _∙_}
 use mathlib.Core.Bool.{Bool, true, false, cond, true≢false}
 use mathlib.Core.Logic.{_⊎_, inl, inr}
 use mathlib.Core.List.{List, [], _∷_}
-use Prim.Native.Nat.{ℕ, zero, suc, _+_, _-_, _*_, _≤_, _<_}
+use Prim.Native.Nat.{ℕ, zero, suc, _+_, _-_, _≤_, _<_}
 use native.Mathlib.Omega.{arith}
-use borrow.Author.Tests.{eq-eqb, ne-eqb, eqb-true, eqb-false}
+use borrow.Author.Tests.{eqb-true, eqb-false}
 use lib.Dec.{eqb}
 use lib.Ieee.{Float}
 use lib.ListN.{length, length-drop, drop, replicate, set, List·getD-eq-default}
 use lib.Seq.{drop-set-add}
-use Rattle.checks.specs.declared.fault.Fault.{Fault}
 use Rattle.paths.specs.Segments.{segmentCount}
 use Rattle.listing_pairs.specs.declared.row.Row.{Row}
 use Rattle.listing_pairs.specs.Order.{mutualPairs, those}
@@ -28,10 +27,10 @@ use Rattle.month.specs.Counted.{CountedOutcome, oneIf, refusedAdds, acce
 use Rattle.month.specs.Given.{among, given}
 use Rattle.month.specs.Run.{Layout, after, sixClasses, sumWords, answer, accepted, refused, refusedWith, ifAccepted}
 use Rattle.month.specs.Run.{pairsBetween, pairsOf, sumOf}
-use Rattle.month.specs.Laws.Words.{length-plus, word-plus, drop-plus, zeros}
+use Rattle.month.specs.Laws.Words.{word-plus, drop-plus}
 use Rattle.month.specs.Laws.Listings.{mutual-given, mutual-counts}
 use Rattle.month.specs.Laws.Given.{given-below}
-use Rattle.month.specs.Laws.Pairs.{isOf, those-split, mutual-length, six-classes}
+use Rattle.month.specs.Laws.Pairs.{those-split, mutual-length, six-classes}
 use Rattle.month.specs.Laws.Cases.{full-is, counted-is}
 use Rattle.month.specs.Laws.Added.{Accepts, accepted-adds, accepted-else, refused-number, refused-else, mutual-small}
 use Rattle.month.specs.Laws.Runs.{Kind, addsOf, total, length-total, word-total}
@@ -236,14 +235,19 @@ looked-is : (l : Layout) (count looked : ℕ) → answer l ≡ Listed count look
     → looked ≡ lookedAt (tracedLook (l .first) (l .second) (l .epsilon))
     (mutualPairs (segmentCount (l .first) (l .firstClosed)) (segmentCount (l .second) (l .secondClosed)))
 looked-is l count looked e =
-    mutual-counts (l .first) (l .firstClosed) (l .second) (l .secondClosed) (l .epsilon) (l .indices) (l .points) count looked e .1
+    mutual-counts (l .first) (l .firstClosed) (l .second) (l .secondClosed) (l .epsilon) (l .indices) (l .points) count looked
+    e .1
 
 pub old-kind : Kind after answer oldRows pairsOf
 unfolding mutualCounted
 old-kind =
     record {
-      if-full = λ r l long e. ap (λ (o : CountedOutcome). o .report) (full-is (its-listing l) (oldRows l) (l .indices) (l .points) r long e);
-      if-not = λ r l long e. ap (λ (o : CountedOutcome). o .report) (counted-is (its-listing l) (oldRows l) (l .indices) (l .points) r long e);
+      if-full =
+          λ r l long e. ap (λ (o : CountedOutcome). o .report)
+          (full-is (its-listing l) (oldRows l) (l .indices) (l .points) r long e);
+      if-not =
+          λ r l long e. ap (λ (o : CountedOutcome). o .report)
+          (counted-is (its-listing l) (oldRows l) (l .indices) (l .points) r long e);
       small =
           λ l. mutual-small (l .first) (l .firstClosed) (l .second) (l .secondClosed) (l .epsilon) (l .indices) (l .points);
       known =

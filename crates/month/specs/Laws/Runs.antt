@@ -3,31 +3,18 @@
 use mathlib.Core.Path.{_≡_, refl, sym, ap, _∙_}
 use mathlib.Core.Bool.{Bool, true, false, _||_}
 use mathlib.Core.List.{List, [], _∷_, _++_}
-use Prim.Native.Nat.{ℕ, zero, suc, _+_, _-_, _*_, _≤_, _<_, zero-le}
-use native.Mathlib.Nat.{add-assoc, suc-mul, mul-le-mul-right, add-zero, zero-add}
+use Prim.Native.Nat.{ℕ, zero, suc, _+_, _-_, _*_, _≤_, _<_}
+use native.Mathlib.Nat.{suc-mul, mul-le-mul-right}
 use native.Mathlib.Omega.{arith}
 use borrow.Author.Tests.{le-ltb, le-leb, lt-leb}
 use lib.Dec.{leb, ltb}
-use lib.ListN.{length, length-replicate, take, drop, replicate}
-use lib.Seq.{slice, length-slice, getD-drop, getD-take, take-all}
+use lib.ListN.{length, take, drop, replicate}
+use lib.Seq.{slice, getD-drop, take-all}
 use Rattle.checks.specs.declared.fault.Fault.{Fault}
 use Rattle.listing_pairs.specs.declared.row.Row.{Row}
 use Rattle.listing_outcomes.specs.declared.answer.ListingAnswer.{ListingAnswer}
 use Rattle.listing_outcomes.specs.declared.answer.ListingAnswer.the-variants.{Refused, Listed}
-use Rattle.month.specs.Report.{
-  words,
-  layouts,
-  pairs,
-  mostLayouts,
-  mostAdded,
-  largest,
-  mostHeld,
-  fresh,
-  word,
-  someAbove,
-  full,
-  plus,
-}
+use Rattle.month.specs.Report.{words, layouts, pairs, mostLayouts, mostAdded, mostHeld, fresh, word, someAbove, full, plus}
 use Rattle.month.specs.Counted.{acceptedAdds, adds}
 use Rattle.month.specs.Given.{among, given}
 use Rattle.month.specs.Run.{runOf, sixClasses, sumOf}
@@ -60,8 +47,8 @@ plus-assoc (x ∷ a) (y ∷ b) (z ∷ c) h =
     let e : x + y + z ≡ x + (y + z) = omega arith in
     ap (λ (n : ℕ). n ∷ plus (plus a b) c) e ∙ ap (λ (l : List ℕ). (x + (y + z)) ∷ l) (plus-assoc a b c (omega (arith, h)))
 
--- ---- a kind of layouts: what each of them answers and adds, and what it leaves of a report. A full report stays as it is, and to
--- any other the layout adds its words, which are small; a refusal is one of those that are given
+-- ---- a kind of layouts: what each of them answers and adds, and what it leaves of a report. A full report stays as it is, and
+-- to any other the layout adds its words, which are small; a refusal is one of those that are given
 pub record Kind {L : Type 0} (after : List ℕ → L → List ℕ) (answer : L → ListingAnswer) (rows : L → List Row) (pairsOf : L → ℕ) :
     Type 0 where
   pub if-full : (r : List ℕ) (l : L) → words ≤ length r → full r ≡ true → after r l ≡ r
@@ -206,7 +193,13 @@ module _ {L : Type 0} {after : List ℕ → L → List ℕ} {answer : L → List
                   one-layout answer rows l,
                 );
             each =
-                λ k. omega (arith, at-most (added l) (sum ls) k, g .each k, kind .small l .small k, suc-mul (length ls) mostAdded);
+                λ k. omega (
+                  arith,
+                  at-most (added l) (sum ls) k,
+                  g .each k,
+                  kind .small l .small k,
+                  suc-mul (length ls) mostAdded,
+                );
           }
 
   pub run-is : (ls : List L) → runOf after fresh ls ≡ total answer rows (take mostLayouts ls)

@@ -2,10 +2,10 @@
 use mathlib.Core.Path.{_≡_, refl, sym, ap, _∙_}
 use mathlib.Core.Bool.{Bool, true, false, true≢false, _||_}
 use mathlib.Core.Logic.{_↔_, _⊎_, inl, inr}
-use mathlib.Core.List.{List, [], _∷_, _++_}
-use Prim.Native.Nat.{ℕ, zero, suc, _+_, _≤_, _<_}
+use mathlib.Core.List.{List, [], _∷_}
+use Prim.Native.Nat.{ℕ, suc, _+_, _≤_, _<_}
 use native.Mathlib.Omega.{arith}
-use borrow.Author.Tests.{ltb-true, ltb-false, lt-ltb, le-ltb, leb-true, leb-false}
+use borrow.Author.Tests.{ltb-true, ltb-false, lt-ltb, le-ltb, leb-true}
 use lib.Dec.{leb, ltb}
 use lib.Ieee.{Float}
 use lib.ListN.{length, take}
@@ -18,22 +18,22 @@ use Rattle.checks.specs.Fault.{at, whole, refuse, later}
 use Rattle.checks.specs.Refusal
 use Rattle.checks.specs.First.{first as firstFault}
 use Rattle.checks.specs.Answered.{answered}
-use Rattle.checks.specs.ExactlyWhen.{ExactlyWhen, Distinct, exactly-when, no-number}
+use Rattle.checks.specs.ExactlyWhen.{ExactlyWhen, Distinct, exactly-when}
 use Rattle.listing_pairs.specs.declared.row.Row.{Row}
 use Rattle.listing_outcomes.specs.declared.answer.ListingAnswer.{ListingAnswer}
-use Rattle.listing_outcomes.specs.declared.answer.ListingAnswer.the-variants.{Refused, Listed}
+use Rattle.listing_outcomes.specs.declared.answer.ListingAnswer.the-variants.{Refused}
 use Rattle.listing_outcomes.specs.Outcome.{Outcome}
 use Rattle.listing_calls.specs.Refusals as listings
 use Rattle.month.specs.declared.join.JoinAnswer.{JoinAnswer}
 use Rattle.month.specs.declared.join.JoinAnswer.the-variants as joins
 use Rattle.month.specs.declared.mutual_counted.CountedAnswer.{CountedAnswer}
 use Rattle.month.specs.declared.mutual_counted.CountedAnswer.the-variants.{NoRoom, Answered}
-use Rattle.month.specs.Report.{words, layouts, pairs, mostLayouts, largest, mostHeld, word, someAbove, full, plus}
+use Rattle.month.specs.Report.{words, layouts, pairs, mostLayouts, largest, mostHeld, word, someAbove, full}
 use Rattle.month.specs.Counted.{CountedOutcome, countedOf, reportCheck, countedListing}
 use Rattle.month.specs.Join.{JoinOutcome, tooMuch, join}
 use Rattle.month.specs.Given.{among, given}
-use Rattle.month.specs.Laws.Words.{sums, length-sums, word-sums, much-by-layouts, much-fits, full-by-layouts}
-use Rattle.month.specs.Laws.Listings.{few-layouts, words-held}
+use Rattle.month.specs.Laws.Words.{sums, length-sums, word-sums, much-fits, full-by-layouts}
+use Rattle.month.specs.Laws.Listings.{words-held}
 use Rattle.month.specs.Laws.Cases.{no-room-is, full-is, counted-is, same-answer, room-told, same-fault}
 use Rattle.month.specs.Laws.Joins.{short-is, much-is, joined-is}
 
