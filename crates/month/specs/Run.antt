@@ -1,5 +1,5 @@
--- A run: one layout after the other, counted in one report. What is not said of this layout's kind alone is said of any kind, so
--- that a run of the mode of large arcs, or of both modes, is described by the same words.
+-- A run: one layout after the other, counted in one report. `runOf`, `counted` and `sumOf` are of layouts of any kind: so a run of
+-- the mode of large arcs, or of both modes, is described by the same words.
 use mathlib.Core.Bool.{Bool, cond}
 use mathlib.Core.List.{List, [], _∷_}
 use Prim.Native.Nat.{ℕ, _+_, _-_, _*_}
