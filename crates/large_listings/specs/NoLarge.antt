@@ -31,6 +31,7 @@ use Rattle.listing_outcomes.specs.declared.answer.PageAnswer.{PageAnswer}
 use Rattle.listing_outcomes.specs.Outcome.{Outcome}
 use Rattle.listing_outcomes.specs.BoxedOutcome.{BoxedOutcome}
 use Rattle.listing_calls.specs.Listing.{mutualChecks, selfChecks}
+use Rattle.large_outcomes.specs.LargeRow.{withZeros}
 use Rattle.large_outcomes.specs.LargeOutcome.{largeOutcome, largePageOutcome, largeBoxedOutcome}
 use Rattle.large_listings.specs.LargeListings.{
   mutualNumbers,
@@ -51,7 +52,6 @@ use Rattle.large_listings.specs.Laws.NoLarge.{
   range-those,
   mutual-own,
   self-own,
-  withZeros,
   zeros-named,
   listing-same,
   page-same,

@@ -35,7 +35,7 @@ use Rattle.listing_outcomes.specs.Workings.Outcome.{listed}
 use Rattle.large_outcomes.specs.LargeRow.{largeIndicesARow, largeRoom}
 use Rattle.large_outcomes.specs.LargeOutcome.{largeRoomCheck, largeListedOf}
 use Rattle.large_outcomes.specs.Laws.Parts.{indicesPart, pointsPart, rows-inside}
-use Rattle.large_outcomes.specs.Workings.Spread.{spread, fiveOf}
+use Rattle.large_outcomes.specs.Workings.Spread.{byNames, spread, fiveOf}
 use Rattle.large_outcomes.specs.Laws.Large.{few-rows, listed-whole, listed-refused, listed-spread}
 use Rattle.month.specs.declared.mutual_counted.CountedAnswer.the-variants.{NoRoom, Answered}
 use Rattle.month.specs.Report.{words, refusalNumbers, mostAdded, full, plus}
@@ -70,7 +70,7 @@ module _ (look : ℕ → ℕ → Look) (ps : List Pair) (few : length ps ≤ mos
   now = i ++ drop (m * indicesARow) i₀
 
   all : Leaves (listedOf check rows (lookedAt look ps) i₀ p₀) r now (p ++ drop (m * pointsARow) p₀)
-  all = listed-whole i₀ p₀ m is [] [] look ps r i p l
+  all = listed-whole i₀ p₀ m is (byNames [] []) (λ x y class. refl) look ps (λ c. c) (λ c e. e) r i p l
 
   pub countable : words ≤ length w₀ → full w₀ ≡ false → Countable r (i ++ drop (m * indicesARow) i₀) w₀
   countable long roomy =
@@ -222,16 +222,16 @@ module _ (firsts seconds : List ℕ) (look : ℕ → ℕ → Look) (ps : List Pa
       (p ++ drop (m * pointsARow) p₀) w
   counted-refused f e =
       record {
-        listing = listed-refused i₀ p₀ m is firsts seconds look ps r i p f e l;
+        listing = listed-refused i₀ p₀ m is (byNames firsts seconds) (λ x y class. refl) look ps (λ c. c) (λ c e. e) r i p f e l;
         report = its-report (Refused f) e;
       }
 
   pub counted-spread : (now : List ℕ) (n k : ℕ) → r ≡ Listed n k
-      → now ≡ spread firsts seconds n (i ++ drop (m * indicesARow) i₀)
+      → now ≡ spread (byNames firsts seconds) n (i ++ drop (m * indicesARow) i₀)
       → ListedCounted (fiveOf firsts seconds) look ps i₀ p₀ w₀ (Listed n k) now (p ++ drop (m * pointsARow) p₀) w
   counted-spread now n k e done =
       record {
-        listing = listed-spread i₀ p₀ m is firsts seconds look ps r i now p n k e l done;
+        listing = listed-spread i₀ p₀ m is (byNames firsts seconds) (λ x y class. refl) look ps (λ c. c) (λ c e. e) r i now p n k e l done;
         report = its-report (Listed n k) e;
       }
 
