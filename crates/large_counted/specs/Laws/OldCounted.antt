@@ -28,7 +28,7 @@ use Rattle.listing_outcomes.specs.declared.answer.ListingAnswer.the-variants.{R
 use Rattle.listing_outcomes.specs.Outcome.{Leaves, roomCheck, listedOf, outcome}
 use Rattle.listing_calls.specs.Listing.{mutualChecks, mutualListing}
 use Rattle.listing_calls.specs.Laws.Entry.{after-bad}
-use Rattle.large_outcomes.specs.LargeRow.{largeRoom}
+use Rattle.large_outcomes.specs.LargeRow.{largeIndicesARow, largeRoom}
 use Rattle.large_outcomes.specs.LargeOutcome.{largeRoomCheck}
 use Rattle.large_outcomes.specs.Workings.Spread.{zeroHalves, spread}
 use Rattle.large_outcomes.specs.Laws.Parts.{indicesPart, pointsPart}
@@ -45,7 +45,7 @@ use Rattle.large_calls.specs.Laws.OldFirst.{mutual-first}
 use Rattle.large_counted.specs.LargeCounted.{mutualLargeRows}
 use Rattle.large_counted.specs.Workings.Counting.{LargeAdded}
 use Rattle.large_counted.specs.Laws.LargeGiven.{room-known}
-use Rattle.large_counted.specs.Laws.LargeCounting.{countable, added}
+use Rattle.large_counted.specs.Laws.LargeCounting.{countable, still-fits, added}
 
 -- rows were listed, so the checks are fine
 listed-fine : (checks : List Checked) (look : ℕ → ℕ → Look) (ps : List Pair) (a : List ℕ) (b : List Float) (n k : ℕ)
@@ -99,6 +99,16 @@ module _ (first : List Float) (firstClosed : Bool) (second : List Float) (second
     unfolding mutualListing outcome
     old-countable =
         countable look ps few i₀ p₀ m is (λ c. firstFault (checks ++ (c ∷ []))) (last-fine checks) known r i p l w₀
+
+    -- the rows of five fit into what stands there
+    pub old-fits : listedRows r * largeIndicesARow ≤ length (i ++ drop (m * indicesARow) i₀)
+    unfolding mutualListing outcome
+    old-fits = go r refl
+      where
+        go : (a : ListingAnswer) → r ≡ a → listedRows a * largeIndicesARow ≤ length (i ++ drop (m * indicesARow) i₀)
+        go (Refused f) e = omega arith
+        go (Listed n k) e =
+            still-fits look ps few i₀ p₀ m is (λ c. firstFault (checks ++ (c ∷ []))) (last-fine checks) known r i p l w₀ n k e
 
     rows-added : (w : List ℕ) → w ≡ plus w₀ (addsBy r (i ++ drop (m * indicesARow) i₀)) → w ≡ plus w₀ (adds r (rowsOf look ps))
     unfolding mutualListing outcome
