@@ -78,7 +78,7 @@ returns c =
     let y = b .cut2 .ensures in
     mutual-boxed _ _ _ _ _ _ _ _ _ _ _ (x .path-is) (y .path-is) (x .names-are) (y .names-are) (x .count-is) (y .count-is)
     (s .pre)
-    _ _ _ _ _ _ _ _ (j .mutual-job .ensures) (l .list-boxed-large .ensures)
+    _ _ _ _ _ _ _ _ (j .mutual-job .ensures) (l .list-boxed-large .ensures .0)
 
 pub boxed-mutual-spec : {M : Type 1} → statement M
 boxed-mutual-spec =

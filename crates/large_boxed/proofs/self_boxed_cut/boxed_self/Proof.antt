@@ -57,7 +57,7 @@ returns c =
     let a = j .before .before .before in
     let x = a .cut .ensures in
     self-boxed _ _ _ _ _ _ (x .path-is) (x .names-are) (x .count-is) (start a .pre)
-    _ _ _ _ _ _ _ _ (j .self-job .ensures) (l .list-boxed-large .ensures)
+    _ _ _ _ _ _ _ _ (j .self-job .ensures) (l .list-boxed-large .ensures .0)
 
 pub boxed-self-spec : {M : Type 1} → statement M
 boxed-self-spec =

@@ -57,7 +57,7 @@ returns c =
     let a = j .before .before .before in
     let x = a .cut .ensures in
     self-listed _ _ _ _ _ _ (x .path-is) (x .names-are) (x .count-is) (start a .pre)
-    _ _ _ _ _ _ (j .self-job .ensures) (l .list-large .ensures)
+    _ _ _ _ _ _ (j .self-job .ensures) (l .list-large .ensures .0)
 
 pub list-self-spec : {M : Type 1} → statement M
 list-self-spec =

@@ -57,7 +57,7 @@ returns c =
     let a = j .before .before .before in
     let x = a .cut .ensures in
     self-paged _ _ _ _ _ _ (x .path-is) (x .names-are) (x .count-is) (start a .pre)
-    _ _ _ _ _ _ _ _ (j .self-job .ensures) (l .page-large .ensures)
+    _ _ _ _ _ _ _ _ (j .self-job .ensures) (l .page-large .ensures .0)
 
 pub page-self-spec : {M : Type 1} → statement M
 page-self-spec =
