@@ -22,8 +22,7 @@ pub use stored::{export_to, write};
 use model::Mode;
 use run::Run;
 
-use crate::capi::large::{vj_dxf_export_large, vj_dxf_import_large};
-use crate::capi::{vj_dxf_export, vj_dxf_import};
+use crate::capi::{vj_dxf_export, vj_dxf_export_large, vj_dxf_import, vj_dxf_import_large};
 
 /// After so many differences a run ends.
 const ENOUGH: u64 = 1000;

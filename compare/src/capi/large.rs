@@ -130,23 +130,6 @@ mod raw {
             report: *mut u64,
             report_room: usize,
         ) -> u64;
-        pub fn vj_dxf_import_large(
-            text: *const u8,
-            len: usize,
-            path: *mut f64,
-            path_room: usize,
-            told: *mut u64,
-            told_room: usize,
-        ) -> u64;
-        pub fn vj_dxf_export_large(
-            path: *const f64,
-            len: usize,
-            closed: bool,
-            text: *mut u8,
-            text_room: usize,
-            told: *mut u64,
-            told_room: usize,
-        ) -> u64;
     }
 }
 
@@ -371,35 +354,6 @@ pub fn vj_mutual_counted_large(
             counts.len(),
             report.as_mut_ptr(),
             report.len(),
-        )
-    }
-}
-
-/// The path of a drawing's body; tells its vertices, and whether it is closed.
-pub fn vj_dxf_import_large(text: &[u8], path: &mut [f64], told: &mut [u64]) -> u64 {
-    unsafe {
-        raw::vj_dxf_import_large(
-            text.as_ptr(),
-            text.len(),
-            path.as_mut_ptr(),
-            path.len(),
-            told.as_mut_ptr(),
-            told.len(),
-        )
-    }
-}
-
-/// The body of a path; tells its bytes.
-pub fn vj_dxf_export_large(path: (&[f64], bool), text: &mut [u8], told: &mut [u64]) -> u64 {
-    unsafe {
-        raw::vj_dxf_export_large(
-            path.0.as_ptr(),
-            path.0.len(),
-            path.1,
-            text.as_mut_ptr(),
-            text.len(),
-            told.as_mut_ptr(),
-            told.len(),
         )
     }
 }
