@@ -1,9 +1,10 @@
 # The checks of the gate, one function each. `.ci/run` calls them in order; `.ci/test` tests that each can fail.
 
 scratch=$(mktemp -d)
-trap 'end_trials; rm -rf "$scratch"' EXIT
+trap 'end_rest; rm -rf "$scratch"' EXIT
 quick=
-trials=
+trials= # the process that tries wrong functions, while it runs
+check=  # the longest run of the comparison, while it runs
 times=()
 
 fail() {
@@ -56,12 +57,13 @@ prove() {
     note_time "$start"
 }
 
-# Ends the trials, if they still run.
-end_trials() {
-    [ -n "$trials" ] || return 0
-    kill "$trials" 2> /dev/null || true
-    wait "$trials" || true
-    trials=
+# Ends what still runs if a check has failed.
+end_rest() {
+    local pid
+    for pid in $trials $check; do
+        kill "$pid" 2> /dev/null || true
+        wait "$pid" 2> /dev/null || true
+    done
 }
 
 # Proves what has changed, then the product that uses it, and tries the wrong functions at the same time. What only the comparison
@@ -308,6 +310,7 @@ build_comparison() {
     export RUSTFLAGS="-D warnings"
     quietly cargo build "${words[@]}" "${features[@]}" || fail "compare does not build"
     quietly cargo test "${words[@]}" "${features[@]}" "${packages[@]}" || fail "compare's own tests failed"
+    begin_comparison target/compare/release/compare
     note_time "$start"
 }
 
@@ -353,15 +356,22 @@ make_libraries() {
     done
 }
 
-# The comparison itself, two runs at a time. The quick gate takes a tenth of the inputs, but all texts and packed files that go
+# Begins the longest run of the comparison, which takes five times as long as all others: it runs beside the wrong functions. The
+# quick gate takes a tenth of the inputs.
+begin_comparison() {
+    local inputs=10485760
+    [ -z "$quick" ] || inputs=$((inputs / 10))
+    "$1" check "$inputs" > "$scratch/check" 2>&1 &
+    check=$!
+}
+
+# The other runs, and the end of the longest. The quick gate takes a tenth of the inputs, but all texts and packed files that go
 # through programs: they are few, and some kinds of them are rare.
 run_comparison() {
-    local compare=$1 inputs=10485760 pairs=4194304 arcs=11534336 texts=3072 movers=2048 check
+    local compare=$1 pairs=4194304 arcs=11534336 texts=3072 movers=2048
     if [ -n "$quick" ]; then
-        inputs=$((inputs / 10)) pairs=$((pairs / 10)) arcs=$((arcs / 10))
+        pairs=$((pairs / 10)) arcs=$((arcs / 10))
     fi
-    "$compare" check "$inputs" > "$scratch/check" 2>&1 &
-    check=$!
     "$compare" search "$pairs" || fail "an answer breaks what is promised on the grid"
     search_arcs "$compare" "$arcs"
     quietly "$compare" record "$scratch/list" || fail "compare record failed"
@@ -372,6 +382,7 @@ run_comparison() {
         cat "$scratch/check"
         fail "the library and Rust differ"
     }
+    check=
     cat "$scratch/check"
 }
 
