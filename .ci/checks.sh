@@ -80,7 +80,7 @@ prove_changed() {
         .ci/trials $changed > "$scratch/trials" 2>&1 &
         trials=$!
     fi
-    quietly rt check capi probe crossings pack unpack || fail "the product is not proved"
+    quietly rt check capi capi_large probe crossings pack unpack || fail "the product is not proved"
     if can_compare; then make_libraries; fi
     quietly rt check &
     rest=$!
