@@ -7,6 +7,7 @@ use mathlib.Core.Logic.{_↔_, _⊎_, inl, inr}
 use mathlib.Core.Bool.{Bool, true, false, true≢false}
 use mathlib.Core.List.{List, _++_}
 use native.Mathlib.Omega.{arith}
+use borrow.Author.Tests.{eqb-false}
 use lib.ListN.{length, take, drop, take-append-drop}
 use lib.Seq.{take-append-seam, drop-append-seam}
 use Rattle.layouts.specs.Layout.{Layout, Within}
@@ -30,7 +31,7 @@ pub begins-when : (line bytes : List ℕ) → (begins line bytes ≡ true) ↔ (
 begins-when line bytes = (
   first-bytes line bytes,
   λ e. ap (begins line) (sym (take-append-drop (length line) bytes) ∙ ap (λ (l : List ℕ). l ++ drop (length line) bytes) e)
-  ∙ begins-line line (drop (length line) bytes),
+      ∙ begins-line line (drop (length line) bytes),
 )
 
 -- ---- every input is of one of three kinds
@@ -89,7 +90,7 @@ missing-when input = (from (answered input), to (answered input))
     from (missing none e) is s = none s
     from (broken file i none e) is s = let same = refused-apart refusal lineMissing (sym e ∙ is) in omega (arith, same)
     from (listed l w i e) is s =
-        elim (lines-refused l w lineMissing (sym e ∙ is)) [ | inl same ↦ omega (arith, same) | inr same ↦ omega (arith, same) ]
+        elim (lines-refused l w lineMissing (sym e ∙ is)) [ inl same ↦ omega (arith, same) | inr same ↦ omega (arith, same) ]
 
     to : Answered input → (take (length firstLine) input ≡ firstLine → ⊥) → answerTo input ≡ refusedText lineMissing
     to (missing none e) no-line = e
@@ -147,7 +148,7 @@ pub never-ten : (input : List ℕ) → answerTo input ≡ refusedText 10 → ⊥
 never-ten input e = go (refusals input 10 e) refl
   where
     go : {n : ℕ} → Given n → n ≡ 10 → ⊥
-    go line is = omega (arith, is)
-    go file is = omega (arith, is)
-    go chord is = omega (arith, is)
-    go rows is = omega (arith, is)
+    go line is = eqb-false lineMissing 10 refl is
+    go file is = eqb-false refusal 10 refl is
+    go chord is = eqb-false Refusal.chord 10 refl is
+    go rows is = eqb-false Refusal.rows 10 refl is

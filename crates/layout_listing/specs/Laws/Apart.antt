@@ -21,11 +21,11 @@ spells : (m : ℕ) (t : List ℕ) → Spells m t
 unfolding value
 spells = by-digits Spells
     (λ m t small. let is : 0 * 10 + (48 + m - 48) ≡ m = omega arith in
-        rw (decimal-small m small) (ap (λ (k : ℕ). value k t) is))
+    rw (decimal-small m small) (ap (λ (k : ℕ). value k t) is))
     (λ m t large rest.
-        let is : m / 10 * 10 + (48 + m % 10 - 48) ≡ m = omega arith in
-        rw (decimal-large m large, append-assoc (decimal (m / 10)) ((48 + m % 10) ∷ []) t)
-        (rest ∙ ap (λ (k : ℕ). value k t) is))
+    let is : m / 10 * 10 + (48 + m % 10 - 48) ≡ m = omega arith in
+    rw (decimal-large m large, append-assoc (decimal (m / 10)) ((48 + m % 10) ∷ []) t)
+    (rest ∙ ap (λ (k : ℕ). value k t) is))
 
 -- what the text line of a refusal says, ten times
 abbrev said : List ℕ → ℕ

@@ -163,9 +163,10 @@ module _ (vs : List Vertex) (owner : ℕ) where
   shape-passes : length vs ≤ limit.vertices → shape (pathOf vs) owner ≡ Fine
   shape-passes few =
       let whole : length (pathOf vs) % 4 ≡ 0 = omega (arith, path-long vs) in
-      table.shape (pathOf vs) owner .fine .1
-      (ap not (eq-eqb (length (pathOf vs) % 4) 0 whole),
-      (le-ltb mostVertices (vertexCount (pathOf vs)) (omega (arith, few, as-many vs)), tt))
+      table.shape (pathOf vs) owner .fine .1 (
+        ap not (eq-eqb (length (pathOf vs) % 4) 0 whole),
+        (le-ltb mostVertices (vertexCount (pathOf vs)) (omega (arith, few, as-many vs)), tt),
+      )
 
 epsilon-passes : Each.epsilon epsilon ≡ Fine
 unfolding Each.epsilon refuse notFinite isInfinite isNan lt ofBits
