@@ -13,7 +13,6 @@ use Rattle.layouts.specs.Layout.{Layout, Within}
 use Rattle.layouts.specs.Numbers.{pathOf}
 use Rattle.layout_text.specs.Form.{textOf}
 use Rattle.layout_text.specs.Form as text_form
-use Rattle.layout_text.specs.Read as text_reader
 use Rattle.layout_text.specs.Exactly.{text-reads, read-is-text}
 use Rattle.layout_text.specs.Workings.Reader.{Taken, broken, layout, reads, linesOf, countOf, positiveOf, firstKind, kindOf}
 use Rattle.layout_packed.specs.Packed.{packedOf}
@@ -47,24 +46,24 @@ unpacked-same text file e = moving-same (unpack-is text file e)
 
 -- ---- 10 is the mover's: what had that answer, and nothing else, is refused so by `pack`
 
-pub ten-moved : (text : List ℕ) → (textAnswer text ≡ refusedText text_reader.refusal) ↔ (pack text ≡ refused text_reader.refusal)
+pub ten-moved : (text : List ℕ) → (textAnswer text ≡ refusedText text_form.refusal) ↔ (pack text ≡ refused text_form.refusal)
 unfolding textAnswer pack
 ten-moved text = (from (reads text) refl, to (reads text) refl)
   where
-    from : (t : Taken) → reads text ≡ t → textAnswerOf (reads text) ≡ refusedText text_reader.refusal
-        → packedOr (reads text) ≡ refused text_reader.refusal
+    from : (t : Taken) → reads text ≡ t → textAnswerOf (reads text) ≡ refusedText text_form.refusal
+        → packedOr (reads text) ≡ refused text_form.refusal
     from broken is e = ap packedOr is
     from (layout l) is e =
-        elim (lines-refused l (read-is-text text l is .1) text_reader.refusal (sym (ap textAnswerOf is) ∙ e)) [
+        elim (lines-refused l (read-is-text text l is .1) text_form.refusal (sym (ap textAnswerOf is) ∙ e)) [
           | inl same ↦ absurd (omega (arith, same))
           | inr same ↦ absurd (omega (arith, same))
         ]
 
-    to : (t : Taken) → reads text ≡ t → packedOr (reads text) ≡ refused text_reader.refusal
-        → textAnswerOf (reads text) ≡ refusedText text_reader.refusal
+    to : (t : Taken) → reads text ≡ t → packedOr (reads text) ≡ refused text_form.refusal
+        → textAnswerOf (reads text) ≡ refusedText text_form.refusal
     to broken is e = ap textAnswerOf is
     to (layout l) is e =
-        let both : bytes (packedOf l) ≡ refused text_reader.refusal = sym (ap packedOr is) ∙ e in
+        let both : bytes (packedOf l) ≡ refused text_form.refusal = sym (ap packedOr is) ∙ e in
         let z : _≡_ {A = ℕ} 0 1 = cc in
         absurd (omega (arith, z))
 

@@ -3,7 +3,7 @@
 use Prim.Native.Nat.{ℕ}
 use mathlib.Core.List.{List}
 use Rattle.layouts.specs.Numbers.{pathOf}
-use Rattle.layout_text.specs.Read.{refusal}
+use Rattle.layout_text.specs.Form.{refusal}
 use Rattle.layout_text.specs.Workings.Reader.{Taken, broken, layout, reads}
 use Rattle.answer_lines.specs.Lines.{refusedText}
 use Rattle.layout_listing.specs.Answer.{linesFor}
