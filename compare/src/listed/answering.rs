@@ -9,15 +9,17 @@ use crate::program::{Printed, Program, Way};
 use crate::rng::Rng;
 
 /// The room that the call asks for: a line of 128 bytes for the counts, and one for each row.
-const ROOM: usize = (MOST_ROWS + 1) * 128;
+pub const ROOM: usize = (MOST_ROWS + 1) * 128;
 
 pub enum Answering {
     Program(Program),
     Library(RefCell<Slices>),
 }
 
+type Call = Box<dyn Fn(&[u8], &mut [u8]) -> usize>;
+
 pub struct Slices {
-    call: fn(&[u8], &mut [u8]) -> usize,
+    call: Call,
     input: Input,
     out: Lent<u8>,
     rng: Rng,
@@ -25,10 +27,10 @@ pub struct Slices {
 
 impl Answering {
     pub fn library() -> Answering {
-        Answering::of_call(probe::vjp_list_layout)
+        Answering::of_call(Box::new(probe::vjp_list_layout))
     }
 
-    pub fn of_call(call: fn(&[u8], &mut [u8]) -> usize) -> Answering {
+    pub fn of_call(call: Call) -> Answering {
         Answering::Library(RefCell::new(Slices {
             call,
             input: Input::new(),
