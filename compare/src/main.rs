@@ -28,6 +28,7 @@ mod large;
 mod lent;
 #[cfg(feature = "rust-text")]
 mod listed;
+#[cfg(feature = "rust-text")]
 mod listings;
 mod met;
 #[cfg(feature = "rust-text")]
@@ -52,7 +53,6 @@ mod stack;
 mod tally;
 #[cfg(feature = "rust-text")]
 mod text;
-#[cfg(feature = "rust-text")]
 mod vertex;
 mod views;
 
