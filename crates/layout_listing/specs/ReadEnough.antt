@@ -1,18 +1,13 @@
 -- The program reads one byte more than a packed file may have after its first line, and no more. Its answer to that is its answer
 -- to the whole input, of whatever length: bytes behind those are not read, and would change nothing.
-use Prim.Native.Nat.{ℕ, suc, _+_, _≤_, _<_}
-use mathlib.Core.Path.{_≡_, refl, sym, ap, _∙_}
-use mathlib.Core.Bool.{Bool, true, false}
-use mathlib.Core.List.{List, [], _∷_, _++_}
+use Prim.Native.Nat.{ℕ, suc, _+_, _<_}
+use mathlib.Core.Path.{_≡_, refl}
+use mathlib.Core.List.{List}
 use native.Mathlib.Omega.{arith}
 use lib.ListN.{length, take, drop}
-use lib.Seq.{take-append-add}
 use Rattle.layout_packed.specs.Limits.{packedBytes, longest}
-use Rattle.layout_packed.specs.Packed.{packedOf}
 use Rattle.layout_packed.specs.Lengths as lengths
-use Rattle.layout_packed.specs.Workings.Reader.{readsPacked}
-use Rattle.answer_lines.specs.Lines.{refusedText}
-use Rattle.layout_listing.specs.Answer.{answerOf, firstLine, lineMissing, begins, answerTo, inputBytes}
+use Rattle.layout_listing.specs.Answer.{firstLine, answerTo, inputBytes}
 use Rattle.layout_listing.specs.Laws.Begins.{begins-take, drop-take}
 
 -- the program's buffer has 8,200 bytes

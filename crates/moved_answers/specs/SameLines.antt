@@ -16,7 +16,7 @@ use Rattle.layout_text.specs.Form as text_form
 use Rattle.layout_text.specs.Exactly.{text-reads, read-is-text}
 use Rattle.layout_text.specs.Workings.Reader.{Taken, broken, layout, reads, linesOf, countOf, positiveOf, firstKind, kindOf}
 use Rattle.layout_packed.specs.Packed.{packedOf}
-use Rattle.layout_moves.specs.Moves.{Given, bytes, refused, pack, packedOr, unpack}
+use Rattle.layout_moves.specs.Moves.{bytes, refused, pack, packedOr, unpack}
 use Rattle.layout_moves.specs.BackAndForth.{Moving, pack-is, unpack-is}
 use Rattle.answer_lines.specs.Lines.{refusedText}
 use Rattle.layout_listing.specs.Answer.{linesFor, firstLine, lineMissing, answerTo}

@@ -7,9 +7,8 @@ use mathlib.Core.List.{List, [], _∷_, _++_}
 use Prim.Native.Nat.{ℕ, zero, suc, _+_, _*_, _%_, _≤_, _<_}
 use native.Mathlib.Omega.{arith}
 use borrow.Author.Tests.{le-ltb, eq-eqb}
-use lib.IntN.{pos}
 use lib.ListN.{length, getD}
-use lib.Ieee.{Float, nan, inf, fin, binary64, ofBits, ofFields, isNan, lt}
+use lib.Ieee.{Float, nan, inf, fin, ofBits, ofFields, isNan, lt}
 use lib.Ieee.Exact.{HasValue}
 use lib.Ieee.Order.{le-of-values}
 use Rattle.floats.specs.F64
@@ -46,8 +45,7 @@ use Rattle.listing_pairs.specs.declared.row.Row.{Row}
 use Rattle.listing_pairs.specs.Look.{tracedLook}
 use Rattle.listing_pairs.specs.Order.{mutualPairs}
 use Rattle.listing_pairs.specs.Rows.{rowsOf, lookedAt}
-use Rattle.listing_outcomes.specs.declared.answer.ListingAnswer.{ListingAnswer}
-use Rattle.listing_outcomes.specs.declared.answer.ListingAnswer.the-variants.{Refused, Listed}
+use Rattle.listing_outcomes.specs.declared.answer.ListingAnswer.the-variants.{Refused}
 use Rattle.listing_outcomes.specs.Outcome.{roomCheck, listedOf, outcome}
 use Rattle.listing_calls.specs.Listing.{mutualChecks, mutualListing}
 use Rattle.layout_listing.specs.Answer.{epsilon, noIndices, noPoints, listing}

@@ -5,7 +5,9 @@ use Rattle.probe.proofs.layouts.vjp_list_layout.Statement.{statement}
 use Rattle.probe.proofs.layouts.vjp_list_layout.Tie as tie
 
 returns : tie.Need-returns
-returns c = search listed-told
+returns c =
+    let list = c .before .before .before in
+    listed-told _ _ (list .list-layout .ensures) (c .bytes-of .ensures)
 
 pub vjp-list-layout-spec : {M : Type 1} → statement M
 vjp-list-layout-spec = tie.close (tie.spec (λ c. search needs) (λ c. search needs) (λ c. search needs) returns)
