@@ -111,7 +111,11 @@ impl Run {
             b"packed\x0b",
         ];
         lines.extend(others.map(<[u8]>::to_vec));
-        let files = [Vec::new(), Run::example(), b"2 2\n0 0 0\n4 0 0\n2 -2 0\n2 2 0\n".to_vec()];
+        let files = [
+            Vec::new(),
+            Run::example(),
+            b"2 2\n0 0 0\n4 0 0\n2 -2 0\n2 2 0\n".to_vec(),
+        ];
         for line in lines {
             for file in &files {
                 self.once(group, &[line.as_slice(), file].concat())?;
@@ -148,7 +152,14 @@ impl Run {
         let without = self.score.group("very long, without the line", Some(16));
         let alone = self.score.group("the longest packed form", Some(5));
         self.once(alone, &input(&longest_packed()))?;
-        let lengths = [LONGEST - 1, LONGEST, LONGEST + 1, MOST_BYTES - 1, MOST_BYTES, MOST_BYTES + 1];
+        let lengths = [
+            LONGEST - 1,
+            LONGEST,
+            LONGEST + 1,
+            MOST_BYTES - 1,
+            MOST_BYTES,
+            MOST_BYTES + 1,
+        ];
         for bytes in lengths.into_iter().chain([MOST_BYTES + 2, 20_000, 100_000]) {
             for filler in [0, 0x80, 0xff, b'\n', b'p'] {
                 for file in [Vec::new(), Run::example(), packed(&longest_packed())] {
@@ -167,8 +178,11 @@ impl Run {
     fn endless(&mut self) -> Result<(), String> {
         let behind = self.score.group("without end, behind the line", Some(18));
         let without = self.score.group("without end, without the line", Some(16));
+        // the model gets more bytes than decide
+        const ENOUGH: usize = 20_000;
         for byte in [0xff, 0x80, 0, b'\n', b'p'] {
             for file in [Vec::new(), Run::example()] {
+                let file = lengthened(&file, ENOUGH, &[byte]);
                 let input = behind_line(&file);
                 self.score.compare(behind, &input, Way::Endless(byte))?;
                 self.score.compare(without, &file, Way::Endless(byte))?;

@@ -27,7 +27,17 @@ fn first_lines() {
     assert_eq!(printed(&behind_line(&file)), expected);
     assert_eq!(printed(b"packed\n\0\0"), "pairs 0 rows 0\n");
     assert_eq!(input(&Sheet::default()), b"packed\n\0\0");
-    for line in ["", "p", "packed", "packed\r\n", "Packed\n", "PACKED\n", " packed\n", "packed \n", "\n"] {
+    for line in [
+        "",
+        "p",
+        "packed",
+        "packed\r\n",
+        "Packed\n",
+        "PACKED\n",
+        " packed\n",
+        "packed \n",
+        "\n",
+    ] {
         let input = [line.as_bytes(), &file].concat();
         assert_eq!(printed(&input), "refused 16\n", "{line:?}");
         assert_eq!(printed(line.as_bytes()), "refused 16\n", "{line:?}");

@@ -208,11 +208,20 @@ impl Kinds {
                 s.is_broken() && s.bytes() == bytes
             });
         }
-        for bytes in [LONGEST, LONGEST + 1, MOST_BYTES - 1, MOST_BYTES, MOST_BYTES + 1] {
+        for bytes in [
+            LONGEST,
+            LONGEST + 1,
+            MOST_BYTES - 1,
+            MOST_BYTES,
+            MOST_BYTES + 1,
+        ] {
             for byte in [0, 0x80, 0xff] {
-                self.add(format!("broken, {bytes} bytes that end in {byte}"), move |s| {
-                    s.is_broken() && s.bytes() == bytes && s.case.input.last() == Some(&byte)
-                });
+                self.add(
+                    format!("broken, {bytes} bytes that end in {byte}"),
+                    move |s| {
+                        s.is_broken() && s.bytes() == bytes && s.case.input.last() == Some(&byte)
+                    },
+                );
             }
         }
         self.add("broken, more than a pipe holds", |s| {
@@ -230,21 +239,26 @@ impl Kinds {
     /// What stands in the place of the first line.
     fn of_lines(&mut self) {
         for end in 0..LINE.len() {
-            self.add(format!("the first {end} bytes of the line, alone"), move |s| {
-                s.is_missing() && s.case.input == &LINE[..end]
-            });
-            self.add(format!("the first {end} bytes of the line, and a layout"), move |s| {
-                s.is_missing() && s.is_behind(&LINE[..end])
-            });
+            self.add(
+                format!("the first {end} bytes of the line, alone"),
+                move |s| s.is_missing() && s.case.input == &LINE[..end],
+            );
+            self.add(
+                format!("the first {end} bytes of the line, and a layout"),
+                move |s| s.is_missing() && s.is_behind(&LINE[..end]),
+            );
         }
         for at in 0..LINE.len() {
-            self.add(format!("byte {at} of the line changed, and a layout"), move |s| {
-                let Some(front) = s.case.input.get(..LINE.len()) else {
-                    return false;
-                };
-                let others = (0..LINE.len()).filter(|place| front[*place] != LINE[*place]);
-                s.is_missing() && s.is_behind(front) && others.eq([at])
-            });
+            self.add(
+                format!("byte {at} of the line changed, and a layout"),
+                move |s| {
+                    let Some(front) = s.case.input.get(..LINE.len()) else {
+                        return false;
+                    };
+                    let others = (0..LINE.len()).filter(|place| front[*place] != LINE[*place]);
+                    s.is_missing() && s.is_behind(front) && others.eq([at])
+                },
+            );
         }
         let fronts: [(&str, &[u8]); 9] = [
             ("a line in capital letters", b"PACKED\n"),

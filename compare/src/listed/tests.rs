@@ -52,19 +52,28 @@ fn wrong_lines() {
             Some(sheet) => of_sheet(&sheet).printed(),
             None => right(input),
         }),
-        ("a packed file is taken without its line", |input| match packed::sheet(input) {
-            Ok(sheet) => of_sheet(&sheet).printed(),
-            Err(_) => right(input),
-        }),
+        (
+            "a packed file is taken without its line",
+            |input| match packed::sheet(input) {
+                Ok(sheet) => of_sheet(&sheet).printed(),
+                Err(_) => right(input),
+            },
+        ),
         ("18 before 16", |input| match packed::sheet(input) {
             Err(_) if !has_line(input) => "refused 18\n".to_string(),
             _ => right(input),
         }),
-        ("10 for 16", |input| right(input).replace("refused 16", "refused 10")),
-        ("10 for 18", |input| right(input).replace("refused 18", "refused 10")),
-        ("the line in any case", |input| match input.get(..LINE.len()) {
-            Some(line) if line.eq_ignore_ascii_case(LINE) => behind(input, LINE.len()),
-            _ => right(input),
+        ("10 for 16", |input| {
+            right(input).replace("refused 16", "refused 10")
+        }),
+        ("10 for 18", |input| {
+            right(input).replace("refused 18", "refused 10")
+        }),
+        ("the line in any case", |input| {
+            match input.get(..LINE.len()) {
+                Some(line) if line.eq_ignore_ascii_case(LINE) => behind(input, LINE.len()),
+                _ => right(input),
+            }
         }),
         ("the newline is optional", |input| {
             let word = &LINE[..LINE.len() - 1];
@@ -73,9 +82,11 @@ fn wrong_lines() {
                 false => right(input),
             }
         }),
-        ("a carriage return is taken", |input| match input.starts_with(b"packed\r\n") {
-            true => behind(input, LINE.len() + 1),
-            false => right(input),
+        ("a carriage return is taken", |input| {
+            match input.starts_with(b"packed\r\n") {
+                true => behind(input, LINE.len() + 1),
+                false => right(input),
+            }
         }),
         ("blanks before the line are skipped", |input| {
             right(input.trim_ascii_start())
@@ -86,17 +97,21 @@ fn wrong_lines() {
                 false => right(input),
             }
         }),
-        ("an empty input is an empty file", |input| match input.is_empty() {
-            true => "refused 18\n".to_string(),
-            false => right(input),
+        ("an empty input is an empty file", |input| {
+            match input.is_empty() {
+                true => "refused 18\n".to_string(),
+                false => right(input),
+            }
         }),
         ("the line alone has no file", |input| match input == LINE {
             true => "refused 16\n".to_string(),
             false => right(input),
         }),
-        ("the line may stand twice", |input| match input.starts_with(&LINE.repeat(2)) {
-            true => right(&input[LINE.len()..]),
-            false => right(input),
+        ("the line may stand twice", |input| {
+            match input.starts_with(&LINE.repeat(2)) {
+                true => right(&input[LINE.len()..]),
+                false => right(input),
+            }
         }),
         ("only the first byte is looked at", |input| match input {
             [b'p', _, _, _, _, _, _, ..] => behind(input, LINE.len()),
@@ -132,8 +147,12 @@ fn wrong_files() {
                 false => right(input),
             }
         }),
-        ("5 comes after 8", |input| right(input).replace("refused 5", "refused 8")),
-        ("no last newline", |input| right(input).trim_end().to_string()),
+        ("5 comes after 8", |input| {
+            right(input).replace("refused 5", "refused 8")
+        }),
+        ("no last newline", |input| {
+            right(input).trim_end().to_string()
+        }),
     ];
     for (name, says) in wrong {
         assert_ne!(differences(saying(says)), 0, "{name}");
