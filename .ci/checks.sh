@@ -152,9 +152,10 @@ check_scripts() {
 check_stored() {
     local start=$SECONDS
     check_replay crates/replay
-    check_layouts target/bin/crossings layouts
-    check_streams target/bin/crossings layouts/two_coils.txt layouts/two_coils.out
     check_packed target/bin/pack target/bin/unpack layouts
+    check_layouts target/bin/crossings layouts
+    behind_line layouts/packed/two_coils.packed
+    check_streams target/bin/crossings "$scratch/input" layouts/two_coils.out
     check_streams target/bin/pack layouts/two_coils.txt layouts/packed/two_coils.packed
     check_streams target/bin/unpack layouts/packed/two_coils.packed layouts/two_coils.txt
     [ -n "$quick" ] || check_replaying
@@ -170,33 +171,60 @@ check_replay() {
     say "replayed $records records"
 }
 
-# Runs the text program on the stored layouts and compares the answers byte for byte. It needs no Rust: the answers, which a model
-# in Rust wrote, are stored.
+# Runs the program that lists on the stored layouts and compares the answers byte for byte. Behind the first line a layout's packed
+# form has its stored answer, and a broken file is refused with 18; a text, and a packed file without the line, with 16. That the
+# packed files are what pack makes of the texts, check_packed sees. It needs no Rust: the answers, which a model in Rust wrote, are
+# stored.
 check_layouts() {
-    local program=$1 texts=("$2"/*.txt) answers=("$2"/*.out) text answer
-    [ -f "${texts[0]}" ] || fail "no layouts are stored"
-    for text in "${texts[@]}"; do
-        answer=${text%.txt}.out
-        "$program" < "$text" > "$scratch/answer" || fail "$program failed on $text"
-        cmp "$scratch/answer" "$answer" || fail "$program does not answer $text with $answer"
+    local program=$1 answers=("$2"/*.out) texts=("$2"/*.txt) files=("$2"/packed/*.packed) text file answer listed=0 broken=0
+    [ -f "${answers[0]}" ] || fail "no layouts are stored"
+    echo "refused 16" > "$scratch/without"
+    echo "refused 18" > "$scratch/broken"
+    for file in "${files[@]}"; do
+        answer=${file##*/}
+        answer=$2/${answer%.packed}.out
+        if [ -e "${file%.packed}.expected" ]; then
+            answer=$scratch/broken
+            broken=$((broken + 1))
+        else
+            listed=$((listed + 1))
+        fi
+        behind_line "$file"
+        check_answer "$program" "$scratch/input" "$answer" "$file behind the line"
+        check_answer "$program" "$file" "$scratch/without" "$file"
     done
-    [ ${#texts[@]} = ${#answers[@]} ] || fail "there are answers in $2 without a text"
-    say "ran ${#texts[@]} stored layouts"
+    for text in "${texts[@]}"; do
+        check_answer "$program" "$text" "$scratch/without" "$text"
+    done
+    [ "$listed" -gt 0 ] && [ "$broken" -gt 0 ] || fail "of some sort no packed file is stored in $2"
+    [ ${#answers[@]} = "$listed" ] || fail "there are answers in $2 without a packed file"
+    say "listed $listed stored layouts; refused $broken packed files, ${#files[@]} without a line and ${#texts[@]} texts"
+}
+
+# The input that has a packed file, in the scratch folder.
+behind_line() {
+    { echo packed && cat "$1"; } > "$scratch/input"
+}
+
+# Runs a program on an input, and compares its standard output with a file.
+check_answer() {
+    "$1" < "$2" > "$scratch/answer" || fail "$1 failed on $4"
+    cmp "$scratch/answer" "$3" || fail "$1 does not answer $4 with $3"
 }
 
 # Runs the two programs that move layouts on the stored texts and packed files, and compares all that they write. A text of the
 # form has its packed form in packed/: each is moved to the other, and there and back, also if a listing refuses the layout. A
-# text that breaks the form has none, and pack says on standard error what the text program answers. Every other packed file is
-# broken, and beside it stands what unpack says. It needs no Rust.
+# text that breaks the form has none, and beside it stands what pack says on standard error. Every other packed file is broken, and
+# beside it stands what unpack says. It needs no Rust.
 check_packed() {
     local pack=$1 unpack=$2 texts=("$3"/*.txt) files=("$3"/packed/*.packed) says=("$3"/packed/*.expected)
-    local text file moved=0 refused=0 broken=0
+    local text file moved=0 refused=0 broken=0 told=("$3"/*.expected)
     [ -f "${texts[0]}" ] || fail "no layouts are stored"
     for text in "${texts[@]}"; do
         file=${text##*/}
         file=$3/packed/${file%.txt}.packed
-        if [ "$(cat "${text%.txt}.out")" = "refused 10" ]; then
-            check_mover "$pack" "$text" /dev/null "${text%.txt}.out"
+        if [ -e "${text%.txt}.expected" ]; then
+            check_mover "$pack" "$text" /dev/null "${text%.txt}.expected"
             [ ! -e "$file" ] || fail "$file is there, and its text breaks the form"
             refused=$((refused + 1))
         else
@@ -216,6 +244,7 @@ check_packed() {
     [ "$moved" -gt 0 ] && [ "$refused" -gt 0 ] && [ "$broken" -gt 0 ] || fail "of some sort nothing is stored in $3"
     [ "${#files[@]}" = $((moved + broken)) ] || fail "there are packed files in $3 without a text, or with one too many"
     [ "${#says[@]}" = "$broken" ] || fail "there are refusals in $3 without a packed file"
+    [ "${#told[@]}" = "$refused" ] || fail "there are refusals in $3 without a text"
     say "moved $moved stored layouts to packed and back; refused $refused texts and $broken packed files"
 }
 
@@ -377,7 +406,7 @@ run_comparison() {
     quietly "$compare" record "$scratch/list" || fail "compare record failed"
     check_list "$scratch/list" crates/replay/stdin
     compare_movers "$compare" "$movers"
-    compare_texts "$compare" "$texts"
+    compare_listed "$compare" "$texts" $((inputs / 40))
     wait "$check" || {
         cat "$scratch/check"
         fail "the library and Rust differ"
@@ -395,13 +424,15 @@ search_arcs() {
     sed -n '/ pairs with arcs judged, /p' "$scratch/arcs"
 }
 
-# Compares the text program with a model of it over the Rust text, and makes the stored answers again.
-compare_texts() {
+# Compares the program that lists with a model of it over the Rust text, and on more inputs the call that it makes; and makes the
+# stored answers again.
+compare_listed() {
     if [ ${#features[@]} = 0 ]; then
-        say "no Rust text: THE TEXT PROGRAM WAS NOT COMPARED WITH A MODEL"
+        say "no Rust text: THE PROGRAM THAT LISTS WAS NOT COMPARED WITH A MODEL"
         return
     fi
-    "$1" texts target/bin/crossings "$2" || fail "the text program and its model differ"
+    "$1" listed target/bin/crossings "$2" || fail "the program that lists and its model differ"
+    "$1" listed library "$3" || fail "the call of the program that lists and its model differ"
     mkdir "$scratch/layouts"
     cp layouts/*.txt "$scratch/layouts"
     quietly "$1" layouts "$scratch/layouts" || fail "compare layouts failed"
@@ -419,6 +450,10 @@ compare_movers() {
     cp layouts/packed/broken_*.packed "$scratch/moved/packed"
     quietly "$1" packed-layouts "$scratch/moved" || fail "compare packed-layouts failed"
     diff -r "$scratch/moved/packed" layouts/packed || fail "layouts/packed is not what 'compare packed-layouts' writes"
+    local told
+    for told in layouts/*.expected; do
+        cmp "$scratch/moved/${told##*/}" "$told" || fail "$told is not what 'compare packed-layouts' writes"
+    done
 }
 
 # The stored list must be the one that is made here. Without the Rust text only its first part can be made: the answers of the

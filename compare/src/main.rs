@@ -26,6 +26,8 @@ mod large;
 #[cfg(feature = "rust-text")]
 mod lent;
 #[cfg(feature = "rust-text")]
+mod listed;
+#[cfg(feature = "rust-text")]
 mod listings;
 mod met;
 #[cfg(feature = "rust-text")]
@@ -50,8 +52,6 @@ mod stack;
 mod tally;
 #[cfg(feature = "rust-text")]
 mod text;
-#[cfg(feature = "rust-text")]
-mod texts;
 mod vertex;
 mod views;
 
@@ -115,12 +115,13 @@ usage: compare check [COUNT [SEED]]  compare each float function on COUNT random
        compare arcs cures [COUNT [SEED]]
                                      ask again about the missed ones of COUNT pairs, in other ways; and up to which distance
                                      short parallel lines are reported
-       compare texts PROGRAM [COUNT [SEED]]
-                                     hold the text program to a model on COUNT texts (default 3072, seed 1), of the right
-                                     form and damaged, and on small ones with every damage of a byte
-       compare layouts FOLDER        write the model's output NAME.out for each text NAME.txt there
-       compare packed-layouts FOLDER write packed/NAME.packed for each text NAME.txt of the form there, and packed/NAME.expected
-                                     for each packed/NAME.packed that is no layout
+       compare listed PROGRAM [COUNT [SEED]]
+                                     hold the program that lists to a model on COUNT inputs (default 3072, seed 1): layouts in
+                                     their packed form, damaged files, texts; and on every damage of a byte of the first
+                                     line. If PROGRAM is the word library, its call is asked instead, in one process
+       compare layouts FOLDER        write the model's output NAME.out for each text NAME.txt of the form there
+       compare packed-layouts FOLDER write packed/NAME.packed for each text NAME.txt of the form there, NAME.expected for each
+                                     other text, and packed/NAME.expected for each packed/NAME.packed that is no layout
        compare record FILE           write the recorded list for the program replay
        compare bench [PART...]       nanoseconds of processor time a call or a pair, ours beside the machine's own and the Rust's,
                                      the least of five rounds or more by turns; all parts, or some of: floats calls findings
@@ -131,7 +132,7 @@ const ON_AN_EDGE: u64 = 1 << 20;
 const SEARCHED: u64 = 24 << 20;
 const SEARCHED_ARCS: u64 = 11 << 20;
 const CLIMBED: u64 = 1 << 20;
-const TEXTS: u64 = 3072;
+const LISTED: u64 = 3072;
 const MOVED: u64 = 2048;
 const EXPORTED: u64 = 1024;
 const SEED: u64 = 1;
@@ -162,7 +163,7 @@ fn main() -> ExitCode {
         ["arcs", "climb", ref numbers @ ..] => climb_arcs(numbers),
         ["arcs", "cures", ref numbers @ ..] => cure_arcs(numbers),
         ["arcs", ref numbers @ ..] => search_arcs(numbers),
-        ["texts", program, ref numbers @ ..] => texts(program, numbers),
+        ["listed", program, ref numbers @ ..] => listed(program, numbers),
         ["layouts", folder] => layouts(Path::new(folder)),
         ["record", file] => record(file),
         ["bench"] => time(&BENCHES),
@@ -293,8 +294,8 @@ fn movers(folder: &Path, numbers: &[&str]) -> Result<(), String> {
 }
 
 fn packed_layouts(folder: &Path) -> Result<(), String> {
-    let packed::Written { packed, refused } = packed::write(folder)?;
-    println!("{packed} packed layouts, {refused} files that are refused");
+    let packed::Written { packed, texts, files } = packed::write(folder)?;
+    println!("{packed} packed layouts, {texts} texts and {files} files that are refused");
     Ok(())
 }
 
@@ -326,8 +327,8 @@ fn cure_arcs(numbers: &[&str]) -> Result<(), String> {
     Ok(())
 }
 
-fn texts(program: &str, numbers: &[&str]) -> Result<(), String> {
-    let (count, seed) = count_and_seed(numbers, TEXTS)?;
+fn listed(program: &str, numbers: &[&str]) -> Result<(), String> {
+    let (count, seed) = count_and_seed(numbers, LISTED)?;
     match check_program(program, count, seed)? {
         0 => Ok(()),
         differences => Err(format!("{differences} differences")),
@@ -523,7 +524,7 @@ fn time_listings() {}
 
 #[cfg(feature = "rust-text")]
 fn check_program(program: &str, count: u64, seed: u64) -> Result<u64, String> {
-    texts::check(program, count, seed)
+    listed::check(program, count, seed)
 }
 
 #[cfg(not(feature = "rust-text"))]
@@ -533,7 +534,7 @@ fn check_program(_program: &str, _count: u64, _seed: u64) -> Result<u64, String>
 
 #[cfg(feature = "rust-text")]
 fn layouts(folder: &Path) -> Result<(), String> {
-    println!("{} layouts", texts::write(folder)?);
+    println!("{} layouts", listed::write(folder)?);
     Ok(())
 }
 

@@ -3,12 +3,12 @@
 
 mod ask;
 mod bench;
-mod damage;
-mod draw;
+pub mod damage;
+pub mod draw;
 mod examples;
 mod kinds;
 pub mod lent;
-mod model;
+pub mod model;
 mod movers;
 mod plain;
 mod run;

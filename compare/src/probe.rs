@@ -117,6 +117,8 @@ mod raw {
             told: *mut u64,
             places: usize,
         ) -> u64;
+        #[cfg(feature = "rust-text")]
+        pub fn vjp_list_layout(input: *const u8, bytes: usize, out: *mut u8, room: usize) -> usize;
     }
 }
 
@@ -212,4 +214,10 @@ pub fn vjp_read_packed(
             told.len(),
         )
     }
+}
+
+/// An input of the program that lists; the answer goes into a slice.
+#[cfg(feature = "rust-text")]
+pub fn vjp_list_layout(input: &[u8], out: &mut [u8]) -> usize {
+    unsafe { raw::vjp_list_layout(input.as_ptr(), input.len(), out.as_mut_ptr(), out.len()) }
 }

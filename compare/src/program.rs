@@ -12,6 +12,9 @@ pub enum Way {
     AtOnce,
     /// In this many pieces, with a pause after each, so that it cannot be read at once.
     InPieces(usize),
+    /// And then this byte again and again, until the program ends.
+    #[cfg(feature = "rust-text")]
+    Endless(u8),
 }
 
 const PAUSE: Duration = Duration::from_millis(2);
@@ -71,6 +74,15 @@ impl Program {
 fn feed(mut input: impl Write, bytes: &[u8], way: Way) -> io::Result<()> {
     let written = match way {
         Way::AtOnce => input.write_all(bytes),
+        #[cfg(feature = "rust-text")]
+        Way::Endless(byte) => {
+            let more = [byte; 4096];
+            let mut written = input.write_all(bytes);
+            while written.is_ok() {
+                written = input.write_all(&more);
+            }
+            written
+        }
         Way::InPieces(pieces) => {
             let size = bytes.len() / pieces + 1;
             bytes.chunks(size).try_for_each(|piece| {

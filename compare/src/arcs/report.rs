@@ -27,7 +27,7 @@ const FINE: usize = 3;
 /// Radii by powers of two: a band has the radii from 2^k on, the first one those from 0 on.
 const BANDS: usize = 37;
 
-/// The text program's epsilon.
+/// The epsilon of the program that lists.
 const PROGRAM: f64 = GRID_EPSILON;
 
 const SHOWN: u64 = 5;

@@ -90,7 +90,7 @@ fn examples_d_to_l() {
     assert_eq!(l, Some((2, vec![1.0, 0.0])));
 }
 
-/// The text program's example.
+/// The example of the program that lists.
 #[test]
 fn one_pair_one_row() {
     let first = line([0.0, 0.0], [4.0, 0.0]);

@@ -374,7 +374,6 @@ mod tests {
             },
             // read once
             |input, way, printed| match way {
-                Way::AtOnce => printed,
                 Way::InPieces(pieces) => {
                     let first = input.chunks(input.len() / pieces + 1).next();
                     let first = first.unwrap_or_default();
@@ -385,6 +384,7 @@ mod tests {
                         false => printed,
                     }
                 }
+                _ => printed,
             },
             // nothing at all for a long input
             |input, _, printed| match input.len() {

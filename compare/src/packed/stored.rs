@@ -1,5 +1,5 @@
-//! The stored packed files, for a gate without Rust: of each stored text of the form its packed form, and of each stored file that
-//! is no layout what `unpack` says of it.
+//! The stored packed files, for a gate without Rust: of each stored text of the form its packed form, of each other text what
+//! `pack` says of it, and of each stored file that is no layout what `unpack` says of it.
 
 use std::fs;
 use std::path::{Path, PathBuf};
@@ -13,15 +13,20 @@ const PACKED: &str = "packed";
 #[derive(Debug, Default, PartialEq)]
 pub struct Written {
     pub packed: usize,
-    pub refused: usize,
+    /// Of texts and of files that are refused.
+    pub texts: usize,
+    pub files: usize,
 }
 
-/// Writes packed/NAME.packed for each NAME.txt of the folder that has the form, and packed/NAME.expected for each
-/// packed/NAME.packed that is no layout. Fails if there are none of either, or if a file is left over that neither is.
+/// Writes packed/NAME.packed for each NAME.txt of the folder that has the form, NAME.expected for each other one, and
+/// packed/NAME.expected for each packed/NAME.packed that is no layout. Fails if there are none of some sort, or if a file is left
+/// over that is of none.
 pub fn write(folder: &Path) -> Result<Written, String> {
     let mut written = Written::default();
     for path in files(folder, "txt")? {
         let Some(packed) = model::pack(&read(&path)?) else {
+            save(&path.with_extension("expected"), b"refused 10\n")?;
+            written.texts += 1;
             continue;
         };
         let to = folder.join(PACKED).join(path.file_name().expect("a file"));
@@ -40,11 +45,11 @@ pub fn write(folder: &Path) -> Result<Written, String> {
             Err(fault) => {
                 let says = format!("refused 18 at {}\n", fault.offset);
                 save(&path.with_extension("expected"), says.as_bytes())?;
-                written.refused += 1;
+                written.files += 1;
             }
         }
     }
-    if written.packed == 0 || written.refused == 0 {
+    if [written.packed, written.texts, written.files].contains(&0) {
         return Err(format!("{}: {written:?}", folder.display()));
     }
     Ok(written)

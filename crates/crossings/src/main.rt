@@ -1,11 +1,12 @@
-// Lists where the two paths of a layout meet: it reads the layout's text from standard input and writes the listing's text to
-// standard output. If a read or a write fails, it says so in one text line on standard error.
+// Lists where the two paths of a layout meet: it reads the text line "packed" and then a packed file from standard input, and
+// writes the listing's text to standard output. If a read or a write fails, it says so in one text line on standard error.
 use answer_lines::Written;
 
 fn main() {
-    // one byte more than a text may have, so that a longer text is noticed
-    let mut text = [0u8; layout_text::BYTES + 1];
-    let input = streams::read_full(&mut text);
+    // one byte more than an input may have: no more are read, and those behind would not change the answer (`read-enough` of
+    // layout_listing/specs/ReadEnough.antt)
+    let mut bytes = [0u8; layout_listing::BYTES + 1];
+    let input = streams::read_full(&mut bytes);
     if input.failed {
         io::write_all(
             libc::STDERR_FILENO,
@@ -14,14 +15,14 @@ fn main() {
         return;
     }
     let n = input.bytes;
-    answer(&text[..n]);
+    answer(&bytes[..n]);
 }
 
-// Writes the answer to a text. There is room for the longest answer, so the end of this function is never reached: `answer-whole`
-// of layout_listing/specs/Room.antt proves it for every text.
-fn answer(text: &[u8]) {
+// Writes the answer to an input. There is room for the longest answer, so the end of this function is never reached:
+// `answer-whole` of layout_listing/specs/Room.antt proves it for every input.
+fn answer(input: &[u8]) {
     let mut out = [0u8; layout_listing::ROOM];
-    let written = layout_listing::list_layout(text, &mut out);
+    let written = layout_listing::list_layout(input, &mut out);
     match written {
         Written::Length(n) => {
             if n <= out.len() {

@@ -9,7 +9,7 @@ use lib.Dec.{ltb}
 use lib.ListN.{length}
 use lib.Seq.{sets}
 use Rattle.layout_text.specs.Form.{textOf}
-use Rattle.layout_text.specs.Read as text_reader
+use Rattle.layout_text.specs.Form as text_form
 use Rattle.layout_text.specs.Sizes as text_sizes
 use Rattle.layout_text.specs.Workings.Reader.{Taken, reads}
 use Rattle.layout_packed.specs.Packed.{packedOf}
@@ -27,7 +27,7 @@ pub data Given : Type 0 where
   refusedAt : ℕ → ℕ → Given
 
 abbrev pub packedOr : Taken → Given
-packedOr Taken.broken = refused text_reader.refusal
+packedOr Taken.broken = refused text_form.refusal
 packedOr (Taken.layout l) = bytes (packedOf l)
 
 abbrev pub textOr : Unpacked → Given

@@ -1,5 +1,4 @@
--- What a caller of `pack_layout` may rely on, if there is room. Refusal 10 is given to the texts of no layout within the limits,
--- as in a listing.
+-- What a caller of `pack_layout` may rely on, if there is room. Refusal 10 is given to the texts of no layout within the limits.
 use Prim.Native.Nat.{ℕ, _≤_}
 use mathlib.Core.Path.{_≡_, refl, sym, ap, _∙_}
 use mathlib.Core.Logic.{_↔_, _⊎_, inl, inr}
@@ -8,8 +7,7 @@ use native.Mathlib.Omega.{arith}
 use borrow.Author.Tests.{le-ltb}
 use lib.ListN.{length}
 use Rattle.layouts.specs.Layout.{Layout, Within}
-use Rattle.layout_text.specs.Form.{textOf}
-use Rattle.layout_text.specs.Read.{refusal}
+use Rattle.layout_text.specs.Form.{textOf, refusal}
 use Rattle.layout_text.specs.Exactly.{read-is-text, refused-no-text, no-text-refused}
 use Rattle.layout_text.specs.Workings.Reader.{Taken, reads}
 use Rattle.layout_packed.specs.Limits as packed_sizes

@@ -1,4 +1,3 @@
 pub mod Digits
 pub mod VertexLines
 pub mod Texts
-pub mod Ends

@@ -12,6 +12,10 @@ use Rattle.layouts.specs.Layout.{Vertex, Layout}
 abbrev pub bytes : ℕ
 bytes = 16_384
 
+-- the refusal of a text that breaks its form
+abbrev pub refusal : ℕ
+refusal = 10
+
 unfoldable pub wholeText : ℤ → List ℕ
 wholeText (pos n) = decimal n
 wholeText (negsuc n) = 45 ∷ decimal (suc n)

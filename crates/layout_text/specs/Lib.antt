@@ -1,5 +1,5 @@
--- The text of a layout (Form), its sizes, and what the reader promises (Read); then what is proved of them (Exactly, Long,
--- ReaderPromise, Examples). A reader need not believe Workings and Laws.
+-- The text of a layout (Form) and its sizes; then what is proved of them: which texts are read, and as what (Exactly), how long
+-- they are (Long), and worked examples. A reader need not believe Workings and Laws.
 pub mod Form
 pub mod Sizes
 pub mod Examples
@@ -7,5 +7,3 @@ pub mod Workings
 pub mod Laws
 pub mod Long
 pub mod Exactly
-pub mod Read
-pub mod ReaderPromise

@@ -1,15 +1,12 @@
 // The text lines of a path's vertices.
 ghost use mathlib.Core.Path.{_≡_};
-ghost use Prim.Native.Nat.{_≤_, _*_};
-ghost use lib.ListN.{drop, length};
-ghost use Rattle.layouts.specs.Limits as limit;
+ghost use lib.ListN.{drop};
 ghost use Rattle.layout_text.specs.Workings.Reader.{vertexOf, verticesOf, passed};
-ghost use Rattle.layout_text.specs.Workings.Shown.{shownVertex, shownPlace, Filled};
+ghost use Rattle.layout_text.specs.Workings.Shown.{shownVertex, shownPlace};
 use super::bytes;
 use super::number;
 use super::number::Number;
 use layouts::limits;
-use layouts::value;
 
 // A vertex: the sign (whether it is negative) and the magnitude of x, y and the bulge, and the place after it. Or there is none.
 pub enum Corner {
@@ -73,31 +70,4 @@ pub(crate) fn skip(text: &[u8], start: usize, n: u64) -> Place
         i += 1;
     }
     Place::At(at)
-}
-
-// Writes n vertices, four numbers each, to the front of `out`, if the text has all of them.
-pub(crate) fn fill(text: &[u8], start: usize, n: u64, out: &mut [f64])
-    requires { ⌜ n * limit.numbersAVertex ≤ length (now out) ⌝ }
-    ensures { λ _. ⌜ Filled (verticesOf n (drop start (now (text .entry)))) (now (out .entry)) (now (out .exit)) ⌝ }
-{
-    let mut at = start;
-    let mut to = 0;
-    let mut i: u64 = 0;
-    while i < n {
-        let v = vertex(text, at);
-        match v {
-            Corner::Broken => {
-                return;
-            }
-            Corner::At(x_minus, x, y_minus, y, b_minus, b, next) => {
-                out[to] = value::coordinate(x_minus, x);
-                out[to + 1] = value::coordinate(y_minus, y);
-                out[to + 2] = value::bulge(b_minus, b);
-                out[to + 3] = value::TRACE;
-                at = next;
-            }
-        }
-        to += limits::NUMBERS;
-        i += 1;
-    }
 }

@@ -1,14 +1,21 @@
--- The ends of the calls on layouts: there is no place for the two numbers, or the function's answer is told.
+-- The ends of the calls on layouts: there is no place for the two numbers, or the function's answer is told; and that of the call
+-- on the program's input.
 use Prim.Native.Nat.{ℕ, _≤_, _<_}
 use mathlib.Core.Path.{_≡_, refl, ap, _∙_}
+use mathlib.Core.Bool.{Bool, true, false, cond}
 use mathlib.Core.List.{List}
 use borrow.Author.Tests.{lt-ltb, le-ltb}
+use lib.Dec.{ltb}
 use lib.ListN.{length, set}
 use lib.Ieee.{Float}
 use Rattle.layout_packed.specs.Read.{ReadPacked}
 use Rattle.layout_packed.specs.declared.Unpacking.{Unpacking}
 use Rattle.layout_moves.specs.Moves.{Given, Moves}
 use Rattle.layout_moves.specs.declared.Moved.{Moved}
+use Rattle.answer_lines.specs.declared.Written.{Written}
+use Rattle.answer_lines.specs.declared.Written.the-variants as Written·
+use Rattle.layout_listing.specs.Answer.{answerTo, room, AnswerTo}
+use Rattle.probe.specs.Listed.{bytesOf, ListTold}
 use Rattle.probe.specs.Told.{noRoom, places, Telling, tells, ofMoved, ofUnpacking, wordOf, toldOf}
 use Rattle.probe.specs.Told.{Told, MoveTold, ReadTold}
 
@@ -50,3 +57,16 @@ module _ (bytes : List ℕ) (first second : List Float) (told : List ℕ) where
         second-holds = rw (le-ltb _ _ h) (m .second-holds);
         told-holds = rw (le-ltb _ _ h) (t .holds ∙ ap (λ (r : Unpacking). toldOf (ofUnpacking r) told) (m .answer-is));
       }
+
+-- what `list_layout` answers, as bytes
+by-room : (b : Bool) (n : ℕ) → bytesOf (cond false Written·.NoRows (cond b Written·.NoRoom (Written·.Length n))) ≡ cond b 0 n
+by-room true n = refl
+by-room false n = refl
+
+pub listed-told : (input old : List ℕ) {r : Written} {n : ℕ} {now : List ℕ} → AnswerTo input r old now → n ≡ bytesOf r
+    → ListTold input n old now
+listed-told input old a e =
+    record {
+      bytes-is = e ∙ ap bytesOf (a .answer-is) ∙ by-room (ltb (length old) room) (length (answerTo input));
+      holds = a .holds;
+    }

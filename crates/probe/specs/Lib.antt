@@ -2,4 +2,5 @@
 -- promise allows one result only (OneResult).
 pub mod Numbers
 pub mod Told
+pub mod Listed
 pub mod OneResult

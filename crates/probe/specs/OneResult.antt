@@ -7,6 +7,7 @@ use lib.Ieee.{Float}
 use Rattle.layout_moves.specs.Moves as layouts
 use Rattle.probe.specs.Numbers.{Given}
 use Rattle.probe.specs.Told.{MoveTold, ReadTold}
+use Rattle.probe.specs.Listed.{ListTold}
 
 pub given-one-result : {numbers old a b : List Float} {r s : ℕ} → Given numbers r old a → Given numbers s old b
     → (r ≡ s) × (a ≡ b)
@@ -26,3 +27,7 @@ read-told-one-result p q = (
   p .second-holds ∙ sym (q .second-holds),
   p .told-holds ∙ sym (q .told-holds),
 )
+
+pub list-told-one-result : {input : List ℕ} {n m : ℕ} {old a b : List ℕ} → ListTold input n old a → ListTold input m old b
+    → (n ≡ m) × (a ≡ b)
+list-told-one-result p q = (p .bytes-is ∙ sym (q .bytes-is), p .holds ∙ sym (q .holds))

@@ -1,10 +1,14 @@
 // The moves of a layout between its two forms, and the reader of packed files. A call answers a word: 0 if it is done, a
 // refusal's number if it is refused, NO_ROOM if a lent slice is too small. Two numbers go to the front of `told`: how many bytes
 // were written and 0, or how many vertices the two paths have; or the offset of the fault and 0. If `told` has no place for two
-// numbers, nothing is looked at.
+// numbers, nothing is looked at. At the end the answer of the program `crossings`.
+ghost use mathlib.Core.Path.{_≡_};
 ghost use Prim.Native.Nat.{_≤_};
 ghost use lib.ListN.{length};
 ghost use Rattle.probe.specs.Told.{places, ofMoved, ofUnpacking, Told, PackTold, UnpackTold, ReadTold};
+ghost use Rattle.probe.specs.Listed.{bytesOf, ListTold};
+use answer_lines::Written;
+use layout_listing::list_layout;
 use layout_moves::Moved;
 use layout_moves::pack_layout;
 use layout_moves::unpack_layout;
@@ -95,5 +99,23 @@ fn tell_read(read: Unpacking, told: &mut [u64]) -> u64
             number
         }
         Unpacking::NoRoom => NO_ROOM,
+    }
+}
+
+// The answer to an input: how many bytes it has, which stand at the front of `out`; or 0 if `out` has too little room.
+#[no_mangle]
+pub extern "C" fn vjp_list_layout(input: &[u8], out: &mut [u8]) -> usize
+    ensures { λ r. ⌜ ListTold (now (input .entry)) r (now (out .entry)) (now (out .exit)) ⌝ }
+{
+    bytes_of(list_layout(input, out))
+}
+
+fn bytes_of(written: Written) -> usize
+    ensures { λ r. ⌜ r ≡ bytesOf written ⌝ }
+{
+    match written {
+        Written::Length(n) => n,
+        Written::NoRows => 0,
+        Written::NoRoom => 0,
     }
 }

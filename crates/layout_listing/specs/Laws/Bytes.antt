@@ -1,15 +1,16 @@
 -- The text lines of every listing of two paths fit the room: there are no more rows than the room is for, and each of its numbers
 -- fits a u64. These are a refusal's number, the count of pairs, and the numbers of rows in a slice that held zeros.
 use mathlib.Core.Path.{_≡_, refl}
-use mathlib.Core.Bool.{false}
+use mathlib.Core.Bool.{Bool, true, false, cond}
 use mathlib.Core.List.{List}
 use Prim.Native.Nat.{ℕ, _*_, _^_, _≤_}
 use native.Mathlib.Omega.{arith}
 use lib.Ieee.{Float}
 use lib.ListN.{length, length-replicate}
 use Rattle.layouts.specs.Numbers.{pathOf}
-use Rattle.layout_text.specs.Read.{refusal}
-use Rattle.layout_text.specs.Workings.Reader.{Taken, broken, layout}
+use Rattle.layout_packed.specs.Read.{refusal}
+use Rattle.layout_packed.specs.Workings.Reader.{Unpacked, brokenAt, layout}
+use Rattle.answer_lines.specs.Lines.{refusedText}
 use Rattle.answer_lines.specs.Sizes.{roomFor}
 use Rattle.answer_lines.specs.Room.{refusal-fits, answer-fits}
 use Rattle.listing_pairs.specs.Row.{indicesARow}
@@ -26,6 +27,7 @@ use Rattle.layout_listing.specs.Answer.{
   linesOf,
   linesFor,
   answerOf,
+  lineMissing,
   room,
 }
 
@@ -65,6 +67,10 @@ module _ (first second : List Float) where
   unfolding linesFor
   lines-fit = of-answer (listing first second .answer) refl
 
-pub taken-fits : (t : Taken) → length (answerOf t) ≤ room
-taken-fits broken = omega (arith, refusal-fits refusal (omega arith))
-taken-fits (layout l) = lines-fit (pathOf (l .first)) (pathOf (l .second))
+file-fits : (u : Unpacked) → length (answerOf u) ≤ room
+file-fits (brokenAt k) = omega (arith, refusal-fits refusal (omega arith))
+file-fits (layout l) = lines-fit (pathOf (l .first)) (pathOf (l .second))
+
+pub input-fits : (u : Unpacked) (b : Bool) → length (cond b (answerOf u) (refusedText lineMissing)) ≤ room
+input-fits u true = file-fits u
+input-fits u false = omega (arith, refusal-fits lineMissing (omega arith))

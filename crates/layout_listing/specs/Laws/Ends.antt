@@ -1,9 +1,9 @@
--- How answering a text ends: no room, the text line of a refusal, the text lines of a listing; and what the reader's answer
+-- How answering an input ends: no room, the text line of a refusal, the text lines of a listing; and what the reader's answer
 -- says of the buffers.
 use mathlib.Core.Path.{_≡_, refl, sym, ap, _∙_}
-use mathlib.Core.Bool.{Bool, false}
+use mathlib.Core.Bool.{Bool, true, false}
 use mathlib.Core.List.{List}
-use Prim.Native.Nat.{ℕ, _+_, _*_, _/_, _≤_, _<_}
+use Prim.Native.Nat.{ℕ, _+_, _-_, _*_, _/_, _≤_, _<_}
 use native.Mathlib.Omega.{arith}
 use borrow.Author.Tests.{lt-ltb, le-ltb, lt-leb}
 use lib.Dec.{ltb}
@@ -14,11 +14,11 @@ use Rattle.layouts.specs.Limits as limit
 use Rattle.layouts.specs.Limits.{numbersAVertex}
 use Rattle.layouts.specs.Layout.{Vertex, Layout}
 use Rattle.layouts.specs.Numbers.{pathOf}
-use Rattle.layout_text.specs.Workings.Reader.{Taken, broken, layout, reads}
-use Rattle.layout_text.specs.Exactly.{read-is-text}
-use Rattle.layout_text.specs.Read as read
-use Rattle.layout_text.specs.declared.Reading.{Reading}
-use Rattle.layout_text.specs.declared.Reading.the-variants as Reading·
+use Rattle.layout_packed.specs.Workings.Reader.{Unpacked, brokenAt, layout, readsPacked}
+use Rattle.layout_packed.specs.Exactly.{read-is-packed}
+use Rattle.layout_packed.specs.Read as read
+use Rattle.layout_packed.specs.declared.Unpacking.{Unpacking}
+use Rattle.layout_packed.specs.declared.Unpacking.the-variants as Unpacking·
 use Rattle.answer_lines.specs.declared.Written.{Written}
 use Rattle.answer_lines.specs.declared.Written.the-variants as Written·
 use Rattle.answer_lines.specs.Lines as lines_of
@@ -33,6 +33,7 @@ use Rattle.listing_outcomes.specs.Outcome.{Leaves}
 use Rattle.listing_calls.specs.Listing.{mutualListing}
 use Rattle.listing_calls.specs.Laws.Counts.{mutual-fits}
 use Rattle.layout_listing.specs.Laws.Widths.{path-long}
+use Rattle.layout_listing.specs.Laws.Begins.{rest-all}
 use Rattle.layout_listing.specs.Answer.{
   epsilon,
   mostRows,
@@ -41,10 +42,13 @@ use Rattle.layout_listing.specs.Answer.{
   listing,
   linesOf,
   linesFor,
-  answerOf,
+  firstLine,
+  lineMissing,
+  begins,
   answerTo,
   room,
   LinesFor,
+  FileAnswer,
   AnswerTo,
 }
 
@@ -112,9 +116,9 @@ front vs n held e few is =
     ∙ take-at (pathOf vs) (drop (0 + length (pathOf vs)) buffer) (n * numbersAVertex) (omega (arith, long, e))
 
 -- what the counts say
-pub record Fronts (text : List ℕ) (n m : ℕ) (first second : List Float) : Type 0 where
+pub record Fronts (file : List ℕ) (n m : ℕ) (first second : List Float) : Type 0 where
   pub layout-is : Layout
-  pub reads-it : reads text ≡ layout layout-is
+  pub reads-it : readsPacked file ≡ layout layout-is
   pub few-first : n ≤ limit.vertices
   pub few-second : m ≤ limit.vertices
   pub first-long : length first ≡ limit.room
@@ -122,28 +126,28 @@ pub record Fronts (text : List ℕ) (n m : ℕ) (first second : List Float) : Ty
   pub first-front : take (n * numbersAVertex) first ≡ pathOf (layout-is .first)
   pub second-front : take (m * numbersAVertex) second ≡ pathOf (layout-is .second)
 
-module _ (text : List ℕ) (r : Reading) (first second : List Float) (l : read.ReadLayout text r buffer first buffer second) where
-  answer-is : r ≡ read.answerOf (reads text)
+module _ (file : List ℕ) (r : Unpacking) (first second : List Float) (l : read.ReadPacked file r buffer first buffer second) where
+  answer-is : r ≡ read.answerOf (readsPacked file)
   answer-is = l .answer-is
 
-  pub counted : (n m : ℕ) → r ≡ Reading·.Counts n m → Fronts text n m first second
-  counted n m e = go (reads text) refl
+  pub counted : (n m : ℕ) → r ≡ Unpacking·.Counts n m → Fronts file n m first second
+  counted n m e = go (readsPacked file) refl
     where
-      go : (t : Taken) → reads text ≡ t → Fronts text n m first second
-      go broken is =
-          let both : Reading·.Refused read.refusal ≡ Reading·.Counts n m = sym (answer-is ∙ ap read.answerOf is) ∙ e in
+      go : (u : Unpacked) → readsPacked file ≡ u → Fronts file n m first second
+      go (brokenAt k) is =
+          let both : Unpacking·.Refused read.refusal k ≡ Unpacking·.Counts n m = sym (answer-is ∙ ap read.answerOf is) ∙ e in
           let z : _≡_ {A = ℕ} 0 1 = cc in
           absurd (omega (arith, z))
       go (layout k) is =
-          let both : Reading·.Counts (length (k .first)) (length (k .second)) ≡ Reading·.Counts n m =
+          let both : Unpacking·.Counts (length (k .first)) (length (k .second)) ≡ Unpacking·.Counts n m =
           sym (answer-is ∙ ap read.answerOf is) ∙ e in
           let n-is : n ≡ length (k .first) = cc in
           let m-is : m ≡ length (k .second) = cc in
-          let w = read-is-text text k is .1 in
+          let w = read-is-packed file k is .1 in
           let on-first : first ≡ sets buffer 0 (pathOf (k .first)) =
-          l .first-holds ∙ ap (λ (t : Taken). read.firstOf t buffer) is in
+          l .first-holds ∙ ap (λ (u : Unpacked). read.firstOf u buffer) is in
           let on-second : second ≡ sets buffer 0 (pathOf (k .second)) =
-          l .second-holds ∙ ap (λ (t : Taken). read.secondOf t buffer) is in
+          l .second-holds ∙ ap (λ (u : Unpacked). read.secondOf u buffer) is in
           record {
             layout-is = k;
             reads-it = is;
@@ -155,43 +159,54 @@ module _ (text : List ℕ) (r : Reading) (first second : List Float) (l : read.R
             second-front = front (k .second) m second m-is (w .second-count) on-second;
           }
 
-  -- what a refusal says: its number is that of a text that breaks its form
-  pub refused-is : (n : ℕ) → r ≡ Reading·.Refused n → (reads text ≡ broken) × (n ≡ read.refusal)
-  refused-is n e = go (reads text) refl
+  -- what a refusal says: its number is that of a file that breaks the packed form
+  pub refused-is : (n k : ℕ) → r ≡ Unpacking·.Refused n k → (readsPacked file ≡ brokenAt k) × (n ≡ read.refusal)
+  refused-is n k e = go (readsPacked file) refl
     where
-      go : (t : Taken) → reads text ≡ t → (t ≡ broken) × (n ≡ read.refusal)
-      go broken is =
-          let both : Reading·.Refused read.refusal ≡ Reading·.Refused n = sym (answer-is ∙ ap read.answerOf is) ∙ e in
-          (refl, cc)
-      go (layout k) is =
-          let both : Reading·.Counts (length (k .first)) (length (k .second)) ≡ Reading·.Refused n =
+      go : (u : Unpacked) → readsPacked file ≡ u → (u ≡ brokenAt k) × (n ≡ read.refusal)
+      go (brokenAt j) is =
+          let both : Unpacking·.Refused read.refusal j ≡ Unpacking·.Refused n k = sym (answer-is ∙ ap read.answerOf is) ∙ e in
+          let same : j ≡ k = cc in
+          (ap brokenAt same, cc)
+      go (layout j) is =
+          let both : Unpacking·.Counts (length (j .first)) (length (j .second)) ≡ Unpacking·.Refused n k =
           sym (answer-is ∙ ap read.answerOf is) ∙ e in
           let z : _≡_ {A = ℕ} 0 1 = cc in
           absurd (omega (arith, z))
 
   -- the buffers have room
-  pub roomy : r ≡ Reading·.NoRoom → ⊥
-  roomy e = go (reads text) refl
+  pub roomy : r ≡ Unpacking·.NoRoom → ⊥
+  roomy e = go (readsPacked file) refl
     where
-      go : (t : Taken) → reads text ≡ t → ⊥
-      go broken is =
-          let both : Reading·.Refused read.refusal ≡ Reading·.NoRoom = sym (answer-is ∙ ap read.answerOf is) ∙ e in
+      go : (u : Unpacked) → readsPacked file ≡ u → ⊥
+      go (brokenAt k) is =
+          let both : Unpacking·.Refused read.refusal k ≡ Unpacking·.NoRoom = sym (answer-is ∙ ap read.answerOf is) ∙ e in
           let z : _≡_ {A = ℕ} 0 1 = cc in
           omega (arith, z)
       go (layout k) is =
-          let both : Reading·.Counts (length (k .first)) (length (k .second)) ≡ Reading·.NoRoom =
+          let both : Unpacking·.Counts (length (k .first)) (length (k .second)) ≡ Unpacking·.NoRoom =
           sym (answer-is ∙ ap read.answerOf is) ∙ e in
           let z : _≡_ {A = ℕ} 0 1 = cc in
           omega (arith, z)
 
--- ---- the answer to a text
-module _ (text old : List ℕ) (r : Written) (now : List ℕ) where
-  pub broken-answer : (n : ℕ) → room ≤ length old → reads text ≡ broken → n ≡ read.refusal → RefusalLine n r old now
-      → AnswerTo text r old now
-  unfolding answerTo
-  broken-answer n h is e l = rw is (refusal-line read.refusal old h r now (rw e at l))
+-- ---- the answer to a packed file
+module _ (file old : List ℕ) (r : Written) (now : List ℕ) where
+  pub broken-answer : (n k : ℕ) → room ≤ length old → readsPacked file ≡ brokenAt k → n ≡ read.refusal → RefusalLine n r old now
+      → FileAnswer file r old now
+  broken-answer n k h is e l = rw is (refusal-line read.refusal old h r now (rw e at l))
 
-  pub listed-answer : (n m : ℕ) (first second : List Float) → Fronts text n m first second
-      → LinesFor (take (n * numbersAVertex) first) (take (m * numbersAVertex) second) r old now → AnswerTo text r old now
-  unfolding answerTo
+  pub listed-answer : (n m : ℕ) (first second : List Float) → Fronts file n m first second
+      → LinesFor (take (n * numbersAVertex) first) (take (m * numbersAVertex) second) r old now → FileAnswer file r old now
   listed-answer n m first second f l = rw (f .reads-it) (rw (f .first-front, f .second-front) at l)
+
+-- ---- the answer to an input
+module _ (input old : List ℕ) (r : Written) (now : List ℕ) where
+  pub begun-answer : begins firstLine input ≡ true
+      → FileAnswer (take (length input - length firstLine) (drop (length firstLine) input)) r old now → AnswerTo input r old now
+  unfolding answerTo
+  begun-answer is l = rw is (rw (rest-all (length firstLine) input) at l)
+
+  pub missing-answer : room ≤ length old → begins firstLine input ≡ false → RefusalLine lineMissing r old now
+      → AnswerTo input r old now
+  unfolding answerTo
+  missing-answer h is l = rw is (refusal-line lineMissing old h r now l)

@@ -9,7 +9,7 @@ use Rattle.layouts.specs.Layout.{Vertex}
 use Rattle.put_text.specs.Workings.Put.{Put, PutIn}
 use Rattle.put_text.specs.Laws.Put.{put-join}
 use Rattle.layout_text.specs.Form.{verticesText, countsText}
-use Rattle.layout_text.specs.Read as text_reader
+use Rattle.layout_text.specs.Form as text_form
 use Rattle.layout_text.specs.Sizes as text_sizes
 use Rattle.layout_text.specs.Laws.Put.{text-put}
 use Rattle.layout_text.specs.Laws.Sound as text_law
@@ -53,7 +53,7 @@ module _ (room : ℕ) (given : Given) (old : List ℕ) where
 
 module _ (text old : List ℕ) (enough : packed_sizes.longest ≤ length old) where
   pub text-broken : {s : text_shape.Shape} → text_shown.Shaped text s → s ≡ TextShape·.Broken
-      → PackLayout text (Moved·.Refused text_reader.refusal) old old
+      → PackLayout text (Moved·.Refused text_form.refusal) old old
   unfolding pack
   text-broken shaped e =
       let is : text_read.reads text ≡ text_read.broken = rw e at shaped in

@@ -4,9 +4,7 @@ use mathlib.Core.Path.{_≡_}
 use mathlib.Core.List.{List, []}
 use Prim.Native.Nat.{ℕ, _≤_}
 use lib.ListN.{drop}
-use lib.Seq.{sets}
 use lib.IntN.{ℤ}
-use lib.Ieee.{Float}
 use Rattle.layouts.specs.Layout.{Vertex, whole, wholeVertex}
 use Rattle.layout_text.specs.Workings.Reader.{
   Got,
@@ -20,7 +18,6 @@ use Rattle.layout_text.specs.Workings.Reader.{
   verticesOf,
   reads,
 }
-use Rattle.layouts.specs.Numbers.{pathOf}
 use Rattle.layout_text.specs.declared.number.Number.{Number}
 use Rattle.layout_text.specs.declared.number.Number.the-variants as Number·
 use Rattle.layout_text.specs.declared.vertex.Corner.{Corner}
@@ -43,10 +40,6 @@ shownVertex text (Corner·.At x-minus x y-minus y b-minus b next) =
 unfoldable pub shownPlace : List ℕ → Place → Skipped
 shownPlace text Place·.Broken = stuck
 shownPlace text (Place·.At next) = over (drop next text)
-
--- if vertices were read, their numbers stand at the front
-abbrev pub Filled : Got (List Vertex) → List Float → List Float → Type 0
-Filled g old now = (vs : List Vertex) (rest : List ℕ) → g ≡ got vs rest → now ≡ sets old 0 (pathOf vs)
 
 -- a text of the form, with the places where the vertices of its paths start
 pub record Fitting (text : List ℕ) (n m first-at second-at : ℕ) : Type 0 where

@@ -1,4 +1,4 @@
-//! Parts of layouts in whole numbers, as in a text.
+//! Parts of layouts in whole numbers.
 
 use crate::form::{Place, BULGE, COORDINATE};
 use crate::inputs::Vertex;

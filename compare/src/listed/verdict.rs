@@ -1,4 +1,4 @@
-//! Compares what the text program printed with what is expected.
+//! Compares what was printed with what is expected.
 
 use crate::numbers::same;
 
@@ -105,7 +105,7 @@ mod tests {
             expected.trim_end().to_string(),
             format!("{expected}\n"),
             format!("{expected}0 0 one {ONE} {ZERO}\n"),
-            "refused 10\n".to_string(),
+            "refused 16\n".to_string(),
             String::new(),
         ];
         for other in others {
@@ -115,7 +115,7 @@ mod tests {
                 "{other:?}"
             );
         }
-        assert_eq!(judge(b"refused 5\n", "refused 10\n"), Verdict::Different);
-        assert_eq!(judge(b"refused 10\n", "refused 10\n"), Verdict::Same);
+        assert_eq!(judge(b"refused 5\n", "refused 16\n"), Verdict::Different);
+        assert_eq!(judge(b"refused 16\n", "refused 16\n"), Verdict::Same);
     }
 }

@@ -1,4 +1,4 @@
-//! Texts of the right form: random layouts, and layouts with chosen sizes, numbers and rows.
+//! Layouts: random ones, and such with chosen sizes, numbers and rows.
 
 use super::sheet::{bulge, nearest, number, of_numbers, sign, straightened, whole};
 use crate::form::{Place, Sheet, BULGE, COORDINATE, MOST_VERTICES};
@@ -8,7 +8,7 @@ use crate::listings::shapes::{crossed, on_grid};
 use crate::rng::Rng;
 use crate::vertex::VERTEX;
 
-/// A way to draw a text whose form is right.
+/// A way to draw a layout.
 pub struct Kind {
     pub name: &'static str,
     pub draw: fn(&mut Rng) -> Sheet,
@@ -44,7 +44,7 @@ pub const KINDS: [Kind; 11] = [
     },
 ];
 
-/// The scope's example, and the two texts on which the Rust and the scope's first prose differ.
+/// The scope's example, and the two layouts on which the Rust and the scope's first prose differ.
 fn stated(rng: &mut Rng) -> Sheet {
     match rng.below(3) {
         0 => example(),

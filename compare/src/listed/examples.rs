@@ -1,11 +1,52 @@
-//! The model on the scope's example and on texts that one can compute by hand.
+//! The model on the scope's example and on layouts that one can compute by hand. They are written as texts, and packed.
 
-use super::model::{answer, paths};
+use super::model::{answer, behind_line, input, paths as of_sheet};
+use crate::form::{sheet, Sheet};
+use crate::listings::layout::Drawn;
 
 const EXAMPLE: &str = "2 2\n0 0 0\n4 0 0\n2 -2 0\n2 2 0\n";
 
+/// What is printed for a text that is packed, or what `pack` says of it.
 fn printed(text: &str) -> String {
-    answer(text.as_bytes()).printed()
+    match sheet(text.as_bytes()) {
+        Some(sheet) => answer(&input(&sheet)).printed(),
+        None => "refused 10\n".to_string(),
+    }
+}
+
+fn paths(text: &[u8]) -> Option<[Drawn; 2]> {
+    sheet(text).map(|sheet| of_sheet(&sheet))
+}
+
+/// The scope's example with its bytes by hand; without its line, with others, and with a line alone.
+#[test]
+fn first_lines() {
+    let file = [2, 2, 0, 0, 0, 8, 0, 0, 4, 3, 0, 4, 4, 0];
+    let printed = |input: &[u8]| answer(input).printed();
+    let expected = "pairs 1 rows 1\n0 0 one 4000000000000000 0000000000000000\n";
+    assert_eq!(printed(&behind_line(&file)), expected);
+    assert_eq!(printed(b"packed\n\0\0"), "pairs 0 rows 0\n");
+    assert_eq!(input(&Sheet::default()), b"packed\n\0\0");
+    for line in [
+        "",
+        "p",
+        "packed",
+        "packed\r\n",
+        "Packed\n",
+        "PACKED\n",
+        " packed\n",
+        "packed \n",
+        "\n",
+    ] {
+        let input = [line.as_bytes(), &file].concat();
+        assert_eq!(printed(&input), "refused 16\n", "{line:?}");
+        assert_eq!(printed(line.as_bytes()), "refused 16\n", "{line:?}");
+    }
+    assert_eq!(printed(EXAMPLE.as_bytes()), "refused 16\n");
+    assert_eq!(printed(b"packed\n"), "refused 18\n");
+    assert_eq!(printed(b"packed\npacked\n"), "refused 18\n");
+    assert_eq!(printed(&behind_line(&file[..13])), "refused 18\n");
+    assert_eq!(printed(&behind_line(EXAMPLE.as_bytes())), "refused 18\n");
 }
 
 #[test]

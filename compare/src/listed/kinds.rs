@@ -1,13 +1,14 @@
-//! Kinds of text that a run must have met. They are read from the text and its answer, not from how it was drawn.
+//! Kinds of input that a run must have met. They are read from the input and its answer, not from how it was made.
 
-use super::model::{paths, Answer, CLASSES, MOST_ROWS};
+use super::model::{paths, Answer, CLASSES, LINE, MOST_ROWS};
 use crate::crossing::faults::{Fault, Item};
-use crate::form::{BULGE, COORDINATE, MOST_BYTES};
+use crate::form::{self, BULGE, COORDINATE};
 use crate::listings::layout::Drawn;
+use crate::packed::model as packed;
 use crate::vertex::VERTEX;
 
 pub struct Case<'a> {
-    pub text: &'a [u8],
+    pub input: &'a [u8],
     pub answer: &'a Answer,
     pub in_pieces: bool,
 }
@@ -28,6 +29,16 @@ impl Seen<'_> {
         matches!(self.case.answer, Answer::Broken)
     }
 
+    fn is_missing(&self) -> bool {
+        matches!(self.case.answer, Answer::Missing)
+    }
+
+    /// Whether the first bytes are those, with a layout's packed form behind them.
+    fn is_behind(&self, front: &[u8]) -> bool {
+        let file = self.case.input.strip_prefix(front);
+        file.is_some_and(|file| packed::sheet(file).is_ok())
+    }
+
     fn vertices(&self) -> [usize; 2] {
         self.paths.each_ref().map(|path| path.path().vertices())
     }
@@ -37,7 +48,7 @@ impl Seen<'_> {
     }
 
     fn bytes(&self) -> usize {
-        self.case.text.len()
+        self.case.input.len()
     }
 
     /// Whether the first fault is a chord of this path.
@@ -68,16 +79,23 @@ struct Kind {
 
 pub struct Kinds(Vec<Kind>);
 
-/// No text of the right form has more bytes: 512 vertices of 25 each, after a first line of 8.
-pub const LONGEST: usize = 8 + 512 * 25;
+/// No layout's input has more bytes.
+const LONGEST: usize = LINE.len() + packed::LONGEST;
+/// The most bytes of an input that the program looks at.
+const MOST_BYTES: usize = LINE.len() + packed::MOST_BYTES;
 
 impl Kinds {
-    pub fn new() -> Kinds {
+    /// `piped` if inputs are written to a pipe, some in pieces.
+    pub fn new(piped: bool) -> Kinds {
         let mut kinds = Kinds(Vec::new());
         kinds.of_sizes();
         kinds.of_numbers();
         kinds.of_rows();
         kinds.of_refusals();
+        kinds.of_lines();
+        if piped {
+            kinds.of_pieces();
+        }
         kinds
     }
 
@@ -100,14 +118,18 @@ impl Kinds {
         self.add("both of 256 vertices, listed", |s| {
             s.is_listed() && s.vertices() == [256, 256]
         });
-        self.add("as many bytes as can be listed", |s| {
-            s.is_listed() && s.bytes() == LONGEST
+        self.add("as many bytes as a layout can have", |s| {
+            s.refused == Some(5) && s.bytes() == LONGEST
         });
         self.add("no pairs, listed", |s| {
             s.is_listed() && s.vertices().iter().any(|n| *n < 2)
         });
+    }
+
+    fn of_pieces(&mut self) {
         self.add("in pieces, listed", |s| s.is_listed() && s.case.in_pieces);
         self.add("in pieces, broken", |s| s.is_broken() && s.case.in_pieces);
+        self.add("in pieces, no line", |s| s.is_missing() && s.case.in_pieces);
     }
 
     fn of_numbers(&mut self) {
@@ -181,33 +203,93 @@ impl Kinds {
                 s.refused == Some(5) && s.has_short_arc(which)
             });
         }
-        for bytes in [0, 1, MOST_BYTES - 1, MOST_BYTES, MOST_BYTES + 1] {
+        for bytes in [0, 1, 2].map(|more| LINE.len() + more) {
             self.add(format!("broken, {bytes} bytes"), move |s| {
                 s.is_broken() && s.bytes() == bytes
             });
         }
+        for bytes in [
+            LONGEST,
+            LONGEST + 1,
+            MOST_BYTES - 1,
+            MOST_BYTES,
+            MOST_BYTES + 1,
+        ] {
+            for byte in [0, 0x80, 0xff] {
+                self.add(
+                    format!("broken, {bytes} bytes that end in {byte}"),
+                    move |s| {
+                        s.is_broken() && s.bytes() == bytes && s.case.input.last() == Some(&byte)
+                    },
+                );
+            }
+        }
         self.add("broken, more than a pipe holds", |s| {
             s.is_broken() && s.bytes() > 65_536
         });
-        for (name, byte) in [
-            ("NUL", 0),
-            ("tab", b'\t'),
-            ("carriage return", b'\r'),
-            ("plus", b'+'),
-        ] {
-            self.add(format!("broken, with a {name}"), move |s| {
-                s.is_broken() && s.case.text.contains(&byte)
-            });
+        self.add("the line twice, broken", |s| {
+            s.is_broken() && s.is_behind(&LINE.repeat(2))
+        });
+        self.add("broken, with a text behind the line", |s| {
+            let text = s.case.input.strip_prefix(LINE).and_then(form::sheet);
+            s.is_broken() && text.is_some()
+        });
+    }
+
+    /// What stands in the place of the first line.
+    fn of_lines(&mut self) {
+        for end in 0..LINE.len() {
+            self.add(
+                format!("the first {end} bytes of the line, alone"),
+                move |s| s.is_missing() && s.case.input == &LINE[..end],
+            );
+            self.add(
+                format!("the first {end} bytes of the line, and a layout"),
+                move |s| s.is_missing() && s.is_behind(&LINE[..end]),
+            );
         }
-        self.add("broken, with a byte above 127", |s| {
-            s.is_broken() && s.case.text.iter().any(|byte| *byte > 127)
+        for at in 0..LINE.len() {
+            self.add(
+                format!("byte {at} of the line changed, and a layout"),
+                move |s| {
+                    let Some(front) = s.case.input.get(..LINE.len()) else {
+                        return false;
+                    };
+                    let others = (0..LINE.len()).filter(|place| front[*place] != LINE[*place]);
+                    s.is_missing() && s.is_behind(front) && others.eq([at])
+                },
+            );
+        }
+        let fronts: [(&str, &[u8]); 9] = [
+            ("a line in capital letters", b"PACKED\n"),
+            ("a line with a capital letter", b"Packed\n"),
+            ("a line that ends in a carriage return", b"packed\r\n"),
+            ("a carriage return alone", b"packed\r"),
+            ("a blank behind the word", b"packed \n"),
+            ("a blank before the word", b" packed\n"),
+            ("a newline before the line", b"\npacked\n"),
+            ("a byte order mark", b"\xef\xbb\xbfpacked\n"),
+            ("a NUL in the place of the newline", b"packed\0"),
+        ];
+        for (name, front) in fronts {
+            self.add(name, move |s| s.is_missing() && s.is_behind(front));
+        }
+        self.add("a layout's text", |s| {
+            s.is_missing() && form::sheet(s.case.input).is_some()
+        });
+        self.add("a text that breaks its form", |s| {
+            let digit = s.case.input.first().is_some_and(u8::is_ascii_digit);
+            s.is_missing() && digit && form::sheet(s.case.input).is_none()
+        });
+        self.add("no line, more than a pipe holds", |s| {
+            s.is_missing() && s.bytes() > 65_536
         });
     }
 
     pub fn count(&mut self, case: &Case) {
         let seen = Seen {
             case,
-            paths: paths(case.text).unwrap_or_default(),
+            paths: sheet(case).map(|sheet| paths(&sheet)).unwrap_or_default(),
             refused: case.answer.refused(),
         };
         for kind in &mut self.0 {
@@ -219,11 +301,16 @@ impl Kinds {
     pub fn report(&self) -> Vec<String> {
         if let Some(Kind { name, met, .. }) = self.0.iter().min_by_key(|kind| kind.met) {
             println!(
-                "texts: {} kinds, the rarest ({name}) {met} times",
+                "listed: {} kinds, the rarest ({name}) {met} times",
                 self.0.len()
             );
         }
         let unmet = self.0.iter().filter(|kind| kind.met == 0);
         unmet.map(|kind| kind.name.clone()).collect()
     }
+}
+
+/// The layout of an input, if it has one.
+fn sheet(case: &Case) -> Option<form::Sheet> {
+    packed::sheet(case.input.strip_prefix(LINE)?).ok()
 }

@@ -1,23 +1,24 @@
-//! Compares one run of the program after the other with the model, and counts what came up: by how the text was made and by its
-//! answer, rows by class, and differences.
+//! Compares one answer after the other with the model's, and counts what came up: by how the input was made and by its answer,
+//! rows by class, and differences.
 
+use super::answering::Answering;
 use super::kinds::{Case, Kinds};
 use super::model::{answer, CLASSES};
 use super::verdict::{judge, Verdict};
-use crate::program::{Printed, Program, Way};
+use crate::program::{Printed, Way};
 
 const SHOWN: u64 = 5;
-/// The refusals that a text can get.
-pub const REFUSALS: [u64; 3] = [10, 5, 8];
+/// The refusals that an input can get.
+const REFUSALS: [u64; 4] = [16, 18, 5, 8];
 
-/// Texts that were made in one way.
+/// Inputs that were made in one way.
 pub struct Group {
     name: String,
     /// What must be among its answers: a refusal, or a listing.
     must: Option<u64>,
-    texts: u64,
+    inputs: u64,
     listed: u64,
-    refused: [u64; 3],
+    refused: [u64; 4],
 }
 
 impl Group {
@@ -25,19 +26,19 @@ impl Group {
         Group {
             name: name.into(),
             must,
-            texts: 0,
+            inputs: 0,
             listed: 0,
-            refused: [0; 3],
+            refused: [0; 4],
         }
     }
 
     fn count(&mut self, refused: Option<u64>) {
-        self.texts += 1;
+        self.inputs += 1;
         match refused {
             None => self.listed += 1,
             Some(number) => {
                 let at = REFUSALS.iter().position(|n| *n == number);
-                self.refused[at.expect("no text reaches another")] += 1;
+                self.refused[at.expect("no input reaches another")] += 1;
             }
         }
     }
@@ -49,7 +50,7 @@ impl Group {
         let refused = REFUSALS.into_iter().zip(self.refused).filter_map(by);
         let listed = (self.listed > 0).then(|| format!("{} listed", self.listed));
         let answers: Vec<String> = listed.into_iter().chain(refused).collect();
-        format!("{} texts: {}", self.texts, answers.join(", "))
+        format!("{} inputs: {}", self.inputs, answers.join(", "))
     }
 
     fn is_met(&self) -> bool {
@@ -62,7 +63,7 @@ impl Group {
 }
 
 pub struct Score {
-    program: Program,
+    answering: Answering,
     groups: Vec<Group>,
     whole: Group,
     kinds: Kinds,
@@ -72,12 +73,13 @@ pub struct Score {
 }
 
 impl Score {
-    pub fn new(program: Program) -> Score {
+    pub fn new(answering: Answering) -> Score {
+        let kinds = Kinds::new(answering.is_piped());
         Score {
-            program,
+            answering,
             groups: Vec::new(),
-            whole: Group::new("texts", None),
-            kinds: Kinds::new(),
+            whole: Group::new("all", None),
+            kinds,
             rows: [0; 6],
             other_zeros: 0,
             differences: 0,
@@ -90,16 +92,16 @@ impl Score {
         self.groups.len() - 1
     }
 
-    /// Runs the program on a text. Fails only if the program cannot be run.
-    pub fn compare(&mut self, group: usize, text: &[u8], way: Way) -> Result<(), String> {
-        let answer = answer(text);
+    /// Asks for the answer to an input. Fails only if the program cannot be run.
+    pub fn compare(&mut self, group: usize, input: &[u8], way: Way) -> Result<(), String> {
+        let answer = answer(input);
         let expected = answer.printed();
-        let Printed { output, error } = self.program.run(text, way)?;
+        let Printed { output, error } = self.answering.to(input, way)?;
         match judge(&output, &expected) {
-            _ if !error.is_empty() => self.differ(group, text, &error, ""),
+            _ if !error.is_empty() => self.differ(group, input, &error, ""),
             Verdict::Same => {}
             Verdict::SameNumbers => self.other_zeros += 1,
-            Verdict::Different => self.differ(group, text, &output, &expected),
+            Verdict::Different => self.differ(group, input, &output, &expected),
         }
         let refused = answer.refused();
         self.groups[group].count(refused);
@@ -111,20 +113,20 @@ impl Score {
         }
         let in_pieces = matches!(way, Way::InPieces(_));
         self.kinds.count(&Case {
-            text,
+            input,
             answer: &answer,
             in_pieces,
         });
         Ok(())
     }
 
-    fn differ(&mut self, group: usize, text: &[u8], printed: &[u8], expected: &str) {
+    fn differ(&mut self, group: usize, input: &[u8], printed: &[u8], expected: &str) {
         self.differences += 1;
         if self.differences > SHOWN {
             return;
         }
         let name = &self.groups[group].name;
-        println!("texts, {name}: {} bytes {}", text.len(), front(text));
+        println!("listed, {name}: {} bytes {}", input.len(), front(input));
         let mut ours = printed.split_inclusive(|byte| *byte == b'\n');
         let mut lines = expected.split_inclusive('\n').map(str::as_bytes);
         // the first line that differs
@@ -141,14 +143,14 @@ impl Score {
     /// Prints the counts, and answers how many differences there were; what never occurred counts as one.
     pub fn report(&self) -> u64 {
         for group in &self.groups {
-            println!("texts, {}: {}", group.name, group.answers());
+            println!("listed, {}: {}", group.name, group.answers());
         }
         let rows = CLASSES.iter().zip(self.rows).skip(1);
         let rows: Vec<String> = rows
             .map(|(class, count)| format!("{class} {count}"))
             .collect();
         println!(
-            "texts: {}; rows {}; {} with another zero or NaN, {} differences",
+            "listed: {}; rows {}; {} with another zero or NaN, {} differences",
             self.whole.answers(),
             rows.join(", "),
             self.other_zeros,
@@ -163,7 +165,7 @@ impl Score {
             .chain(self.kinds.report())
             .collect();
         for what in &unmet {
-            println!("texts: NEVER MET: {what}");
+            println!("listed: NEVER MET: {what}");
         }
         self.differences + unmet.len() as u64
     }
