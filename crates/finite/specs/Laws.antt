@@ -1,0 +1,6 @@
+-- Laws that only proofs need. A reader need not believe them: they are proved.
+pub mod Sizes
+pub mod Leaves
+pub mod Doubles
+pub mod Limits
+pub mod Vectors
