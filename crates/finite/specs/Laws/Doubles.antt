@@ -16,7 +16,7 @@ use Rattle.float_laws.specs.Signed.{Diff, own-diff}
 use Rattle.float_laws.specs.Order.{lt-diff, le-diff}
 use Rattle.float_laws.specs.Chains.{written-diff, not-below, finite-real}
 use Rattle.float_laws.specs.Chains.{le-trans as float-trans}
-use Rattle.floats.specs.Ops.{_⊕_, _⊖_, _⊗_, _⊘_, _≺_, _≼_}
+use Rattle.floats.specs.Ops.{_⊕_, _⊖_, _⊗_, _⊘_, _≺_, _≼_, f0, f1, f2, f4}
 use Rattle.floats.specs.F64
 use Rattle.floats.specs.Laws.Leaves.{abs-value}
 use Rattle.plane.specs.Fuzzy.{fuzzyEpsilon}
@@ -140,3 +140,38 @@ abs-same x y (fin s m e) t a =
 pub near-turned : (k : ℕ) (x y eps : Float) → Small k x → Small k y → T (finite eps) → T (leb (suc k) 1023)
     → (F64.abs (x ⊖ y) ≺ eps) ≡ (F64.abs (y ⊖ x) ≺ eps)
 near-turned k x y eps A B t room = abs-same (x ⊖ y) (y ⊖ x) eps t (sub-apart binary64 x y k A B (lit≤ room))
+
+-- ---- the constants 0, 1, 2 and 4
+zero-value : HasValue f0 false 0 1
+unfolding ofBits
+zero-value = (refl, refl)
+
+one-value : HasValue f1 false 1 1
+unfolding ofBits
+one-value = (refl, refl)
+
+two-value : HasValue f2 false 2 1
+unfolding ofBits
+two-value = (refl, refl)
+
+four-value : HasValue f4 false 4 1
+unfolding ofBits
+four-value = (refl, refl)
+
+pub zero-small : Small 0 f0
+zero-small = record { s = false; size = 0; over = 1; some = lit≤ tt; value = zero-value; le = lit≤ tt }
+
+pub one-small : Small 0 f1
+one-small = record { s = false; size = 1; over = 1; some = lit≤ tt; value = one-value; le = lit≤ tt }
+
+pub two-small : Small 1 f2
+two-small = record { s = false; size = 2; over = 1; some = lit≤ tt; value = two-value; le = lit≤ tt }
+
+pub four-small : Small 2 f4
+four-small = record { s = false; size = 4; over = 1; some = lit≤ tt; value = four-value; le = lit≤ tt }
+
+pub two-sizable : Sizable 0 f2
+two-sizable = record { s = false; size = 2; over = 1; some = lit≤ tt; value = two-value; ge = lit≤ tt }
+
+pub four-sizable : Sizable 0 f4
+four-sizable = record { s = false; size = 4; over = 1; some = lit≤ tt; value = four-value; ge = lit≤ tt }
