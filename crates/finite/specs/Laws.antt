@@ -6,3 +6,4 @@ pub mod Doubles
 pub mod Limits
 pub mod Vectors
 pub mod LineLine
+pub mod LineCircle

@@ -12,7 +12,7 @@ use lib.Ieee.Exact.{HasValue}
 use lib.Ieee.Fits.{and-l, and-r, down-pos}
 use lib.Ieee.Scale.{finite}
 use Rattle.float_laws.specs.Tests.{same-test}
-use Rattle.float_laws.specs.Signed.{Diff, own-diff}
+use Rattle.float_laws.specs.Signed.{Diff, ups, downs, own-diff}
 use Rattle.float_laws.specs.Order.{lt-diff, le-diff}
 use Rattle.float_laws.specs.Chains.{written-diff, not-below, finite-real}
 use Rattle.float_laws.specs.Chains.{le-trans as float-trans}
@@ -28,6 +28,7 @@ use Rattle.finite.specs.Laws.Sizes.{
   Apart,
   small-up,
   small-finite,
+  small-diff,
   add-small,
   sub-small,
   mul-small,
@@ -82,6 +83,26 @@ sizable-from j k least x d h w =
   where
     plain : (X c p : ℕ) → 1 * c + 0 * p ≤ X * p + 0 * c → c ≤ p * X
     plain X c p l = omega arith
+
+-- above 1 / 2 ^ j
+pub sizable-above : (j k : ℕ) (least x : Float) → Diff least 1 0 (2 ^ j) → T (least ≼ x) → Small k x → Sizable j x
+sizable-above j k least x d h w =
+    record {
+      s = w .s;
+      size = w .size;
+      over = w .over;
+      some = w .some;
+      value = w .value;
+      ge = plain (w .s) (w .size) (w .over) (2 ^ j) (w .some)
+          (le-diff least x 1 0 (2 ^ j) _ _ (w .over) (pow-pos j) (w .some) d (small-diff k x w) .0 h);
+    }
+  where
+    plain : (s : Bool) (X c p : ℕ) → 0 < c → 1 * c + downs s X * p ≤ ups s X * p + 0 * c → c ≤ p * X
+    plain true X c p C l = absurd (never (X * p) c C l)
+      where
+        never : (n c : ℕ) → 0 < c → 1 * c + n ≤ 0 * p + 0 * c → ⊥
+        never n c C l = omega arith
+    plain false X c p C l = omega arith
 
 pub real-abs : (x : Float) → T (finite x) → isNan (F64.abs x) ≡ false
 unfolding isNan F64.abs
