@@ -7,3 +7,5 @@ pub mod Limits
 pub mod Vectors
 pub mod LineLine
 pub mod LineCircle
+pub mod CircleCircle
+pub mod ArcCircle

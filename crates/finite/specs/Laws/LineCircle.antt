@@ -27,7 +27,7 @@ use Rattle.finite.specs.Laws.Sizes.{Sizable, neg-small}
 use Rattle.finite.specs.Laws.Leaves.{abs-small, abs-least, root-small, square-least, least-added}
 use Rattle.finite.specs.Laws.Doubles.{Epsilon, wider, plus, minus, times, over, not-zero, sizable-above}
 use Rattle.finite.specs.Laws.Doubles.{zero-small, one-small, two-sizable}
-use Rattle.finite.specs.Laws.Vectors.{SmallPoint, point-wider, sub-point, parameter-small}
+use Rattle.finite.specs.Laws.Vectors.{SmallPoint, point-of, sub-point, parameter-small}
 
 -- the parameters, if there are any
 pub data Bounded : LineCircleIntr → Type 0 where
@@ -97,10 +97,6 @@ ordered-small : (s t : Float) → Small 600 s → Small 600 t → SmallSpan (min
 unfolding minMax
 ordered-small s t a b =
     by-test SmallSpan (s ≺ t) _ _ (λ e. record { least = a; most = b }) (λ e. record { least = b; most = a })
-
-point-of : {k : ℕ} {x y : Float} → Small k x → Small k y → SmallPoint k (vector2.new x y)
-unfolding vector2.new
-point-of a b = record { at-x = a; at-y = b }
 
 module _ (p0 p1 : Vector2) (eps : Float) (A : SmallPoint 20 p0) (B : SmallPoint 20 p1) (E : Epsilon eps)
     (far : vector2.fuzzyEqEps p0 p1 eps ≡ false) where

@@ -26,7 +26,7 @@ use Rattle.finite.specs.Laws.Branch.{by-test}
 use Rattle.finite.specs.Laws.Sizes.{Sizable}
 use Rattle.finite.specs.Laws.Leaves.{min-small, max-small}
 use Rattle.finite.specs.Laws.Doubles.{Epsilon, wider, over, not-near, zero-small, one-small}
-use Rattle.finite.specs.Laws.Vectors.{SmallPoint, sub-point, perp-dot-small, sides, parameter-small}
+use Rattle.finite.specs.Laws.Vectors.{SmallPoint, sub-point, perp-dot-small, sides, parameter-small, not-near-zero}
 
 -- both parameters, if there are any
 pub data Bounded : LineLineIntr → Type 0 where
@@ -44,11 +44,6 @@ zero = wider zero-small 600 tt
 
 one : Small 600 f1
 one = wider one-small 600 tt
-
--- the near tests by their names
-not-near-zero : (k : ℕ) (x eps : Float) → Small k x → Epsilon eps → fuzzyEqZeroEps x eps ≡ false → Sizable 40 x
-unfolding fuzzyEqZeroEps
-not-near-zero k x eps w E e = not-near k x eps w E e
 
 denied : (b : Bool) → not b ≡ true → b ≡ false
 denied true e = absurd (true≢false (sym e))

@@ -31,6 +31,10 @@ pub record SmallPoint (k : ℕ) (p : Vector2) : Type 0 where
 pub point-small : (p : Vector2) → PointFine (p .x) (p .y) → SmallPoint 20 p
 point-small p f = record { at-x = coordinate-small (p .x) (f .at-x); at-y = coordinate-small (p .y) (f .at-y) }
 
+pub point-of : {k : ℕ} {x y : Float} → Small k x → Small k y → SmallPoint k (vector2.new x y)
+unfolding vector2.new
+point-of a b = record { at-x = a; at-y = b }
+
 pub point-wider : {i : ℕ} {p : Vector2} → SmallPoint i p → (k : ℕ) → T (leb i k) → SmallPoint k p
 point-wider A k t = record { at-x = wider (A .at-x) k t; at-y = wider (A .at-y) k t }
 
@@ -73,6 +77,11 @@ pub parametric-point : (p q : Vector2) (t : Float) → SmallPoint 20 p → Small
     → SmallPoint 622 (pointFromParametric p q t)
 unfolding pointFromParametric
 parametric-point p q t A B C = add-point A (scale-point (sub-point B A 20 tt) C tt) 621 tt
+
+-- ---- near zero, by the test's name
+pub not-near-zero : (k : ℕ) (x eps : Float) → Small k x → Epsilon eps → fuzzy.fuzzyEqZeroEps x eps ≡ false → Sizable 40 x
+unfolding fuzzy.fuzzyEqZeroEps
+not-near-zero k x eps w E e = not-near k x eps w E e
 
 -- ---- a segment that is no point
 lt-then-le : (x y : Float) → T (x ≺ y) → T (x ≼ y)
