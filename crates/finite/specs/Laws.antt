@@ -9,3 +9,4 @@ pub mod LineLine
 pub mod LineCircle
 pub mod CircleCircle
 pub mod ArcCircle
+pub mod Points
