@@ -10,3 +10,4 @@ pub mod LineCircle
 pub mod CircleCircle
 pub mod ArcCircle
 pub mod Points
+pub mod Pair

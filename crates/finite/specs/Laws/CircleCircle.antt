@@ -73,8 +73,8 @@ meeting-small radius1 center1 radius2 cv d2 d eps R C S W D2 D F =
     let G = minus R2 (times A A tt) 328 tt in
     by-test Bounded (diff ≼ f0) _ _ (λ e. touched (point-wider M 600 tt))
     (λ e.
-        let H = root-small 165 diff (sub-fits binary64 rad1Sq (a ⊗ a)) (not-below-zero 329 diff G e) (wider G 330 tt) in
-        sides-small _ cv (F64.sqrt diff ⊘ d) eps M W (over H F tt))
+    let H = root-small 165 diff (sub-fits binary64 rad1Sq (a ⊗ a)) (not-below-zero 329 diff G e) (wider G 330 tt) in
+    sides-small _ cv (F64.sqrt diff ⊘ d) eps M W (over H F tt))
 
 one-center : (radius1 radius2 eps : Float) → Bounded (kernel.sameCenter radius1 radius2 eps)
 unfolding kernel.sameCenter
@@ -94,6 +94,6 @@ circle-circle-small radius1 center1 radius2 center2 eps R C S B E =
     let D = root-small 62 d2 (add-fits binary64 (cv .x ⊗ cv .x) (cv .y ⊗ cv .y)) (dot-least 61 cv W tt) (wider D2 124 tt) in
     by-test Bounded (fuzzyEqZeroEps d eps) _ _ (λ e. one-center radius1 radius2 eps)
     (λ e.
-        by-test Bounded
-        (not (fuzzyLtEps d (radius1 ⊕ radius2) eps) || not (fuzzyGtEps d (F64.abs (radius1 ⊖ radius2)) eps)) _ _ (λ e. nothing)
-        (λ f. meeting-small radius1 center1 radius2 cv d2 d eps R C S W D2 D (not-near-zero 62 d eps D E e)))
+    by-test Bounded
+    (not (fuzzyLtEps d (radius1 ⊕ radius2) eps) || not (fuzzyGtEps d (F64.abs (radius1 ⊖ radius2)) eps)) _ _ (λ e. nothing)
+    (λ f. meeting-small radius1 center1 radius2 cv d2 d eps R C S W D2 D (not-near-zero 62 d eps D E e)))

@@ -137,8 +137,8 @@ module _ (p0 p1 : Vector2) (eps : Float) (A : SmallPoint 20 p0) (B : SmallPoint 
       let shortestDist = F64.abs c ⊘ F64.sqrt a2B2 in
       by-test Bounded (shortestDist ≻ radius ⊕ eps) _ _ (λ e. nothing)
       (λ e.
-          by-test Bounded (shortestDist ≽ radius) _ _ (λ e. touched t)
-          (λ e. two-small line (neg a ⊗ c ⊗ inv ⊕ h) (neg b ⊗ c ⊗ inv ⊕ k) (F64.sqrt (F64.abs (d ⊗ inv))) L X Y M))
+      by-test Bounded (shortestDist ≽ radius) _ _ (λ e. touched t)
+      (λ e. two-small line (neg a ⊗ c ⊗ inv ⊕ h) (neg b ⊗ c ⊗ inv ⊕ k) (F64.sqrt (F64.abs (d ⊗ inv))) L X Y M))
 
 point-circle : (p0 p1 : Vector2) (radius : Float) (center : Vector2) (eps : Float)
     → Bounded (kernel.pointCircle p0 p1 radius center eps)

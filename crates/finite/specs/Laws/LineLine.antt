@@ -124,11 +124,11 @@ module _ (v1 v2 u1 u2 : Vector2) (eps : Float)
   span-small far =
       by-test SmallSpan (fuzzyEqZeroEps (u .x) eps) _ _
       (λ e.
-          let by = by-y e in
-          rising-small _ _ (wider (over (w-small .at-y) by tt) 600 tt) (wider (over (w2-small .at-y) by tt) 600 tt))
+      let by = by-y e in
+      rising-small _ _ (wider (over (w-small .at-y) by tt) 600 tt) (wider (over (w2-small .at-y) by tt) 600 tt))
       (λ e.
-          let by = by-x e in
-          rising-small _ _ (wider (over (w-small .at-x) by tt) 600 tt) (wider (over (w2-small .at-x) by tt) 600 tt))
+      let by = by-x e in
+      rising-small _ _ (wider (over (w-small .at-x) by tt) 600 tt) (wider (over (w2-small .at-x) by tt) 600 tt))
     where
       by-x : fuzzyEqZeroEps (u .x) eps ≡ false → Sizable 40 (u .x)
       by-x e = not-near-zero 21 (u .x) eps (u-small .at-x) E e
@@ -149,8 +149,8 @@ module _ (v1 v2 u1 u2 : Vector2) (eps : Float)
       by-test Bounded
       (not (fuzzyLtEps (s .t0 ⊗ length) length eps) || not (fuzzyGtEps (s .t1 ⊗ length) f0 eps)) _ _ (λ e. nothing)
       (λ e.
-          by-test Bounded (fuzzyEqZeroEps ((F64.min (s .t1) f1 ⊖ F64.max (s .t0) f0) ⊗ length) eps) _ _ (λ e. met end-small t0)
-          (λ e. shared t0 t1))
+      by-test Bounded (fuzzyEqZeroEps ((F64.min (s .t1) f1 ⊖ F64.max (s .t0) f0) ⊗ length) eps) _ _ (λ e. met end-small t0)
+      (λ e. shared t0 t1))
 
   -- not on one straight line
   abbrev off : Bool
