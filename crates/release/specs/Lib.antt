@@ -1,0 +1,5 @@
+-- The three sentences of the release form (request 13), over the definitions of all calls (Release), and their proof (Proved). A
+-- reader need not believe Laws.
+pub mod Release
+pub mod Proved
+pub mod Laws
