@@ -1,4 +1,5 @@
 -- Laws that only proofs need. A reader need not believe them: they are proved.
 pub mod Accepted
 pub mod Kernels
+pub mod Range
 pub mod Pair
