@@ -11,6 +11,7 @@ use mathlib.Core.List.{List, [], _∷_, _++_}
 use Prim.Native.Nat.{ℕ}
 use lib.Ieee.{Float}
 use lib.ListN.{length, take}
+use Rattle.float_laws.specs.Flat.{flat}
 use Rattle.floats.specs.Ops.{_≼_, f0, f1}
 use Rattle.plane.specs.declared.vector2.Vector2.{Vector2}
 use Rattle.plane.specs.declared.pline_vertex.PlineVertex.{PlineVertex}
@@ -36,14 +37,17 @@ use Rattle.listing_outcomes.specs.declared.answer.ListingAnswer.the-variants as
 use Rattle.listing_outcomes.specs.declared.answer.PageAnswer.{PageAnswer}
 use Rattle.listing_outcomes.specs.declared.answer.PageAnswer.the-variants as PageAnswer·
 use Rattle.listing_outcomes.specs.Outcome.{Outcome}
+use Rattle.listing_outcomes.specs.BoxedOutcome.{BoxedOutcome}
 use Rattle.listing_calls.specs.Listing.{mutualListing, selfListing}
-use Rattle.listing_calls.specs.Pages.{mutualPage, selfPage}
 use Rattle.listing_calls.specs.Boxed.{mutualBoxed, selfBoxed}
 use Rattle.listing_calls.specs.Chain.{Lent, Joined, chain}
+use Rattle.listing_calls.specs.ChainedCalls.{mutualPages, selfPages}
 use Rattle.month.specs.declared.mutual_counted.CountedAnswer.{CountedAnswer}
 use Rattle.month.specs.declared.mutual_counted.CountedAnswer.the-variants as CountedAnswer·
 use Rattle.month.specs.Counted.{mutualCounted}
-use Rattle.large_pair.specs.LargePair as large-pair
+use Rattle.large_pair.specs.declared.LargePair.{LargePair}
+use Rattle.large_pair.specs.declared.LargePair.the-variants as LargePair·
+use Rattle.large_pair.specs.LargePair.{Result, LargeOutcome, wordsOf, floatsOf, largePair}
 use Rattle.large_listings.specs.LargeListings as large
 use Rattle.large_listings.specs.LargeChain.{largeChain}
 use Rattle.large_counted.specs.LargeCounted.{mutualCountedLarge}
@@ -92,15 +96,17 @@ GoodRow first second r =
     Good (IsEnd (v .v1) (v .v2) (u .v1) (u .v2)) (r .class)
     (record { x = r .x1; y = r .y1 }) (record { x = r .x2; y = r .y2 })
 
+-- ---- what a call writes
 abbrev pub BeginsWith : {A : Type 0} → List A → List A → Type 0
 BeginsWith front whole = take (length front) whole ≡ front
 
--- two slices begin with n good rows; `numbers` says which whole numbers a row has
-pub record Rows (GoodOne : Row → Type 0) (numbers : Row → List ℕ) (n : ℕ) (indices : List ℕ) (points : List Float) : Type 0 where
-  pub rows : List Row
+-- two slices begin with n rows, each of them good; a row has these whole numbers and these floats
+pub record Written {R : Type 0} (GoodOne : R → Type 0) (words : R → List ℕ) (floats : R → List Float) (n : ℕ)
+    (indices : List ℕ) (points : List Float) : Type 0 where
+  pub rows : List R
   pub count : length rows ≡ n
-  pub indices-are : BeginsWith (numbersOfRows numbers rows) indices
-  pub points-are : BeginsWith (numbersOfRows pointsOf rows) points
+  pub indices-are : BeginsWith (flat words rows) indices
+  pub points-are : BeginsWith (flat floats rows) points
   pub each : Each GoodOne rows
 
 -- how many rows an answer has
@@ -115,3 +121,71 @@ paged (PageAnswer·.Paged rows pairs next all) = rows
 abbrev pub counted : CountedAnswer → ℕ
 counted CountedAnswer·.NoRoom = 0
 counted (CountedAnswer·.Answered answer) = listed answer
+
+-- a page's call in the mode of large arcs, by what is lent to it
+abbrev pub mutualLargePages : List Float → Bool → List Float → Bool → Float → ℕ → Lent → Outcome PageAnswer
+mutualLargePages first a second b eps position l =
+    large.mutualPageLarge first a second b eps position (l .budget) (l .indices) (l .points)
+
+abbrev pub selfLargePages : List Float → Bool → Float → ℕ → Lent → Outcome PageAnswer
+selfLargePages path closed eps position l =
+    large.selfPageLarge path closed eps position (l .budget) (l .indices) (l .points)
+
+abbrev pub results : LargePair → ℕ
+results LargePair·.NoRoom = 0
+results (LargePair·.Refused fault) = 0
+results (LargePair·.Met n) = n
+
+abbrev pub Wrote : {A : Type 0} → (A → ℕ) → (Row → Type 0) → (Row → List ℕ) → Outcome A → Type 0
+Wrote rowsIn GoodOne words o = Written GoodOne words pointsOf (rowsIn (o .answer)) (o .indices) (o .points)
+
+abbrev pub WroteResults : (Result → Type 0) → LargeOutcome → Type 0
+WroteResults GoodOne o = Written GoodOne wordsOf floatsOf (results (o .answer)) (o .results) (o .points)
+
+abbrev pub Joins : (Row → Type 0) → (Row → List ℕ) → Joined → Type 0
+Joins GoodOne words j = Written GoodOne words pointsOf (j .rows) (j .indices) (j .points)
+
+-- the kinds of listing: full, boxed, a page at a position, and a chain of pages from a position on
+pub record Listings (GoodOne : Row → Type 0) (words : Row → List ℕ) (full : List ℕ → List Float → Outcome ListingAnswer)
+    (boxed : List Float → List ℕ → List Float → BoxedOutcome) (page : ℕ → Lent → Outcome PageAnswer)
+    (joined : ℕ → List Lent → Joined) : Type 0 where
+  pub in-full : (i : List ℕ) (p : List Float) → Wrote listed GoodOne words (full i p)
+  pub in-boxed : (boxes : List Float) (i : List ℕ) (p : List Float) → Wrote listed GoodOne words (boxed boxes i p .listing)
+  pub in-page : (position : ℕ) (l : Lent) → Wrote paged GoodOne words (page position l)
+  pub in-joined : (position : ℕ) (lents : List Lent) → Joins GoodOne words (joined position lents)
+
+-- the ends of a segment, and its cut point if it is cut
+abbrev pub largeEnds : PlineVertex → PlineVertex → List Vector2
+largeEnds v1 v2 = pos v1 ∷ pos v2 ∷ cond (isLarge (v1 .bulge)) (cutPoint v1 v2 ∷ []) []
+
+abbrev pub GoodResult : PlineVertex → PlineVertex → PlineVertex → PlineVertex → Result → Type 0
+GoodResult v1 v2 u1 u2 r =
+    Good (λ p. Has p (largeEnds v1 v2 ++ largeEnds u1 u2)) (classOf (r .met)) (point1Of (r .met)) (point2Of (r .met))
+
+-- ---- the release form
+pub record Release : Type 0 where
+  pub calls : Calls
+  pub two-paths : (first : List Float) (a : Bool) (second : List Float) (b : Bool) (eps : Float)
+      → Listings (GoodRow first second) indicesOf (mutualListing first a second b eps) (mutualBoxed first a second b eps)
+      (mutualPages first a second b eps) (chain (mutualPages first a second b eps))
+  pub one-path : (path : List Float) (closed : Bool) (eps : Float)
+      → Listings (GoodRow path path) indicesOf (selfListing path closed eps) (selfBoxed path closed eps)
+      (selfPages path closed eps) (chain (selfPages path closed eps))
+  pub counted-paths : (first : List Float) (a : Bool) (second : List Float) (b : Bool) (eps : Float)
+      (i : List ℕ) (p : List Float) (report : List ℕ)
+      → Wrote counted (GoodRow first second) indicesOf (mutualCounted first a second b eps i p report .listing)
+  -- the mode of large arcs: a listing's rows are those of the cut paths, by the names of their segments
+  pub large-pair : (v1 v2 u1 u2 : PlineVertex) (eps : Float) (i : List ℕ) (p : List Float)
+      → WroteResults (GoodResult v1 v2 u1 u2) (largePair v1 v2 u1 u2 eps i p)
+  pub large-two-paths : (first : List Float) (a : Bool) (second : List Float) (b : Bool) (eps : Float)
+      → Listings (GoodRow (cutPath first a) (cutPath second b)) (large.mutualNumbers first a second b)
+      (large.mutualLarge first a second b eps) (large.mutualBoxedLarge first a second b eps)
+      (mutualLargePages first a second b eps) (largeChain (mutualLargePages first a second b eps))
+  pub large-one-path : (path : List Float) (closed : Bool) (eps : Float)
+      → Listings (GoodRow (cutPath path closed) (cutPath path closed)) (large.selfNumbers path closed)
+      (large.selfLarge path closed eps) (large.selfBoxedLarge path closed eps)
+      (selfLargePages path closed eps) (largeChain (selfLargePages path closed eps))
+  pub large-counted-paths : (first : List Float) (a : Bool) (second : List Float) (b : Bool) (eps : Float)
+      (i : List ℕ) (p : List Float) (report : List ℕ)
+      → Wrote counted (GoodRow (cutPath first a) (cutPath second b)) (large.mutualNumbers first a second b)
+      (mutualCountedLarge first a second b eps i p report .listing)
