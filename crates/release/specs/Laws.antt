@@ -3,3 +3,6 @@ pub mod Accepted
 pub mod Kernels
 pub mod Range
 pub mod Pair
+pub mod Rows
+pub mod Chains
+pub mod Looks
