@@ -6,3 +6,5 @@ pub mod Pair
 pub mod Rows
 pub mod Chains
 pub mod Looks
+pub mod Listings
+pub mod LargeResults
