@@ -6,5 +6,7 @@ pub mod Pair
 pub mod Rows
 pub mod Chains
 pub mod Looks
+pub mod Outcomes
 pub mod Listings
+pub mod LargeListings
 pub mod LargeResults
