@@ -15,11 +15,14 @@ use Rattle.crossing.specs.declared.line_line_intersect.LineLineAnswer.{LineLine
 use Rattle.crossing.specs.declared.line_line_intersect.LineLineAnswer.the-variants as LineLineAnswer·
 use Rattle.crossing.specs.declared.line_line_intr.LineLineIntr.{LineLineIntr}
 use Rattle.crossing.specs.declared.line_line_intr.LineLineIntr.the-variants as LineLineIntr·
-use Rattle.release.specs.Release.{Calls}
+use Rattle.release.specs.Release.{Calls, Release}
 use Rattle.release.specs.Laws.Kernels.{line-line, line-and-circle, circle-and-circle}
 use Rattle.release.specs.Laws.Range.{InRange, in-range}
 use Rattle.release.specs.Laws.Range as ranges
 use Rattle.release.specs.Laws.Pair.{answer-good}
+use Rattle.release.specs.Laws.Listings.{two-paths, one-path, counted-paths}
+use Rattle.release.specs.Laws.LargeListings.{large-two-paths, large-one-path, large-counted-paths}
+use Rattle.release.specs.Laws.LargeResults.{large-pair-wrote}
 
 -- ---- sentence 3, of the call
 abbrev Ranged : LineLineAnswer → Type 0
@@ -43,12 +46,26 @@ ranged v1 v2 u1 u2 eps = go (checkLineLine v1 v2 u1 u2 eps)
     go (Bad fault) = tt
     go Fine = met-ranged (lineLine v1 v2 u1 u2 eps) (in-range v1 v2 u1 u2 eps)
 
-pub calls : Calls
-calls =
+of-calls : Calls
+of-calls =
     record {
       line-line = line-line;
       line-circle = line-and-circle;
       circle-circle = circle-and-circle;
       answer = answer-good;
       range = λ v1 v2 u1 u2 eps t0 t1 e. subst Ranged e (ranged v1 v2 u1 u2 eps);
+    }
+
+-- ---- all of it
+pub release : Release
+release =
+    record {
+      calls = of-calls;
+      two-paths = two-paths;
+      one-path = one-path;
+      counted-paths = counted-paths;
+      large-pair = large-pair-wrote;
+      large-two-paths = large-two-paths;
+      large-one-path = large-one-path;
+      large-counted-paths = large-counted-paths;
     }
