@@ -1,5 +1,6 @@
--- The three sentences of the release form (request 13), over the definitions of all calls (Release), and their proof (Proved). A
--- reader need not believe Laws.
+-- The three sentences of the release form (request 13), over the definitions of all calls (Release, in the words of Words), and
+-- their proof (Proved). A reader need not believe Laws.
+pub mod Words
 pub mod Release
 pub mod Proved
 pub mod Laws

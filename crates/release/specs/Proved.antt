@@ -1,5 +1,5 @@
 -- The proof of Release.antt.
-use mathlib.Core.Path.{_≡_, refl, subst}
+use mathlib.Core.Path.{_≡_, subst}
 use mathlib.Core.Bool.{true}
 use lib.Ieee.{Float}
 use lib.Ieee.Bits.{is-true}

@@ -11,11 +11,11 @@ use Rattle.checks.specs.Each
 use Rattle.checks.specs.Arc.{arcChord}
 use Rattle.checks.specs.First.{first}
 use Rattle.checks.specs.Lists.{pointChecks, vertexChecks, circleChecks}
-use Rattle.checks.specs.Calls.{checkLineLine, checkLineCircle, checkCircleCircle, plineSegNumbers, checkPlineSeg}
+use Rattle.checks.specs.Calls.{checkLineLine, checkLineCircle, checkCircleCircle, checkPlineSeg}
 use Rattle.checks.specs.Laws.Later.{alone-fine}
 use Rattle.checks.specs.Laws.Fine.{epsilon-fine}
 use Rattle.checks.specs.Laws.Chains.{PointFine, VertexFine, CircleFine, append-fine, point-listed, vertex-listed, circle-listed}
-use Rattle.finite.specs.Laws.Doubles.{Epsilon}
+use Rattle.finite.specs.Doubles.{Epsilon}
 
 pub record LinesFine (v1 v2 u1 u2 : Vector2) (eps : Float) : Type 0 where
   pub epsilon : Epsilon eps

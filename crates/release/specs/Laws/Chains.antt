@@ -1,8 +1,7 @@
 -- What holds of each row of every page of a chain holds of each row that is joined.
 use mathlib.Core.Path.{_≡_, refl, sym, ap, _∙_, subst}
 use mathlib.Core.List.{List, [], _∷_, _++_}
-use Prim.Native.Nat.{ℕ, suc, _+_, _*_}
-use native.Mathlib.Omega.{arith}
+use Prim.Native.Nat.{ℕ, _+_, _*_}
 use lib.Ieee.{Float}
 use lib.ListN.{length, take, length-append}
 use Rattle.float_laws.specs.Flat.{flat}
@@ -15,7 +14,7 @@ use Rattle.listing_outcomes.specs.Outcome.{Outcome}
 use Rattle.listing_calls.specs.Chain.{Lent, Joined, joined, chain}
 use Rattle.large_outcomes.specs.LargeRow.{largeIndicesARow}
 use Rattle.large_listings.specs.LargeChain.{largeJoined, largeChain}
-use Rattle.release.specs.Release.{BeginsWith, Written, Wrote, Joins, paged}
+use Rattle.release.specs.Words.{BeginsWith, Written, Wrote, Joins, paged}
 use Rattle.release.specs.Laws.Rows.{each-append, none-written}
 
 -- ---- one list after another
@@ -47,7 +46,7 @@ module _ (P : Row → Type 0) (words : Row → List ℕ) (w : ℕ) (wide : (r : 
         count = length-append (a .rows) (b .rows) ∙ ap (λ (k : ℕ). k + length (b .rows)) (a .count) ∙ ap (λ (k : ℕ). n + k) (b .count);
         indices-are = joined-begins w n words wide (a .rows) (b .rows) (a .count) i j (a .indices-are) (b .indices-are);
         points-are = joined-begins pointsARow n pointsOf (λ r. refl) (a .rows) (b .rows) (a .count) p q (a .points-are) (b .points-are);
-        each = each-append P (a .rows) (b .rows) (a .each) (b .each);
+        all = each-append P (a .rows) (b .rows) (a .all) (b .all);
       }
 
 -- ---- the chains of both modes

@@ -1,19 +1,7 @@
 -- The three kernels' calls: what they answer is finite; and sentence 3.
-use mathlib.Core.Path.{_≡_, refl, sym, ap}
-use mathlib.Core.Bool.{Bool, true, false, cond, not, _||_, true≢false}
-use mathlib.Core.List.{[], _∷_}
+use mathlib.Core.Path.{_≡_, refl}
 use Prim.Native.Nat.{ℕ}
-use lib.Dec.{T}
-use lib.Ieee.{Float, nan, inf, fin, binary64, ofBits, isNan, lt, le, eq}
-use lib.Ieee.Bits.{is-true}
-use lib.Ieee.Scale.{finite}
-use Rattle.float_laws.specs.Chains.{le-refl}
-use Rattle.float_laws.specs.Tests.{left-of}
-use Rattle.floats.specs.Ops.{_⊖_, _⊗_, _⊘_, _≼_, _≺_, f0, f1}
-use Rattle.floats.specs.F64
-use Rattle.plane.specs.Vector2 as vector2
-use Rattle.plane.specs.Fuzzy.{fuzzyEqZeroEps, fuzzyGtEps, fuzzyLtEps}
-use Rattle.plane.specs.BaseMath.{parametricFromPoint}
+use lib.Ieee.{Float}
 use Rattle.plane.specs.declared.vector2.Vector2.{Vector2}
 use Rattle.checks.specs.declared.fault.Checked.{Checked}
 use Rattle.checks.specs.declared.fault.Checked.the-variants.{Fine, Bad}
@@ -28,7 +16,6 @@ use Rattle.crossing.specs.CircleCircle.{circleCircle}
 use Rattle.crossing.specs.LineLineIntersect as lines
 use Rattle.crossing.specs.LineCircleIntersect as line-circle
 use Rattle.crossing.specs.CircleCircleIntersect as circles
-use Rattle.crossing.specs.declared.line_line_intersect.LineLineAnswer.{LineLineAnswer}
 use Rattle.crossing.specs.declared.line_line_intersect.LineLineAnswer.the-variants as LineLineAnswer·
 use Rattle.crossing.specs.declared.line_line_intr.LineLineIntr.{LineLineIntr}
 use Rattle.crossing.specs.declared.line_line_intr.LineLineIntr.the-variants as LineLineIntr·
@@ -38,14 +25,14 @@ use Rattle.crossing.specs.declared.line_circle_intr.LineCircleIntr.the-variants
 use Rattle.crossing.specs.declared.circle_circle_intersect.CircleCircleAnswer.the-variants as CircleCircleAnswer·
 use Rattle.crossing.specs.declared.circle_circle_intr.CircleCircleIntr.{CircleCircleIntr}
 use Rattle.crossing.specs.declared.circle_circle_intr.CircleCircleIntr.the-variants as CircleCircleIntr·
-use Rattle.finite.specs.Laws.Sizes.{small-finite}
-use Rattle.finite.specs.Laws.Doubles.{wider}
-use Rattle.finite.specs.Laws.Limits.{radius-small, center-small}
-use Rattle.finite.specs.Laws.Vectors.{SmallPoint, point-small, point-wider}
-use Rattle.finite.specs.Laws.LineLine as line-laws
-use Rattle.finite.specs.Laws.LineCircle as line-circle-laws
-use Rattle.finite.specs.Laws.CircleCircle as circle-laws
-use Rattle.release.specs.Release.{Finite, Each}
+use Rattle.finite.specs.Sizes.{small-finite}
+use Rattle.finite.specs.Doubles.{wider}
+use Rattle.finite.specs.Limits.{radius-small, center-small}
+use Rattle.finite.specs.Vectors.{SmallPoint, point-small, point-wider}
+use Rattle.finite.specs.LineLine as line-laws
+use Rattle.finite.specs.LineCircle as line-circle-laws
+use Rattle.finite.specs.CircleCircle as circle-laws
+use Rattle.release.specs.Words.{Finite, All}
 use Rattle.release.specs.Laws.Accepted.{lines-fine, line-circle-fine, circles-fine}
 
 -- a bounded number is finite
@@ -54,18 +41,18 @@ unfolding notFinite
 bounded {k} {x} w = of-number x (small-finite k x w)
 
 -- ---- two lines
-line-values : (r : LineLineIntr) → line-laws.Bounded r → Each Finite (lines.numbersOf (LineLineAnswer·.Met r) .values)
+line-values : (r : LineLineIntr) → line-laws.Bounded r → All Finite (lines.numbersOf (LineLineAnswer·.Met r) .values)
 line-values LineLineIntr·.NoIntersect line-laws.nothing = tt
 line-values (LineLineIntr·.TrueIntersect s t) (line-laws.met a b) = (bounded a, (bounded b, tt))
 line-values (LineLineIntr·.Overlapping s t) (line-laws.shared a b) = (bounded a, (bounded b, tt))
 line-values (LineLineIntr·.FalseIntersect s t) (line-laws.missed a b) = (bounded a, (bounded b, tt))
 
-pub line-line : (v1 v2 u1 u2 : Vector2) (eps : Float) → Each Finite (lines.numbersOf (lines.lineLineIntr v1 v2 u1 u2 eps) .values)
+pub line-line : (v1 v2 u1 u2 : Vector2) (eps : Float) → All Finite (lines.numbersOf (lines.lineLineIntr v1 v2 u1 u2 eps) .values)
 unfolding lines.lineLineIntr
 line-line v1 v2 u1 u2 eps = go (checkLineLine v1 v2 u1 u2 eps) refl
   where
     go : (c : Checked) → checkLineLine v1 v2 u1 u2 eps ≡ c
-        → Each Finite
+        → All Finite
         (lines.numbersOf
         (answered LineLineAnswer·.Refused LineLineAnswer·.Met c (kernel.lineLine v1 v2 u1 u2 eps)) .values)
     go (Bad fault) e = tt
@@ -77,18 +64,18 @@ line-line v1 v2 u1 u2 eps = go (checkLineLine v1 v2 u1 u2 eps) refl
 
 -- ---- a line and a circle
 line-circle-values : (r : LineCircleIntr) → line-circle-laws.Bounded r
-    → Each Finite (line-circle.numbersOf (LineCircleAnswer·.Met r) .values)
+    → All Finite (line-circle.numbersOf (LineCircleAnswer·.Met r) .values)
 line-circle-values LineCircleIntr·.NoIntersect line-circle-laws.nothing = tt
 line-circle-values (LineCircleIntr·.TangentIntersect t) (line-circle-laws.touched a) = (bounded a, tt)
 line-circle-values (LineCircleIntr·.TwoIntersects s t) (line-circle-laws.twice a b) = (bounded a, (bounded b, tt))
 
 pub line-and-circle : (p0 p1 : Vector2) (radius : Float) (center : Vector2) (eps : Float)
-    → Each Finite (line-circle.numbersOf (line-circle.lineCircleIntr p0 p1 radius center eps) .values)
+    → All Finite (line-circle.numbersOf (line-circle.lineCircleIntr p0 p1 radius center eps) .values)
 unfolding line-circle.lineCircleIntr
 line-and-circle p0 p1 radius center eps = go (checkLineCircle p0 p1 radius center eps) refl
   where
     go : (c : Checked) → checkLineCircle p0 p1 radius center eps ≡ c
-        → Each Finite
+        → All Finite
         (line-circle.numbersOf
         (answered LineCircleAnswer·.Refused LineCircleAnswer·.Met c (lineCircle p0 p1 radius center eps)) .values)
     go (Bad fault) e = tt
@@ -101,7 +88,7 @@ line-and-circle p0 p1 radius center eps = go (checkLineCircle p0 p1 radius cente
         (wider (radius-small radius (f .circle .radius)) 60 tt) (point-wider C 60 tt) (f .epsilon))
 
 -- ---- two circles
-circle-values : (r : CircleCircleIntr) → circle-laws.Bounded r → Each Finite (circles.numbersOf (CircleCircleAnswer·.Met r) .values)
+circle-values : (r : CircleCircleIntr) → circle-laws.Bounded r → All Finite (circles.numbersOf (CircleCircleAnswer·.Met r) .values)
 circle-values CircleCircleIntr·.NoIntersect circle-laws.nothing = tt
 circle-values (CircleCircleIntr·.TangentIntersect p) (circle-laws.touched a) = (bounded (a .at-x), (bounded (a .at-y), tt))
 circle-values (CircleCircleIntr·.TwoIntersects p q) (circle-laws.twice a b) =
@@ -109,12 +96,12 @@ circle-values (CircleCircleIntr·.TwoIntersects p q) (circle-laws.twice a b) =
 circle-values CircleCircleIntr·.Overlapping circle-laws.same = tt
 
 pub circle-and-circle : (radius1 : Float) (center1 : Vector2) (radius2 : Float) (center2 : Vector2) (eps : Float)
-    → Each Finite (circles.numbersOf (circles.circleCircleIntr radius1 center1 radius2 center2 eps) .values)
+    → All Finite (circles.numbersOf (circles.circleCircleIntr radius1 center1 radius2 center2 eps) .values)
 unfolding circles.circleCircleIntr
 circle-and-circle radius1 center1 radius2 center2 eps = go (checkCircleCircle radius1 center1 radius2 center2 eps) refl
   where
     go : (c : Checked) → checkCircleCircle radius1 center1 radius2 center2 eps ≡ c
-        → Each Finite
+        → All Finite
         (circles.numbersOf
         (answered CircleCircleAnswer·.Refused CircleCircleAnswer·.Met c (circleCircle radius1 center1 radius2 center2 eps)) .values)
     go (Bad fault) e = tt

@@ -1,7 +1,7 @@
 -- The listings of the mode of large arcs: they are listings of the cut paths, whose segments are accepted.
 use mathlib.Core.Path.{_≡_, refl}
 use mathlib.Core.Bool.{Bool}
-use mathlib.Core.List.{List, _++_}
+use mathlib.Core.List.{List}
 use Prim.Native.Nat.{ℕ}
 use lib.Ieee.{Float}
 use Rattle.checks.specs.declared.fault.Checked.the-variants.{Fine}
@@ -14,11 +14,11 @@ use Rattle.listing_pairs.specs.declared.row.Row.{Row}
 use Rattle.listing_pairs.specs.Order.{Pair, mutualPairs, selfPairs}
 use Rattle.listing_pairs.specs.Boxed.{boxesMeet, boxedPairs}
 use Rattle.listing_calls.specs.Chain.{Lent}
-use Rattle.month.specs.Counted.{CountedOutcome}
 use Rattle.large_listings.specs.LargeListings as large
 use Rattle.large_listings.specs.LargeChain.{largeChain}
 use Rattle.large_counted.specs.LargeCounted.{mutualLargeRows, mutualCountedLarge}
-use Rattle.release.specs.Release.{GoodRow, Wrote, Listings, listed, paged, counted, mutualLargePages, selfLargePages}
+use Rattle.release.specs.Words.{Wrote, Listings, listed, paged, counted, mutualLargePages, selfLargePages}
+use Rattle.release.specs.Release.{GoodCut}
 use Rattle.release.specs.Laws.Rows.{Inside, GoodLook, those-each, mutual-inside, self-inside}
 use Rattle.release.specs.Laws.Outcomes.{large-full-wrote, large-boxed-wrote, large-page-wrote}
 use Rattle.release.specs.Laws.Chains.{large-joins}
@@ -34,7 +34,7 @@ module _ (first : List Float) (a : Bool) (second : List Float) (b : Bool) (eps :
   m = cutCount second b
 
   abbrev Row? : Row → Type 0
-  Row? = GoodRow (cutPath first a) (cutPath second b)
+  Row? = GoodCut first a second b
 
   abbrev words : Row → List ℕ
   words = large.mutualNumbers first a second b
@@ -69,7 +69,7 @@ module _ (first : List Float) (a : Bool) (second : List Float) (b : Bool) (eps :
       (large.mutualLargeLook first a second b eps) pairs-good (mutualPairs n m) (mutual-inside n m) (l .indices) (l .points) words
       position (l .budget)
 
-  pub large-two-paths : Listings (GoodRow (cutPath first a) (cutPath second b)) (large.mutualNumbers first a second b)
+  pub large-two-paths : Listings (GoodCut first a second b) (large.mutualNumbers first a second b)
       (large.mutualLarge first a second b eps) (large.mutualBoxedLarge first a second b eps)
       (mutualLargePages first a second b eps) (largeChain (mutualLargePages first a second b eps))
   large-two-paths =
@@ -93,7 +93,7 @@ module _ (path : List Float) (closed : Bool) (eps : Float) where
   k = cutCount path closed
 
   abbrev Own : Row → Type 0
-  Own = GoodRow (cutPath path closed) (cutPath path closed)
+  Own = GoodCut path closed path closed
 
   abbrev own-words : Row → List ℕ
   own-words = large.selfNumbers path closed
@@ -125,7 +125,7 @@ module _ (path : List Float) (closed : Bool) (eps : Float) where
       large-page-wrote Own (Inside k k) (large.selfLargeChecks path closed eps) (large.selfLargeLook path closed eps) own-good
       (selfPairs k) (self-inside k) (l .indices) (l .points) own-words position (l .budget)
 
-  pub large-one-path : Listings (GoodRow (cutPath path closed) (cutPath path closed)) (large.selfNumbers path closed)
+  pub large-one-path : Listings (GoodCut path closed path closed) (large.selfNumbers path closed)
       (large.selfLarge path closed eps) (large.selfBoxedLarge path closed eps)
       (selfLargePages path closed eps) (largeChain (selfLargePages path closed eps))
   large-one-path =

@@ -20,16 +20,13 @@ use Rattle.plane.specs.declared.pline_vertex.PlineVertex.{PlineVertex}
 use Rattle.checks.specs.declared.fault.Checked.{Checked}
 use Rattle.checks.specs.declared.fault.Checked.the-variants.{Fine, Bad}
 use Rattle.checks.specs.First.{first}
-use Rattle.checks.specs.Laws.Fine.{neither}
 use Rattle.checks.specs.Laws.Chains.{PointFine, VertexFine}
-use Rattle.crossing.specs.PlineSegIntr.{classOf, point1Of, point2Of}
 use Rattle.told.specs.Stands.{Has, IsEnd}
 use Rattle.cuts.specs.Cut.{isLarge, cutPoint, bent, cutVertex}
 use Rattle.cuts.specs.Laws.Sound.{whole-sound, halves-sound}
 use Rattle.large_pair.specs.declared.LargePair.the-variants as LargePair·
 use Rattle.large_pair.specs.LargePair.{
   Part,
-  Result,
   largePairChecks,
   partsOf,
   result,
@@ -44,14 +41,15 @@ use Rattle.large_pair.specs.LargePair.{
 }
 use Rattle.large_pair.specs.Results.{one-two-or-four}
 use Rattle.large_pair.specs.Laws.Fine.{EndsFine, pair-listed}
-use Rattle.finite.specs.Laws.Doubles.{Epsilon}
-use Rattle.release.specs.Release.{Each, Good, BeginsWith, Written, WroteResults, largeEnds, GoodResult}
+use Rattle.finite.specs.Doubles.{Epsilon}
+use Rattle.release.specs.Words.{All, BeginsWith, WroteResults}
+use Rattle.release.specs.Release.{largeEnds, GoodResult}
 use Rattle.release.specs.Laws.Rows.{each-append, none-written}
 use Rattle.release.specs.Laws.Pair.{pair-good}
 
 -- ---- lists
-each-flat : {A B : Type 0} (P : B → Type 0) (Q : A → Type 0) (f : A → List B) → ((a : A) → Q a → Each P (f a))
-    → (l : List A) → Each Q l → Each P (flat f l)
+each-flat : {A B : Type 0} (P : B → Type 0) (Q : A → Type 0) (f : A → List B) → ((a : A) → Q a → All P (f a))
+    → (l : List A) → All Q l → All P (flat f l)
 each-flat P Q f good [] h = tt
 each-flat P Q f good (a ∷ l) h = each-append P (f a) (flat f l) (good a (h .0)) (each-flat P Q f good l (h .1))
 
@@ -79,11 +77,11 @@ cut-pos : (v1 v2 : PlineVertex) → pos (cutVertex v1 v2) ≡ cutPoint v1 v2
 unfolding pos cutVertex vertices.new
 cut-pos v1 v2 = refl
 
-parts-fine : (v1 v2 : PlineVertex) → EndsFine v1 v2 → Each (PartFine (largeEnds v1 v2)) (partsOf v1 v2)
+parts-fine : (v1 v2 : PlineVertex) → EndsFine v1 v2 → All (PartFine (largeEnds v1 v2)) (partsOf v1 v2)
 parts-fine v1 v2 f = go (isLarge (v1 .bulge)) refl
   where
     go : (b : Bool) → isLarge (v1 .bulge) ≡ b
-        → Each (PartFine (pos v1 ∷ pos v2 ∷ cond b (cutPoint v1 v2 ∷ []) []))
+        → All (PartFine (pos v1 ∷ pos v2 ∷ cond b (cutPoint v1 v2 ∷ []) []))
         (cond b
         (record { half = 1; start = bent v1; end = cutVertex v1 v2 } ∷ record { half = 2; start = cutVertex v1 v2; end = v2 } ∷ [])
         (record { half = 0; start = v1; end = v2 } ∷ []))
@@ -117,7 +115,7 @@ module _ (v1 v2 u1 u2 : PlineVertex) (eps : Float) (E : Epsilon eps) where
       given p (inr (inr (inl e))) = moved p _ e (has-right _ (largeEnds v1 v2) (largeEnds u1 u2) (b .start-in))
       given p (inr (inr (inr e))) = moved p _ e (has-right _ (largeEnds v1 v2) (largeEnds u1 u2) (b .end-in))
 
-  results-good : EndsFine v1 v2 → EndsFine u1 u2 → Each (GoodResult v1 v2 u1 u2) (resultsOf v1 v2 u1 u2 eps)
+  results-good : EndsFine v1 v2 → EndsFine u1 u2 → All (GoodResult v1 v2 u1 u2) (resultsOf v1 v2 u1 u2 eps)
   results-good f g =
       each-flat (GoodResult v1 v2 u1 u2) (PartFine (largeEnds v1 v2))
       (λ (v : Part). flat (λ (u : Part). result eps v u ∷ []) (partsOf u1 u2))
@@ -147,9 +145,6 @@ large-pair-wrote v1 v2 u1 u2 eps i p =
     go (ltb (length i) (mostResults * wordsAResult)) refl (ltb (length p) (mostResults * floatsAResult)) refl
     (first (largePairChecks v1 v2 u1 u2 eps)) refl
   where
-    found : List Result
-    found = resultsOf v1 v2 u1 u2 eps
-
     go : (b : Bool) → ltb (length i) (mostResults * wordsAResult) ≡ b
         → (c : Bool) → ltb (length p) (mostResults * floatsAResult) ≡ c
         → (d : Checked) → first (largePairChecks v1 v2 u1 u2 eps) ≡ d
@@ -162,16 +157,16 @@ large-pair-wrote v1 v2 u1 u2 eps i p =
     go false h false k (Bad fault) e = none-written (GoodResult v1 v2 u1 u2) wordsOf floatsOf i p
     go false h false k Fine e =
         let f = pair-listed v1 v2 u1 u2 eps .0 e in
-        let all = resultsOf v1 v2 u1 u2 eps in
+        let found = resultsOf v1 v2 u1 u2 eps in
         let most = few v1 v2 u1 u2 eps in
-        let wide = flat-length wordsOf wordsAResult (λ r. refl) all in
-        let deep = flat-length floatsOf floatsAResult (λ r. refl) all in
+        let wide = flat-length wordsOf wordsAResult (λ r. refl) found in
+        let deep = flat-length floatsOf floatsAResult (λ r. refl) found in
         let room = ltb-false (length i) (mostResults * wordsAResult) h in
         let space = ltb-false (length p) (mostResults * floatsAResult) k in
         record {
-          rows = all;
+          rows = found;
           count = refl;
-          indices-are = front i (flat wordsOf all) (omega (arith, most, wide, room));
-          points-are = front p (flat floatsOf all) (omega (arith, most, deep, space));
-          each = results-good v1 v2 u1 u2 eps (f .epsilon) (f .v) (f .u);
+          indices-are = front i (flat wordsOf found) (omega (arith, most, wide, room));
+          points-are = front p (flat floatsOf found) (omega (arith, most, deep, space));
+          all = results-good v1 v2 u1 u2 eps (f .epsilon) (f .v) (f .u);
         }

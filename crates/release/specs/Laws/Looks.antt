@@ -1,12 +1,11 @@
 -- What a pair of segments of accepted paths gives in a listing: a good row, if it makes one. A path is given with the count of its
 -- segments, so that this serves both modes: there the cut path has another count.
-use mathlib.Core.Path.{_≡_, refl}
+use mathlib.Core.Path.{_≡_}
 use mathlib.Core.Logic.{Iff·rfl}
 use mathlib.Core.Bool.{Bool, true, false, cond}
 use mathlib.Core.List.{List, [], _∷_, _++_}
 use Prim.Native.Nat.{ℕ, zero, suc, _<_}
 use lib.Ieee.{Float}
-use Rattle.plane.specs.declared.pline_vertex.PlineVertex.{PlineVertex}
 use Rattle.checks.specs.declared.fault.Checked.{Checked}
 use Rattle.checks.specs.declared.fault.Checked.the-variants.{Fine}
 use Rattle.checks.specs.Each as each
@@ -15,11 +14,9 @@ use Rattle.checks.specs.First.{first as firstFault}
 use Rattle.checks.specs.Laws.Later.{then-fine, alone-fine}
 use Rattle.checks.specs.Laws.Fine.{epsilon-fine}
 use Rattle.checks.specs.Laws.Chains.{PointFine, VertexFine, append-fine}
-use Rattle.arcs.specs.declared.pline_seg_intr.PlineSegIntr.{PlineSegIntr}
 use Rattle.crossing.specs.PlineSeg.{plineSeg}
-use Rattle.crossing.specs.PlineSegIntr.{classOf, point1Of, point2Of}
+use Rattle.crossing.specs.PlineSegIntr.{classOf}
 use Rattle.paths.specs.declared.path.Segment.{Segment}
-use Rattle.paths.specs.Shape.{shape}
 use Rattle.paths.specs.Segments.{segmentFrom, segmentCount}
 use Rattle.paths.specs.Check.{pathChecks, checkPath}
 use Rattle.paths.specs.Laws.Fine.{path-fine, segment-fine}
@@ -29,15 +26,14 @@ use Rattle.cuts.specs.Laws.Fine.{path-listed}
 use Rattle.cuts.specs.Laws.Sound.{path-sound}
 use Rattle.listing_pairs.specs.declared.row.Row.{Row}
 use Rattle.listing_pairs.specs.declared.row.Look.{Look}
-use Rattle.listing_pairs.specs.declared.row.Look.the-variants.{Skipped, Nothing, Made}
+use Rattle.listing_pairs.specs.declared.row.Look.the-variants.{Skipped, Nothing}
 use Rattle.listing_pairs.specs.Row.{row, unlessApart, lookOf}
 use Rattle.listing_pairs.specs.Order.{Pair}
 use Rattle.listing_pairs.specs.Look.{look, selfLookOf, tracedLook}
 use Rattle.listing_pairs.specs.Neighbours.{atJoint}
 use Rattle.listing_pairs.specs.Traces.{oneTrace, traced}
-use Rattle.told.specs.Stands.{IsEnd}
-use Rattle.finite.specs.Laws.Doubles.{Epsilon}
-use Rattle.release.specs.Release.{Good, GoodRow}
+use Rattle.finite.specs.Doubles.{Epsilon}
+use Rattle.release.specs.Release.{GoodRow}
 use Rattle.release.specs.Laws.Pair.{pair-good}
 use Rattle.release.specs.Laws.Rows.{Inside, GoodLook}
 
@@ -75,41 +71,45 @@ module _ (first second : List Float) (n m : ℕ) (eps : Float) (A : Sound first 
   pair-row : (i j : ℕ) → i < n → j < m
       → (let v = segmentFrom first i in
       let u = segmentFrom second j in
-      GoodRow first second (row i j (plineSeg (v .v1) (v .v2) (u .v1) (u .v2) eps)))
+      GoodRow first n second m (row i j (plineSeg (v .v1) (v .v2) (u .v1) (u .v2) eps)))
   pair-row i j hi hj =
       let v = segmentFrom first i in
       let u = segmentFrom second j in
-      pair-good (v .v1) (v .v2) (u .v1) (u .v2) eps (A i hi .start) (A i hi .end) (B j hj .start) (B j hj .end) E
+      record {
+        of-first = hi;
+        of-second = hj;
+        good = pair-good (v .v1) (v .v2) (u .v1) (u .v2) eps (A i hi .start) (A i hi .end) (B j hj .start) (B j hj .end) E;
+      }
 
-  looked : (i j : ℕ) → i < n → j < m → GoodLook (GoodRow first second) (look first second eps i j)
+  looked : (i j : ℕ) → i < n → j < m → GoodLook (GoodRow first n second m) (look first second eps i j)
   unfolding look lookOf
   looked i j hi hj =
       let v = segmentFrom first i in
       let u = segmentFrom second j in
       let met = plineSeg (v .v1) (v .v2) (u .v1) (u .v2) eps in
-      made (GoodRow first second) (classOf met) (row i j met) (pair-row i j hi hj)
+      made (GoodRow first n second m) (classOf met) (row i j met) (pair-row i j hi hj)
 
-  traced-good : (f : ℕ → ℕ → Look) → ((i j : ℕ) → i < n → j < m → GoodLook (GoodRow first second) (f i j))
-      → (p : Pair) → Inside n m p → GoodLook (GoodRow first second) (traced first second f (p .i) (p .j))
+  traced-good : (f : ℕ → ℕ → Look) → ((i j : ℕ) → i < n → j < m → GoodLook (GoodRow first n second m) (f i j))
+      → (p : Pair) → Inside n m p → GoodLook (GoodRow first n second m) (traced first second f (p .i) (p .j))
   unfolding traced
   traced-good f h p q =
-      either (GoodRow first second) (oneTrace first second p) Skipped (f (p .i) (p .j)) tt (h (p .i) (p .j) (q .0) (q .1))
+      either (GoodRow first n second m) (oneTrace first second p) Skipped (f (p .i) (p .j)) tt (h (p .i) (p .j) (q .0) (q .1))
 
-  pub mutual-good : (p : Pair) → Inside n m p → GoodLook (GoodRow first second) (tracedLook first second eps (p .i) (p .j))
+  pub mutual-good : (p : Pair) → Inside n m p → GoodLook (GoodRow first n second m) (tracedLook first second eps (p .i) (p .j))
   mutual-good = traced-good (look first second eps) looked
 
 module _ (path : List Float) (n : ℕ) (closed : Bool) (eps : Float) (A : Sound path n) (E : Epsilon eps) where
-  self-looked : (i j : ℕ) → i < n → j < n → GoodLook (GoodRow path path) (selfLookOf n path closed eps i j)
+  self-looked : (i j : ℕ) → i < n → j < n → GoodLook (GoodRow path n path n) (selfLookOf n path closed eps i j)
   unfolding selfLookOf lookOf
   self-looked i j hi hj =
       let v = segmentFrom path i in
       let u = segmentFrom path j in
       let met = plineSeg (v .v1) (v .v2) (u .v1) (u .v2) eps in
-      either (GoodRow path path) (atJoint path closed n eps i j met) Nothing (unlessApart (classOf met) (row i j met)) tt
-      (made (GoodRow path path) (classOf met) (row i j met) (pair-row path path n n eps A A E i j hi hj))
+      either (GoodRow path n path n) (atJoint path closed n eps i j met) Nothing (unlessApart (classOf met) (row i j met)) tt
+      (made (GoodRow path n path n) (classOf met) (row i j met) (pair-row path path n n eps A A E i j hi hj))
 
   pub self-good : (p : Pair) → Inside n n p
-      → GoodLook (GoodRow path path) (traced path path (selfLookOf n path closed eps) (p .i) (p .j))
+      → GoodLook (GoodRow path n path n) (traced path path (selfLookOf n path closed eps) (p .i) (p .j))
   self-good = traced-good path path n n eps A A E (selfLookOf n path closed eps) self-looked
 
 -- ---- what the checks say: epsilon, the lengths, then the paths

@@ -27,12 +27,12 @@ use Rattle.large_outcomes.specs.LargeOutcome.{
   largePageOutcome,
   largeBoxedOutcome,
 }
-use Rattle.release.specs.Release.{Each, Wrote, listed, paged}
+use Rattle.release.specs.Words.{All, Wrote, listed, paged}
 use Rattle.release.specs.Laws.Rows.{GoodLook, each-drop, rows-each, page-each, wrote, large-wrote, earlier}
 
 module _ (P : Row → Type 0) (Q : Pair → Type 0) (checks : List Checked) (look : ℕ → ℕ → Look)
     (good : firstFault checks ≡ Fine → (p : Pair) → Q p → GoodLook P (look (p .i) (p .j)))
-    (ps : List Pair) (inside : Each Q ps) (i : List ℕ) (p : List Float) where
+    (ps : List Pair) (inside : All Q ps) (i : List ℕ) (p : List Float) where
   pub full-wrote : Wrote listed P indicesOf (outcome checks look ps i p)
   unfolding outcome
   full-wrote =

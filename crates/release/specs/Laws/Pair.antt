@@ -1,15 +1,12 @@
 -- The pair: sentences 1 and 2 of its answer, from where its points come from and how large they are.
-use mathlib.Core.Path.{_≡_, refl, sym, ap, _∙_, subst}
-use Prim.Native.Nat.{ℕ}
+use mathlib.Core.Path.{_≡_, refl, sym, subst}
 use native.Mathlib.Omega.{arith}
-use mathlib.Core.Logic.{_⊎_, inl, inr}
+use mathlib.Core.Logic.{inl, inr}
 use mathlib.Core.List.{[], _∷_}
 use lib.Ieee.{Float}
-use Rattle.floats.specs.Ops.{f0}
 use Rattle.plane.specs.PlineVertex.{pos}
 use Rattle.plane.specs.declared.vector2.Vector2.{Vector2}
 use Rattle.plane.specs.declared.pline_vertex.PlineVertex.{PlineVertex}
-use Rattle.checks.specs.declared.fault.Fault.{Fault}
 use Rattle.checks.specs.declared.fault.Checked.{Checked}
 use Rattle.checks.specs.declared.fault.Checked.the-variants.{Fine, Bad}
 use Rattle.checks.specs.Answered.{answered}
@@ -30,12 +27,13 @@ use Rattle.crossing.specs.PlineSegIntersect.{plineSegIntr}
 use Rattle.crossing.specs.declared.pline_seg_intersect.PlineSegAnswer.{PlineSegAnswer}
 use Rattle.crossing.specs.declared.pline_seg_intersect.PlineSegAnswer.the-variants.{Refused, Met}
 use Rattle.told.specs.Stands.{IsEnd}
-use Rattle.finite.specs.Laws.Doubles.{Epsilon, zero-small}
-use Rattle.finite.specs.Laws.Vectors.{point-small, point-wider}
-use Rattle.finite.specs.Laws.Points.{Made}
-use Rattle.finite.specs.Laws.Points as points
-use Rattle.finite.specs.Laws.Pair.{Bound, pair-made}
-use Rattle.release.specs.Release.{Finite, Each, Good}
+use Rattle.finite.specs.Doubles.{Epsilon, zero-small}
+use Rattle.finite.specs.Vectors.{point-small, point-wider}
+use Rattle.finite.specs.Points.{Made}
+use Rattle.finite.specs.Points as points
+use Rattle.finite.specs.Pair.{Bound, pair-made}
+use Rattle.release.specs.Words.{Finite, All}
+use Rattle.release.specs.Release.{Good}
 use Rattle.release.specs.Laws.Accepted.{pair-fine}
 use Rattle.release.specs.Laws.Kernels.{bounded}
 
@@ -50,7 +48,7 @@ absent-finite : FinitePoint absent
 absent-finite = record { at-x = bounded zero-small; at-y = bounded zero-small }
 
 -- the numbers of two points
-both : {p q : Vector2} → FinitePoint p → FinitePoint q → Each Finite (p .x ∷ p .y ∷ q .x ∷ q .y ∷ [])
+both : {p q : Vector2} → FinitePoint p → FinitePoint q → All Finite (p .x ∷ p .y ∷ q .x ∷ q .y ∷ [])
 both a b = (a .at-x, (a .at-y, (b .at-x, (b .at-y, tt))))
 
 -- ---- from where the points come from; every end is bounded

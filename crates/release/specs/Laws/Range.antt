@@ -2,10 +2,10 @@
 use mathlib.Core.Path.{_≡_, refl, sym, subst, _∙_}
 use mathlib.Core.Bool.{Bool, true, false, cond, not, _&&_, _||_, true≢false}
 use lib.Dec.{T}
-use lib.Ieee.{Float, binary64, ofBits, isNan, lt, le, eq}
+use lib.Ieee.{Float, ofBits, isNan, lt, le, eq}
 use Rattle.float_laws.specs.Chains.{le-refl}
 use Rattle.float_laws.specs.Tests.{left-of}
-use Rattle.floats.specs.Ops.{_⊖_, _⊗_, _⊘_, _≼_, _≺_, f0, f1}
+use Rattle.floats.specs.Ops.{_⊖_, _⊗_, _⊘_, _≼_, f0, f1}
 use Rattle.floats.specs.F64
 use Rattle.plane.specs.Vector2 as vector2
 use Rattle.plane.specs.Fuzzy.{fuzzyEqZeroEps, fuzzyGtEps, fuzzyLtEps}
@@ -21,7 +21,7 @@ use Rattle.crossing.specs.declared.line_line_intr.LineLineIntr.the-variants.{
   Overlapping,
   FalseIntersect,
 }
-use Rattle.finite.specs.Laws.Branch.{by-test}
+use Rattle.finite.specs.Branch.{by-test}
 
 -- ---- the maximum with 0 is at least 0, and the minimum with 1 at most 1; for a NaN too
 zero-real : isNan f0 ≡ false

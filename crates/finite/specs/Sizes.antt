@@ -1,14 +1,13 @@
 -- Sizes that survive every operation, for a format f. Small k x says that x is finite and at most 2 ^ k in size; Sizable j x,
 -- that it is finite and at least 1 / 2 ^ j in size. Both hold of any fraction that has the float's value, so no operand need be a
 -- value of the format. The rounded results keep the bounds of the exact ones, since rounding does not cross a power of two.
-use mathlib.Core.Path.{_≡_, refl, sym, ap, _∙_, subst}
+use mathlib.Core.Path.{_≡_, sym, ap, _∙_, subst}
 use Prim.Native.Nat.{ℕ, zero, suc, _+_, _-_, _*_, _^_, _≤_, _<_}
 use native.Mathlib.Nat.{
   mul-pos,
   mul-le-mul,
   mul-le-mul-right,
   mul-le-mul-left,
-  mul-comm,
   le-trans,
   le-of-eq,
   le-of-mul-le-mul-right,
@@ -18,17 +17,16 @@ use native.Mathlib.Nat.{
   lt-of-le-of-lt,
 }
 use native.Mathlib.Omega.{arith}
-use mathlib.Core.Bool.{Bool, true, false, not, cond}
+use mathlib.Core.Bool.{Bool, true, false, not}
 use lib.Dec.{T}
 use lib.Pow.{pow-add, pow-pos, pow-mono, pow-lt}
-use lib.Ieee.{Float, nan, inf, fin, Format, emax, low, up, down, unlike, round, neg, add, sub, mul, div, lt, le, fits}
+use lib.Ieee.{Float, nan, inf, fin, Format, emax, low, up, down, unlike, round, neg, add, sub, mul, div, le}
 use lib.Ieee.Exact.{HasValue}
 use lib.Ieee.Fits.{down-pos}
 use lib.Ieee.Scale.{finite, grid, overflow}
-use Rattle.float_laws.specs.Best.{Held, held-pow, grid-le, grid-ge}
+use Rattle.float_laws.specs.Best.{held-pow, grid-le, grid-ge}
 use Rattle.float_laws.specs.Count.{round-count}
 use Rattle.float_laws.specs.Signed.{Diff, SizeOf, ups, downs, own-diff, neg-value, diff-finite}
-use Rattle.float_laws.specs.Order.{le-diff}
 use Rattle.float_laws.specs.Rounded.{Rounded, add-rounded, sub-rounded, mul-rounded, mul-count, div-rounded, signed-by}
 use Rattle.float_laws.specs.Roundings.{rounded-within, rounded-at}
 use Rattle.checks.specs.Laws.Lengths.{Small}

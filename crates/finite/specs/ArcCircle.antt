@@ -1,11 +1,9 @@
 -- The circle of an accepted arc is bounded: its bulge is at least 1e-8 in size, so 1 / (4 b) is at most 2^27.
-use mathlib.Core.Path.{_≡_, refl}
-use mathlib.Core.Bool.{Bool, true, false}
-use lib.Dec.{T}
-use lib.Ieee.{Float, binary64}
+use mathlib.Core.Path.{_≡_}
+use mathlib.Core.Bool.{false}
+use lib.Ieee.{binary64}
 use lib.Ieee.Fits.{add-fits}
-use Rattle.floats.specs.Ops.{_⊕_, _⊖_, _⊗_, _⊘_, f1, f2, f4}
-use Rattle.floats.specs.F64
+use Rattle.floats.specs.Ops.{_⊗_, _⊘_, f1, f4}
 use Rattle.plane.specs.Vector2 as vector2
 use Rattle.plane.specs.Fuzzy.{fuzzyEqZeroEps}
 use Rattle.plane.specs.PlineVertex.{pos, bulgeIsZero}
@@ -14,11 +12,11 @@ use Rattle.plane.specs.declared.vector2.Vector2.{Vector2}
 use Rattle.plane.specs.declared.pline_vertex.PlineVertex.{PlineVertex}
 use Rattle.plane.specs.declared.pline_seg.ArcRadiusCenter.{ArcRadiusCenter}
 use Rattle.checks.specs.Laws.Lengths.{Small}
-use Rattle.finite.specs.Laws.Leaves.{abs-small, root-small}
-use Rattle.finite.specs.Laws.Doubles.{wider, plus, minus, times, over, times-sizable, not-zero}
-use Rattle.finite.specs.Laws.Doubles.{one-small, four-small, two-sizable, four-sizable}
-use Rattle.finite.specs.Laws.Vectors.{SmallPoint, point-wider, add-point, sub-point, scale-point, perp-small}
-use Rattle.finite.specs.Laws.Vectors.{dot-small, dot-least}
+use Rattle.finite.specs.Leaves.{abs-small, root-small}
+use Rattle.finite.specs.Doubles.{wider, plus, minus, times, over, times-sizable, not-zero}
+use Rattle.finite.specs.Doubles.{one-small, four-small, two-sizable, four-sizable}
+use Rattle.finite.specs.Vectors.{SmallPoint, point-wider, add-point, sub-point, scale-point, perp-small}
+use Rattle.finite.specs.Vectors.{dot-small, dot-least}
 
 pub record SmallCircle (c : ArcRadiusCenter) : Type 0 where
   pub at-radius : Small 60 (c .radius)

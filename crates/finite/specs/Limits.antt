@@ -1,17 +1,15 @@
 -- The numbers that pass the checks are bounded: coordinates by 2^20, bulges by 1, radii by 2^47, centres by 2^48.
-use mathlib.Core.Path.{_≡_, refl}
+use mathlib.Core.Path.{refl}
 use Prim.Native.Nat.{ℕ, _+_, _*_, _^_, _≤_, _<_}
 use native.Mathlib.Nat.{zero-lt-suc}
 use native.Mathlib.Omega.{arith}
 use mathlib.Core.Bool.{Bool, true, false}
-use lib.Dec.{T}
 use lib.Pow.{pow-pos}
 use lib.Ieee.{Float, nan, inf, fin, up, down, ofBits}
 use lib.Ieee.Fits.{down-pos}
 use Rattle.float_laws.specs.Signed.{Diff, ups, downs}
 use Rattle.float_laws.specs.Order.{le-diff}
 use Rattle.float_laws.specs.Chains.{written-diff}
-use Rattle.floats.specs.Ops.{_≼_}
 use Rattle.floats.specs.F64
 use Rattle.checks.specs.Limit
 use Rattle.checks.specs.Laws.Fine.{Within, Between}

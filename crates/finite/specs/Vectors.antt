@@ -9,7 +9,7 @@ use lib.Ieee.Fits.{mul-fits}
 use Rattle.float_laws.specs.Tests.{left-of}
 use Rattle.float_laws.specs.Chains.{finite-real, not-below, not-both, lt-le}
 use Rattle.float_laws.specs.Chains.{le-trans as float-trans}
-use Rattle.floats.specs.Ops.{_⊕_, _⊖_, _⊗_, _⊘_, _≺_, _≼_, f0}
+use Rattle.floats.specs.Ops.{_⊖_, _⊗_, _⊘_, _≺_, _≼_, f0}
 use Rattle.floats.specs.F64
 use Rattle.plane.specs.Vector2 as vector2
 use Rattle.plane.specs.Fuzzy as fuzzy
@@ -17,11 +17,11 @@ use Rattle.plane.specs.BaseMath.{pointFromParametric, parametricFromPoint}
 use Rattle.plane.specs.declared.vector2.Vector2.{Vector2}
 use Rattle.checks.specs.Laws.Chains.{PointFine}
 use Rattle.checks.specs.Laws.Lengths.{Small}
-use Rattle.finite.specs.Laws.Sizes.{Sizable, small-finite, neg-small}
-use Rattle.finite.specs.Laws.Leaves.{square-least, sum-least}
-use Rattle.finite.specs.Laws.Doubles.{Epsilon, wider, plus, minus, times, over}
-use Rattle.finite.specs.Laws.Doubles.{real-abs, not-under, not-near, near-turned}
-use Rattle.finite.specs.Laws.Limits.{coordinate-small}
+use Rattle.finite.specs.Sizes.{Sizable, small-finite, neg-small}
+use Rattle.finite.specs.Leaves.{square-least, sum-least}
+use Rattle.finite.specs.Doubles.{Epsilon, wider, plus, minus, times, over}
+use Rattle.finite.specs.Doubles.{real-abs, not-under, not-near, near-turned}
+use Rattle.finite.specs.Limits.{coordinate-small}
 
 -- both coordinates at most 2 ^ k in size
 pub record SmallPoint (k : ℕ) (p : Vector2) : Type 0 where

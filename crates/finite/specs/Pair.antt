@@ -1,6 +1,6 @@
 -- The pair: on accepted segments every point of the answer is bounded, and those of OverlappingArcs are ends.
 use mathlib.Core.Path.{_≡_, refl}
-use mathlib.Core.Logic.{_⊎_, inl, inr}
+use mathlib.Core.Logic.{inl, inr}
 use mathlib.Core.Bool.{Bool, true, false, cond, _&&_}
 use lib.Ieee.{Float}
 use Rattle.plane.specs.Vector2 as vector2
@@ -13,9 +13,6 @@ use Rattle.arcs.specs.ArcGeometry.{ofSegment}
 use Rattle.arcs.specs.declared.arc_geometry.ArcGeometry.{ArcGeometry}
 use Rattle.checks.specs.Laws.Chains.{PointFine, VertexFine}
 use Rattle.checks.specs.Laws.Lengths.{Small}
-use Rattle.crossing.specs.LineLine.{lineLine}
-use Rattle.crossing.specs.LineCircle.{lineCircle}
-use Rattle.crossing.specs.CircleCircle.{circleCircle}
 use Rattle.crossing.specs.LineArc.{lineArcOf, processLineArcIntr}
 use Rattle.crossing.specs.ArcArc.{arcArcOf, arcArc}
 use Rattle.crossing.specs.PlineSeg.{lineLineOf, processLineLineIntr, plineSeg}
@@ -26,16 +23,15 @@ use Rattle.crossing.specs.declared.line_circle_intr.LineCircleIntr.the-variants
 use Rattle.crossing.specs.declared.circle_circle_intr.CircleCircleIntr.{CircleCircleIntr}
 use Rattle.crossing.specs.declared.circle_circle_intr.CircleCircleIntr.the-variants as CircleCircleIntr·
 use Rattle.told.specs.Stands.{IsEnd}
-use Rattle.finite.specs.Laws.Branch.{by-test}
-use Rattle.finite.specs.Laws.Doubles.{Epsilon}
-use Rattle.finite.specs.Laws.Limits.{coordinate-small, bulge-small}
-use Rattle.finite.specs.Laws.Vectors.{SmallPoint, point-small, point-wider, parametric-point}
-use Rattle.finite.specs.Laws.LineLine as line-line
-use Rattle.finite.specs.Laws.LineCircle as line-circle
-use Rattle.finite.specs.Laws.CircleCircle as circle-circle
-use Rattle.finite.specs.Laws.ArcCircle.{SmallCircle, arc-circle}
-use Rattle.finite.specs.Laws.Points as points
-use Rattle.finite.specs.Laws.Points.{Made}
+use Rattle.finite.specs.Doubles.{Epsilon}
+use Rattle.finite.specs.Limits.{bulge-small}
+use Rattle.finite.specs.Vectors.{SmallPoint, point-small, point-wider, parametric-point}
+use Rattle.finite.specs.LineLine as line-line
+use Rattle.finite.specs.LineCircle as line-circle
+use Rattle.finite.specs.CircleCircle as circle-circle
+use Rattle.finite.specs.ArcCircle.{SmallCircle, arc-circle}
+use Rattle.finite.specs.Points as points
+use Rattle.finite.specs.Points.{Made}
 
 -- what every point of an answer is
 abbrev pub Bound : Vector2 → Type 0

@@ -1,6 +1,5 @@
 -- Where the points of an answer come from: each is an end, or a point that was computed from a kernel's answer; and those of
 -- OverlappingArcs are ends. So a predicate of the ends and of the computed points holds of every point.
-use mathlib.Core.Path.{_≡_}
 use mathlib.Core.Bool.{Bool, Bool·beq, true, false, cond, not, _&&_, _||_}
 use mathlib.Core.List.{List}
 use lib.Ieee.{Float}
@@ -35,7 +34,7 @@ use Rattle.arcs.specs.declared.pline_seg_intr.PlineSegIntr.the-variants.{
   OverlappingArcs,
 }
 use Rattle.told.specs.Laws.Slots.{SlotEnd, SlotsEnd, slot-end, collected}
-use Rattle.finite.specs.Laws.Branch.{by-test}
+use Rattle.finite.specs.Branch.{by-test}
 
 -- P holds of every point of the answer, and End of those of OverlappingArcs
 pub data Made (P End : Vector2 → Type 0) : PlineSegIntr → Type 0 where

@@ -1,8 +1,7 @@
 -- The laws of sizes at binary64, for closed exponents: each asks for one test, which computes. And what a failed test of nearness
 -- says of a number that is known to be finite.
-use mathlib.Core.Path.{_≡_, refl, sym, subst}
+use mathlib.Core.Path.{_≡_, refl}
 use Prim.Native.Nat.{ℕ, suc, _+_, _*_, _^_, _≤_, _<_}
-use native.Mathlib.Nat.{zero-lt-suc}
 use native.Mathlib.Omega.{arith}
 use mathlib.Core.Bool.{Bool, true, false, _&&_}
 use lib.Dec.{T, leb, lit≤}
@@ -23,7 +22,7 @@ use Rattle.plane.specs.Fuzzy.{fuzzyEpsilon}
 use Rattle.checks.specs.Limit
 use Rattle.checks.specs.Laws.Fine.{Between}
 use Rattle.checks.specs.Laws.Lengths.{Small}
-use Rattle.finite.specs.Laws.Sizes.{
+use Rattle.finite.specs.Sizes.{
   Sizable,
   Apart,
   small-up,

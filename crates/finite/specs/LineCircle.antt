@@ -1,11 +1,11 @@
 -- The parameters of a line on a circle are bounded: the line's equation has a * a + b * b of at least 1, which is what its
 -- numbers are divided by, and the parameter of a point divides by a difference that is at least epsilon.
-use mathlib.Core.Path.{_≡_, refl, sym, ap, _∙_}
-use Prim.Native.Nat.{ℕ, _^_}
+use mathlib.Core.Path.{_≡_}
+use Prim.Native.Nat.{_^_}
 use native.Mathlib.Omega.{arith}
-use mathlib.Core.Bool.{Bool, true, false, cond}
+use mathlib.Core.Bool.{true, false}
 use lib.Dec.{T}
-use lib.Ieee.{Float, binary64, ofBits, neg, add, mul, sum, round, units, odd, size, span, climb, ofFields, lt, le, eq, fits}
+use lib.Ieee.{Float, binary64, ofBits, neg, add, mul, sum, round, units, odd, size, span, climb, ofFields, lt, le, eq}
 use lib.Ieee.Fits.{mul-fits}
 use Rattle.float_laws.specs.Signed.{Diff}
 use Rattle.float_laws.specs.Chains.{le-trans as float-trans}
@@ -15,19 +15,19 @@ use Rattle.floats.specs.Laws.Leaves.{abs-fits}
 use Rattle.plane.specs.Vector2 as vector2
 use Rattle.plane.specs.declared.vector2.Vector2.{Vector2}
 use Rattle.plane.specs.Fuzzy as fuzzy
-use Rattle.plane.specs.BaseMath.{minMax, parametricFromPoint}
+use Rattle.plane.specs.BaseMath.{minMax}
 use Rattle.plane.specs.declared.base_math.MinMax.{MinMax}
 use Rattle.checks.specs.Laws.Lengths.{Small}
 use Rattle.crossing.specs.LineCircle as kernel
 use Rattle.crossing.specs.declared.line_circle_intr.LineCircleIntr.{LineCircleIntr}
 use Rattle.crossing.specs.declared.line_circle_intr.LineCircleIntr.the-variants.{NoIntersect, TangentIntersect, TwoIntersects}
 use Rattle.crossing.specs.declared.line_circle.Line.{Line}
-use Rattle.finite.specs.Laws.Branch.{by-test}
-use Rattle.finite.specs.Laws.Sizes.{Sizable, neg-small}
-use Rattle.finite.specs.Laws.Leaves.{abs-small, abs-least, root-small, square-least, least-added}
-use Rattle.finite.specs.Laws.Doubles.{Epsilon, wider, plus, minus, times, over, not-zero, sizable-above}
-use Rattle.finite.specs.Laws.Doubles.{zero-small, one-small, two-sizable}
-use Rattle.finite.specs.Laws.Vectors.{SmallPoint, point-of, sub-point, parameter-small}
+use Rattle.finite.specs.Branch.{by-test}
+use Rattle.finite.specs.Sizes.{neg-small}
+use Rattle.finite.specs.Leaves.{abs-small, abs-least, root-small, square-least, least-added}
+use Rattle.finite.specs.Doubles.{Epsilon, wider, plus, minus, times, over, not-zero, sizable-above}
+use Rattle.finite.specs.Doubles.{zero-small, one-small, two-sizable}
+use Rattle.finite.specs.Vectors.{SmallPoint, point-of, sub-point, parameter-small}
 
 -- the parameters, if there are any
 pub data Bounded : LineCircleIntr → Type 0 where

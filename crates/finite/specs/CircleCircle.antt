@@ -1,8 +1,8 @@
 -- The points of two circles are bounded: the distance of the centres is at least epsilon, and what stands under the root is not
 -- below zero by its branch.
-use mathlib.Core.Path.{_≡_, refl, sym}
+use mathlib.Core.Path.{_≡_, refl}
 use Prim.Native.Nat.{ℕ}
-use mathlib.Core.Bool.{Bool, true, false, cond, not, _||_}
+use mathlib.Core.Bool.{false, not, _||_}
 use lib.Dec.{T}
 use lib.Ieee.{Float, binary64, ofBits, isNan, lt, le, eq}
 use lib.Ieee.Fits.{sub-fits, add-fits}
@@ -22,12 +22,12 @@ use Rattle.crossing.specs.declared.circle_circle_intr.CircleCircleIntr.the-vari
   TwoIntersects,
   Overlapping,
 }
-use Rattle.finite.specs.Laws.Branch.{by-test}
-use Rattle.finite.specs.Laws.Sizes.{Sizable, small-finite}
-use Rattle.finite.specs.Laws.Leaves.{root-small}
-use Rattle.finite.specs.Laws.Doubles.{Epsilon, wider, plus, minus, times, over, times-sizable, two-small, two-sizable}
-use Rattle.finite.specs.Laws.Vectors.{SmallPoint, point-of, point-wider, add-point, sub-point, scale-point}
-use Rattle.finite.specs.Laws.Vectors.{dot-small, dot-least, not-near-zero}
+use Rattle.finite.specs.Branch.{by-test}
+use Rattle.finite.specs.Sizes.{Sizable, small-finite}
+use Rattle.finite.specs.Leaves.{root-small}
+use Rattle.finite.specs.Doubles.{Epsilon, wider, plus, minus, times, over, times-sizable, two-small, two-sizable}
+use Rattle.finite.specs.Vectors.{SmallPoint, point-of, point-wider, add-point, sub-point, scale-point}
+use Rattle.finite.specs.Vectors.{dot-small, dot-least, not-near-zero}
 
 -- the points, if there are any
 pub data Bounded : CircleCircleIntr → Type 0 where

@@ -1,6 +1,6 @@
 -- The absolute value, minimum, maximum and root of bounded numbers, and numbers not below zero.
-use mathlib.Core.Path.{_≡_, refl, sym, ap, _∙_, subst}
-use Prim.Native.Nat.{ℕ, zero, suc, _+_, _*_, _^_, _≤_, _<_}
+use mathlib.Core.Path.{_≡_, refl, sym, subst}
+use Prim.Native.Nat.{ℕ, _+_, _*_, _^_, _≤_, _<_}
 use native.Mathlib.Nat.{mul-pos, mul-le-mul-right, le-trans, le-of-eq, le-of-mul-le-mul-right, zero-lt-suc}
 use native.Mathlib.Omega.{arith}
 use mathlib.Core.Bool.{Bool, true, false, cond, false≢true}
@@ -9,21 +9,19 @@ use lib.Pow.{pow-add, pow-pos}
 use lib.Ieee.{Float, Format, binary64, low, ofBits, lt, fits}
 use lib.Ieee.Bits.{ofBits-fits}
 use lib.Ieee.Exact.{HasValue}
-use lib.Ieee.Fits.{mul-fits, add-fits}
-use lib.Ieee.Scale.{finite}
 use Rattle.float_laws.specs.Count.{counted}
 use Rattle.float_laws.specs.Signed.{Diff, ups, downs, own-diff}
 use Rattle.float_laws.specs.Order.{le-diff}
 use Rattle.float_laws.specs.Chains.{le-trans as float-trans}
-use Rattle.float_laws.specs.Binary64.{unit, unit-is, unit-pos, units64, add-least}
+use Rattle.float_laws.specs.Binary64.{units64, add-least}
 use Rattle.float_laws.specs.Rounded.{mul-rounded}
 use Rattle.float_laws.specs.Roundings.{rounded-ge}
 use Rattle.floats.specs.Ops.{_⊕_, _⊗_, _≼_, f0}
 use Rattle.floats.specs.F64
-use Rattle.floats.specs.Laws.Leaves.{abs-value, abs-fits, min-is, max-is}
+use Rattle.floats.specs.Laws.Leaves.{abs-value, min-is, max-is}
 use Rattle.floats.specs.Laws.Sqrt.{sqrt-is, root-zero, root-within}
 use Rattle.checks.specs.Laws.Lengths.{Small}
-use Rattle.finite.specs.Laws.Sizes.{Sizable, small-finite, small-diff, same-over}
+use Rattle.finite.specs.Sizes.{small-finite, small-diff, same-over}
 
 -- ---- the absolute value
 pub abs-small : (k : ℕ) (x : Float) → Small k x → Small k (F64.abs x)

@@ -1,11 +1,9 @@
 -- The line kernel's parameters are bounded: those of two lines that cross are quotients of products by one that is at least
 -- epsilon, and those of parallel lines are quotients by a difference that is at least epsilon.
 use mathlib.Core.Path.{_≡_, refl, sym, ap, _∙_}
-use Prim.Native.Nat.{ℕ}
 use mathlib.Core.Bool.{Bool, true, false, cond, not, _&&_, _||_, true≢false}
-use lib.Ieee.{Float, binary64, ofBits, lt}
-use lib.Ieee.Exact.{HasValue}
-use Rattle.floats.specs.Ops.{_⊖_, _⊗_, _⊘_, _≺_, _≻_, f0, f1}
+use lib.Ieee.{Float}
+use Rattle.floats.specs.Ops.{_⊖_, _⊗_, _⊘_, _≻_, f0, f1}
 use Rattle.floats.specs.F64
 use Rattle.plane.specs.Vector2 as vector2
 use Rattle.plane.specs.declared.vector2.Vector2.{Vector2}
@@ -22,11 +20,11 @@ use Rattle.crossing.specs.declared.line_line_intr.LineLineIntr.the-variants.{
   FalseIntersect,
 }
 use Rattle.crossing.specs.declared.line_line.Span.{Span}
-use Rattle.finite.specs.Laws.Branch.{by-test}
-use Rattle.finite.specs.Laws.Sizes.{Sizable}
-use Rattle.finite.specs.Laws.Leaves.{min-small, max-small}
-use Rattle.finite.specs.Laws.Doubles.{Epsilon, wider, over, not-near, zero-small, one-small}
-use Rattle.finite.specs.Laws.Vectors.{SmallPoint, sub-point, perp-dot-small, sides, parameter-small, not-near-zero}
+use Rattle.finite.specs.Branch.{by-test}
+use Rattle.finite.specs.Sizes.{Sizable}
+use Rattle.finite.specs.Leaves.{min-small, max-small}
+use Rattle.finite.specs.Doubles.{Epsilon, wider, over, not-near, zero-small, one-small}
+use Rattle.finite.specs.Vectors.{SmallPoint, sub-point, perp-dot-small, sides, parameter-small, not-near-zero}
 
 -- both parameters, if there are any
 pub data Bounded : LineLineIntr → Type 0 where
