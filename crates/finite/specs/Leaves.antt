@@ -82,7 +82,8 @@ sum-least j k x y A B s t a b = float-trans f0 y (x ⊕ y) b (least-added j k x 
 pub abs-least : (k : ℕ) (x : Float) → Small k x → T (f0 ≼ F64.abs x)
 abs-least k x w =
     le-diff f0 (F64.abs x) 0 0 1 (w .size) 0 (w .over) (zero-lt-suc 0) (w .some) zero-diff
-    (own-diff (F64.abs x) false (w .size) (w .over) (abs-value x (w .s) (w .size) (w .over) (w .value))) .1 (plain (w .size) (w .over))
+    (own-diff (F64.abs x) false (w .size) (w .over) (abs-value x (w .s) (w .size) (w .over) (w .value))) .1
+    (plain (w .size) (w .over))
   where
     plain : (X c : ℕ) → 0 * c + 0 * 1 ≤ X * 1 + 0 * c
     plain X c = omega arith
@@ -131,7 +132,8 @@ pub root-small : (k : ℕ) (x : Float) → T (fits binary64 x) → T (f0 ≼ x) 
 root-small k x t h w =
     let c = counted binary64 x (small-finite (k + k) x w) t in
     subst (Small k) (sym (sqrt-is x))
-    (root-at binary64 k x t w (c .s) (c .count) (c .value) (signless (c .s) (c .count) (2 ^ low binary64) (pow-pos (low binary64)) (c .value)))
+    (root-at binary64 k x t w (c .s) (c .count) (c .value)
+    (signless (c .s) (c .count) (2 ^ low binary64) (pow-pos (low binary64)) (c .value)))
   where
     zeroed : (X L : ℕ) → 0 * L + X * 1 ≤ 0 * 1 + 0 * L → X ≡ 0
     zeroed X L l = omega arith

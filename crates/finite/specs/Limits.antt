@@ -1,4 +1,5 @@
--- The numbers that pass the checks are bounded: coordinates by 2^20, bulges by 1, radii by 2^47, centres by 2^48.
+-- The numbers that pass the checks are bounded: bulges by 1, radii by 2^47, centres by 2^48. Coordinates are bounded by 2^20 by
+-- `coordinate-small` of `checks`.
 use mathlib.Core.Path.{refl}
 use Prim.Native.Nat.{ℕ, _+_, _*_, _^_, _≤_, _<_}
 use native.Mathlib.Nat.{zero-lt-suc}
@@ -21,7 +22,8 @@ unfolding F64.abs
 within-small k most nan d w = absurd (w .number)
 within-small k most (inf s) d w = absurd (w .number)
 within-small k most (fin s m e) d w =
-    let l = le-diff (fin false m e) most _ _ _ (2 ^ k) 0 1 (down-pos e) (zero-lt-suc 0) (written-diff false m e) d .0 (w .small) in
+    let one = zero-lt-suc 0 in
+    let l = le-diff (fin false m e) most _ _ _ (2 ^ k) 0 1 (down-pos e) one (written-diff false m e) d .0 (w .small) in
     record {
       s = s;
       size = m * up e;
@@ -62,10 +64,6 @@ between-small j k least most (fin s m e) c d b =
         never n c C l = omega arith
     plain false M c p q C l h = omega arith
 
-coordinate-is : Diff Limit.coordinate (2 ^ 20) 0 1
-unfolding ofBits
-coordinate-is = omega arith
-
 bulge-is : Diff Limit.bulge (2 ^ 0) 0 1
 unfolding ofBits
 bulge-is = omega arith
@@ -83,9 +81,6 @@ unfolding ofBits
 center-is = omega arith
 
 module _ (x : Float) where
-  pub coordinate-small : Within Limit.coordinate x → Small 20 x
-  coordinate-small w = within-small 20 Limit.coordinate x coordinate-is w
-
   pub bulge-small : Within Limit.bulge x → Small 0 x
   bulge-small w = within-small 0 Limit.bulge x bulge-is w
 

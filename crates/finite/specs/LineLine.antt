@@ -177,4 +177,5 @@ module _ (v1 v2 u1 u2 : Vector2) (eps : Float)
   pub line-line-small : Bounded (kernel.lineLine v1 v2 u1 u2 eps)
   unfolding kernel.lineLine
   line-line-small =
-      by-test Bounded (not (fuzzyEqZeroEps (vector2.perpDot v u) eps)) _ _ (λ e. crossing-small (denied _ e)) (λ e. parallel-small)
+      by-test Bounded (not (fuzzyEqZeroEps (vector2.perpDot v u) eps)) _ _ (λ e. crossing-small (denied _ e))
+      (λ e. parallel-small)

@@ -93,7 +93,8 @@ module _ (v1 v2 u1 u2 : PlineVertex) (eps : Float) where
   u2-end : Ends (pos u2)
   u2-end = inr (inr (inr refl))
 
-  module _ (A : SmallPoint 20 (pos v1)) (B : SmallPoint 20 (pos v2)) (C : SmallPoint 20 (pos u1)) (D : SmallPoint 20 (pos u2)) where
+  module _ (A : SmallPoint 20 (pos v1)) (B : SmallPoint 20 (pos v2)) (C : SmallPoint 20 (pos u1))
+      (D : SmallPoint 20 (pos u2)) where
     arcs-made : (r : CircleCircleIntr) (circle1 circle2 : ArcRadiusCenter) → circle-circle.Bounded r
         → Made Bound Ends (arcArcOf r v1 v2 u1 u2 circle1 circle2 eps)
     arcs-made CircleCircleIntr·.NoIntersect circle1 circle2 circle-circle.nothing = points.nothing
@@ -145,5 +146,6 @@ module _ (v1 v2 u1 u2 : PlineVertex) (eps : Float) where
       → PointFine (u2 .x) (u2 .y) → Epsilon eps → Made Bound Ends (plineSeg v1 v2 u1 u2 eps)
   unfolding pos
   pair-made a b c d E =
-      pair-of (point-small (pos v1) (a .point)) (point-small (pos v2) b) (point-small (pos u1) (c .point)) (point-small (pos u2) d)
+      pair-of (point-small (pos v1) (a .point)) (point-small (pos v2) b) (point-small (pos u1) (c .point))
+      (point-small (pos u2) d)
       (bulge-small (v1 .bulge) (a .bulge)) (bulge-small (u1 .bulge) (c .bulge)) E

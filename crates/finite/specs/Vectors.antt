@@ -16,12 +16,11 @@ use Rattle.plane.specs.Fuzzy as fuzzy
 use Rattle.plane.specs.BaseMath.{pointFromParametric, parametricFromPoint}
 use Rattle.plane.specs.declared.vector2.Vector2.{Vector2}
 use Rattle.checks.specs.Laws.Chains.{PointFine}
-use Rattle.checks.specs.Laws.Lengths.{Small}
+use Rattle.checks.specs.Laws.Lengths.{Small, coordinate-small}
 use Rattle.finite.specs.Sizes.{Sizable, small-finite, neg-small}
 use Rattle.finite.specs.Leaves.{square-least, sum-least}
 use Rattle.finite.specs.Doubles.{Epsilon, wider, plus, minus, times, over}
 use Rattle.finite.specs.Doubles.{real-abs, not-under, not-near, near-turned}
-use Rattle.finite.specs.Limits.{coordinate-small}
 
 -- both coordinates at most 2 ^ k in size
 pub record SmallPoint (k : ℕ) (p : Vector2) : Type 0 where
@@ -123,7 +122,8 @@ module _ (p q : Vector2) (eps : Float) (A : SmallPoint 20 p) (B : SmallPoint 20 
   unfolding vector2.fuzzyEqEps fuzzy.fuzzyEqEps
   sides =
       ap (λ (b : Bool). b && (F64.abs (q .y ⊖ p .y) ≺ eps)) (near-turned 20 (q .x) (p .x) eps (B .at-x) (A .at-x) (E .number) tt)
-      ∙ ap (λ (b : Bool). (F64.abs (p .x ⊖ q .x) ≺ eps) && b) (near-turned 20 (q .y) (p .y) eps (B .at-y) (A .at-y) (E .number) tt)
+      ∙ ap (λ (b : Bool). (F64.abs (p .x ⊖ q .x) ≺ eps) && b)
+      (near-turned 20 (q .y) (p .y) eps (B .at-y) (A .at-y) (E .number) tt)
       ∙ apart
 
   -- the parameter of a point divides by the greater difference

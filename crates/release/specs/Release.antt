@@ -51,7 +51,8 @@ pub record Good (End : Vector2 → Type 0) (class : ℕ) (p q : Vector2) : Type 
 -- ---- the calls of one pair
 pub record Calls : Type 0 where
   -- 1, of the parameters and points that the three kernels answer
-  pub line-line : (v1 v2 u1 u2 : Vector2) (eps : Float) → All Finite (lines.numbersOf (lines.lineLineIntr v1 v2 u1 u2 eps) .values)
+  pub line-line : (v1 v2 u1 u2 : Vector2) (eps : Float)
+      → All Finite (lines.numbersOf (lines.lineLineIntr v1 v2 u1 u2 eps) .values)
   pub line-circle : (p0 p1 : Vector2) (radius : Float) (center : Vector2) (eps : Float)
       → All Finite (line-circle.numbersOf (line-circle.lineCircleIntr p0 p1 radius center eps) .values)
   pub circle-circle : (radius1 : Float) (center1 : Vector2) (radius2 : Float) (center2 : Vector2) (eps : Float)

@@ -43,9 +43,13 @@ module _ (P : Row → Type 0) (words : Row → List ℕ) (w : ℕ) (wide : (r : 
   step n m i j p q a b =
       record {
         rows = a .rows ++ b .rows;
-        count = length-append (a .rows) (b .rows) ∙ ap (λ (k : ℕ). k + length (b .rows)) (a .count) ∙ ap (λ (k : ℕ). n + k) (b .count);
+        count =
+            length-append (a .rows) (b .rows)
+            ∙ ap (λ (k : ℕ). k + length (b .rows)) (a .count)
+            ∙ ap (λ (k : ℕ). n + k) (b .count);
         indices-are = joined-begins w n words wide (a .rows) (b .rows) (a .count) i j (a .indices-are) (b .indices-are);
-        points-are = joined-begins pointsARow n pointsOf (λ r. refl) (a .rows) (b .rows) (a .count) p q (a .points-are) (b .points-are);
+        points-are = joined-begins pointsARow n pointsOf (λ r. refl) (a .rows) (b .rows) (a .count) p q (a .points-are)
+            (b .points-are);
         all = each-append P (a .rows) (b .rows) (a .all) (b .all);
       }
 

@@ -88,7 +88,8 @@ line-and-circle p0 p1 radius center eps = go (checkLineCircle p0 p1 radius cente
         (wider (radius-small radius (f .circle .radius)) 60 tt) (point-wider C 60 tt) (f .epsilon))
 
 -- ---- two circles
-circle-values : (r : CircleCircleIntr) → circle-laws.Bounded r → All Finite (circles.numbersOf (CircleCircleAnswer·.Met r) .values)
+circle-values : (r : CircleCircleIntr) → circle-laws.Bounded r
+    → All Finite (circles.numbersOf (CircleCircleAnswer·.Met r) .values)
 circle-values CircleCircleIntr·.NoIntersect circle-laws.nothing = tt
 circle-values (CircleCircleIntr·.TangentIntersect p) (circle-laws.touched a) = (bounded (a .at-x), (bounded (a .at-y), tt))
 circle-values (CircleCircleIntr·.TwoIntersects p q) (circle-laws.twice a b) =
@@ -103,7 +104,8 @@ circle-and-circle radius1 center1 radius2 center2 eps = go (checkCircleCircle ra
     go : (c : Checked) → checkCircleCircle radius1 center1 radius2 center2 eps ≡ c
         → All Finite
         (circles.numbersOf
-        (answered CircleCircleAnswer·.Refused CircleCircleAnswer·.Met c (circleCircle radius1 center1 radius2 center2 eps)) .values)
+        (answered CircleCircleAnswer·.Refused CircleCircleAnswer·.Met c (circleCircle radius1 center1 radius2 center2 eps))
+        .values)
     go (Bad fault) e = tt
     go Fine e =
         let f = circles-fine radius1 center1 radius2 center2 eps e in

@@ -33,39 +33,40 @@ module _ (first : List Float) (a : Bool) (second : List Float) (b : Bool) (eps :
   abbrev m : ℕ
   m = cutCount second b
 
-  abbrev Row? : Row → Type 0
-  Row? = GoodCut first a second b
+  abbrev Good? : Row → Type 0
+  Good? = GoodCut first a second b
 
   abbrev words : Row → List ℕ
   words = large.mutualNumbers first a second b
 
   pairs-good : firstFault (large.mutualLargeChecks first a second b eps) ≡ Fine
-      → (p : Pair) → Inside n m p → GoodLook Row? (large.mutualLargeLook first a second b eps (p .i) (p .j))
+      → (p : Pair) → Inside n m p → GoodLook Good? (large.mutualLargeLook first a second b eps (p .i) (p .j))
   pairs-good e =
       let f = two-fine eps (shape first 0) (shape second 1) (largePathChecks first a 0) (largePathChecks second b 1) e in
       mutual-good (cutPath first a) (cutPath second b) n m eps (cut-sound first a 0 (f .one)) (cut-sound second b 1 (f .two))
       (f .epsilon)
 
-  mutual-full : (i : List ℕ) (p : List Float) → Wrote listed Row? words (large.mutualLarge first a second b eps i p)
+  mutual-full : (i : List ℕ) (p : List Float) → Wrote listed Good? words (large.mutualLarge first a second b eps i p)
   unfolding large.mutualLarge
   mutual-full i p =
-      large-full-wrote Row? (Inside n m) (large.mutualLargeChecks first a second b eps)
+      large-full-wrote Good? (Inside n m) (large.mutualLargeChecks first a second b eps)
       (large.mutualLargeLook first a second b eps) pairs-good (mutualPairs n m) (mutual-inside n m) i p words
 
   mutual-boxed : (boxes : List Float) (i : List ℕ) (p : List Float)
-      → Wrote listed Row? words (large.mutualBoxedLarge first a second b eps boxes i p .listing)
+      → Wrote listed Good? words (large.mutualBoxedLarge first a second b eps boxes i p .listing)
   unfolding large.mutualBoxedLarge
   mutual-boxed boxes i p =
-      large-boxed-wrote Row? (Inside n m) (large.mutualLargeChecks first a second b eps)
+      large-boxed-wrote Good? (Inside n m) (large.mutualLargeChecks first a second b eps)
       (large.mutualLargeLook first a second b eps) pairs-good
       (boxedPairs (cutPath first a) (cutPath second b) eps (mutualPairs n m))
-      (those-each (Inside n m) (boxesMeet (cutPath first a) (cutPath second b) eps) (mutualPairs n m) (mutual-inside n m)) i p words
+      (those-each (Inside n m) (boxesMeet (cutPath first a) (cutPath second b) eps) (mutualPairs n m) (mutual-inside n m)) i p
+      words
       (large.mutualLargeIndex first a second b eps) boxes
 
-  mutual-page : (position : ℕ) (l : Lent) → Wrote paged Row? words (mutualLargePages first a second b eps position l)
+  mutual-page : (position : ℕ) (l : Lent) → Wrote paged Good? words (mutualLargePages first a second b eps position l)
   unfolding large.mutualPageLarge
   mutual-page position l =
-      large-page-wrote Row? (Inside n m) (large.mutualLargeChecks first a second b eps)
+      large-page-wrote Good? (Inside n m) (large.mutualLargeChecks first a second b eps)
       (large.mutualLargeLook first a second b eps) pairs-good (mutualPairs n m) (mutual-inside n m) (l .indices) (l .points) words
       position (l .budget)
 
@@ -77,14 +78,14 @@ module _ (first : List Float) (a : Bool) (second : List Float) (b : Bool) (eps :
         in-full = mutual-full;
         in-boxed = mutual-boxed;
         in-page = mutual-page;
-        in-joined = large-joins Row? words (λ r. refl) (mutualLargePages first a second b eps) mutual-page;
+        in-joined = large-joins Good? words (λ r. refl) (mutualLargePages first a second b eps) mutual-page;
       }
 
   pub large-counted-paths : (i : List ℕ) (p : List Float) (report : List ℕ)
-      → Wrote counted Row? words (mutualCountedLarge first a second b eps i p report .listing)
+      → Wrote counted Good? words (mutualCountedLarge first a second b eps i p report .listing)
   unfolding mutualCountedLarge
   large-counted-paths i p report =
-      counted-wrote Row? words (large.mutualLarge first a second b eps i p) (mutualLargeRows first a second b eps) i p report
+      counted-wrote Good? words (large.mutualLarge first a second b eps i p) (mutualLargeRows first a second b eps) i p report
       (mutual-full i p)
 
 -- ---- one path with itself

@@ -39,7 +39,7 @@ use Rattle.large_pair.specs.LargePair.{
   byChecks,
   largePair,
 }
-use Rattle.large_pair.specs.Results.{one-two-or-four}
+use Rattle.large_pair.specs.Results.{whole, firstHalf, secondHalf, one-two-or-four}
 use Rattle.large_pair.specs.Laws.Fine.{EndsFine, pair-listed}
 use Rattle.finite.specs.Doubles.{Epsilon}
 use Rattle.release.specs.Words.{All, BeginsWith, WroteResults}
@@ -83,8 +83,8 @@ parts-fine v1 v2 f = go (isLarge (v1 .bulge)) refl
     go : (b : Bool) → isLarge (v1 .bulge) ≡ b
         → All (PartFine (pos v1 ∷ pos v2 ∷ cond b (cutPoint v1 v2 ∷ []) []))
         (cond b
-        (record { half = 1; start = bent v1; end = cutVertex v1 v2 } ∷ record { half = 2; start = cutVertex v1 v2; end = v2 } ∷ [])
-        (record { half = 0; start = v1; end = v2 } ∷ []))
+        (firstHalf v1 v2 ∷ secondHalf v1 v2 ∷ [])
+        (whole v1 v2 ∷ []))
     go false e =
         let s = whole-sound v1 v2 (f .start) (f .bulge) (f .end) (f .segment) e in
         (record { start = s .start; end = s .end; start-in = inl refl; end-in = inr (inl refl) }, tt)

@@ -59,48 +59,51 @@ module _ (first : List Float) (a : Bool) (second : List Float) (b : Bool) (eps :
   abbrev m : ℕ
   m = segmentCount second b
 
+  abbrev Good? : Row → Type 0
+  Good? = GoodOld first a second b
+
   pairs-good : firstFault (mutualChecks first a second b eps) ≡ Fine
-      → (p : Pair) → Inside n m p → GoodLook (GoodOld first a second b) (tracedLook first second eps (p .i) (p .j))
+      → (p : Pair) → Inside n m p → GoodLook Good? (tracedLook first second eps (p .i) (p .j))
   pairs-good e =
       let f = two-fine eps (shape first 0) (shape second 1) (pathChecks first a 0) (pathChecks second b 1) e in
       mutual-good first second n m eps (old-sound first a 0 (f .one)) (old-sound second b 1 (f .two)) (f .epsilon)
 
-  mutual-full : (i : List ℕ) (p : List Float) → Wrote listed (GoodOld first a second b) indicesOf (mutualListing first a second b eps i p)
+  mutual-full : (i : List ℕ) (p : List Float) → Wrote listed Good? indicesOf (mutualListing first a second b eps i p)
   unfolding mutualListing
   mutual-full i p =
-      full-wrote (GoodOld first a second b) (Inside n m) (mutualChecks first a second b eps) (tracedLook first second eps) pairs-good
+      full-wrote Good? (Inside n m) (mutualChecks first a second b eps) (tracedLook first second eps) pairs-good
       (mutualPairs n m) (mutual-inside n m) i p
 
   mutual-boxed : (boxes : List Float) (i : List ℕ) (p : List Float)
-      → Wrote listed (GoodOld first a second b) indicesOf (mutualBoxed first a second b eps boxes i p .listing)
+      → Wrote listed Good? indicesOf (mutualBoxed first a second b eps boxes i p .listing)
   unfolding mutualBoxed
   mutual-boxed boxes i p =
-      boxed-wrote (GoodOld first a second b) (Inside n m) (mutualChecks first a second b eps) (tracedLook first second eps) pairs-good
+      boxed-wrote Good? (Inside n m) (mutualChecks first a second b eps) (tracedLook first second eps) pairs-good
       (boxedPairs first second eps (mutualPairs n m))
       (those-each (Inside n m) (boxesMeet first second eps) (mutualPairs n m) (mutual-inside n m)) i p
       (index first eps n ++ index second eps m) boxes
 
-  mutual-page : (position : ℕ) (l : Lent) → Wrote paged (GoodOld first a second b) indicesOf (mutualPages first a second b eps position l)
+  mutual-page : (position : ℕ) (l : Lent) → Wrote paged Good? indicesOf (mutualPages first a second b eps position l)
   unfolding mutualPage
   mutual-page position l =
-      page-wrote (GoodOld first a second b) (Inside n m) (mutualChecks first a second b eps) (tracedLook first second eps) pairs-good
+      page-wrote Good? (Inside n m) (mutualChecks first a second b eps) (tracedLook first second eps) pairs-good
       (mutualPairs n m) (mutual-inside n m) (l .indices) (l .points) position (l .budget)
 
-  pub two-paths : Listings (GoodOld first a second b) indicesOf (mutualListing first a second b eps) (mutualBoxed first a second b eps)
+  pub two-paths : Listings Good? indicesOf (mutualListing first a second b eps) (mutualBoxed first a second b eps)
       (mutualPages first a second b eps) (chain (mutualPages first a second b eps))
   two-paths =
       record {
         in-full = mutual-full;
         in-boxed = mutual-boxed;
         in-page = mutual-page;
-        in-joined = joins (GoodOld first a second b) (mutualPages first a second b eps) mutual-page;
+        in-joined = joins Good? (mutualPages first a second b eps) mutual-page;
       }
 
   pub counted-paths : (i : List ℕ) (p : List Float) (report : List ℕ)
-      → Wrote counted (GoodOld first a second b) indicesOf (mutualCounted first a second b eps i p report .listing)
+      → Wrote counted Good? indicesOf (mutualCounted first a second b eps i p report .listing)
   unfolding mutualCounted
   counted-paths i p report =
-      counted-wrote (GoodOld first a second b) indicesOf (mutualListing first a second b eps i p) (mutualRows first a second b eps) i p
+      counted-wrote Good? indicesOf (mutualListing first a second b eps i p) (mutualRows first a second b eps) i p
       report (mutual-full i p)
 
 -- ---- one path with itself
@@ -108,38 +111,41 @@ module _ (path : List Float) (closed : Bool) (eps : Float) where
   abbrev k : ℕ
   k = segmentCount path closed
 
+  abbrev Own : Row → Type 0
+  Own = GoodOld path closed path closed
+
   own-good : firstFault (selfChecks path closed eps) ≡ Fine
-      → (p : Pair) → Inside k k p → GoodLook (GoodOld path closed path closed) (tracedSelfLook path closed eps (p .i) (p .j))
+      → (p : Pair) → Inside k k p → GoodLook Own (tracedSelfLook path closed eps (p .i) (p .j))
   own-good e =
       let f = one-fine eps (shape path 0) (pathChecks path closed 0) e in
       self-good path k closed eps (old-sound path closed 0 (f .one)) (f .epsilon)
 
-  self-full : (i : List ℕ) (p : List Float) → Wrote listed (GoodOld path closed path closed) indicesOf (selfListing path closed eps i p)
+  self-full : (i : List ℕ) (p : List Float) → Wrote listed Own indicesOf (selfListing path closed eps i p)
   unfolding selfListing
   self-full i p =
-      full-wrote (GoodOld path closed path closed) (Inside k k) (selfChecks path closed eps) (tracedSelfLook path closed eps) own-good
+      full-wrote Own (Inside k k) (selfChecks path closed eps) (tracedSelfLook path closed eps) own-good
       (selfPairs k) (self-inside k) i p
 
   self-boxed : (boxes : List Float) (i : List ℕ) (p : List Float)
-      → Wrote listed (GoodOld path closed path closed) indicesOf (selfBoxed path closed eps boxes i p .listing)
+      → Wrote listed Own indicesOf (selfBoxed path closed eps boxes i p .listing)
   unfolding selfBoxed
   self-boxed boxes i p =
-      boxed-wrote (GoodOld path closed path closed) (Inside k k) (selfChecks path closed eps) (tracedSelfLook path closed eps) own-good
+      boxed-wrote Own (Inside k k) (selfChecks path closed eps) (tracedSelfLook path closed eps) own-good
       (boxedPairs path path eps (selfPairs k)) (those-each (Inside k k) (boxesMeet path path eps) (selfPairs k) (self-inside k))
       i p (index path eps k) boxes
 
-  self-page : (position : ℕ) (l : Lent) → Wrote paged (GoodOld path closed path closed) indicesOf (selfPages path closed eps position l)
+  self-page : (position : ℕ) (l : Lent) → Wrote paged Own indicesOf (selfPages path closed eps position l)
   unfolding selfPage
   self-page position l =
-      page-wrote (GoodOld path closed path closed) (Inside k k) (selfChecks path closed eps) (tracedSelfLook path closed eps) own-good
+      page-wrote Own (Inside k k) (selfChecks path closed eps) (tracedSelfLook path closed eps) own-good
       (selfPairs k) (self-inside k) (l .indices) (l .points) position (l .budget)
 
-  pub one-path : Listings (GoodOld path closed path closed) indicesOf (selfListing path closed eps) (selfBoxed path closed eps)
+  pub one-path : Listings Own indicesOf (selfListing path closed eps) (selfBoxed path closed eps)
       (selfPages path closed eps) (chain (selfPages path closed eps))
   one-path =
       record {
         in-full = self-full;
         in-boxed = self-boxed;
         in-page = self-page;
-        in-joined = joins (GoodOld path closed path closed) (selfPages path closed eps) self-page;
+        in-joined = joins Own (selfPages path closed eps) self-page;
       }

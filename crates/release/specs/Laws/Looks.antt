@@ -1,5 +1,5 @@
--- What a pair of segments of accepted paths gives in a listing: a good row, if it makes one. A path is given with the count of its
--- segments, so that this serves both modes: there the cut path has another count.
+-- What a pair of segments of accepted paths gives in a listing: a good row, if it makes one. A path is given with the count of
+-- its segments, so that this serves both modes: the cut path has a count of its own.
 use mathlib.Core.Path.{_≡_}
 use mathlib.Core.Logic.{Iff·rfl}
 use mathlib.Core.Bool.{Bool, true, false, cond}
@@ -131,7 +131,8 @@ pub record OneFine (path : List Checked) (eps : Float) : Type 0 where
   pub epsilon : Epsilon eps
   pub one : firstFault path ≡ Fine
 
-pub one-fine : (eps : Float) (s : Checked) (cs : List Checked) → firstFault ((each.epsilon eps ∷ s ∷ []) ++ cs) ≡ Fine → OneFine cs eps
+pub one-fine : (eps : Float) (s : Checked) (cs : List Checked) → firstFault ((each.epsilon eps ∷ s ∷ []) ++ cs) ≡ Fine
+    → OneFine cs eps
 one-fine eps s cs e =
     let c0 : List Checked = each.epsilon eps ∷ s ∷ [] in
     let f0 = then-fine (epsilon-fine eps) (alone-fine Iff·rfl) in

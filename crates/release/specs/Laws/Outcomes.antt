@@ -55,7 +55,9 @@ module _ (P : Row → Type 0) (Q : Pair → Type 0) (checks : List Checked) (loo
       let q = page look (drop position ps) (room i p) budget in
       let last = limits position (length ps) budget i p in
       wrote P paged PageAnswer·.Refused (λ f. refl) _ (q .rows) refl i p (firstFault (checks ++ last))
-      (λ e. page-each P Q look (good (earlier checks last e)) (drop position ps) (room i p) budget (each-drop Q position ps inside))
+      (λ e.
+      page-each P Q look (good (earlier checks last e)) (drop position ps) (room i p) budget
+      (each-drop Q position ps inside))
 
   -- with rows of five whole numbers
   module _ (words : Row → List ℕ) where
@@ -64,8 +66,8 @@ module _ (P : Row → Type 0) (Q : Pair → Type 0) (checks : List Checked) (loo
     large-full-wrote =
         let rows = rowsOf look ps in
         let last : List Checked = largeRoomCheck rows i p ∷ [] in
-        large-wrote P words listed ListingAnswer·.Refused (λ f. refl) (ListingAnswer·.Listed (length rows) (lookedAt look ps)) rows
-        refl i p (firstFault (checks ++ last)) (λ e. rows-each P Q look (good (earlier checks last e)) ps inside)
+        large-wrote P words listed ListingAnswer·.Refused (λ f. refl) (ListingAnswer·.Listed (length rows) (lookedAt look ps))
+        rows refl i p (firstFault (checks ++ last)) (λ e. rows-each P Q look (good (earlier checks last e)) ps inside)
 
     pub large-boxed-wrote : (idx boxes : List Float)
         → Wrote listed P words (largeBoxedOutcome words checks look ps idx boxes i p .listing)
@@ -73,8 +75,8 @@ module _ (P : Row → Type 0) (Q : Pair → Type 0) (checks : List Checked) (loo
     large-boxed-wrote idx boxes =
         let rows = rowsOf look ps in
         let last : List Checked = indexCheck idx boxes ∷ largeRoomCheck rows i p ∷ [] in
-        large-wrote P words listed ListingAnswer·.Refused (λ f. refl) (ListingAnswer·.Listed (length rows) (lookedAt look ps)) rows
-        refl i p (firstFault (checks ++ last)) (λ e. rows-each P Q look (good (earlier checks last e)) ps inside)
+        large-wrote P words listed ListingAnswer·.Refused (λ f. refl) (ListingAnswer·.Listed (length rows) (lookedAt look ps))
+        rows refl i p (firstFault (checks ++ last)) (λ e. rows-each P Q look (good (earlier checks last e)) ps inside)
 
     pub large-page-wrote : (position budget : ℕ) → Wrote paged P words (largePageOutcome words checks look ps position budget i p)
     unfolding largePageOutcome
