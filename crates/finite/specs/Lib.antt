@@ -1,4 +1,4 @@
--- What the kernels and the pair answer on accepted numbers is finite: each bound, a power of two, is carried through every operation.
+-- What the kernels and the pair answer on accepted numbers is finite: bounds by powers of two, carried through each operation.
 -- Sizes has what a bound is and the laws of + - * /, for any format; Leaves those of the absolute value, minimum, maximum and
 -- root; Doubles both at binary64, and what a failed test of nearness says; Limits what the checks say; Vectors has points. Then
 -- the kernels (LineLine, LineCircle, CircleCircle), an arc's circle (ArcCircle), where the points of an answer come from
