@@ -1,7 +1,7 @@
 -- What Release.antt does not say, since it is false: two accepted calls that show it. The parameters of an overlap need not rise,
 -- and a point of an answer need not lie in the box of the coordinates.
 use mathlib.Core.Path.{_≡_, refl}
-use mathlib.Core.Bool.{Bool, true}
+use mathlib.Core.Bool.{true}
 use lib.Count.{trailingZeros}
 use lib.Ieee.{
   Float,
