@@ -1,8 +1,10 @@
 # The checks of the gate, one function each. `.ci/run` calls them in order; `.ci/test` tests that each can fail.
 
 scratch=$(mktemp -d)
-trap 'rm -rf "$scratch"' EXIT
+trap 'end_rest; rm -rf "$scratch"' EXIT
 quick=
+trials= # the process that tries wrong functions, while it runs
+check=  # the longest run of the comparison, while it runs
 times=()
 
 fail() {
@@ -36,23 +38,38 @@ say_times() {
 
 # ---- proofs
 
-# rt ci removes target/, so it comes first and nothing is proved twice. Its last line is printed at the end.
+# rt ci removes target/, so it comes first and nothing is proved twice. Its last line is printed at the end. It leaves a core idle
+# for much of the time, so the wrong functions of a crate are tried as soon as it is proved. target/ is removed before: what is in
+# target/stamp is then proved in this run. If rt ci fails, the trials end with the gate.
 prove() {
     local start=$SECONDS
     command -v rt > /dev/null || fail "the Rattle kit's rt is not on the PATH"
+    rm -rf target
+    .ci/trials until "$scratch/proved" > "$scratch/trials" 2>&1 &
+    trials=$!
     if ! rt ci 2>&1 | tee "$scratch/rt" | sed -u '$d'; then
         tail -n 1 "$scratch/rt"
         fail "rt ci failed"
     fi
     verdict=$(tail -n 1 "$scratch/rt")
     [[ $verdict =~ ^[1-9][0-9]*\ passed,\ 0\ failed$ ]] || fail "rt ci ended with '$verdict'"
+    : > "$scratch/proved"
     note_time "$start"
+}
+
+# Ends what still runs if a check has failed.
+end_rest() {
+    local pid
+    for pid in $trials $check; do
+        kill "$pid" 2> /dev/null || true
+        wait "$pid" 2> /dev/null || true
+    done
 }
 
 # Proves what has changed, then the product that uses it, and tries the wrong functions at the same time. What only the comparison
 # needs is proved during the comparison, and `prove_rest` waits for it.
 prove_changed() {
-    local start=$SECONDS changed trials=
+    local start=$SECONDS changed
     quick=yes
     command -v rt > /dev/null || fail "the Rattle kit's rt is not on the PATH"
     changed=$(.ci/trials changed) || fail "what has changed could not be found out: $changed"
@@ -68,7 +85,7 @@ prove_changed() {
     quietly rt check &
     rest=$!
     if [ -n "$trials" ]; then
-        wait "$trials" || fail "a wrong function was not rejected as it should be: $(cat "$scratch/trials")"
+        wait_for_trials
         say "$(tail -n 1 "$scratch/trials") ($(echo $changed))"
     fi
     note_time "$start"
@@ -79,12 +96,17 @@ prove_rest() {
     check_replaying
 }
 
-# Tries wrong functions, many at a time. rt ci has tried the must-fail edits one by one. It needs the proved crates.
+# Waits for the wrong functions, which are tried many at a time. rt ci has tried the must-fail edits one by one.
 try_functions() {
-    local start=$SECONDS said
-    said=$(.ci/trials) || fail "a wrong function was not rejected as it should be: $said"
-    say "$said"
+    local start=$SECONDS
+    wait_for_trials
+    say "$(cat "$scratch/trials")"
     note_time "$start"
+}
+
+wait_for_trials() {
+    wait "$trials" || fail "a wrong function was not rejected as it should be: $(cat "$scratch/trials")"
+    trials=
 }
 
 # ---- texts
@@ -274,8 +296,9 @@ check_root() {
 
 # ---- the comparison
 
-# Compares the static libraries (the product's, and the one for the comparison only) with Rust, and makes the recorded list again.
-compare_with_rust() {
+# Builds the static libraries (the product's, and the one for the comparison only) and what compares them with Rust. Wrong
+# functions are still tried at that time.
+build_comparison() {
     local start=$SECONDS
     if ! can_compare; then
         say "no cargo on this machine: NOTHING WAS COMPARED WITH RUST"
@@ -287,8 +310,17 @@ compare_with_rust() {
     export RUSTFLAGS="-D warnings"
     quietly cargo build "${words[@]}" "${features[@]}" || fail "compare does not build"
     quietly cargo test "${words[@]}" "${features[@]}" "${packages[@]}" || fail "compare's own tests failed"
-    run_comparison target/compare/release/compare
+    begin_comparison target/compare/release/compare
     note_time "$start"
+}
+
+# Compares the libraries and the programs with Rust, and makes the recorded list again.
+compare_with_rust() {
+    local start=$SECONDS
+    if can_compare; then
+        run_comparison target/compare/release/compare
+        note_time "$start"
+    fi
 }
 
 can_compare() {
@@ -324,15 +356,22 @@ make_libraries() {
     done
 }
 
-# The comparison itself, two runs at a time. The quick gate takes a tenth of the inputs, but all texts and packed files that go
+# Begins the longest run of the comparison, which takes five times as long as all others: it runs beside the wrong functions. The
+# quick gate takes a tenth of the inputs.
+begin_comparison() {
+    local inputs=10485760
+    [ -z "$quick" ] || inputs=$((inputs / 10))
+    "$1" check "$inputs" > "$scratch/check" 2>&1 &
+    check=$!
+}
+
+# The other runs, and the end of the longest. The quick gate takes a tenth of the inputs, but all texts and packed files that go
 # through programs: they are few, and some kinds of them are rare.
 run_comparison() {
-    local compare=$1 inputs=10485760 pairs=4194304 arcs=11534336 texts=3072 movers=2048 check
+    local compare=$1 pairs=4194304 arcs=11534336 texts=3072 movers=2048
     if [ -n "$quick" ]; then
-        inputs=$((inputs / 10)) pairs=$((pairs / 10)) arcs=$((arcs / 10))
+        pairs=$((pairs / 10)) arcs=$((arcs / 10))
     fi
-    "$compare" check "$inputs" > "$scratch/check" 2>&1 &
-    check=$!
     "$compare" search "$pairs" || fail "an answer breaks what is promised on the grid"
     search_arcs "$compare" "$arcs"
     quietly "$compare" record "$scratch/list" || fail "compare record failed"
@@ -343,6 +382,7 @@ run_comparison() {
         cat "$scratch/check"
         fail "the library and Rust differ"
     }
+    check=
     cat "$scratch/check"
 }
 

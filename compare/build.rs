@@ -1,4 +1,4 @@
-//! Links the proved static libraries, which `rt staticlib capi` and `rt staticlib probe` write: the product, and the functions
+//! Links the proved static libraries, which `rt staticlib NAME` writes: the product, the calls with large arcs, and the functions
 //! that only the comparison calls.
 
 use std::env;
@@ -13,7 +13,7 @@ fn main() {
         None => here.join("../target/staticlib"),
     };
     println!("cargo:rustc-link-search=native={}", folder.display());
-    for name in ["capi", "probe"] {
+    for name in ["capi", "probe", "capi_large"] {
         let archive = folder.join(format!("lib{name}.a"));
         println!("cargo:rerun-if-changed={}", archive.display());
         if !archive.is_file() {
@@ -24,20 +24,5 @@ fn main() {
             exit(1);
         }
         println!("cargo:rustc-link-lib=static={name}");
-    }
-    // the calls with large arcs are compared as soon as a library has them
-    println!("cargo:rustc-check-cfg=cfg(large_calls)");
-    println!("cargo:rerun-if-changed={}", folder.display());
-    let wanted = b"vj_mutual_large";
-    let has = |bytes: &Vec<u8>| bytes.windows(wanted.len()).any(|part| part == wanted);
-    let [calls, large] = ["capi", "capi_large"].map(|name| {
-        let archive = folder.join(format!("lib{name}.a"));
-        std::fs::read(archive).ok()
-    });
-    if large.is_some() {
-        println!("cargo:rustc-link-lib=static=capi_large");
-    }
-    if [calls, large].iter().flatten().any(has) {
-        println!("cargo:rustc-cfg=large_calls");
     }
 }

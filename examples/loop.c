@@ -4,12 +4,14 @@
  * which cut it into two halves. A row names the segment of the path that was
  * given, and the half. From the repository's root:
  *
- *   rt staticlib capi_large
+ *   rt staticlib capi && rt staticlib capi_large
  *   cc -std=c11 -Wall -Wextra -Werror -Iinclude examples/loop.c \
- *      target/staticlib/libcapi_large.a -o loop && ./loop
+ *      target/staticlib/libcapi_large.a target/staticlib/libcapi.a \
+ *      -o loop && ./loop
  */
 #include <inttypes.h>
 #include <stdio.h>
+#include <string.h>
 
 #include "vonjekona.h"
 
@@ -37,6 +39,14 @@ static const double through_traced[] = { 3, -0.375, 0, 1,  6, -0.375, 0, 1 };
 
 /* A loop whose ends are 1/8 apart: with epsilon 1/4 they count as one point. */
 static const double narrow[] = { 0, 0, 8, 0,  0.125, 0, 0, 0 };
+
+/*
+ * The body of an LWPOLYLINE entity, as a drawing has it: the track's loop alone,
+ * two vertices, of which the first has the bulge 2.
+ */
+static const char body[] = "90\n2\n70\n0\n"
+                           "10\n4.0\n20\n0.0\n42\n2.0\n"
+                           "10\n5.0\n20\n0.0\n";
 
 static uint64_t indices[5 * ROWS], counts[4];
 static double points[4 * ROWS];
@@ -151,6 +161,33 @@ static void list_changed(const char *what, double bulge, double up)
     list_self(what, changed, COUNT(changed), EPSILON);
 }
 
+/* The loop from a drawing, uncut; the call without `_large` refuses it. */
+static void drawing(void)
+{
+    const uint8_t *text = (const uint8_t *)body;
+    double path[4 * 2];
+    uint8_t again[VJ_DXF_BYTES_LARGE(2)];
+    uint64_t told[2], word;
+
+    word = vj_dxf_import_large(text, strlen(body), path, COUNT(path), told,
+                               COUNT(told));
+    if (word != 0) {
+        show_fault(word);
+        return;
+    }
+    printf("a loop from a drawing: %" PRIu64 " vertices, %s, bulge %g\n",
+           told[0], told[1] ? "closed" : "open", path[2]);
+    list("that loop, and a line through it", path, 4 * told[0], through,
+         COUNT(through));
+    word = vj_dxf_export_large(path, 4 * told[0], false, again, sizeof again,
+                               told, COUNT(told));
+    if (word == 0)
+        printf("the loop as a drawing again: %" PRIu64 " bytes\n", told[0]);
+    printf("the same drawing by the call without large arcs: ");
+    show_fault(vj_dxf_import(text, strlen(body), path, COUNT(path), told,
+                             COUNT(told)));
+}
+
 int main(void)
 {
     list("a track with a loop, and a line through the loop", track,
@@ -171,5 +208,7 @@ int main(void)
     list_changed("bulge 16.5", 16.5, 0);
     list_changed("bulge -16, up to the edge", -16, 1048568);
     list_changed("bulge -16, beyond the edge", -16, 1048568.5);
+
+    drawing();
     return 0;
 }

@@ -839,11 +839,17 @@ uint64_t vj_dxf_export(const double *path, size_t len, bool closed,
  *     far they lie from the circle was measured, not proved: docs/LIMITS.md.
  *
  * These calls are in a library of their own, libcapi_large.a, and need more stack
- * than the others: vj_pair_large about TODO_STACK KiB, a listing or a counted
- * listing about TODO_STACK KiB, a page about TODO_STACK KiB, a boxed listing about
- * TODO_STACK KiB.
+ * than the others, since a cut path has up to 8,192 segments. In bytes:
  *
- * examples/loop.c lists a tuning loop.
+ *                      two paths     one path
+ *   a listing          1,039,648     711,936
+ *   a page               924,432     596,688
+ *   a boxed listing    1,319,424     991,680
+ *   a counted listing  1,039,744
+ *
+ * vj_pair_large and an export need less than 4 KiB, an import some 129 KiB.
+ *
+ * examples/loop.c lists a tuning loop, and imports one from a drawing.
  */
 
 /*
@@ -957,21 +963,34 @@ uint64_t vj_mutual_counted_large(const double *first, size_t first_len,
                                  size_t report_room);
 
 /*
- * vj_dxf_import and vj_dxf_export for bulges up to 16. Where those calls check a
- * path as a listing does, these check it as a large listing does. The path is
- * read and written as it is: nothing in it is cut. A bulge may have a digit more
- * before its point, so a text may be longer: VJ_DXF_BYTES_LARGE(n) bytes are
- * always enough for n vertices.
+ * vj_dxf_import for bulges up to 16. The path's own checks are those of a large
+ * listing: 3 beyond 16, and in the place of 5, for each segment in order, 2 of a
+ * cut point, x before y, and then 5 of each half. The path is written uncut, as
+ * the body has it: hand it to any of the calls above.
+ *
+ * The place of a refusal: as for vj_dxf_import, and
+ *
+ *   item           owner   index
+ *   cut x, cut y   0       the segment
  */
-#define VJ_DXF_BYTES_LARGE(n) (13 + 52 * (size_t)(n))
-
 uint64_t vj_dxf_import_large(const uint8_t *text, size_t len, double *path,
                              size_t path_room, uint64_t *told,
                              size_t told_room);
 
+/*
+ * vj_dxf_export for bulges up to 16. The path's own checks are those of a large
+ * listing; 23 and 24 come after them, as ever. The path is written uncut. An
+ * import by vj_dxf_import_large gives the same x, y, bulges and flag, bit for
+ * bit, and traces 0. VJ_DXF_BYTES_LARGE(n) bytes are always enough for n
+ * vertices: a byte more for each than VJ_DXF_BYTES(n), since a bulge may have two
+ * digits before its point, 213,005 for 4,096.
+ */
 uint64_t vj_dxf_export_large(const double *path, size_t len, bool closed,
                              uint8_t *text, size_t text_room, uint64_t *told,
                              size_t told_room);
+
+/* The most bytes that the text of n vertices has, with bulges up to 16. */
+#define VJ_DXF_BYTES_LARGE(n) (13 + 52 * (size_t)(n))
 
 #ifdef __cplusplus
 }

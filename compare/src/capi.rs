@@ -2,7 +2,7 @@
 //!
 //! Each call is safe: it takes and gives numbers, accepts any of them, and always returns.
 
-#[cfg(all(feature = "rust-text", large_calls))]
+#[cfg(feature = "rust-text")]
 pub mod large;
 
 unsafe extern "C" {
@@ -214,6 +214,23 @@ mod raw {
             told_room: usize,
         ) -> u64;
         pub fn vj_dxf_export(
+            path: *const f64,
+            len: usize,
+            closed: bool,
+            text: *mut u8,
+            text_room: usize,
+            told: *mut u64,
+            told_room: usize,
+        ) -> u64;
+        pub fn vj_dxf_import_large(
+            text: *const u8,
+            len: usize,
+            path: *mut f64,
+            path_room: usize,
+            told: *mut u64,
+            told_room: usize,
+        ) -> u64;
+        pub fn vj_dxf_export_large(
             path: *const f64,
             len: usize,
             closed: bool,
@@ -515,10 +532,39 @@ pub fn vj_dxf_import(text: &[u8], path: &mut [f64], told: &mut [u64]) -> u64 {
     }
 }
 
+/// The same with large arcs.
+pub fn vj_dxf_import_large(text: &[u8], path: &mut [f64], told: &mut [u64]) -> u64 {
+    unsafe {
+        raw::vj_dxf_import_large(
+            text.as_ptr(),
+            text.len(),
+            path.as_mut_ptr(),
+            path.len(),
+            told.as_mut_ptr(),
+            told.len(),
+        )
+    }
+}
+
 /// The body of a path; tells its bytes.
 pub fn vj_dxf_export(path: (&[f64], bool), text: &mut [u8], told: &mut [u64]) -> u64 {
     unsafe {
         raw::vj_dxf_export(
+            path.0.as_ptr(),
+            path.0.len(),
+            path.1,
+            text.as_mut_ptr(),
+            text.len(),
+            told.as_mut_ptr(),
+            told.len(),
+        )
+    }
+}
+
+/// The same with large arcs.
+pub fn vj_dxf_export_large(path: (&[f64], bool), text: &mut [u8], told: &mut [u64]) -> u64 {
+    unsafe {
+        raw::vj_dxf_export_large(
             path.0.as_ptr(),
             path.0.len(),
             path.1,

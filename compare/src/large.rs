@@ -4,7 +4,6 @@
 //! beside each other. The circles of the halves are measured on a sample.
 
 mod ask;
-#[cfg(large_calls)]
 mod bench;
 mod beside;
 mod circle;
@@ -27,19 +26,16 @@ mod stand_in;
 #[cfg(test)]
 mod tests;
 
-#[cfg(large_calls)]
 pub use bench::run as bench;
 
 use ask::{Asked, Kind};
 use lent::Lent;
-#[cfg(large_calls)]
 use run::Run;
 
 use crate::capi::{Rows, Span};
 use crate::listings::model::Listed;
 
 /// After so many differences a run ends.
-#[cfg(large_calls)]
 const ENOUGH: u64 = 1000;
 
 /// Our calls. Rows of indices have five words; of a pair the results go into the words, their points into the floats.
@@ -65,7 +61,6 @@ impl Ours {
     }
 }
 
-#[cfg(large_calls)]
 mod ours {
     use super::Ours;
     use crate::capi::large::*;
@@ -125,7 +120,6 @@ mod ours {
 /// on small paths of every size, on layouts with one fault and with two, on the longest paths; on `count / 16` pairs; and on
 /// random layouts until these have `count / 4` pairs. Measures the circles of the halves of `count / 32` arcs. Answers how many
 /// differences there were, plus the kinds of call that never occurred.
-#[cfg(large_calls)]
 pub fn check(count: u64, seed: u64) -> u64 {
     let mut run = Run::new(ours::OURS, seed, ENOUGH);
     run.examples();
@@ -133,12 +127,4 @@ pub fn check(count: u64, seed: u64) -> u64 {
     joint::count(count / 512, seed);
     run.all(count);
     run.report()
-}
-
-/// Without the calls only the circles are measured.
-#[cfg(not(large_calls))]
-pub fn check(count: u64, seed: u64) -> u64 {
-    println!("the library has no calls with large arcs: NOTHING WAS COMPARED WITH THEM");
-    joint::count(count / 512, seed);
-    circle::check((count / 32).max(1 << 14), seed)
 }

@@ -22,7 +22,6 @@ mod inputs;
 #[cfg(feature = "rust-text")]
 mod joints;
 #[cfg(feature = "rust-text")]
-#[cfg_attr(not(large_calls), allow(dead_code))]
 mod large;
 #[cfg(feature = "rust-text")]
 mod lent;
@@ -97,9 +96,9 @@ usage: compare check [COUNT [SEED]]  compare each float function on COUNT random
        compare packed [COUNT [SEED]] compare the moves of layouts between text and packed form: on chosen texts and files, on
                                      COUNT / 10 drawn layouts both ways, and on as many damaged files (default 10485760,
                                      seed 1)
-       compare dxf [COUNT [SEED]]    compare import and export of drawings: on the stored bodies with every byte changed, removed
-                                     and doubled, at every limit, on COUNT / 16 drawn bodies, on as many damaged ones and on as
-                                     many paths (default 10485760, seed 1)
+       compare dxf [COUNT [SEED]]    compare import and export of drawings, in both modes: on the stored bodies with every byte
+                                     changed, removed and doubled, at every limit, on COUNT / 16 drawn bodies, on as many
+                                     damaged ones and on as many paths (default 10485760, seed 1)
        compare drawings FOLDER       write the model's answer NAME.expected for each body NAME.body there
        compare dxf-bodies FOLDER [COUNT [SEED]]
                                      write COUNT drawn paths (default 1024, seed 1) there as our calls export them, NAME.body, and
@@ -137,8 +136,7 @@ const MOVED: u64 = 2048;
 const EXPORTED: u64 = 1024;
 const SEED: u64 = 1;
 const BENCHES: [&str; 10] = [
-    "floats", "calls", "findings", "listings", "pages", "boxed", "month", "large", "packed",
-    "dxf",
+    "floats", "calls", "findings", "listings", "pages", "boxed", "month", "large", "packed", "dxf",
 ];
 
 fn main() -> ExitCode {
@@ -509,12 +507,12 @@ fn time_boxed() {}
 #[cfg(not(feature = "rust-text"))]
 fn time_month() {}
 
-#[cfg(all(feature = "rust-text", large_calls))]
+#[cfg(feature = "rust-text")]
 fn time_large() {
     large::bench();
 }
 
-#[cfg(not(all(feature = "rust-text", large_calls)))]
+#[cfg(not(feature = "rust-text"))]
 fn time_large() {}
 
 #[cfg(not(feature = "rust-text"))]

@@ -6,14 +6,15 @@ use std::hint::black_box;
 use std::ptr;
 
 use super::draw::{self, Spelling, Vertex};
-use super::run::MOST_BYTES;
-use super::{model, OURS};
+use super::model::Mode;
+use super::{model, LARGE, OURS};
 use crate::bench::{head, Row};
 use crate::rng::Rng;
 use crate::stack;
 use crate::vertex::VERTEX;
 
 const VERTICES: usize = model::MOST_VERTICES;
+const MOST_BYTES: usize = 13 + 52 * VERTICES;
 /// So many vertices a round.
 const A_ROUND: u64 = 1 << 15;
 
@@ -27,7 +28,7 @@ unsafe extern "C" {
 pub fn run() {
     let mut rng = Rng::new(0xbe7c);
     head("drawings, ns a vertex, beside the C library's own");
-    let any = draw::vertices(VERTICES, &mut rng);
+    let any = draw::vertices(VERTICES, Mode::Half, &mut rng);
     let short: Vec<Vertex> = (0..VERTICES as i64)
         .map(|at| Vertex {
             numbers: [at % 64 * 1_000_000, at / 64 * 500_000, 0],
@@ -61,15 +62,17 @@ pub fn run() {
     of_stack(&any, &mut rng);
 }
 
-/// Bytes of stack that each call takes on a body of 4,096 vertices.
+/// Bytes of stack that each call takes in each mode, on a body of 4,096 vertices.
 fn of_stack(vertices: &[Vertex], rng: &mut Rng) {
     let text = draw::body(vertices, true, Spelling::Plain, rng).text();
     let mut path = vec![0.0; VERTEX * VERTICES];
     let mut told = [0; 2];
-    let import = stack::of(|| assert_eq!((OURS.import)(&text, &mut path, &mut told), 0));
     let mut out = vec![0; MOST_BYTES];
-    let export = stack::of(|| assert_eq!((OURS.export)((&path, true), &mut out, &mut told), 0));
-    println!("stack, bytes: import {import}, export {export}");
+    for (mode, ours) in [("", OURS), (" with large arcs", LARGE)] {
+        let import = stack::of(|| assert_eq!((ours.import)(&text, &mut path, &mut told), 0));
+        let export = stack::of(|| assert_eq!((ours.export)((&path, true), &mut out, &mut told), 0));
+        println!("stack{mode}, bytes: import {import}, export {export}");
+    }
 }
 
 fn row(name: &str) -> Row<'_> {
@@ -123,7 +126,7 @@ fn read_in_c(text: &[u8], path: &mut [f64]) -> usize {
 }
 
 fn export(name: &str, text: &[u8]) {
-    let body = model::import(text).expect("a body");
+    let body = model::import(text, Mode::Half).expect("a body");
     let path = body.path();
     let mut out = vec![0; MOST_BYTES + 1];
     let mut other = out.clone();

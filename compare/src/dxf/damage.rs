@@ -1,16 +1,17 @@
 //! Bodies that are damaged in one way each. Some are still of the form: the model says which.
 
-use super::draw::{digits_of, joined, plain, skipped, Parts};
-use super::draw::{MILLION, MOST_BULGE, MOST_COORDINATE};
+use super::draw::{self, digits_of, joined, most_bulge, plain, skipped, Parts, Spelling, Vertex};
+use super::draw::{MILLION, MOST_COORDINATE};
+use super::model::Mode;
 use crate::form::damage::replaced;
 use crate::rng::Rng;
 
 pub struct Damage {
     pub name: &'static str,
-    pub make: fn(&Parts, &mut Rng) -> Vec<u8>,
+    pub make: fn(&Parts, Mode, &mut Rng) -> Vec<u8>,
 }
 
-const fn damage(name: &'static str, make: fn(&Parts, &mut Rng) -> Vec<u8>) -> Damage {
+const fn damage(name: &'static str, make: fn(&Parts, Mode, &mut Rng) -> Vec<u8>) -> Damage {
     Damage { name, make }
 }
 
@@ -106,129 +107,129 @@ pub const BAD_WHOLES: &[&[u8]] = &[
 const FIVE: [&str; 5] = ["90", "70", "10", "20", "42"];
 
 pub const DAMAGES: [Damage; 45] = [
-    damage("a byte changed", |parts, rng| {
+    damage("a byte changed", |parts, _, rng| {
         at_byte(parts, rng, |_, rng| vec![any_byte(rng)])
     }),
-    damage("a byte removed", |parts, rng| {
+    damage("a byte removed", |parts, _, rng| {
         at_byte(parts, rng, |_, _| vec![])
     }),
-    damage("a byte doubled", |parts, rng| {
+    damage("a byte doubled", |parts, _, rng| {
         at_byte(parts, rng, |byte, _| vec![byte, byte])
     }),
-    damage("a byte put in", |parts, rng| {
+    damage("a byte put in", |parts, _, rng| {
         at_byte(parts, rng, |byte, rng| vec![any_byte(rng), byte])
     }),
-    damage("two bytes swapped", |parts, rng| {
+    damage("two bytes swapped", |parts, _, rng| {
         let mut text = parts.text();
         let at = place(text.len() - 1, rng);
         text.swap(at, at + 1);
         text
     }),
-    damage("a newline removed", |parts, rng| {
+    damage("a newline removed", |parts, _, rng| {
         let text = parts.text();
         let ends: Vec<usize> = (0..text.len()).filter(|at| text[*at] == b'\n').collect();
         let at = rng.pick(&ends);
         replaced(&text, at..at + 1, b"")
     }),
-    damage("a newline put in", |parts, rng| {
+    damage("a newline put in", |parts, _, rng| {
         at_byte(parts, rng, |byte, _| vec![b'\n', byte])
     }),
-    damage("cut", |parts, rng| {
+    damage("cut", |parts, _, rng| {
         let text = parts.text();
         text[..place(text.len(), rng)].to_vec()
     }),
-    damage("cut after a line", |parts, rng| {
+    damage("cut after a line", |parts, _, rng| {
         let lines = parts.lines();
         joined(&lines[..place(lines.len(), rng)])
     }),
-    damage("no last newline", |parts, _| {
+    damage("no last newline", |parts, _, _| {
         let mut text = parts.text();
         text.pop();
         text
     }),
-    damage("carriage returns", |parts, _| {
+    damage("carriage returns", |parts, _, _| {
         let mut lines = parts.lines();
         lines.iter_mut().for_each(|line| line.push(b'\r'));
         joined(&lines)
     }),
-    damage("one carriage return", |parts, rng| {
+    damage("one carriage return", |parts, _, rng| {
         at_line(parts, rng, |line, _| [line, b"\r"].concat())
     }),
-    damage("a blank behind", |parts, rng| {
+    damage("a blank behind", |parts, _, rng| {
         at_line(parts, rng, |line, _| [line, b" "].concat())
     }),
-    damage("a tab in front", |parts, rng| {
+    damage("a tab in front", |parts, _, rng| {
         at_line(parts, rng, |line, _| [b"\t", line].concat())
     }),
-    damage("a line removed", |parts, rng| {
+    damage("a line removed", |parts, _, rng| {
         let mut lines = parts.lines();
         lines.remove(place(lines.len(), rng));
         joined(&lines)
     }),
-    damage("a line doubled", |parts, rng| {
+    damage("a line doubled", |parts, _, rng| {
         let mut lines = parts.lines();
         let at = place(lines.len(), rng);
         lines.insert(at, lines[at].clone());
         joined(&lines)
     }),
-    damage("a line put in", |parts, rng| {
+    damage("a line put in", |parts, _, rng| {
         let mut lines = parts.lines();
         let line: &[u8] = rng.pick(&[b"".as_slice(), b"0", b"10", b"42", b"1.5", b"x"]);
         lines.insert(place(lines.len() + 1, rng), line.to_vec());
         joined(&lines)
     }),
-    damage("two lines swapped", |parts, rng| {
+    damage("two lines swapped", |parts, _, rng| {
         let mut lines = parts.lines();
         let at = place(lines.len() - 1, rng);
         lines.swap(at, at + 1);
         joined(&lines)
     }),
-    damage("a pair removed", |parts, rng| {
+    damage("a pair removed", |parts, _, rng| {
         let mut pairs = parts.clone();
         pairs.0.remove(place(parts.0.len(), rng));
         pairs.text()
     }),
-    damage("one of the five removed", |parts, rng| {
+    damage("one of the five removed", |parts, _, rng| {
         let mut pairs = parts.clone();
         if let Some(at) = one_of_five(parts, rng) {
             pairs.0.remove(at);
         }
         pairs.text()
     }),
-    damage("a pair doubled", |parts, rng| {
+    damage("a pair doubled", |parts, _, rng| {
         let mut pairs = parts.clone();
         let at = place(parts.0.len(), rng);
         pairs.0.insert(at, pairs.0[at].clone());
         pairs.text()
     }),
-    damage("two pairs swapped", |parts, rng| {
+    damage("two pairs swapped", |parts, _, rng| {
         let mut pairs = parts.clone();
         let at = place(parts.0.len() - 1, rng);
         pairs.0.swap(at, at + 1);
         pairs.text()
     }),
-    damage("any two pairs swapped", |parts, rng| {
+    damage("any two pairs swapped", |parts, _, rng| {
         let mut pairs = parts.clone();
         let [a, b] = [0; 2].map(|_| place(parts.0.len(), rng));
         pairs.0.swap(a, b);
         pairs.text()
     }),
-    damage("one of the five put in", |parts, rng| {
+    damage("one of the five put in", |parts, _, rng| {
         let code = rng.pick(&FIVE);
         put_in(parts, code.as_bytes(), b"1", rng)
     }),
-    damage("another group put in", |parts, rng| {
+    damage("another group put in", |parts, _, rng| {
         let (code, value) = skipped(rng);
         put_in(parts, code.as_bytes(), &value, rng)
     }),
-    damage("another group at the end, cut", |parts, rng| {
+    damage("another group at the end, cut", |parts, _, rng| {
         let (code, value) = skipped(rng);
         let end = joined(&[code.into_bytes(), value]);
         let mut text = parts.text();
         text.extend_from_slice(&end[..1 + place(end.len() - 1, rng)]);
         text
     }),
-    damage("another group in the middle, cut", |parts, rng| {
+    damage("another group in the middle, cut", |parts, _, rng| {
         let (code, _) = skipped(rng);
         let mut pairs = parts.clone();
         pairs.0.truncate(place(parts.0.len() + 1, rng));
@@ -240,7 +241,7 @@ pub const DAMAGES: [Damage; 45] = [
         }
         text
     }),
-    damage("one of the five at the end, cut", |parts, rng| {
+    damage("one of the five at the end, cut", |parts, _, rng| {
         let mut pairs = parts.clone();
         pairs.0.truncate(place(parts.0.len(), rng) + 1);
         let mut text = pairs.text();
@@ -248,31 +249,31 @@ pub const DAMAGES: [Damage; 45] = [
         text.truncate(text.len() - rng.pick(&[1, value + 1, value + 2]));
         text
     }),
-    damage("a bad code", |parts, rng| {
+    damage("a bad code", |parts, _, rng| {
         let mut pairs = parts.clone();
         let at = place(parts.0.len(), rng);
         pairs.0[at].code = rng.pick(BAD_WHOLES).to_vec();
         pairs.text()
     }),
-    damage("a bad count or bad flags", |parts, rng| {
+    damage("a bad count or bad flags", |parts, _, rng| {
         let code = rng.pick(&["90", "70"]);
         with_value(parts, code, rng, |_, rng| rng.pick(BAD_WHOLES).to_vec())
     }),
-    damage("a bad number", |parts, rng| {
+    damage("a bad number", |parts, _, rng| {
         with_number(parts, rng, |_, rng| rng.pick(BAD_NUMBERS).to_vec())
     }),
-    damage("seven digits", |parts, rng| {
+    damage("seven digits", |parts, _, rng| {
         with_number(parts, rng, |_, rng| {
             let m = rng.below(1000) as i64 * MILLION / 8;
             format!("{}{}", plain(m), rng.below(10)).into_bytes()
         })
     }),
-    damage("a minus before zero", |parts, rng| {
+    damage("a minus before zero", |parts, _, rng| {
         with_number(parts, rng, |_, rng| {
             rng.pick(&["-0", "-0.0", "-00", " -0.000000"]).into()
         })
     }),
-    damage("another count", |parts, rng| {
+    damage("another count", |parts, _, rng| {
         with_value(parts, "90", rng, |value, rng| {
             let n: u128 = spelt(value).parse().unwrap_or(0);
             let other = match rng.below(8) {
@@ -288,69 +289,131 @@ pub const DAMAGES: [Damage; 45] = [
             other.to_string().into_bytes()
         })
     }),
-    damage("other flags", |parts, rng| {
+    damage("other flags", |parts, _, rng| {
         with_value(parts, "70", rng, |_, rng| {
             let many = 1 + rng.below(40) as usize;
             digits_of(many, rng).into_bytes()
         })
     }),
-    damage("a coordinate about its limit", |parts, rng| {
+    damage("a coordinate about its limit", |parts, _, rng| {
         let code = rng.pick(&["10", "20"]);
         with_value(parts, code, rng, |_, rng| about(MOST_COORDINATE, rng))
     }),
-    damage("a bulge about its limit", |parts, rng| {
-        with_value(parts, "42", rng, |_, rng| about(MOST_BULGE, rng))
+    damage("a bulge about its limit", |parts, mode, rng| {
+        with_value(parts, "42", rng, |_, rng| about(most_bulge(mode), rng))
     }),
-    damage("a large number", |parts, rng| {
+    damage("a large number", |parts, _, rng| {
         with_number(parts, rng, |_, rng| large(rng))
     }),
-    damage("a place twice", |parts, _| at_one_place(parts).text()),
+    damage("a place twice", |parts, _, _| at_one_place(parts).text()),
     damage(
         "a place twice, and a number beyond its limit",
-        |parts, rng| {
+        |parts, mode, rng| {
             let mut pairs = at_one_place(parts);
-            let (code, value) = rng.pick(&[
-                ("10", "-1048576.000001"),
-                ("20", "1048577"),
-                ("42", "1.000001"),
-                ("42", "-2"),
+            let (code, m) = rng.pick(&[
+                ("10", -MOST_COORDINATE - 1),
+                ("20", MOST_COORDINATE + MILLION),
+                ("42", most_bulge(mode) + 1),
+                ("42", -most_bulge(mode) - MILLION),
             ]);
             if let Some(last) = parts.of(code).last() {
-                pairs.0[*last].value = value.into();
+                pairs.0[*last].value = plain(m).into();
             }
             pairs.text()
         },
     ),
-    damage("a fault and another count", |parts, rng| {
+    damage("a fault and another count", |parts, _, rng| {
         let text = with_value(parts, "90", rng, |_, _| b"9".to_vec());
         let at = place(text.len(), rng);
         replaced(&text, at..at + 1, &[any_byte(rng)])
     }),
-    damage("a large number and another count", |parts, rng| {
+    damage("a large number and another count", |parts, _, rng| {
         let mut pairs = parts.clone();
         change(&mut pairs, "90", rng, |_, _| b"7".to_vec());
         let code = rng.pick(&["10", "20", "42"]);
         change(&mut pairs, code, rng, |_, rng| large(rng));
         pairs.text()
     }),
-    damage("two numbers about their limits", |parts, rng| {
+    damage("two numbers about their limits", |parts, mode, rng| {
         let mut pairs = parts.clone();
         for _ in 0..2 {
             let code = rng.pick(&["10", "20", "42"]);
-            let most = if code == "42" {
-                MOST_BULGE
-            } else {
-                MOST_COORDINATE
+            let most = match code {
+                "42" => most_bulge(mode),
+                _ => MOST_COORDINATE,
             };
             change(&mut pairs, code, rng, |_, rng| about(most, rng));
         }
         pairs.text()
     }),
-    damage("the body twice", |parts, _| parts.text().repeat(2)),
-    damage("any bytes", |_, rng| {
+    damage("the body twice", |parts, _, _| parts.text().repeat(2)),
+    damage("any bytes", |_, _, rng| {
         (0..rng.below(40)).map(|_| any_byte(rng)).collect()
     }),
 ];
+
+/// Those of large arcs. Each is drawn anew.
+pub const OF_ARCS: [Damage; 4] = [
+    damage("a cut point about its limit", |_, _, rng| {
+        let (from, to) = cut_about(rng);
+        arcs(vec![from, to], rng)
+    }),
+    damage(
+        "a cut point beyond its limit, and a place twice",
+        |_, _, rng| {
+            let (from, to) = cut_about(rng);
+            let at = Vertex {
+                numbers: [5 * MILLION, 6 * MILLION, draw::bulge(Mode::Large, rng)],
+                bulge: true,
+            };
+            arcs(vec![from, to, at, at], rng)
+        },
+    ),
+    damage("two cut points about their limits", |_, _, rng| {
+        let (a, b) = cut_about(rng);
+        let (c, d) = cut_about(rng);
+        arcs(vec![a, b, c, d], rng)
+    }),
+    damage("any large arcs", |_, _, rng| {
+        let any = |rng: &mut Rng| Vertex {
+            numbers: [
+                draw::coordinate(rng),
+                draw::coordinate(rng),
+                draw::bulge(Mode::Large, rng),
+            ],
+            bulge: true,
+        };
+        let vertices = (0..2 + rng.below(3)).map(|_| any(rng)).collect();
+        arcs(vertices, rng)
+    }),
+];
+
+/// A body of these vertices, from any of them on.
+fn arcs(mut vertices: Vec<Vertex>, rng: &mut Rng) -> Vec<u8> {
+    let from = place(vertices.len(), rng);
+    vertices.rotate_left(from);
+    let closed = !rng.one_in(4);
+    draw::body(&vertices, closed, Spelling::Loose, rng).text()
+}
+
+/// An arc of bulge 4 or so that is cut at the limit of a coordinate, or a few millionths from it, of either sign.
+pub fn cut_about(rng: &mut Rng) -> (Vertex, Vertex) {
+    let sign = if rng.one_in(2) { 1 } else { -1 };
+    let off = rng.pick(&[0, 0, -1, 1, 2, -2, MILLION, -MILLION]);
+    let (rise, half_chord) =
+        rng.pick(&[(4, 1), (2, 1), (15, 1), (30, 2), (16, 1), (8, 4), (12, 3)]);
+    let far = sign * (MOST_COORDINATE + off - rise * MILLION);
+    let bulge = sign * rise / half_chord * MILLION;
+    let (low, high) = (-half_chord * MILLION, half_chord * MILLION);
+    let vertex = |numbers: [i64; 3]| Vertex {
+        numbers,
+        bulge: true,
+    };
+    match rng.one_in(2) {
+        true => (vertex([far, low, bulge]), vertex([far, high, 0])),
+        false => (vertex([low, far, -bulge]), vertex([high, far, 0])),
+    }
+}
 
 fn place(end: usize, rng: &mut Rng) -> usize {
     rng.below(end as u64) as usize

@@ -1,6 +1,6 @@
 //! Random bodies as pairs of text lines, and random paths. Most bodies are of the form, and most numbers within their limits.
 
-use super::model::{BULGE, COORDINATE, DIGITS};
+use super::model::{self, Mode, COORDINATE, DIGITS};
 use crate::classes::{magnitude, CLASSES, SIGN};
 use crate::rng::Rng;
 use crate::vertex::VERTEX;
@@ -8,7 +8,6 @@ use crate::vertex::VERTEX;
 /// A number is so many of these.
 pub const MILLION: i64 = 1_000_000;
 pub const MOST_COORDINATE: i64 = COORDINATE as i64 * MILLION;
-pub const MOST_BULGE: i64 = BULGE as i64 * MILLION;
 
 /// A code and its value, as they are spelt.
 #[derive(Clone, Debug)]
@@ -249,13 +248,24 @@ pub fn coordinate(rng: &mut Rng) -> i64 {
     }
 }
 
+/// The largest bulge in millionths.
+pub fn most_bulge(mode: Mode) -> i64 {
+    mode.bulge() as i64 * MILLION
+}
+
 /// A bulge in millionths, within its limit.
-pub fn bulge(rng: &mut Rng) -> i64 {
+pub fn bulge(mode: Mode, rng: &mut Rng) -> i64 {
+    let most = match mode {
+        // about 1, where arcs begin to be cut
+        Mode::Large if rng.one_in(8) => MILLION + rng.below(3) as i64 - 1,
+        Mode::Large if rng.one_in(3) => MILLION,
+        _ => most_bulge(mode),
+    };
     let m = match rng.below(6) {
         0 | 1 => 0,
-        2 => rng.pick(&[MOST_BULGE, MOST_BULGE - 1, 1]),
-        3 => MOST_BULGE / 64 * rng.below(65) as i64,
-        _ => rng.below(MOST_BULGE as u64 + 1) as i64,
+        2 => rng.pick(&[most, most - 1, 1]),
+        3 => most / 64 * rng.below(65) as i64,
+        _ => rng.below(most as u64 + 1) as i64,
     };
     if rng.one_in(2) {
         -m
@@ -265,11 +275,11 @@ pub fn bulge(rng: &mut Rng) -> i64 {
 }
 
 /// So many vertices within the limits. No two that follow each other are at one place.
-pub fn vertices(count: usize, rng: &mut Rng) -> Vec<Vertex> {
+pub fn vertices(count: usize, mode: Mode, rng: &mut Rng) -> Vec<Vertex> {
     let mut all: Vec<Vertex> = Vec::new();
     while all.len() < count {
         let vertex = Vertex {
-            numbers: [coordinate(rng), coordinate(rng), bulge(rng)],
+            numbers: [coordinate(rng), coordinate(rng), bulge(mode, rng)],
             bulge: rng.below(3) > 0,
         };
         let is_at = |other: &Vertex| other.numbers[..2] == vertex.numbers[..2];
@@ -279,7 +289,22 @@ pub fn vertices(count: usize, rng: &mut Rng) -> Vec<Vertex> {
             all.push(vertex);
         }
     }
+    if mode == Mode::Large {
+        flatten(&mut all);
+    }
     all
+}
+
+/// No arc is cut beyond the limits: one that would be is no large one.
+fn flatten(all: &mut [Vertex]) {
+    for from in 0..all.len() {
+        let [v, u] =
+            [from, (from + 1) % all.len()].map(|at| all[at].numbers.map(|m| m as f64 / 1e6));
+        let cut = model::cut_point([v[0], v[1], v[2], u[0], u[1]]);
+        if cut.is_some_and(|at| at.iter().any(|x| x.abs() > COORDINATE)) {
+            all[from].numbers[2] %= MILLION;
+        }
+    }
 }
 
 /// Mostly few.
@@ -292,15 +317,15 @@ pub fn how_many(rng: &mut Rng) -> usize {
 }
 
 /// A body of the form, within all limits.
-pub fn good(rng: &mut Rng) -> Parts {
-    let vertices = vertices(how_many(rng), rng);
+pub fn good(mode: Mode, rng: &mut Rng) -> Parts {
+    let vertices = vertices(how_many(rng), mode, rng);
     let spelling = rng.pick(&[Spelling::Loose, Spelling::Loose, Spelling::Plain]);
     body(&vertices, rng.one_in(2), spelling, rng)
 }
 
 /// The same, with a few vertices: each line of it matters to a damage.
-pub fn small(rng: &mut Rng) -> Parts {
-    let vertices = vertices(1 + rng.below(3) as usize, rng);
+pub fn small(mode: Mode, rng: &mut Rng) -> Parts {
+    let vertices = vertices(1 + rng.below(3) as usize, mode, rng);
     body(&vertices, rng.one_in(2), Spelling::Loose, rng)
 }
 
@@ -409,9 +434,9 @@ pub fn float(limit: f64, rng: &mut Rng) -> f64 {
 }
 
 /// A path whose numbers are all of six digits, with any traces.
-pub fn path(count: usize, rng: &mut Rng) -> Vec<f64> {
+pub fn path(count: usize, mode: Mode, rng: &mut Rng) -> Vec<f64> {
     let mut numbers = Vec::new();
-    for vertex in vertices(count, rng) {
+    for vertex in vertices(count, mode, rng) {
         numbers.extend(vertex.numbers.map(|m| m as f64 / 1e6));
         numbers.push(match rng.below(4) {
             0 => rng.below(256) as f64,
@@ -423,17 +448,19 @@ pub fn path(count: usize, rng: &mut Rng) -> Vec<f64> {
 }
 
 /// The same, with some numbers of any sort.
-pub fn any_path(rng: &mut Rng) -> Vec<f64> {
-    let mut numbers = path(how_many(rng), rng);
+pub fn any_path(mode: Mode, rng: &mut Rng) -> Vec<f64> {
+    let mut numbers = path(how_many(rng), mode, rng);
     let count = numbers.len();
     if count == 0 {
-        return (0..rng.below(6)).map(|_| float(BULGE, rng)).collect();
+        return (0..rng.below(6))
+            .map(|_| float(mode.bulge(), rng))
+            .collect();
     }
     for _ in 0..rng.pick(&[0, 0, 1, 1, 1, 2, 2, 5]) {
         let at = rng.below(count as u64) as usize;
         numbers[at] = match at % VERTEX {
             0 | 1 => float(COORDINATE, rng),
-            2 => float(BULGE, rng),
+            2 => float(mode.bulge(), rng),
             _ => trace(rng),
         };
     }

@@ -1,5 +1,6 @@
 //! Bodies and paths worked out by hand, which need no model.
 
+use super::model::Mode;
 use super::Ours;
 
 const NO_ROOM: u64 = 512;
@@ -17,7 +18,48 @@ const fn at(number: u64, item: u64, index: u64) -> u64 {
 const NO_ROOM_LEFT: u64 = 256 + 24 + (16 << 16);
 
 /// A text, the numbers of its path, and whether it is closed.
-pub const BODIES: &[(&str, &[f64], bool)] = &[
+type Read = (&'static str, &'static [f64], bool);
+/// A text that is refused, and the word.
+type NotRead = (&'static str, u64);
+/// A path, whether it is closed, and its text.
+type Written = (&'static [f64], bool, &'static str);
+/// A path that is refused, whether it is closed, and the word.
+type NotWritten = (&'static [f64], bool, u64);
+
+/// Those of both modes, and those of this one.
+pub fn bodies(mode: Mode) -> impl Iterator<Item = &'static Read> {
+    let of_mode: &[Read] = match mode {
+        Mode::Half => &[],
+        Mode::Large => LARGE_BODIES,
+    };
+    BODIES.iter().chain(of_mode)
+}
+
+pub fn refused(mode: Mode) -> impl Iterator<Item = &'static NotRead> {
+    let of_mode = match mode {
+        Mode::Half => HALF_REFUSED,
+        Mode::Large => LARGE_REFUSED,
+    };
+    REFUSED.iter().chain(of_mode)
+}
+
+pub fn paths(mode: Mode) -> impl Iterator<Item = &'static Written> {
+    let of_mode: &[Written] = match mode {
+        Mode::Half => &[],
+        Mode::Large => LARGE_PATHS,
+    };
+    PATHS.iter().chain(of_mode)
+}
+
+pub fn not_exported(mode: Mode) -> impl Iterator<Item = &'static NotWritten> {
+    let of_mode = match mode {
+        Mode::Half => HALF_NOT_EXPORTED,
+        Mode::Large => LARGE_NOT_EXPORTED,
+    };
+    NOT_EXPORTED.iter().chain(of_mode)
+}
+
+const BODIES: &[Read] = &[
     ("90\n0\n70\n0\n", &[], false),
     ("90\n0\n70\n1\n", &[], true),
     ("90\n1\n70\n0\n10\n1\n20\n2\n", &[1.0, 2.0, 0.0, 0.0], false),
@@ -48,8 +90,26 @@ pub const BODIES: &[(&str, &[f64], bool)] = &[
     ("90\n00000000000000000000000000000000000000001\n70\n0\n10\n7\n20\n8\n", &[7.0, 8.0, 0.0, 0.0], false),
 ];
 
-/// Texts that are refused, and the word.
-pub const REFUSED: &[(&str, u64)] = &[
+/// A tuning loop, uncut: the request's own. Bulges of 16; one of them starts no segment. An arc that is cut at the limit of y.
+const LARGE_BODIES: &[Read] = &[
+    (
+        "90\n2\n70\n0\n10\n0\n20\n0\n42\n8\n10\n0.125\n20\n0\n",
+        &[0.0, 0.0, 8.0, 0.0, 0.125, 0.0, 0.0, 0.0],
+        false,
+    ),
+    (
+        "90\n2\n70\n0\n10\n0\n20\n0\n42\n16\n10\n1\n20\n0\n42\n-16.000000\n",
+        &[0.0, 0.0, 16.0, 0.0, 1.0, 0.0, -16.0, 0.0],
+        false,
+    ),
+    (
+        "90\n2\n70\n0\n10\n-1\n20\n1048572\n42\n-4\n10\n1\n20\n1048572\n",
+        &[-1.0, 1_048_572.0, -4.0, 0.0, 1.0, 1_048_572.0, 0.0, 0.0],
+        false,
+    ),
+];
+
+const REFUSED: &[NotRead] = &[
     // the text ends where a code or a value is owed
     ("", at_line(21, 1)),
     ("90\n", at_line(21, 2)),
@@ -125,11 +185,6 @@ pub const REFUSED: &[(&str, u64)] = &[
     // numbers, by vertex
     ("90\n1\n70\n0\n10\n1048576.000001\n20\n1\n", at(2, 1, 0)),
     ("90\n1\n70\n0\n10\n0\n20\n-1048576.000001\n", at(2, 2, 0)),
-    ("90\n1\n70\n0\n10\n0\n20\n0\n42\n1.000001\n", at(3, 3, 0)),
-    (
-        "90\n2\n70\n0\n10\n0\n20\n0\n10\n0\n20\n0\n42\n-1.000001\n",
-        at(3, 3, 1),
-    ),
     ("90\n1\n70\n0\n10\n9007199254.740992\n20\n0\n", at(2, 1, 0)),
     (
         "90\n1\n70\n0\n10\n18446744073709.551616\n20\n0\n",
@@ -144,14 +199,55 @@ pub const REFUSED: &[(&str, u64)] = &[
         "90\n2\n70\n1\n10\n1\n20\n1\n10\n1\n20\n1\n42\n-0.000001\n",
         at(5, 7, 1),
     ),
+];
+
+/// Bulges above 1, before arcs.
+const HALF_REFUSED: &[NotRead] = &[
+    ("90\n1\n70\n0\n10\n0\n20\n0\n42\n1.000001\n", at(3, 3, 0)),
+    (
+        "90\n2\n70\n0\n10\n0\n20\n0\n10\n0\n20\n0\n42\n-1.000001\n",
+        at(3, 3, 1),
+    ),
     (
         "90\n2\n70\n0\n10\n1\n20\n1\n42\n1\n10\n1\n20\n1\n42\n2\n",
         at(3, 3, 1),
     ),
 ];
 
-/// A path, whether it is closed, and its text.
-pub const PATHS: &[(&[f64], bool, &str)] = &[
+const LARGE_REFUSED: &[NotRead] = &[
+    // bulges above 16, also where they start no segment, before arcs
+    ("90\n1\n70\n0\n10\n0\n20\n0\n42\n16.000001\n", at(3, 3, 0)),
+    (
+        "90\n2\n70\n0\n10\n0\n20\n0\n42\n2\n10\n0\n20\n0\n42\n-16.000001\n",
+        at(3, 3, 1),
+    ),
+    ("90\n1\n70\n0\n10\n0\n20\n0\n42\n17\n", at(3, 3, 0)),
+    // cut a millionth beyond the limit, of x and of y
+    (
+        "90\n2\n70\n0\n10\n1048572.000001\n20\n-1\n42\n4\n10\n1048572.000001\n20\n1\n",
+        at(2, 17, 0),
+    ),
+    (
+        "90\n2\n70\n0\n10\n-1\n20\n1048572.000001\n42\n-4\n10\n1\n20\n1048572.000001\n",
+        at(2, 18, 0),
+    ),
+    // an arc of no length
+    (
+        "90\n2\n70\n0\n10\n1\n20\n1\n42\n16\n10\n1\n20\n1\n",
+        at(5, 7, 0),
+    ),
+    // 5 and 2 by segment: the second one closes the path
+    (
+        "90\n3\n70\n1\n10\n1\n20\n1\n42\n2\n10\n1\n20\n1\n10\n1048576\n20\n0\n42\n16\n",
+        at(5, 7, 0),
+    ),
+    (
+        "90\n3\n70\n1\n10\n1048576\n20\n0\n42\n16\n10\n1\n20\n1\n42\n2\n10\n1\n20\n1\n",
+        at(2, 18, 0),
+    ),
+];
+
+const PATHS: &[Written] = &[
     (&[], false, "90\n0\n70\n0\n"),
     (&[], true, "90\n0\n70\n1\n"),
     (
@@ -167,14 +263,51 @@ pub const PATHS: &[(&[f64], bool, &str)] = &[
     ),
 ];
 
-/// Paths that are refused, whether they are closed, and the word.
-pub const NOT_EXPORTED: &[(&[f64], bool, u64)] = &[
+const LARGE_PATHS: &[Written] = &[(
+    &[0.0, 0.0, 8.0, 3.0, 0.125, 0.0, -16.0, 0.0],
+    false,
+    "90\n2\n70\n0\n10\n0.000000\n20\n0.000000\n42\n8.000000\n10\n0.125000\n20\n0.000000\n42\n-16.000000\n",
+)];
+
+const HALF_NOT_EXPORTED: &[NotWritten] = &[(&[0.0, 0.0, 1.5, 0.0], false, at(3, 3, 0))];
+
+const LARGE_NOT_EXPORTED: &[NotWritten] = &[
+    (&[0.0, 0.0, 16.5, 0.0], false, at(3, 3, 0)),
+    // 2^-40 at a bulge above 1, by the floats
+    (
+        &[
+            0.0,
+            0.0,
+            1.000_000_000_000_000_2,
+            0.0,
+            9.094_947_017_729_282e-13,
+            0.0,
+            0.0,
+            0.0,
+        ],
+        false,
+        at(5, 7, 0),
+    ),
+    (
+        &[0.0, 0.0, 1.0, 0.0, 9.094_947_017_729_282e-13, 0.0, 0.0, 0.0],
+        false,
+        at(23, 1, 1),
+    ),
+    // before 23
+    (
+        &[-1.0, 1_048_573.0, -4.0, 0.0, 1.0, 1_048_573.0, -0.0, 0.0],
+        false,
+        at(2, 18, 0),
+    ),
+    (&[0.0, 0.0, 15.0 + 1.0 / 128.0, 0.0], false, at(23, 3, 0)),
+];
+
+const NOT_EXPORTED: &[NotWritten] = &[
     (&[0.0], false, at(6, 8, 0)),
     (&[0.0, 0.0, 0.0], false, at(6, 8, 0)),
     (&[f64::NAN, 0.0, 0.0, 0.0, 0.0], false, at(6, 8, 0)),
     (&[f64::NAN, 0.0, 0.0, 0.0], false, at(11, 1, 0)),
     (&[0.0, f64::INFINITY, 0.0, 0.0], false, at(12, 2, 0)),
-    (&[0.0, 0.0, 1.5, 0.0], false, at(3, 3, 0)),
     (&[0.0, 0.0, 0.0, 256.0], false, at(15, 13, 0)),
     (&[-0.0, 0.0, 0.0, 256.0], false, at(15, 13, 0)),
     // -0 is read back from no text
@@ -202,7 +335,7 @@ pub fn wrong(ours: Ours) -> Vec<String> {
     let mut wrong = Vec::new();
     let mut path = vec![0.0; 64];
     let mut text = vec![0; 512];
-    for (body, numbers, closed) in BODIES {
+    for (body, numbers, closed) in bodies(ours.mode) {
         let mut told = [9; 2];
         let word = (ours.import)(body.as_bytes(), &mut path[..numbers.len()], &mut told);
         let bits = |numbers: &[f64]| -> Vec<u64> { numbers.iter().map(|x| x.to_bits()).collect() };
@@ -220,7 +353,7 @@ pub fn wrong(ours: Ours) -> Vec<String> {
             wrong.push(format!("example {body:?}: nothing to tell in"));
         }
     }
-    for (body, expected) in REFUSED {
+    for (body, expected) in refused(ours.mode) {
         let word = (ours.import)(body.as_bytes(), &mut path, &mut [0; 2]);
         if word != *expected {
             wrong.push(format!(
@@ -228,7 +361,7 @@ pub fn wrong(ours: Ours) -> Vec<String> {
             ));
         }
     }
-    for (path, closed, expected) in PATHS {
+    for (path, closed, expected) in paths(ours.mode) {
         let mut told = [9];
         let room = expected.len();
         let word = (ours.export)((path, *closed), &mut text[..room], &mut told);
@@ -243,7 +376,7 @@ pub fn wrong(ours: Ours) -> Vec<String> {
             wrong.push(format!("example {path:?}: nothing to tell in"));
         }
     }
-    for (path, closed, expected) in NOT_EXPORTED {
+    for (path, closed, expected) in not_exported(ours.mode) {
         let word = (ours.export)((path, *closed), &mut text, &mut [0]);
         if word != *expected {
             wrong.push(format!(

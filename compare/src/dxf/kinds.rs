@@ -1,7 +1,7 @@
 //! Kinds of input that a run must have met. They are read from the input and the model's answer, not from how it was drawn.
 
 use super::lent::Asked;
-use super::model::{Body, Fault, Item, BULGE, COORDINATE, MOST_VERTICES, SHORTEST};
+use super::model::{self, Body, Fault, Item, Mode, Segment, COORDINATE, MOST_VERTICES, SHORTEST};
 use crate::met::Met;
 use crate::vertex::VERTEX;
 
@@ -160,6 +160,8 @@ fn sort(line: &[u8], number: bool) -> Wrong {
 pub struct Import {
     pub asked: Asked,
     pub answer: Result<Seen, (Fault, Option<Site>)>,
+    /// The segment at fault.
+    pub arc: Option<Segment>,
 }
 
 /// What is seen of a body that is accepted but for its room.
@@ -168,6 +170,11 @@ pub struct Seen {
     pub closed: bool,
     /// Which numbers are at a limit: x, y and bulge, the greatest and the least.
     limits: [bool; 6],
+    /// How many arcs are cut; which cut points are at a limit: x and y, the greatest and the least.
+    large: usize,
+    cuts: [bool; 4],
+    /// The bulge that starts no segment.
+    unused: Option<f64>,
     lines: [bool; SPELT.len()],
 }
 
@@ -192,7 +199,7 @@ const SPELT: [&str; 16] = [
 ];
 
 impl Seen {
-    pub fn of(text: &[u8], body: &Body) -> Seen {
+    pub fn of(text: &[u8], body: &Body, mode: Mode) -> Seen {
         let mut lines = [false; SPELT.len()];
         let mut due = 0;
         let mut bulge = false;
@@ -240,15 +247,30 @@ impl Seen {
         }
         let mut limits = [false; 6];
         for vertex in &body.vertices {
-            for (at, limit) in [COORDINATE, COORDINATE, BULGE].into_iter().enumerate() {
+            let most = [COORDINATE, COORDINATE, mode.bulge()];
+            for (at, limit) in most.into_iter().enumerate() {
                 limits[2 * at] |= vertex[at] == limit;
                 limits[2 * at + 1] |= vertex[at] == -limit;
             }
         }
+        let mut cuts = [false; 4];
+        let mut large = 0;
+        let segments = model::segments(&body.path(), body.closed);
+        for point in segments.into_iter().filter_map(model::cut_point) {
+            large += 1;
+            for at in 0..2 {
+                cuts[2 * at] |= point[at] == COORDINATE;
+                cuts[2 * at + 1] |= point[at] == -COORDINATE;
+            }
+        }
+        let last = body.vertices.last().filter(|_| !body.closed);
         Seen {
             vertices: body.vertices.len(),
             closed: body.closed,
             limits,
+            large,
+            cuts,
+            unused: last.map(|vertex| vertex[2]),
             lines,
         }
     }
@@ -282,7 +304,107 @@ impl Import {
     }
 }
 
-pub fn imports() -> Met<Import> {
+/// What may be wrong with an arc that is cut: the fault and the segment.
+type OfArcs = (&'static str, fn(Fault, Segment) -> bool);
+
+/// In imports and in exports.
+const OF_ARCS: [OfArcs; 10] = [
+    ("2 of a cut point's x, below", |fault, arc| {
+        fault.item == Item::CutX && model::cut_point(arc).is_some_and(|at| at[0] < 0.0)
+    }),
+    ("2 of a cut point's x, above", |fault, arc| {
+        fault.item == Item::CutX && model::cut_point(arc).is_some_and(|at| at[0] > 0.0)
+    }),
+    ("2 of a cut point's y, below", |fault, arc| {
+        fault.item == Item::CutY && model::cut_point(arc).is_some_and(|at| at[1] < 0.0)
+    }),
+    ("2 of a cut point's y, above", |fault, arc| {
+        fault.item == Item::CutY && model::cut_point(arc).is_some_and(|at| at[1] > 0.0)
+    }),
+    ("2 of a cut point's x and y", |fault, arc| {
+        let beyond = |x: &f64| x.abs() > COORDINATE;
+        fault.item == Item::CutX && model::cut_point(arc).is_some_and(|at| at.iter().all(beyond))
+    }),
+    ("2 of the first segment's cut point", |fault, _| {
+        fault.number == 2 && fault.index == 0
+    }),
+    ("2 of another segment's cut point", |fault, _| {
+        fault.number == 2 && fault.index > 0
+    }),
+    ("5 of an arc that is not cut", |fault, arc| {
+        fault.number == 5 && model::cut_point(arc).is_none()
+    }),
+    ("5 of both halves, at the first segment", |fault, arc| {
+        fault.number == 5 && fault.index == 0 && is_short(arc, [true; 2])
+    }),
+    ("5 of both halves, at another segment", |fault, arc| {
+        fault.number == 5 && fault.index > 0 && is_short(arc, [true; 2])
+    }),
+];
+
+/// In exports alone: a chord of some millionths is long enough.
+const OF_HALVES: [OfArcs; 2] = [
+    ("5 of the first half alone", |fault, arc| {
+        fault.number == 5 && is_short(arc, [true, false])
+    }),
+    ("5 of the second half alone", |fault, arc| {
+        fault.number == 5 && is_short(arc, [false, true])
+    }),
+];
+
+/// Whether an arc is cut, and which halves are too short.
+fn is_short(arc: Segment, halves: [bool; 2]) -> bool {
+    model::cut_point(arc).is_some() && model::short(arc) == halves
+}
+
+/// What a run must have met of imports with large arcs.
+fn large_imports(met: &mut Met<Import>) {
+    for (name, test) in OF_ARCS {
+        met.add(name, move |case| {
+            let found = case.fault().zip(case.arc);
+            found.is_some_and(|(fault, arc)| test(fault, arc))
+        });
+    }
+    for (name, large) in [("one large arc", 1), ("two large arcs", 2)] {
+        met.add(name, move |case| {
+            case.written().is_some_and(|seen| seen.large == large)
+        });
+    }
+    for at in 0..4 {
+        met.add(format!("a cut point at limit {at}"), move |case| {
+            case.written().is_some_and(|seen| seen.cuts[at])
+        });
+    }
+    met.add("a large bulge that starts no segment", |case| {
+        let is = |b: f64| b.abs() > 1.0;
+        case.written()
+            .is_some_and(|seen| seen.unused.is_some_and(is))
+    });
+}
+
+/// What a run must have met of exports with large arcs.
+fn large_exports(met: &mut Met<Export>) {
+    for (name, test) in OF_ARCS.into_iter().chain(OF_HALVES) {
+        met.add(name, move |case| {
+            let found = case.fault().zip(case.arc);
+            found.is_some_and(|((fault, _), arc)| test(fault, arc))
+        });
+    }
+    for (name, large) in [("one large arc", 1), ("two large arcs", 2)] {
+        met.add(name, move |case| {
+            case.large == large && case.bytes().is_some_and(|bytes| bytes <= case.asked.room)
+        });
+    }
+    met.add("23 of a large bulge", |case| {
+        let is = |x: f64| x.abs() > 1.0;
+        let found = case.fault();
+        found.is_some_and(|(fault, x)| {
+            (fault.number, fault.item) == (23, Item::Bulge) && x.is_some_and(is)
+        })
+    });
+}
+
+pub fn imports(mode: Mode) -> Met<Import> {
     let mut met: Met<Import> = Met::new();
     for (name, told) in [("none", 0), ("one", 1), ("three", 3)] {
         met.add(format!("{name} to tell in"), move |case| {
@@ -385,6 +507,9 @@ pub fn imports() -> Met<Import> {
             );
         }
     }
+    if mode == Mode::Large {
+        large_imports(&mut met);
+    }
     met
 }
 
@@ -394,6 +519,10 @@ pub struct Export {
     pub closed: bool,
     /// How many bytes the text has.
     pub answer: Result<usize, (Fault, Option<f64>)>,
+    /// The segment at fault.
+    pub arc: Option<Segment>,
+    /// How many arcs are cut.
+    pub large: usize,
 }
 
 impl Export {
@@ -433,7 +562,7 @@ fn is_millionths(x: f64) -> bool {
     x != 0.0 && (x * 1e6).round() / 1e6 == x
 }
 
-pub fn exports() -> Met<Export> {
+pub fn exports(mode: Mode) -> Met<Export> {
     let mut met: Met<Export> = Met::new();
     met.add("nothing to tell in", |case| case.asked.told == 0);
     met.add("two to tell in", |case| case.asked.told == 2);
@@ -501,6 +630,9 @@ pub fn exports() -> Met<Export> {
         met.add(format!("23 of {item:?}: 2^-40"), move |case| {
             item == Item::Bulge || is(case, 23, item).is_some_and(|(_, x)| x == Some(SHORTEST))
         });
+    }
+    if mode == Mode::Large {
+        large_exports(&mut met);
     }
     met
 }

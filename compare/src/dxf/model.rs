@@ -1,12 +1,11 @@
 //! Bodies of drawings, as the request has them in words: which texts are accepted, what each refusal tells, and what an export
-//! writes. A text is cut into text lines first. Numbers are read and spelt by Rust's own `std`, which rounds once: a number of
+//! writes, in both modes. A text is cut into text lines first. Numbers are read and spelt by Rust's own `std`, which rounds once: a number of
 //! six digits within the limits is then the same as its millionths, divided once.
 
 use crate::vertex::VERTEX;
 
 pub const MOST_VERTICES: usize = 4096;
 pub const COORDINATE: f64 = 1_048_576.0;
-pub const BULGE: f64 = 1.0;
 /// How many digits may stand behind the point.
 pub const DIGITS: usize = 6;
 /// The greatest index that a word has.
@@ -14,6 +13,33 @@ pub const MOST_INDEX: u64 = u32::MAX as u64;
 
 const REFUSED: u64 = 256;
 pub const NO_ROOM: u64 = 512;
+
+/// Which arcs are taken: those up to a half circle, or large ones too. A large arc is cut where a path is listed, so the checks
+/// look at its halves. It is read and written uncut.
+#[derive(Clone, Copy, Debug, PartialEq, Eq)]
+pub enum Mode {
+    Half,
+    Large,
+}
+
+impl Mode {
+    /// The largest magnitude of a bulge.
+    pub fn bulge(self) -> f64 {
+        match self {
+            Mode::Half => 1.0,
+            Mode::Large => 16.0,
+        }
+    }
+
+    /// The most bytes of an export.
+    pub fn most_bytes(self, vertices: usize) -> usize {
+        let of_a_vertex = match self {
+            Mode::Half => 51,
+            Mode::Large => 52,
+        };
+        13 + of_a_vertex * vertices
+    }
+}
 
 /// What a refusal tells beside its number. The number here is the one that a returned word has.
 #[derive(Clone, Copy, Debug, PartialEq, Eq)]
@@ -26,6 +52,8 @@ pub enum Item {
     Trace = 13,
     Line = 15,
     Room = 16,
+    CutX = 17,
+    CutY = 18,
 }
 
 #[derive(Clone, Copy, Debug, PartialEq, Eq)]
@@ -69,14 +97,19 @@ impl Body {
 // ---- import
 
 /// The path of a text, or its first fault but for the room.
-pub fn import(text: &[u8]) -> Result<Body, Fault> {
+pub fn import(text: &[u8], mode: Mode) -> Result<Body, Fault> {
     let (body, count) = groups(&lines(text))?;
     let met = trimmed(count.value) == body.vertices.len().to_string().as_bytes();
     if !met {
         return Err(Fault::new(22, Item::Line, count.line));
     }
-    check(&body.path(), body.closed)?;
+    check(&body.path(), body.closed, mode)?;
     Ok(body)
+}
+
+/// What a text of the form gives, before anything is checked.
+pub fn unchecked(text: &[u8]) -> Option<Body> {
+    groups(&lines(text)).ok().map(|(body, _)| body)
 }
 
 /// A text line, and whether its newline is there.
@@ -218,33 +251,70 @@ pub fn number(line: &[u8]) -> Option<f64> {
 // ---- what both check
 
 /// More vertices than may be, numbers, then arcs.
-fn check(path: &[f64], closed: bool) -> Result<(), Fault> {
+fn check(path: &[f64], closed: bool, mode: Mode) -> Result<(), Fault> {
     if path.len() > VERTEX * MOST_VERTICES {
         return Err(Fault::new(7, Item::Length, 0));
     }
     for (index, vertex) in path.chunks(VERTEX).enumerate() {
         for (item, number) in ITEMS.into_iter().zip(vertex) {
-            if let Some(refusal) = refusal(item, *number) {
+            if let Some(refusal) = refusal(item, *number, mode) {
                 return Err(Fault::new(refusal, item, index));
             }
         }
     }
-    let vertices: Vec<&[f64]> = path.chunks(VERTEX).collect();
-    let n = vertices.len();
-    let segments = match n {
-        0 | 1 => 0,
-        _ if closed => n,
-        _ => n - 1,
-    };
-    for from in 0..segments {
-        let (v, u) = (vertices[from], vertices[(from + 1) % n]);
-        let arc = v[2].abs() >= 1e-8;
-        let (x, y) = (u[0] - v[0], u[1] - v[1]);
-        if arc && (x * x + y * y).sqrt() < SHORTEST {
+    for (from, segment) in segments(path, closed).into_iter().enumerate() {
+        let cut = cut_point(segment);
+        for (item, at) in cut
+            .into_iter()
+            .flat_map(|[x, y]| [(Item::CutX, x), (Item::CutY, y)])
+        {
+            if at.abs() > COORDINATE {
+                return Err(Fault::new(2, item, from));
+            }
+        }
+        if short(segment).contains(&true) {
             return Err(Fault::new(5, Item::Chord, from));
         }
     }
     Ok(())
+}
+
+/// A segment: x, y and bulge of its first vertex, x and y of its second.
+pub type Segment = [f64; 5];
+
+pub fn segments(path: &[f64], closed: bool) -> Vec<Segment> {
+    let vertices: Vec<&[f64]> = path.chunks_exact(VERTEX).collect();
+    let n = vertices.len();
+    let many = match n {
+        0 | 1 => 0,
+        _ if closed => n,
+        _ => n - 1,
+    };
+    let segment = |from: usize| {
+        let (v, u) = (vertices[from], vertices[(from + 1) % n]);
+        [v[0], v[1], v[2], u[0], u[1]]
+    };
+    (0..many).map(segment).collect()
+}
+
+/// Where an arc is cut, if it is: one whose bulge is above 1 in magnitude.
+pub fn cut_point([x1, y1, b, x2, y2]: Segment) -> Option<[f64; 2]> {
+    let x = (x1 + x2) / 2.0 + (b * (y2 - y1)) / 2.0;
+    let y = (y1 + y2) / 2.0 - (b * (x2 - x1)) / 2.0;
+    (b.abs() > 1.0).then_some([x, y])
+}
+
+/// Whether the chord of an arc is too short, or that of each half if it is cut. A line has none.
+pub fn short(segment: Segment) -> [bool; 2] {
+    let [x1, y1, b, x2, y2] = segment;
+    let near = |x1: f64, y1: f64, x2: f64, y2: f64| {
+        let (x, y) = (x2 - x1, y2 - y1);
+        (x * x + y * y).sqrt() < SHORTEST
+    };
+    match cut_point(segment) {
+        Some([x, y]) => [near(x1, y1, x, y), near(x, y, x2, y2)],
+        None => [b.abs() >= 1e-8 && near(x1, y1, x2, y2), false],
+    }
 }
 
 /// 2^-40.
@@ -252,13 +322,13 @@ pub const SHORTEST: f64 = 1.0 / (1_u64 << 40) as f64;
 /// The numbers of a vertex, in the order of their checks.
 pub const ITEMS: [Item; VERTEX] = [Item::X, Item::Y, Item::Bulge, Item::Trace];
 
-fn refusal(item: Item, number: f64) -> Option<u64> {
+fn refusal(item: Item, number: f64, mode: Mode) -> Option<u64> {
     let beyond = |refusal: u64, is: bool| is.then_some(refusal);
     match item {
         _ if number.is_nan() => Some(11),
         _ if number.is_infinite() => Some(12),
         Item::X | Item::Y => beyond(2, number.abs() > COORDINATE),
-        Item::Bulge => beyond(3, number.abs() > BULGE),
+        Item::Bulge => beyond(3, number.abs() > mode.bulge()),
         _ => beyond(15, !(0..=255).any(|trace| f64::from(trace) == number)),
     }
 }
@@ -266,11 +336,11 @@ fn refusal(item: Item, number: f64) -> Option<u64> {
 // ---- export
 
 /// The text of a path, or its first fault but for the room.
-pub fn export(path: &[f64], closed: bool) -> Result<Vec<u8>, Fault> {
+pub fn export(path: &[f64], closed: bool, mode: Mode) -> Result<Vec<u8>, Fault> {
     if path.len() % VERTEX != 0 {
         return Err(Fault::new(6, Item::Length, 0));
     }
-    check(path, closed)?;
+    check(path, closed, mode)?;
     let vertices = path.len() / VERTEX;
     let mut text = format!("90\n{vertices}\n70\n{}\n", u8::from(closed));
     for (index, vertex) in path.chunks(VERTEX).enumerate() {

@@ -1,12 +1,15 @@
 //! A run: chosen bodies and paths, then drawn and damaged ones, each asked with the slices that are drawn for it.
 
-use super::damage::{large, BAD_NUMBERS, BAD_WHOLES, DAMAGES};
-use super::draw::{self, joined, Spelling, Vertex};
-use super::draw::{MILLION, MOST_BULGE, MOST_COORDINATE};
+use std::collections::BTreeMap;
+
+use super::arcs;
+use super::damage::{large, Damage, BAD_NUMBERS, BAD_WHOLES, DAMAGES, OF_ARCS};
+use super::draw::{self, joined, most_bulge, Spelling, Vertex};
+use super::draw::{MILLION, MOST_COORDINATE};
 use super::examples;
 use super::kinds::{self, Export, Import, Seen, Site};
 use super::lent::{Asked, Path, Places};
-use super::model::{self, Body, Fault, Item, ITEMS, MOST_VERTICES, NO_ROOM, SHORTEST};
+use super::model::{self, Body, Fault, Item, Mode, ITEMS, MOST_VERTICES, NO_ROOM, SHORTEST};
 use super::stored::Stored;
 use super::Ours;
 use crate::form::damage::replaced;
@@ -17,8 +20,6 @@ use crate::vertex::VERTEX;
 
 const SHOWN: u64 = 5;
 const DONE: u64 = 0;
-/// The most bytes of an export.
-pub const MOST_BYTES: usize = 13 + 51 * MOST_VERTICES;
 /// Rooms beyond what is needed.
 const MORE: usize = 64;
 /// At least so many bodies are drawn, and one for so many of the count.
@@ -50,6 +51,8 @@ pub struct Run {
     exports: Met<Export>,
     counts: [Count; 2],
     there_and_back: u64,
+    /// How often each number was refused with each item, in an import and in an export.
+    refusals: [BTreeMap<(u64, u64), u64>; 2],
     groups: Vec<Group>,
     /// Whether every slice is lent with exactly what is needed.
     exactly: bool,
@@ -69,13 +72,14 @@ impl Run {
             input: Input::new(),
             numbers: Path::new(),
             path: Places::new(VERTEX * MOST_VERTICES + MORE),
-            text: Places::new(MOST_BYTES + MORE),
+            text: Places::new(ours.mode.most_bytes(MOST_VERTICES) + MORE),
             told: Lent::new(3),
-            imports: kinds::imports(),
-            exports: kinds::exports(),
+            imports: kinds::imports(ours.mode),
+            exports: kinds::exports(ours.mode),
             counts: [[0; 3]; 2],
             there_and_back: 0,
-            groups: DAMAGES.iter().map(group).collect(),
+            refusals: Default::default(),
+            groups: damages(ours.mode).map(group).collect(),
             exactly: false,
             differences: 0,
             enough,
@@ -100,16 +104,16 @@ impl Run {
         for what in examples::wrong(self.ours) {
             self.differ(&what);
         }
-        for (text, _, _) in examples::BODIES {
+        for (text, _, _) in examples::bodies(self.ours.mode) {
             self.import(text.as_bytes());
         }
-        for (text, _) in examples::REFUSED {
+        for (text, _) in examples::refused(self.ours.mode) {
             self.import(text.as_bytes());
         }
-        for (path, closed, _) in examples::PATHS {
+        for (path, closed, _) in examples::paths(self.ours.mode) {
             self.export(path, *closed);
         }
-        for (path, closed, _) in examples::NOT_EXPORTED {
+        for (path, closed, _) in examples::not_exported(self.ours.mode) {
             self.export(path, *closed);
         }
     }
@@ -123,7 +127,7 @@ impl Run {
             expected,
         } in stored
         {
-            if super::stored::told(&model::import(text)) != *expected {
+            if super::stored::told(&model::import(text, Mode::Half)) != *expected {
                 self.differ(&format!("{name}: the model does not answer what is stored"));
             }
             self.import(text);
@@ -154,6 +158,9 @@ impl Run {
         self.each_count();
         self.each_vertex();
         self.chords();
+        if self.ours.mode == Mode::Large {
+            self.arcs();
+        }
         self.exactly = true;
         self.vast();
         self.largest();
@@ -203,7 +210,7 @@ impl Run {
         });
         for at in 0..3 * vertices.len() {
             let (vertex, item) = (at / 3, at % 3);
-            let limit = [MOST_COORDINATE, MOST_COORDINATE, MOST_BULGE][item];
+            let limit = [MOST_COORDINATE, MOST_COORDINATE, most_bulge(self.ours.mode)][item];
             for m in [
                 0,
                 1,
@@ -255,7 +262,7 @@ impl Run {
     /// Each number of vertices up to 20 with each count up to 20, and counts that wrap round.
     fn each_count(&mut self) {
         for vertices in 0..20 {
-            let all = draw::vertices(vertices, &mut self.rng);
+            let all = draw::vertices(vertices, self.ours.mode, &mut self.rng);
             for count in (0..20).chain([vertices as u128 + (1 << 32), vertices as u128 + (1 << 64)])
             {
                 let mut parts = draw::body(&all, false, Spelling::Plain, &mut self.rng);
@@ -358,6 +365,21 @@ impl Run {
         }
     }
 
+    /// Arcs at each limit of the mode of large arcs, at each place of a path: as a body, if the numbers have six digits, and as a
+    /// path.
+    fn arcs(&mut self) {
+        for path in arcs::chosen(&mut self.rng) {
+            for closed in [false, true] {
+                self.export(&path, closed);
+                if let Some(vertices) = arcs::spelt(&path) {
+                    let body = draw::body(&vertices, closed, Spelling::Loose, &mut self.rng);
+                    self.import(&body.text());
+                    self.back(&body.text());
+                }
+            }
+        }
+    }
+
     /// Very many blanks, zeros or digits in one line of each sort, and very many other groups, with a fault behind them and
     /// without one.
     fn vast(&mut self) {
@@ -399,13 +421,16 @@ impl Run {
     /// Bodies and paths of 4,096 vertices, of one less and of one more: right, with a fault at the end, and with another count.
     fn largest(&mut self) {
         // each number as long as can be
+        let mode = self.ours.mode;
+        let bulge = most_bulge(mode);
+        // no arc is cut outside
+        let far = match mode {
+            Mode::Half => -MOST_COORDINATE,
+            Mode::Large => -MOST_COORDINATE + 16 * MILLION,
+        };
         let wide = |n: usize| {
             let vertex = |at: usize| Vertex {
-                numbers: [
-                    -MOST_COORDINATE + (at as i64 % 2) * MILLION,
-                    -MOST_COORDINATE,
-                    -MOST_BULGE,
-                ],
+                numbers: [far + (at as i64 % 2) * MILLION, far, -bulge],
                 bulge: true,
             };
             (0..n).map(vertex).collect::<Vec<_>>()
@@ -417,7 +442,7 @@ impl Run {
             MOST_VERTICES + 2,
         ] {
             for closed in [false, true] {
-                let any = draw::vertices(n, &mut self.rng);
+                let any = draw::vertices(n, mode, &mut self.rng);
                 for (all, spelling) in [
                     (&any, Spelling::Loose),
                     (&any, Spelling::Plain),
@@ -435,9 +460,11 @@ impl Run {
                         parts.0[count].value = other.to_string().into_bytes();
                         self.import(&parts.text());
                     }
-                    for (code, value) in
-                        [("10", "1048576.000001"), ("42", "-1.000001"), ("20", "-0")]
-                    {
+                    for (code, value) in [
+                        ("10", "1048576.000001"),
+                        ("42", &draw::plain(-bulge - 1)),
+                        ("20", "-0"),
+                    ] {
                         let mut parts = parts.clone();
                         if let Some(last) = parts.of(code).last() {
                             parts.0[*last].value = value.into();
@@ -471,12 +498,13 @@ impl Run {
         }
         // every room about what is needed, where the most is needed
         let text = draw::body(&wide(MOST_VERTICES), true, Spelling::Plain, &mut self.rng).text();
-        let body = model::import(&text).expect("within all limits");
+        let body = model::import(&text, mode).expect("within all limits");
         for room in [0, 1, 16_383, 16_384, 16_385] {
             let asked = Asked::of(room, 2, &mut self.rng);
             self.import_in(&text, &Ok(body.clone()), asked);
         }
-        for room in [0, 1, MOST_BYTES - 1, MOST_BYTES, MOST_BYTES + 1] {
+        let most = mode.most_bytes(MOST_VERTICES);
+        for room in [0, 1, most - 1, most, most + 1] {
             let asked = Asked::of(room, 1, &mut self.rng);
             self.export_in(&body.path(), true, &Ok(text.clone()), asked);
         }
@@ -488,7 +516,7 @@ impl Run {
             if !self.goes_on() {
                 return;
             }
-            let text = draw::good(&mut self.rng).text();
+            let text = draw::good(self.ours.mode, &mut self.rng).text();
             self.import(&text);
             self.back(&text);
         }
@@ -496,20 +524,22 @@ impl Run {
 
     /// Bodies with a damage each, and text lines of any sort.
     pub fn damaged(&mut self, count: u64) {
-        for at in (0..=DAMAGES.len()).cycle().take(count as usize) {
+        let mode = self.ours.mode;
+        let damages: Vec<&Damage> = damages(mode).collect();
+        for at in (0..=damages.len()).cycle().take(count as usize) {
             if !self.goes_on() {
                 return;
             }
-            let Some(damage) = DAMAGES.get(at) else {
+            let Some(damage) = damages.get(at) else {
                 let text = draw::soup(&mut self.rng);
                 self.import(&text);
                 continue;
             };
             let parts = match self.rng.below(16) {
-                0 => draw::good(&mut self.rng),
-                _ => draw::small(&mut self.rng),
+                0 => draw::good(mode, &mut self.rng),
+                _ => draw::small(mode, &mut self.rng),
             };
-            let text = (damage.make)(&parts, &mut self.rng);
+            let text = (damage.make)(&parts, mode, &mut self.rng);
             let refused = self.import(&text);
             self.groups[at].inputs += 1;
             self.groups[at].refused += u64::from(refused);
@@ -523,7 +553,7 @@ impl Run {
                 return;
             }
             let closed = self.rng.one_in(2);
-            let path = draw::any_path(&mut self.rng);
+            let path = draw::any_path(self.ours.mode, &mut self.rng);
             self.export(&path, closed);
         }
     }
@@ -531,12 +561,12 @@ impl Run {
     /// Imports, exports what came, and imports that: the same path, all by our calls alone. Then the text of what was imported is
     /// the same, if it was an export.
     fn back(&mut self, text: &[u8]) {
-        let Ok(body) = model::import(text) else {
+        let Ok(body) = model::import(text, self.ours.mode) else {
             return;
         };
         let mut path = vec![0.0; VERTEX * body.vertices.len()];
         let mut again = path.clone();
-        let mut out = vec![0; MOST_BYTES.min(64 + 64 * body.vertices.len())];
+        let mut out = vec![0; self.ours.mode.most_bytes(body.vertices.len())];
         let (mut told, mut bytes, mut told_again) = ([0; 2], [0; 1], [0; 2]);
         let words = [
             (self.ours.import)(text, &mut path, &mut told),
@@ -559,7 +589,7 @@ impl Run {
         if !self.goes_on() {
             return false;
         }
-        let body = model::import(text);
+        let body = model::import(text, self.ours.mode);
         let needed = match &body {
             Ok(body) => VERTEX * body.vertices.len(),
             Err(_) => self.rng.below(20) as usize,
@@ -601,20 +631,28 @@ impl Run {
             .or_else(|| touched(self.input.is(text, behind)));
         self.note(0, word, wrong, || format!("{} {asked:?}", front(text)));
         let answer = match body {
-            Ok(body) => Ok(Seen::of(text, body)),
+            Ok(body) => Ok(Seen::of(text, body, self.ours.mode)),
             Err(fault) => {
                 let of_line = [20, 21].contains(&fault.number);
                 Err((*fault, of_line.then(|| Site::of(text, fault.index))))
             }
         };
-        self.imports.count(&Import { asked, answer });
+        let unchecked = match body {
+            Err(fault) if arcs::is_of_a_segment(*fault) => model::unchecked(text),
+            _ => None,
+        };
+        let arc = body.as_ref().err().and_then(|fault| {
+            let unchecked = unchecked?;
+            arcs::at_fault(&unchecked.path(), unchecked.closed, *fault)
+        });
+        self.imports.count(&Import { asked, answer, arc });
     }
 
     fn export(&mut self, path: &[f64], closed: bool) {
         if !self.goes_on() {
             return;
         }
-        let text = model::export(path, closed);
+        let text = model::export(path, closed, self.ours.mode);
         let needed = match &text {
             Ok(text) => text.len(),
             Err(_) => self.rng.below(200) as usize,
@@ -665,11 +703,15 @@ impl Run {
                 Err((*fault, number.copied()))
             }
         };
+        let fault = text.as_ref().err();
+        let arc = fault.and_then(|fault| arcs::at_fault(path, closed, *fault));
         self.exports.count(&Export {
             asked,
             numbers: path.len(),
             closed,
             answer,
+            arc,
+            large: arcs::large(path, closed),
         });
     }
 
@@ -686,8 +728,12 @@ impl Run {
             _ => 1,
         };
         self.counts[call][way] += 1;
+        if way == 1 {
+            let of = (word & 0xff, word >> 16 & 0xff);
+            *self.refusals[call].entry(of).or_default() += 1;
+        }
         if let Some(wrong) = wrong {
-            let name = ["import", "export"][call];
+            let name = self.calls()[call];
             self.differ(&format!("{name}: {wrong}\n  {}", what()));
         }
     }
@@ -699,23 +745,38 @@ impl Run {
         }
     }
 
+    fn calls(&self) -> [&'static str; 2] {
+        match self.ours.mode {
+            Mode::Half => ["import", "export"],
+            Mode::Large => ["large import", "large export"],
+        }
+    }
+
     /// Prints the counts, and answers how many differences there were; a kind that never occurred counts as one.
     pub fn report(&self) -> u64 {
-        for (name, [done, refused, no_room]) in ["import", "export"].into_iter().zip(self.counts) {
+        let calls = self.calls();
+        for (at, name) in calls.into_iter().enumerate() {
+            let [done, refused, no_room] = self.counts[at];
             let all = done + refused + no_room;
             println!("dxf, {name}: {all} calls, {done} done, {refused} refused, {no_room} without room to tell");
+            let each = self.refusals[at].iter();
+            let each = each.map(|((number, item), met)| format!("{number} of item {item} {met}"));
+            println!(
+                "dxf, {name}: refused {}",
+                each.collect::<Vec<_>>().join(", ")
+            );
         }
         println!(
             "dxf: {} bodies there and back, {} differences",
             self.there_and_back, self.differences
         );
-        let mut unmet = self.imports.report("dxf, import", "call");
-        unmet.extend(self.exports.report("dxf, export", "call"));
-        let groups = DAMAGES.iter().zip(&self.groups);
+        let mut unmet = self.imports.report(&format!("dxf, {}", calls[0]), "call");
+        unmet.extend(self.exports.report(&format!("dxf, {}", calls[1]), "call"));
+        let groups = damages(self.ours.mode).zip(&self.groups);
         if let Some((damage, Group { inputs, refused })) =
             groups.clone().min_by_key(|(_, group)| group.refused)
         {
-            let (name, sorts) = (damage.name, DAMAGES.len());
+            let (name, sorts) = (damage.name, self.groups.len());
             println!("dxf: {sorts} sorts of damage, the least refused ({name}) {refused} of {inputs} times");
         }
         let never =
@@ -726,6 +787,15 @@ impl Run {
         }
         self.differences + unmet.len() as u64
     }
+}
+
+/// The damages of a mode.
+fn damages(mode: Mode) -> impl Iterator<Item = &'static Damage> + Clone {
+    let of_arcs: &[Damage] = match mode {
+        Mode::Half => &[],
+        Mode::Large => &OF_ARCS,
+    };
+    DAMAGES.iter().chain(of_arcs)
 }
 
 fn wrong_word(word: u64, expected: u64) -> Option<String> {

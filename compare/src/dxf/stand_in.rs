@@ -3,9 +3,19 @@
 
 use std::cell::Cell;
 
+use super::model::Mode;
 use super::Ours;
 
-pub const STAND_IN: Ours = Ours { import, export };
+pub const HALF: Ours = Ours {
+    mode: Mode::Half,
+    import: |text, path, told| import(Mode::Half, text, path, told),
+    export: |path, out, told| export(Mode::Half, path, out, told),
+};
+pub const LARGE: Ours = Ours {
+    mode: Mode::Large,
+    import: |text, path, told| import(Mode::Large, text, path, told),
+    export: |path, out, told| export(Mode::Large, path, out, told),
+};
 
 thread_local! {
     static DEFECT: Cell<&'static str> = const { Cell::new("") };
@@ -37,6 +47,11 @@ fn word(number: u64, item: u64, index: u64) -> u64 {
         16 if is("the room with the rows' item") => 9,
         16 if is("the room with a line's item") => 15,
         3 if number == 23 && is("23 of a bulge told as x") => 1,
+        17 if is("a cut point's x told as x") => 1,
+        18 if is("a cut point's y told as y") => 2,
+        17 | 18 if is("a cut point told as a chord") => 7,
+        17 if is("a cut point's coordinates exchanged") => 18,
+        18 if is("a cut point's coordinates exchanged") => 17,
         _ => item,
     };
     let owner = u64::from(is("an owner of 1") && number != 24);
@@ -456,7 +471,18 @@ fn too_many(vertices: usize) -> bool {
     }
 }
 
-fn refusal(item: usize, x: f64) -> u64 {
+/// The largest bulge.
+fn most(mode: Mode) -> f64 {
+    match mode {
+        Mode::Half => 1.0,
+        Mode::Large if is("bulges up to 1") => 1.0,
+        Mode::Large if is("bulges up to 8") => 8.0,
+        Mode::Large => 16.0,
+    }
+}
+
+fn refusal(mode: Mode, item: usize, x: f64) -> u64 {
+    let most = most(mode);
     let beyond = match item {
         0 | 1 => (
             2,
@@ -469,7 +495,7 @@ fn refusal(item: usize, x: f64) -> u64 {
         ),
         2 => (
             3,
-            x.abs() > 1.0 && !(is("bulges up to 1.000001") && x.abs() <= 1.000_001),
+            x.abs() > most && !(is("a bulge a millionth beyond") && x.abs() <= most + 1e-6),
         ),
         _ => (15, !(0.0..=255.0).contains(&x) || x.fract() != 0.0),
     };
@@ -477,7 +503,7 @@ fn refusal(item: usize, x: f64) -> u64 {
         _ if x.is_nan() => 11,
         _ if x.is_infinite() => 12,
         _ if x.abs() == 1_048_576.0 && item < 2 && is("the largest coordinate refused") => 2,
-        _ if x.abs() == 1.0 && item == 2 && is("the largest bulge refused") => 3,
+        _ if x.abs() == most && item == 2 && is("the largest bulge refused") => 3,
         _ if item == 3 && is("traces not checked") => 0,
         _ if beyond.1 => beyond.0,
         _ => 0,
@@ -486,9 +512,85 @@ fn refusal(item: usize, x: f64) -> u64 {
 
 const ITEMS: [u64; 4] = [1, 2, 3, 13];
 
-fn checked(path: &[f64], closed: bool) -> Result<(), u64> {
+/// Where a segment is cut, if it is.
+fn cut_point(v: &[f64], u: &[f64]) -> Option<[f64; 2]> {
+    let cut = match () {
+        _ if is("a cut at exactly 1") => v[2].abs() >= 1.0,
+        _ if is("a cut from 1.000001 on") => v[2].abs() > 1.000_001,
+        _ if is("only positive bulges cut") => v[2] > 1.0,
+        _ if is("nothing cut") => false,
+        _ => v[2].abs() > 1.0,
+    };
+    let b = if is("the sign lost") {
+        v[2].abs()
+    } else {
+        v[2]
+    };
+    let (x, y) = ((v[0] + u[0]) / 2.0, (v[1] + u[1]) / 2.0);
+    let (dx, dy) = (b * (u[0] - v[0]) / 2.0, b * (u[1] - v[1]) / 2.0);
+    let point = match () {
+        _ if is("y's cut with plus") => [x + dy, y + dx],
+        _ if is("x's cut with minus") => [x - dy, y - dx],
+        _ if is("a cut on the other side") => [x - dy, y + dx],
+        _ if is("a cut at the middle of the chord") => [x, y],
+        _ if is("a cut by the whole chord") => [x + 2.0 * dy, y - 2.0 * dx],
+        _ if is("a cut without b") => [x + dy / b, y - dx / b],
+        _ => [x + dy, y - dx],
+    };
+    cut.then_some(point)
+}
+
+/// The first fault of a segment: the number and the item. `cuts` and `chords` say what is looked at.
+fn of_segment(v: &[f64], u: &[f64], cuts: bool, chords: bool) -> Option<(u64, u64)> {
+    let least = if is("a chord of 2^-40 refused") {
+        2_f64.powi(-40).next_up()
+    } else {
+        2_f64.powi(-40)
+    };
+    let short = |v: &[f64], u: &[f64]| {
+        let (x, y) = (u[0] - v[0], u[1] - v[1]);
+        chords && !is("arcs not checked") && (x * x + y * y).sqrt() < least
+    };
+    let Some(point) = cut_point(v, u) else {
+        return (v[2].abs() >= 1e-8 && short(v, u)).then_some((5, 7));
+    };
+    let limit = match () {
+        _ if is("a cut point at the limit refused") => 1_048_576_f64.next_down(),
+        _ if is("a cut point a float beyond taken") => 1_048_576_f64.next_up(),
+        _ if is("a cut point a millionth beyond taken") => 1_048_576.000_001,
+        _ => 1_048_576.0,
+    };
+    let mut coordinates = [(point[0], 17), (point[1], 18)];
+    if is("a cut point's y before its x") {
+        coordinates.reverse();
+    }
+    for (x, item) in coordinates {
+        let passed = is("cut points not checked")
+            || item == 17 && is("a cut point's x not checked")
+            || item == 18 && is("a cut point's y not checked");
+        if cuts && !passed && x.abs() > limit {
+            return Some((2, item));
+        }
+    }
+    let first = short(v, &point) && !is("the first half not checked");
+    let second = short(&point, u) && !is("the second half not checked");
+    let both = match () {
+        _ if is("halves not checked") => false,
+        _ if is("5 if both halves are short") => short(v, &point) && short(&point, u),
+        _ if is("5 by the arc's own chord") => short(v, u),
+        _ if is("5 by the arc's own chord too") => first || second || short(v, u),
+        _ => first || second,
+    };
+    both.then_some((5, 7))
+}
+
+fn checked(mode: Mode, path: &[f64], closed: bool) -> Result<(), u64> {
     let n = path.len() / 4;
-    if too_many(n) {
+    let after_the_cut = match is("7 after the cut") {
+        true => path.chunks(4).filter(|v| v[2].abs() > 1.0).count(),
+        false => 0,
+    };
+    if too_many(n + after_the_cut) {
         return Err(word(7, 8, 0));
     }
     let numbers = || {
@@ -496,7 +598,7 @@ fn checked(path: &[f64], closed: bool) -> Result<(), u64> {
             let last =
                 is("the last bulge of an open path not checked") && !closed && vertex + 1 == n;
             for (item, x) in v.iter().enumerate() {
-                let refused = refusal(item, *x);
+                let refused = refusal(mode, item, *x);
                 if refused != 0 && !(last && item == 2) {
                     let told = if is("vertices from 1") {
                         vertex + 1
@@ -514,23 +616,52 @@ fn checked(path: &[f64], closed: bool) -> Result<(), u64> {
     }
     let ends = closed && !is("the closing arc not checked");
     let segments = if n < 2 { 0 } else { n - usize::from(!ends) };
-    for from in 0..segments {
-        let (v, u) = (&path[4 * from..], &path[4 * ((from + 1) % n)..]);
-        let (x, y) = (u[0] - v[0], u[1] - v[1]);
-        let length = (x * x + y * y).sqrt();
-        let least = if is("a chord of 2^-40 refused") {
-            2_f64.powi(-40).next_up()
-        } else {
-            2_f64.powi(-40)
-        };
-        if v[2].abs() >= 1e-8 && length < least && !is("arcs not checked") {
-            return Err(word(5, 7, from as u64));
+    // each segment's cut point and chords in order, or all of one sort before all of the other
+    let passes: &[[bool; 2]] = match () {
+        _ if is("5 before 2") => &[[false, true], [true, false]],
+        _ if is("2 before 5") => &[[true, false], [false, true]],
+        _ => &[[true, true]],
+    };
+    for [cuts, chords] in passes {
+        let mut halves = 0;
+        let open_too = is("the last bulge of an open path cut") && !closed && n > 1;
+        for from in 0..segments + usize::from(open_too) {
+            let (v, u) = (&path[4 * from..], &path[4 * ((from + 1) % n)..]);
+            if let Some((number, item)) = of_segment(v, u, *cuts, *chords) {
+                let index = match () {
+                    _ if is("the new index told") => from + halves,
+                    _ if number == 5 && is("the second half's index told") && v[2].abs() > 1.0 => {
+                        from + 1
+                    }
+                    _ => from,
+                };
+                return Err(word(number, item, index as u64));
+            }
+            halves += usize::from(v[2].abs() > 1.0);
         }
     }
     numbers()
 }
 
-fn import(text: &[u8], path: &mut [f64], told: &mut [u64]) -> u64 {
+/// The path with its large arcs cut.
+fn cut(path: &[f64], closed: bool) -> Vec<f64> {
+    let n = path.len() / 4;
+    let mut all = Vec::new();
+    for at in 0..n {
+        let (v, u) = (&path[4 * at..4 * at + 4], &path[4 * ((at + 1) % n)..]);
+        let point = cut_point(v, u).filter(|_| closed || at + 1 < n);
+        match point {
+            Some([x, y]) => {
+                let half = ((1.0 + v[2] * v[2]).sqrt() - 1.0) / v[2];
+                all.extend([v[0], v[1], half, v[3], x, y, half, v[3]]);
+            }
+            None => all.extend(v),
+        }
+    }
+    all
+}
+
+fn import(mode: Mode, text: &[u8], path: &mut [f64], told: &mut [u64]) -> u64 {
     let least = match () {
         _ if is("one to tell in is enough") => 1,
         _ if is("three to tell in are needed") => 3,
@@ -621,9 +752,14 @@ fn import(text: &[u8], path: &mut [f64], told: &mut [u64]) -> u64 {
     if !met && is("7 before 22") {
         return at_line(22, found.count_line);
     }
-    if let Err(word) = checked(&numbers, found.closed) {
+    if let Err(word) = checked(mode, &numbers, found.closed) {
         return word;
     }
+    let numbers = match is("the cut path") {
+        true => cut(&numbers, found.closed),
+        false => numbers,
+    };
+    let n = numbers.len() / 4;
     if !met && is("22 behind the numbers") {
         return at_line(22, found.count_line);
     }
@@ -703,6 +839,10 @@ fn put(text: &mut Vec<u8>, x: f64, m: i64) {
     }
     let m = m.unsigned_abs();
     let (whole, part) = (m / 1_000_000, m % 1_000_000);
+    let whole = match () {
+        _ if is("one digit before a bulge's point") && whole <= 16 => whole % 10,
+        _ => whole,
+    };
     let spelt = match () {
         _ if is("a zero in front left out") && whole == 0 => format!(".{part:06}"),
         _ if is("a zero more in front") => format!("0{whole}.{part:06}"),
@@ -722,7 +862,7 @@ fn put(text: &mut Vec<u8>, x: f64, m: i64) {
     text.push(b'\n');
 }
 
-fn export((path, closed): (&[f64], bool), out: &mut [u8], told: &mut [u64]) -> u64 {
+fn export(mode: Mode, (path, closed): (&[f64], bool), out: &mut [u8], told: &mut [u64]) -> u64 {
     let least = match () {
         _ if is("two to tell in are needed") => 2,
         _ if is("nothing to tell in is enough") => 0,
@@ -739,7 +879,12 @@ fn export((path, closed): (&[f64], bool), out: &mut [u8], told: &mut [u64]) -> u
             return word(6, 8, 0);
         }
     }
-    let path = &path[..path.len() / 4 * 4];
+    let mut path = &path[..path.len() / 4 * 4];
+    let halves;
+    if is("the cut path") && checked(mode, path, closed).is_ok() {
+        halves = cut(path, closed);
+        path = &halves;
+    }
     let n = path.len() / 4;
     let mut text = Vec::new();
     let mut refused = None;
@@ -791,7 +936,8 @@ fn export((path, closed): (&[f64], bool), out: &mut [u8], told: &mut [u64]) -> u
     let no_room = match () {
         _ if is("a place less is enough") => out.len() + 1 < text.len(),
         _ if is("a place more is needed") => out.len() <= text.len(),
-        _ if is("room for the most is needed") => out.len() < 13 + 51 * n,
+        _ if is("room for the most is needed") => out.len() < mode.most_bytes(n),
+        _ if is("room for the other mode's most is needed") => out.len() < Mode::Half.most_bytes(n),
         _ => out.len() < text.len(),
     };
     if no_room && is("24 first") {
@@ -800,7 +946,7 @@ fn export((path, closed): (&[f64], bool), out: &mut [u8], told: &mut [u64]) -> u
     if let (Some(word), true) = (refused, is("23 before the checks")) {
         return word;
     }
-    if let Err(word) = checked(path, closed) {
+    if let Err(word) = checked(mode, path, closed) {
         return word;
     }
     if no_room && is("24 before 23") {

@@ -5,8 +5,7 @@ use std::fs;
 use std::path::{Path, PathBuf};
 
 use super::draw;
-use super::model::{self, Body, Fault, Item};
-use super::run::MOST_BYTES;
+use super::model::{self, Body, Fault, Item, Mode};
 use super::OURS;
 use crate::rng::Rng;
 use crate::vertex::VERTEX;
@@ -38,7 +37,7 @@ pub fn read() -> Result<Vec<Stored>, String> {
 pub fn write(folder: &Path) -> Result<[usize; 2], String> {
     let mut counts = [0; 2];
     for path in bodies(folder)? {
-        let answer = model::import(&bytes(&path)?);
+        let answer = model::import(&bytes(&path)?, Mode::Half);
         counts[usize::from(answer.is_err())] += 1;
         let to = path.with_extension("expected");
         fs::write(&to, told(&answer)).map_err(|why| format!("{}: {why}", to.display()))?;
@@ -60,7 +59,7 @@ pub fn told(answer: &Result<Body, Fault>) -> String {
         Err(fault) => {
             let place = match fault.item {
                 Item::Line => "line",
-                Item::Chord => "segment",
+                Item::Chord | Item::CutX | Item::CutY => "segment",
                 _ => "vertex",
             };
             writeln!(text, "refused {} at {place} {}", fault.number, fault.index)
@@ -74,13 +73,13 @@ pub fn told(answer: &Result<Body, Fault>) -> String {
 /// Another program may read the bodies and compare.
 pub fn export_to(folder: &Path, count: u64, seed: u64) -> Result<u64, String> {
     let mut rng = Rng::new(seed);
-    let mut text = vec![0; MOST_BYTES];
+    let mut text = vec![0; Mode::Half.most_bytes(model::MOST_VERTICES)];
     for at in 0..count {
         let vertices = match at {
             0 => model::MOST_VERTICES,
             _ => 1 + draw::how_many(&mut rng),
         };
-        let path = draw::path(vertices, &mut rng);
+        let path = draw::path(vertices, Mode::Half, &mut rng);
         let closed = rng.one_in(2);
         let mut told = [0];
         let word = (OURS.export)((&path, closed), &mut text, &mut told);

@@ -1,32 +1,34 @@
 //! The model by hand; a right stand-in for the library, which must pass; and wrong ones, which the comparison must notice.
 
-use super::run::{Run, MOST_BYTES};
-use super::stand_in::{self, STAND_IN};
-use super::{draw, examples, model, stored};
+use super::model::Mode;
+use super::run::Run;
+use super::stand_in::{self, HALF, LARGE};
+use super::{draw, examples, model, stored, Ours};
 use crate::rng::Rng;
 
 const SEED: u64 = 1;
+const MODES: [Mode; 2] = [Mode::Half, Mode::Large];
 
 #[test]
 fn by_hand() {
-    for (text, numbers, closed) in examples::BODIES {
-        let body = model::import(text.as_bytes()).expect(text);
-        assert_eq!(
-            (body.path().as_slice(), body.closed),
-            (*numbers, *closed),
-            "{text:?}"
-        );
-    }
-    for (text, word) in examples::REFUSED {
-        let fault = model::import(text.as_bytes()).expect_err(text);
-        assert_eq!(fault.word(), *word, "{text:?}: {fault:?}");
-    }
-    for (path, closed, text) in examples::PATHS {
-        assert_eq!(model::export(path, *closed).as_deref(), Ok(text.as_bytes()));
-    }
-    for (path, closed, word) in examples::NOT_EXPORTED {
-        let fault = model::export(path, *closed).expect_err("a fault");
-        assert_eq!(fault.word(), *word, "{path:?}: {fault:?}");
+    for mode in MODES {
+        for (text, numbers, closed) in examples::bodies(mode) {
+            let body = model::import(text.as_bytes(), mode).expect(text);
+            let read = (body.path(), body.closed);
+            assert_eq!((read.0.as_slice(), read.1), (*numbers, *closed), "{text:?}");
+        }
+        for (text, word) in examples::refused(mode) {
+            let fault = model::import(text.as_bytes(), mode).expect_err(text);
+            assert_eq!(fault.word(), *word, "{text:?}: {fault:?}");
+        }
+        for (path, closed, text) in examples::paths(mode) {
+            let written = model::export(path, *closed, mode);
+            assert_eq!(written.as_deref(), Ok(text.as_bytes()));
+        }
+        for (path, closed, word) in examples::not_exported(mode) {
+            let fault = model::export(path, *closed, mode).expect_err("a fault");
+            assert_eq!(fault.word(), *word, "{path:?}: {fault:?}");
+        }
     }
 }
 
@@ -62,20 +64,23 @@ fn which_bulges() {
     }
 }
 
-/// The header's macro: no export has more bytes, and one has as many.
+/// The header's macros: no export has more bytes, and one has as many.
 #[test]
 fn the_most_bytes() {
-    let vertex = |at: usize| [-1_048_576.0 + (at % 2) as f64, -1_048_576.0, -1.0, 0.0];
-    let path: Vec<f64> = (0..4096).flat_map(vertex).collect();
-    let text = model::export(&path, true).expect("within all limits");
-    assert_eq!(text.len(), MOST_BYTES);
-    assert_eq!(MOST_BYTES, 208_909);
-    let mut rng = Rng::new(SEED);
-    for _ in 0..20_000 {
-        let count = draw::how_many(&mut rng);
-        let path = draw::path(count, &mut rng);
-        let text = model::export(&path, false).expect("numbers of six digits");
-        assert!(text.len() <= 13 + 51 * count);
+    for (mode, most) in [(Mode::Half, 208_909), (Mode::Large, 213_005)] {
+        let far = -1_048_560.0;
+        let vertex = |at: usize| [far + (at % 2) as f64, far, -mode.bulge(), 0.0];
+        let path: Vec<f64> = (0..4096).flat_map(vertex).collect();
+        let text = model::export(&path, true, mode).expect("within all limits");
+        assert_eq!(text.len(), most);
+        assert_eq!(mode.most_bytes(4096), most);
+        let mut rng = Rng::new(SEED);
+        for _ in 0..20_000 {
+            let count = draw::how_many(&mut rng);
+            let path = draw::path(count, mode, &mut rng);
+            let text = model::export(&path, false, mode).expect("numbers of six digits");
+            assert!(text.len() <= mode.most_bytes(count));
+        }
     }
 }
 
@@ -83,11 +88,33 @@ fn the_most_bytes() {
 #[test]
 fn there_and_back() {
     let mut rng = Rng::new(SEED);
+    for mode in MODES {
+        for _ in 0..20_000 {
+            let text = draw::good(mode, &mut rng).text();
+            let body = model::import(&text, mode).expect("a body of the form");
+            let written = model::export(&body.path(), body.closed, mode);
+            let written = written.expect("it came from a text");
+            assert_eq!(model::import(&written, mode), Ok(body));
+        }
+    }
+}
+
+/// With no bulge above 1 both modes are one.
+#[test]
+fn the_same_without_large_arcs() {
+    let mut rng = Rng::new(SEED);
     for _ in 0..20_000 {
-        let text = draw::good(&mut rng).text();
-        let body = model::import(&text).expect("a body of the form");
-        let written = model::export(&body.path(), body.closed).expect("it came from a text");
-        assert_eq!(model::import(&written), Ok(body));
+        let text = draw::good(Mode::Half, &mut rng).text();
+        assert_eq!(
+            model::import(&text, Mode::Large),
+            model::import(&text, Mode::Half)
+        );
+        let path = draw::any_path(Mode::Half, &mut rng);
+        let small = |v: &[f64]| v.get(2).is_none_or(|b| b.abs() <= 1.0);
+        if path.chunks(4).all(small) {
+            let of = |mode: Mode| model::export(&path, true, mode);
+            assert_eq!(of(Mode::Large), of(Mode::Half));
+        }
     }
 }
 
@@ -99,16 +126,19 @@ fn stored_bodies() {
         expected,
     } in stored::read().expect("bodies")
     {
-        assert_eq!(stored::told(&model::import(&text)), expected, "{name}");
+        let answer = model::import(&text, Mode::Half);
+        assert_eq!(stored::told(&answer), expected, "{name}");
     }
 }
 
 #[test]
 fn a_right_stand_in_passes() {
-    stand_in::set("");
-    let mut run = Run::new(STAND_IN, SEED, 1);
-    run.all(&stored::read().expect("bodies"), 0);
-    assert_eq!(run.report(), 0);
+    for ours in [HALF, LARGE] {
+        stand_in::set("");
+        let mut run = Run::new(ours, SEED, 1);
+        run.all(&stored::read().expect("bodies"), 0);
+        assert_eq!(run.report(), 0);
+    }
 }
 
 /// What the request names.
@@ -268,7 +298,7 @@ const OF_BOTH: &[&str] = &[
     "4,097 vertices taken",
     "4,096 vertices refused",
     "coordinates up to 2^21",
-    "bulges up to 1.000001",
+    "a bulge a millionth beyond",
     "the largest coordinate refused",
     "the largest bulge refused",
     "the last bulge of an open path not checked",
@@ -286,6 +316,49 @@ const OF_BOTH: &[&str] = &[
     "answers 1",
 ];
 
+/// Of the mode of large arcs alone; the first ones are named by its request.
+const OF_LARGE_ARCS: &[&str] = &[
+    "the sign lost",
+    "a cut at exactly 1",
+    "5 before 2",
+    "the new index told",
+    "7 after the cut",
+    "y's cut with plus",
+    "2 before 5",
+    "x's cut with minus",
+    "a cut on the other side",
+    "a cut at the middle of the chord",
+    "a cut by the whole chord",
+    "a cut without b",
+    "a cut from 1.000001 on",
+    "only positive bulges cut",
+    "nothing cut",
+    "the cut path",
+    "bulges up to 1",
+    "bulges up to 8",
+    "a cut point's x told as x",
+    "a cut point's y told as y",
+    "a cut point told as a chord",
+    "a cut point's coordinates exchanged",
+    "a cut point's y before its x",
+    "a cut point at the limit refused",
+    "a cut point a float beyond taken",
+    "a cut point a millionth beyond taken",
+    "cut points not checked",
+    "a cut point's x not checked",
+    "a cut point's y not checked",
+    "halves not checked",
+    "the first half not checked",
+    "the second half not checked",
+    "5 if both halves are short",
+    "5 by the arc's own chord",
+    "5 by the arc's own chord too",
+    "the second half's index told",
+    "the last bulge of an open path cut",
+    "room for the other mode's most is needed",
+    "one digit before a bulge's point",
+];
+
 /// Only bodies and paths of so many vertices show these, and none of them is drawn.
 const OF_THE_LARGEST: &[&str] = &[
     "4,097 vertices taken",
@@ -293,6 +366,7 @@ const OF_THE_LARGEST: &[&str] = &[
     "24 before 7",
     "7 before 22",
     "7 before 6",
+    "7 after the cut",
 ];
 /// No draw comes so close.
 const CHOSEN: &[&str] = &[
@@ -300,6 +374,13 @@ const CHOSEN: &[&str] = &[
     "lines of 20 bits",
     "a chord of 2^-40 refused",
     "7 by the count, before all else",
+    "a cut point a float beyond taken",
+    "a cut point a millionth beyond taken",
+    "the first half not checked",
+    "the second half not checked",
+    "5 if both halves are short",
+    "5 by the arc's own chord",
+    "5 by the arc's own chord too",
 ];
 
 fn defects() -> impl Iterator<Item = &'static str> {
@@ -309,13 +390,20 @@ fn defects() -> impl Iterator<Item = &'static str> {
         .copied()
 }
 
+fn all() -> impl Iterator<Item = (&'static str, Ours)> {
+    let of_large = OF_LARGE_ARCS.iter().map(|defect| (*defect, LARGE));
+    defects()
+        .flat_map(|defect| [(defect, HALF), (defect, LARGE)])
+        .chain(of_large)
+}
+
 /// Without the examples by hand and the stored bodies, and by draws alone if that can be.
 #[test]
 fn wrong_stand_ins_are_found() {
     const ROUNDS: usize = 64;
-    for defect in defects() {
+    for (defect, ours) in all() {
         stand_in::set(defect);
-        let mut run = Run::new(STAND_IN, SEED, 1);
+        let mut run = Run::new(ours, SEED, 1);
         if OF_THE_LARGEST.contains(&defect) || CHOSEN.contains(&defect) {
             run.chosen();
         }
@@ -324,25 +412,20 @@ fn wrong_stand_ins_are_found() {
             run.damaged(1 << 9);
             run.paths(1 << 8);
         }
-        assert!(!run.goes_on(), "not found: {defect}");
+        assert!(!run.goes_on(), "not found: {defect}, {:?}", ours.mode);
     }
 }
 
 /// In a call that has both sorts of slices, each is found in each call.
 #[test]
 fn found_in_each_call() {
-    for defect in OF_BOTH {
-        let import = super::Ours {
-            export: |path, out, told| with("", || (STAND_IN.export)(path, out, told)),
-            ..STAND_IN
-        };
-        let export = super::Ours {
-            import: |text, path, told| with("", || (STAND_IN.import)(text, path, told)),
-            ..STAND_IN
-        };
-        for ours in [import, export] {
+    for (defect, ours) in OF_BOTH
+        .iter()
+        .flat_map(|defect| [(defect, HALF), (defect, LARGE)])
+    {
+        for of_import in [true, false] {
             stand_in::set(defect);
-            let mut run = Run::new(ours, SEED, 1);
+            let mut run = Run::new(one_call(ours, of_import), SEED, 1);
             if OF_THE_LARGEST.contains(defect) {
                 run.chosen();
             }
@@ -351,8 +434,34 @@ fn found_in_each_call() {
                 run.damaged(1 << 9);
                 run.paths(1 << 9);
             }
-            assert!(!run.goes_on(), "not found: {defect}");
+            assert!(!run.goes_on(), "not found: {defect}, {:?}", ours.mode);
         }
+    }
+}
+
+/// The stand-in with its defect in one call only: in the import or in the export.
+fn one_call(ours: Ours, of_import: bool) -> Ours {
+    let right = match ours.mode {
+        Mode::Half => Ours {
+            import: |text, path, told| with("", || (HALF.import)(text, path, told)),
+            export: |path, out, told| with("", || (HALF.export)(path, out, told)),
+            ..HALF
+        },
+        Mode::Large => Ours {
+            import: |text, path, told| with("", || (LARGE.import)(text, path, told)),
+            export: |path, out, told| with("", || (LARGE.export)(path, out, told)),
+            ..LARGE
+        },
+    };
+    match of_import {
+        true => Ours {
+            import: ours.import,
+            ..right
+        },
+        false => Ours {
+            export: ours.export,
+            ..right
+        },
     }
 }
 
@@ -368,7 +477,7 @@ fn with(defect: &'static str, call: impl FnOnce() -> u64) -> u64 {
 #[test]
 fn a_cap_that_does_not_matter() {
     stand_in::set("no cap");
-    let mut run = Run::new(STAND_IN, SEED, 1);
+    let mut run = Run::new(HALF, SEED, 1);
     run.all(&stored::read().expect("bodies"), 0);
     assert_eq!(run.report(), 0);
 }
@@ -377,4 +486,5 @@ fn a_cap_that_does_not_matter() {
 #[test]
 fn how_many_are_tried() {
     assert_eq!(defects().count(), 162);
+    assert_eq!(OF_LARGE_ARCS.len(), 39);
 }

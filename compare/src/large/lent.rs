@@ -64,7 +64,6 @@ impl Lent {
     }
 
     /// Puts the report back as it was lent.
-    #[cfg(large_calls)]
     pub fn fresh(&mut self, asked: &Asked) {
         put(&mut self.report, &asked.report, self.words);
     }

@@ -1,3 +1,2 @@
 mod Ends
 mod FindingsEnds
-mod DxfEnds

@@ -14,9 +14,9 @@ use dxf_write::Exported;
 use dxf_write::export_dxf;
 
 // how many words an import tells, and an export
-const IMPORT_WORDS: usize = 2;
+pub const IMPORT_WORDS: usize = 2;
 
-const EXPORT_WORDS: usize = 1;
+pub const EXPORT_WORDS: usize = 1;
 
 // Whether a path is closed, as a word.
 fn closed_word(closed: bool) -> u64
@@ -30,7 +30,7 @@ fn closed_word(closed: bool) -> u64
 
 // Writes the number of vertices and whether the path is closed to the front of `told` and returns 0. A refusal writes nothing and
 // returns its word.
-fn hand_imported(answer: Imported, told: &mut [u64]) -> u64
+pub fn hand_imported(answer: Imported, told: &mut [u64]) -> u64
     requires { ⌜ handed.importWords ≤ length (now told) ⌝ }
     ensures { λ r. ⌜ r ≡ handed.ofImport answer .code ⌝ }
     ensures { λ r. ⌜ now (told .exit) ≡ sets (now (told .entry)) 0 (handed.ofImport answer .counts) ⌝ }
@@ -60,7 +60,7 @@ pub extern "C" fn vj_dxf_import(text: &[u8], path: &mut [f64], told: &mut [u64])
 }
 
 // Writes the number of bytes to the front of `told` and returns 0. A refusal writes nothing and returns its word.
-fn hand_exported(answer: Exported, told: &mut [u64]) -> u64
+pub fn hand_exported(answer: Exported, told: &mut [u64]) -> u64
     requires { ⌜ handed.exportWords ≤ length (now told) ⌝ }
     ensures { λ r. ⌜ r ≡ handed.ofExport answer .code ⌝ }
     ensures { λ r. ⌜ now (told .exit) ≡ sets (now (told .entry)) 0 (handed.ofExport answer .counts) ⌝ }

@@ -47,6 +47,10 @@ use Rattle.large_listings.specs.LargeListings.{
   selfBoxedLarge,
 }
 use Rattle.large_counted.specs.LargeCounted.{mutualLargeRows, mutualCountedLarge}
+use Rattle.dxf_read.specs.declared.Imported.the-variants as imports
+use Rattle.dxf_write.specs.declared.Exported.the-variants as exports
+use Rattle.dxf_large.specs.Large.{importLarge, exportLarge}
+use Rattle.dxf_large.specs.Laws.RefusalNumbers.{import-fits, export-fits}
 use Rattle.capi_large.specs.Laws.RefusalNumbers as laws
 
 shown : {g f : Fault} → g ≡ f → Fits g → Shown f
@@ -188,3 +192,11 @@ mutual-counted-large first firstClosed second secondClosed eps i p w =
     of-counted (ltb (length w) words) (full w) (mutualLarge first firstClosed second secondClosed eps i p)
     (mutualLargeRows first firstClosed second secondClosed eps) i p w
     (mutual-large first firstClosed second secondClosed eps i p)
+
+-- ---- imports and exports
+pub dxf-import-large : (text : List ℕ) (old : List Float) (f : Fault) → importLarge text old .answer ≡ imports.Refused f → Shown f
+dxf-import-large text old f e = shown refl (import-fits text old f e)
+
+pub dxf-export-large : (path : List Float) (closed : Bool) (old : List ℕ) (f : Fault)
+    → exportLarge path closed old .answer ≡ exports.Refused f → Shown f
+dxf-export-large path closed old f e = shown refl (export-fits path closed old f e)

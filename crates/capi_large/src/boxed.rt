@@ -5,8 +5,8 @@ ghost use Rattle.capi.specs.HandedListing as handed;
 use capi::hand_over::NO_ROOM;
 use capi::listing::COUNTS;
 use capi::listing::hand_counts;
-use large_boxed::mutual_boxed_large;
-use large_boxed::self_boxed_large;
+use large_calls::mutual_boxed_large;
+use large_calls::self_boxed_large;
 
 // What `vj_mutual_large` lists of the pairs whose segment boxes meet, and the boxes of both cut paths.
 #[no_mangle]

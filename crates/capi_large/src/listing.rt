@@ -5,8 +5,8 @@ ghost use Rattle.capi.specs.HandedListing as handed;
 use capi::hand_over::NO_ROOM;
 use capi::listing::COUNTS;
 use capi::listing::hand_counts;
-use large_listings::mutual_large;
-use large_listings::self_large;
+use large_calls::mutual_large;
+use large_calls::self_large;
 
 // Which segments of the first path meet which of the second.
 #[no_mangle]

@@ -4,8 +4,8 @@ ghost use Rattle.capi.specs.HandedListing as handed;
 use capi::hand_over::NO_ROOM;
 use capi::page::COUNTS;
 use capi::page::hand_page;
-use large_listings::mutual_page_large;
-use large_listings::self_page_large;
+use large_calls::mutual_page_large;
+use large_calls::self_page_large;
 
 // A page of what `vj_mutual_large` lists: from a position on, as far as the budget and the lent rows allow.
 #[no_mangle]

@@ -2,3 +2,4 @@
 pub mod Low
 pub mod Untraced
 pub mod NoLarge
+pub mod RefusalNumbers

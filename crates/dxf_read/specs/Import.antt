@@ -53,9 +53,6 @@ bodyChecksBy own gs old =
     ∷ (own path (closedBy (b .flags-are)) 0
     ++ (refuse (ltb (length old) (length path)) Refusal.room (at 0 0 Room) ∷ []))
 
-abbrev pub bodyChecks : List Group → List Float → List Checked
-bodyChecks gs old = bodyChecksBy pathChecks gs old
-
 -- ---- the answer, and what the path holds
 
 pub record ImportOutcome : Type 0 where
@@ -74,9 +71,6 @@ abbrev pub byGroupsBy : PathChecks → List Float → Read → ImportOutcome
 byGroupsBy own old (faultAt number line) =
     record { answer = Imported·.Refused (lineFault number line); path = old }
 byGroupsBy own old (groups gs) = byChecks (bodyOf gs) old (first (bodyChecksBy own gs old))
-
-abbrev pub byGroups : List Float → Read → ImportOutcome
-byGroups old r = byGroupsBy pathChecks old r
 
 -- with these checks of the path
 abbrev pub importBy : PathChecks → List ℕ → List Float → ImportOutcome

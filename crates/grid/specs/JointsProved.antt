@@ -1,10 +1,10 @@
 -- The proof of the promise on joints and folds: from two lines with a common end (Jointed) to the segments of a path, which share
 -- a vertex by index.
 use mathlib.Core.Path.{_≡_, refl, sym, ap, _∙_, subst}
-use mathlib.Core.Logic.{_⊎_, inl, inr, _≢_}
+use mathlib.Core.Logic.{_⊎_, inl, inr, _≢_, _↔_}
 use mathlib.Core.Bool.{Bool, true, false, cond, _&&_, _||_, true≢false}
 use mathlib.Core.List.{List, [], _∷_, _++_}
-use Prim.Native.Nat.{ℕ, _+_, _-_, _<_}
+use Prim.Native.Nat.{ℕ, _+_, _-_, _≤_, _<_}
 use native.Mathlib.Omega.{arith}
 use borrow.Author.Tests.{eq-eqb}
 use lib.Dec.{T, eqb, eqb→eq, ltb, lt→ltb, ltb→lt, not-T}
@@ -30,7 +30,7 @@ use Rattle.listing_pairs.specs.Look.{look, selfLookOf}
 use Rattle.listing_pairs.specs.Traces.{oneTrace, traced}
 use Rattle.listing_pairs.specs.Neighbours.{sharedVertices, nearSome, atJoint}
 use Rattle.listing_calls.specs.Complete.{pairOf, makes-looked}
-use Rattle.grid.specs.Promise.{Spot, On, ShareMore}
+use Rattle.grid.specs.Promise.{Spot, On, Epsilon, ShareMore, GridLine, OtherTraces}
 use Rattle.grid.specs.Joints.{Seen, EndOf, nearTo, JointPromise, ThreeWays, BackPromise, FoldPromise}
 use Rattle.grid.specs.Plane.Joints.{AnEnd, start-shared, end-shared, there-and-back}
 use Rattle.grid.specs.Nearby.{one-spot}
@@ -70,7 +70,7 @@ pub back-promise : BackPromise
 back-promise = there-and-back
 
 -- ---- one path
-closed-count : (path : List Float) (closed : Bool) → closed ≡ true → 0 < segmentCount path closed
+pub closed-count : (path : List Float) (closed : Bool) → closed ≡ true → 0 < segmentCount path closed
     → segmentCount path closed ≡ vertexCount path
 unfolding segmentCount
 closed-count path closed = go (refused path) (ltb (vertexCount path) 2) closed (vertexCount path)
@@ -105,14 +105,13 @@ record Between (path : List Float) (e : Float) (i j : ℕ) (ks : List ℕ) : Typ
   pub of-j : EndOf (vertexAt path k) (segmentFrom path j .v1) (segmentFrom path j .v2)
   pub near : (p : Vector2) → vector2.fuzzyEqEps p (vertex.pos (vertexAt path k)) e ≡ true → nearSome path e ks p ≡ true
 
-module _ (path : List Float) (closed : Bool) (e : Float) (i j : ℕ) (rises : i < j) (within : j < segmentCount path closed) where
-  abbrev n : ℕ
-  n = segmentCount path closed
-
+-- of a path of n segments, which has a vertex for each, and no more if it is closed
+module _ (n : ℕ) (path : List Float) (closed : Bool) (all : n ≤ vertexCount path)
+    (whole : closed ≡ true → 0 < n → n ≡ vertexCount path) (e : Float) (i j : ℕ) (rises : i < j) (within : j < n) where
   next : (ks : List ℕ) → j ≡ i + 1 → Between path e i j (j ∷ ks)
   unfolding segmentFrom
   next ks is =
-      let l : i + 1 < vertexCount path = omega (arith, count-within path closed) in
+      let l : i + 1 < vertexCount path = omega arith in
       record {
         k = j;
         of-i = inr (ap (vertexAt path) (is ∙ sym (after-next path i l)));
@@ -122,8 +121,8 @@ module _ (path : List Float) (closed : Bool) (e : Float) (i j : ℕ) (rises : i 
 
   first : closed ≡ true → i ≡ 0 → j + 1 ≡ n → Between path e i j (0 ∷ [])
   unfolding segmentFrom
-  first all start last =
-      let l : j + 1 ≡ vertexCount path = last ∙ closed-count path closed all (omega arith) in
+  first is start last =
+      let l : j + 1 ≡ vertexCount path = last ∙ whole is (omega arith) in
       record {
         k = 0;
         of-i = inl (ap (vertexAt path) (sym start));
@@ -179,37 +178,47 @@ not-skipped : (b : Bool) (l : Look) (r : Row) → cond b Skipped l ≡ Made r �
 not-skipped true l r e = let z : _≡_ {A = ℕ} 0 1 = cc in absurd (omega (arith, z))
 not-skipped false l r e = refl
 
+-- the same of a path of n segments
+module _ (n : ℕ) (path : List Float) (closed : Bool) (all : n ≤ vertexCount path)
+    (whole : closed ≡ true → 0 < n → n ≡ vertexCount path) (e : Float) (num den : ℕ) (small : Epsilon e num den) (i j : ℕ)
+    (rises : i < j) (within : j < n)
+    (beside : (j ≡ i + 1) ⊎ ((closed ≡ true) × (i ≡ 0) × (j + 1 ≡ n)))
+    (p1 p2 q1 q2 : Spot) (v : GridLine path i p1 p2) (u : GridLine path j q1 q2) where
+  abbrev one : Bool
+  one = oneTrace path path (record { i = i; j = j })
+
+  abbrev met : PlineSegIntr
+  met = pairOf path path e i j
+
+  shares : Between path e i j (sharedVertices n closed i j)
+  shares = between n path closed all whole e i j rises within (neighbours-share n closed i j beside)
+
+  seen-there : Seen p1 p2 q1 q2 (nearSome path e (sharedVertices n closed i j)) met
+  seen-there =
+      joint-promise (segmentFrom path i .v1) (segmentFrom path i .v2) (segmentFrom path j .v1) (segmentFrom path j .v2)
+      (vertexAt path (shares .k)) p1 p2 q1 q2 e num den (v .0) (v .1) (u .0) (u .1) (v .2) (u .2) small (shares .of-i)
+      (shares .of-j) (nearSome path e (sharedVertices n closed i j)) (shares .near)
+
+  apart : (r : PlineSegIntr) (p q : Vector2) → r ≡ OverlappingLines p q → r ≡ NoIntersect → ⊥
+  apart r p q h k = let z : _≡_ {A = ℕ} 0 1 = cc in omega arith
+
+  made : ShareMore p1 p2 q1 q2 → look path path e i j ≡ Made (row i j met)
+  made m = let k = seen-there .overlap .1 m in makes-looked path path e i j (class-above met (apart met (k .0) (k .1) (k .2)))
+
+  pub fold-of : ((atJoint path closed n e i j (pairOf path path e i j) ≡ true) ↔ (¬ ShareMore p1 p2 q1 q2))
+      × (((r : Row) × (traced path path (selfLookOf n path closed e) i j ≡ Made r))
+      ↔ (ShareMore p1 p2 q1 q2 × OtherTraces path path i j))
+  unfolding atJoint selfLookOf look traced
+  fold-of = (
+    seen-there .only-there,
+    (
+      λ r. let looked = not-skipped one _ (r .0) (r .1) in
+          (seen-there .elsewhere .0 (not-silent _ _ (r .0) (rw looked at (r .1))), looked),
+      λ h. (row i j met, rw (h .1) (rw (seen-there .elsewhere .1 (h .0)) (made (h .0)))),
+    ),
+  )
+
 pub fold-promise : FoldPromise
-unfolding atJoint selfLookOf look traced
-fold-promise path closed e num den small i j (rises, within, beside) p1 p2 q1 q2 (on-v1, on-v2, line-v) (on-u1, on-u2, line-u) = (
-  s .only-there,
-  (
-    λ r. let looked = not-skipped one _ (r .0) (r .1) in
-        (s .elsewhere .0 (not-silent _ _ (r .0) (rw looked at (r .1))), looked),
-    λ h. (row i j met, rw (h .1) (rw (s .elsewhere .1 (h .0)) (made (h .0)))),
-  ),
-)
-  where
-    one : Bool
-    one = oneTrace path path (record { i = i; j = j })
-
-    n : ℕ
-    n = segmentCount path closed
-
-    met : PlineSegIntr
-    met = pairOf path path e i j
-
-    shares : Between path e i j (sharedVertices n closed i j)
-    shares = between path closed e i j rises within (neighbours-share n closed i j beside)
-
-    s : Seen p1 p2 q1 q2 (nearSome path e (sharedVertices n closed i j)) met
-    s =
-        joint-promise (segmentFrom path i .v1) (segmentFrom path i .v2) (segmentFrom path j .v1) (segmentFrom path j .v2)
-        (vertexAt path (shares .k)) p1 p2 q1 q2 e num den on-v1 on-v2 on-u1 on-u2 line-v line-u small (shares .of-i)
-        (shares .of-j) (nearSome path e (sharedVertices n closed i j)) (shares .near)
-
-    apart : (r : PlineSegIntr) (p q : Vector2) → r ≡ OverlappingLines p q → r ≡ NoIntersect → ⊥
-    apart r p q h k = let z : _≡_ {A = ℕ} 0 1 = cc in omega arith
-
-    made : ShareMore p1 p2 q1 q2 → look path path e i j ≡ Made (row i j met)
-    made m = let k = s .overlap .1 m in makes-looked path path e i j (class-above met (apart met (k .0) (k .1) (k .2)))
+fold-promise path closed e num den small i j (rises, within, beside) p1 p2 q1 q2 v u =
+    fold-of (segmentCount path closed) path closed (count-within path closed) (closed-count path closed) e num den small i j rises
+    within beside p1 p2 q1 q2 v u

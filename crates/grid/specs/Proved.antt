@@ -90,7 +90,7 @@ class-above (OverlappingLines p q) h = omega arith
 class-above (OverlappingArcs p q) h = omega arith
 
 module _ (first second : List Float) (e : Float) (num den : ℕ) (small : Epsilon e num den) (i j : ℕ) (p1 p2 q1 q2 : Spot) where
-  above : GridLine first i p1 p2 → GridLine second j q1 q2 → Share p1 p2 q1 q2 → 0 < classOf (pairOf first second e i j)
+  pub above : GridLine first i p1 p2 → GridLine second j q1 q2 → Share p1 p2 q1 q2 → 0 < classOf (pairOf first second e i j)
   above v u share =
       let a = segmentFrom first i in
       let b = segmentFrom second j in

@@ -1,60 +1,36 @@
 -- What a counted listing of the mode of large arcs adds, word by word. If the layout is accepted: each class total grows by the
 -- number of pairs of the cut paths of that class, by the pair's own definition, among the pairs that are not of one trace. If it
 -- is refused: one layout, and one refused with its number, which is one of the old mode's.
-use mathlib.Core.Path.{_≡_, refl, sym, ap, _∙_}
-use mathlib.Core.Bool.{Bool, true, false}
+use mathlib.Core.Path.{_≡_, sym, ap, _∙_}
+use mathlib.Core.Bool.{Bool, true}
 use mathlib.Core.List.{List}
-use Prim.Native.Nat.{ℕ, zero, suc, _+_, _-_, _≤_, _<_}
+use Prim.Native.Nat.{ℕ, _+_, _-_, _≤_, _<_}
 use native.Mathlib.Omega.{arith}
-use borrow.Author.Tests.{ltb-true, ltb-false, lt-ltb, le-ltb}
-use lib.Dec.{ltb}
 use lib.Ieee.{Float}
 use lib.ListN.{length}
-use Rattle.checks.specs.declared.fault.Item.the-variants.{Report}
 use Rattle.checks.specs.declared.fault.Fault.{Fault}
 use Rattle.checks.specs.declared.fault.Checked.{Checked}
 use Rattle.checks.specs.declared.fault.Checked.the-variants.{Fine, Bad}
-use Rattle.checks.specs.Fault.{whole, refuse}
 use Rattle.checks.specs.First.{first as firstFault}
 use Rattle.checks.specs.Refusal
 use Rattle.cuts.specs.CutPath.{cutPath}
 use Rattle.listing_pairs.specs.declared.row.Row.{Row}
 use Rattle.listing_pairs.specs.Order.{Pair, those}
-use Rattle.listing_pairs.specs.Look.{look, tracedLook}
-use Rattle.listing_pairs.specs.Rows.{rowsOf, lookedAt}
+use Rattle.listing_pairs.specs.Rows.{lookedAt}
 use Rattle.listing_pairs.specs.Traces.{tracedPairs}
-use Rattle.listing_pairs.specs.TracedListing.{traced-rows}
-use Rattle.listing_outcomes.specs.declared.answer.ListingAnswer.{ListingAnswer}
 use Rattle.listing_outcomes.specs.declared.answer.ListingAnswer.the-variants.{Refused, Listed}
-use Rattle.listing_calls.specs.ChainedCalls.{mutual-looked}
 use Rattle.large_outcomes.specs.LargeOutcome.{largeListedOf, largeOutcome}
-use Rattle.month.specs.declared.mutual_counted.CountedAnswer.the-variants.{NoRoom, Answered}
-use Rattle.month.specs.Report.{words, layouts, pairs, classes, refusals, refusalNumbers, word, full, plus}
+use Rattle.month.specs.declared.mutual_counted.CountedAnswer.the-variants.{Answered}
+use Rattle.month.specs.Report.{words, layouts, pairs, classes, refusals, refusalNumbers, word}
 use Rattle.month.specs.Given.{among, given}
-use Rattle.month.specs.Counted.{
-  CountedOutcome,
-  inClass,
-  refusedAdds,
-  acceptedAdds,
-  adds,
-  unchanged,
-  counted,
-  countedOf,
-  reportCheck,
-}
+use Rattle.month.specs.Counted.{CountedOutcome, refusedAdds, acceptedAdds, adds}
 use Rattle.month.specs.Totals.{classCount, WithRefused}
 use Rattle.month.specs.Laws.Words.{word-plus, word-same}
 use Rattle.month.specs.Laws.Given.{Known, given-below, append, and, fine}
-use Rattle.month.specs.Laws.Pairs.{isOf, rows-of-class, pairs-without-row}
-use Rattle.month.specs.Laws.Cases.{same-answer, room-told, kinds-differ, same-fault}
-use Rattle.month.specs.Laws.Added.{accepted-else, refused-layout, refused-number, refused-else}
-use Rattle.large_listings.specs.LargeListings.{
-  mutualNumbers,
-  mutualLargeChecks,
-  mutualLargeLook,
-  mutualLargePairs,
-  mutualLarge,
-}
+use Rattle.month.specs.Laws.Pairs.{isOf}
+use Rattle.month.specs.Laws.Cases.{kinds-differ, same-fault, told-listed, told-refused}
+use Rattle.month.specs.Laws.Added.{accepted-adds, refused-layout, refused-number, refused-else}
+use Rattle.large_listings.specs.LargeListings.{mutualNumbers, mutualLargeChecks, mutualLargeLook, mutualLargePairs, mutualLarge}
 use Rattle.large_counted.specs.LargeCounted.{mutualLargeRows, mutualCountedLarge}
 use Rattle.large_listings.specs.LargeRefusals.{all}
 use Rattle.large_counted.specs.Laws.LargeGiven.{mutual-checks-known, room-known}
@@ -82,97 +58,21 @@ module _ (first : List Float) (firstClosed : Bool) (second : List Float) (second
         → word w (classes + class) ≡ word r (classes + class) + length (ofClass class)
     pub no-refusal : (k : ℕ) → refusals ≤ k → word w k ≡ word r k
 
-  -- ---- the words of what an accepted layout adds
   abbrev five : Row → List ℕ
   five = mutualNumbers first firstClosed second secondClosed
+
+  abbrev ps : List Pair
+  ps = mutualLargePairs first firstClosed second secondClosed
 
   abbrev rows : List Row
   rows = mutualLargeRows first firstClosed second secondClosed epsilon
 
-  same-rows : mutualLargeRows first firstClosed second secondClosed epsilon ≡ rowsOf (look a b epsilon) lookedPairs
-  same-rows = traced-rows a b (look a b epsilon) (mutualLargePairs first firstClosed second secondClosed)
-
-  class-rows : (c : ℕ) → 0 < c → inClass c rows ≡ length (ofClass c)
-  class-rows c h = ap (inClass c) same-rows ∙ rows-of-class a b epsilon c h lookedPairs
-
-  module _ (looked : ℕ)
-      (is : looked
-      ≡ lookedAt (mutualLargeLook first firstClosed second secondClosed epsilon)
-      (mutualLargePairs first firstClosed second secondClosed)) where
-    all-looked : looked ≡ length lookedPairs
-    all-looked = is ∙ mutual-looked a b epsilon (mutualLargePairs first firstClosed second secondClosed)
-
-    none : looked - length rows ≡ length (ofClass 0)
-    none = omega (arith, all-looked, ap length same-rows, pairs-without-row a b epsilon lookedPairs)
-
-    adds-class : (class : ℕ) → class < classCount
-        → word (acceptedAdds (mutualLargeRows first firstClosed second secondClosed epsilon) looked) (classes + class)
-        ≡ length (ofClass class)
-    unfolding acceptedAdds
-    adds-class zero h = none
-    adds-class (suc zero) h = class-rows 1 (omega arith)
-    adds-class (suc (suc zero)) h = class-rows 2 (omega arith)
-    adds-class (suc (suc (suc zero))) h = class-rows 3 (omega arith)
-    adds-class (suc (suc (suc (suc zero)))) h = class-rows 4 (omega arith)
-    adds-class (suc (suc (suc (suc (suc zero))))) h = class-rows 5 (omega arith)
-    adds-class (suc (suc (suc (suc (suc (suc c)))))) h = absurd (omega (arith, h))
-
-    adds-layout : word (acceptedAdds (mutualLargeRows first firstClosed second secondClosed epsilon) looked) layouts ≡ 1
-    unfolding acceptedAdds
-    adds-layout = refl
-
-    adds-pairs : word (acceptedAdds (mutualLargeRows first firstClosed second secondClosed epsilon) looked) pairs ≡ looked
-    unfolding acceptedAdds
-    adds-pairs = refl
-
-  -- ---- what an answer tells: there was room, and the report was not full
   module _ (indices : List ℕ) (points : List Float) (report : List ℕ) where
     abbrev o : CountedOutcome
     o = mutualCountedLarge first firstClosed second secondClosed epsilon indices points report
 
-    record Told (x : ListingAnswer) : Type 0 where
-      pub long : words ≤ length report
-      pub listed : mutualLarge first firstClosed second secondClosed epsilon indices points .answer ≡ x
-      pub sum : o .report ≡ plus report (adds x rows)
-
-    no-room-is : length report < words → o ≡ unchanged NoRoom indices points report
-    unfolding mutualCountedLarge
-    no-room-is h = rw (lt-ltb (length report) words h) refl
-
-    full-is : words ≤ length report → full report ≡ true
-        → o ≡ unchanged (Answered (Refused (whole Refusal.report Report))) indices points report
-    unfolding mutualCountedLarge reportCheck refuse
-    full-is long e = rw (le-ltb (length report) words long, e) refl
-
-    counted-is : words ≤ length report → full report ≡ false
-        → o ≡ counted (mutualLarge first firstClosed second secondClosed epsilon indices points) rows report
-    unfolding mutualCountedLarge reportCheck refuse
-    counted-is long e = rw (le-ltb (length report) words long, e) refl
-
-    told : (x : ListingAnswer) → o .listing .answer ≡ Answered x → (x ≡ Refused (whole Refusal.report Report) → ⊥) → Told x
-    told x e other =
-        go (ltb (length report) words) (ltb-true (length report) words) (ltb-false (length report) words) (full report) refl
-      where
-        go : (t : Bool) → (t ≡ true → length report < words) → (t ≡ false → words ≤ length report)
-            → (f : Bool) → full report ≡ f → Told x
-        go true short long f g =
-            absurd (room-told (sym (ap (λ (y : CountedOutcome). y .listing .answer) (no-room-is (short refl))) ∙ e))
-        go false short long true g =
-            absurd (other
-            (sym (same-answer (sym (ap (λ (y : CountedOutcome). y .listing .answer) (full-is (long refl) g)) ∙ e))))
-        go false short long false g =
-            let is = counted-is (long refl) g in
-            let its : mutualLarge first firstClosed second secondClosed epsilon indices points .answer ≡ x =
-            same-answer (sym (ap (λ (y : CountedOutcome). y .listing .answer) is) ∙ e) in
-            record {
-              long = long refl;
-              listed = its;
-              sum =
-                  ap (λ (y : CountedOutcome). y .report) is
-                  ∙ ap (λ (y : ListingAnswer). plus report (adds y rows)) its;
-            }
-
-    looked-is : (n k : ℕ) → mutualLarge first firstClosed second secondClosed epsilon indices points .answer ≡ Listed n k
+    -- ---- an accepted layout
+    pub looked-is : (n k : ℕ) → mutualLarge first firstClosed second secondClosed epsilon indices points .answer ≡ Listed n k
         → k ≡ lookedAt (mutualLargeLook first firstClosed second secondClosed epsilon)
         (mutualLargePairs first firstClosed second secondClosed)
     unfolding mutualLarge largeOutcome
@@ -193,20 +93,21 @@ module _ (first : List Float) (firstClosed : Bool) (second : List Float) (second
         go (Bad g) e = absurd (kinds-differ e)
 
     pub accepted-totals : (n looked : ℕ) → o .listing .answer ≡ Answered (Listed n looked) → WithAccepted report (o .report)
+    unfolding mutualCountedLarge
     accepted-totals n looked e =
-        let t = told (Listed n looked) e (λ x. kinds-differ (sym x)) in
-        let is = looked-is n looked (t .listed) in
+        let t =
+        told-listed (mutualLarge first firstClosed second secondClosed epsilon indices points) rows indices points report n looked
+        e in
+        let l = accepted-adds a b epsilon ps looked (looked-is n looked (t .listed)) in
         let at : (k : ℕ) → k < words → word (o .report) k ≡ word report k + word (acceptedAdds rows looked) k =
         λ k h. ap (λ (x : List ℕ). word x k) (t .sum) ∙ word-plus report _ k (omega (arith, h, t .long)) in
         record {
-          one-layout = at 0 (omega arith) ∙ ap (λ (n : ℕ). word report 0 + n) (adds-layout looked is);
-          its-pairs =
-              at 1 (omega arith) ∙ ap (λ (n : ℕ). word report 1 + n) (adds-pairs looked is ∙ all-looked looked is);
+          one-layout = at 0 (omega arith) ∙ ap (λ (n : ℕ). word report 0 + n) (l .one-layout);
+          its-pairs = at 1 (omega arith) ∙ ap (λ (n : ℕ). word report 1 + n) (l .its-pairs);
           each-class =
               λ class h. at (classes + class) (omega (arith, h))
-              ∙ ap (λ (n : ℕ). word report (classes + class) + n) (adds-class looked is class h);
-          no-refusal =
-              λ k far. ap (λ (x : List ℕ). word x k) (t .sum) ∙ word-same report _ k (accepted-else rows looked k far);
+              ∙ ap (λ (n : ℕ). word report (classes + class) + n) (l .each-class class h);
+          no-refusal = λ k far. ap (λ (x : List ℕ). word x k) (t .sum) ∙ word-same report _ k (l .no-refusal k far);
         }
 
     -- ---- a refused one
@@ -231,8 +132,11 @@ module _ (first : List Float) (firstClosed : Bool) (second : List Float) (second
 
     pub refused-totals : (f : Fault) → o .listing .answer ≡ Answered (Refused f) → (f .number ≡ Refusal.report → ⊥)
         → WithRefused (f .number) report (o .report)
+    unfolding mutualCountedLarge
     refused-totals f e other =
-        let t = told (Refused f) e (λ x. other (ap (λ (g : Fault). g .number) (same-fault x))) in
+        let t =
+        told-refused (mutualLarge first firstClosed second secondClosed epsilon indices points) rows indices points report f e
+        other in
         let n = f .number in
         let below : n < refusalNumbers = given-below n (refusal-given f (t .listed)) in
         let at : (k : ℕ) → k < words → word (o .report) k ≡ word report k + word (refusedAdds n) k =

@@ -18,12 +18,15 @@ use checks::fault::Checked;
 use checks::fault::Item;
 use checks::fault::whole;
 use checks::refusal;
+use large_calls::answers::listed_bulge;
+use large_calls::answers::spread_listed;
 use large_listings::cutting::FLOATS;
 use large_listings::cutting::KEPT;
 use large_listings::cutting::cut;
 use large_listings::jobs;
 use large_outcomes::room::large_row_room;
 use large_outcomes::spread::spread;
+use listing_calls::mutual_listing::mutual_listing;
 use listing_outcomes::answer::ListingAnswer;
 use listing_outcomes::buffer;
 use listing_pairs::order::Job;
@@ -159,6 +162,53 @@ fn counted_large(
     }
 }
 
+// The old mode's listing in rows of five, unless it refuses a bulge; else as `counted_large`. Its rows are counted before they
+// are spread.
+fn counted_listing(
+    first: &[f64],
+    first_closed: bool,
+    second: &[f64],
+    second_closed: bool,
+    epsilon: f64,
+    indices: &mut [u64],
+    points: &mut [f64],
+    report: &mut [u64],
+) -> ListingAnswer
+    requires { ⌜ (report_of.words ≤ length (now report)) × (report_of.full (now report) ≡ false) ⌝ }
+    ensures { λ r. ⌜
+        Counting.LargeAdded (now (first .entry)) «first_closed» (now (second .entry)) «second_closed» epsilon
+        (now (indices .entry)) (now (points .entry)) (now (report .entry))
+        r (now (indices .exit)) (now (points .exit)) (now (report .exit)) ⌝ }
+{
+    let room = large_row_room(indices.len(), points.len());
+    let threes = room * row::INDICES;
+    let fours = room * row::POINTS;
+    let answer = mutual_listing(
+        first,
+        first_closed,
+        second,
+        second_closed,
+        epsilon,
+        &mut indices[..threes],
+        &mut points[..fours],
+    );
+    if listed_bulge(answer) {
+        return counted_large(
+            first,
+            first_closed,
+            second,
+            second_closed,
+            epsilon,
+            indices,
+            points,
+            report,
+        );
+    }
+    count(answer, indices, report);
+    spread_listed(answer, indices);
+    answer
+}
+
 // Lists as `mutual_large` does, and adds to the report. If the report is full, it answers 19 and changes nothing.
 pub fn mutual_counted_large(
     first: &[f64],
@@ -185,7 +235,7 @@ pub fn mutual_counted_large(
             Item::Report,
         )));
     }
-    let answer = counted_large(
+    let answer = counted_listing(
         first,
         first_closed,
         second,

@@ -25,9 +25,8 @@ use Rattle.listing_pairs.specs.Rows.{rowsOf, lookedAt}
 use Rattle.listing_outcomes.specs.declared.answer.ListingAnswer.{ListingAnswer}
 use Rattle.listing_outcomes.specs.declared.answer.ListingAnswer.the-variants.{Refused, Listed}
 use Rattle.listing_outcomes.specs.Outcome.{Outcome, overwrite, room, roomCheck, listedOf, outcome}
-use Rattle.large_outcomes.specs.LargeRow.{largeIndicesARow, largeRoom}
+use Rattle.large_outcomes.specs.LargeRow.{largeIndicesARow, withZeros, largeRoom}
 use Rattle.large_outcomes.specs.LargeOutcome.{largeRoomCheck, largeListedOf, largeOutcome}
-use Rattle.large_listings.specs.Laws.NoLarge.{withZeros}
 
 -- the numbers of n rows of three, with a zero behind each of both indices
 abbrev pub zerosBetween : ℕ → List ℕ → List ℕ

@@ -1,5 +1,5 @@
--- Listings of the mode of large arcs, by request 11: the calls (LargeListings) and the counted listing (LargeCounted), and what
--- is proved of them. A reader need not believe Workings and Laws.
+-- Listings of the mode of large arcs, by request 11: the calls (LargeListings), and what is proved of them. The crate
+-- `large_promise` has what follows from these. A reader need not believe Workings and Laws.
 pub mod LargeListings
 pub mod OverCutPath
 pub mod NoLarge

@@ -23,6 +23,7 @@ use Rattle.boxes.specs.Index.{index}
 use Rattle.listing_pairs.specs.declared.row.Row.{Row}
 use Rattle.listing_pairs.specs.declared.row.Look.the-variants.{Made}
 use Rattle.listing_pairs.specs.Order.{Pair, mutualPairs, selfPairs}
+use Rattle.listing_pairs.specs.Rows.{rowsOf}
 use Rattle.listing_pairs.specs.Look.{selfLookOf, tracedLook, tracedSelfLook}
 use Rattle.listing_pairs.specs.Traces.{traced}
 use Rattle.listing_pairs.specs.Boxed.{boxesMeet, boxedPairs}
@@ -31,10 +32,13 @@ use Rattle.listing_outcomes.specs.declared.answer.PageAnswer.{PageAnswer}
 use Rattle.listing_outcomes.specs.Outcome.{Outcome}
 use Rattle.listing_outcomes.specs.BoxedOutcome.{BoxedOutcome}
 use Rattle.listing_calls.specs.Listing.{mutualChecks, selfChecks}
+use Rattle.large_outcomes.specs.LargeRow.{withZeros}
 use Rattle.large_outcomes.specs.LargeOutcome.{largeOutcome, largePageOutcome, largeBoxedOutcome}
 use Rattle.large_listings.specs.LargeListings.{
   mutualNumbers,
   mutualLargeChecks,
+  mutualLargeLook,
+  mutualLargePairs,
   mutualLarge,
   mutualPageLarge,
   mutualBoxedLarge,
@@ -51,7 +55,6 @@ use Rattle.large_listings.specs.Laws.NoLarge.{
   range-those,
   mutual-own,
   self-own,
-  withZeros,
   zeros-named,
   listing-same,
   page-same,
@@ -117,6 +120,13 @@ module _ (first : List Float) (firstClosed : Bool) (second : List Float) (second
       zeros-named first firstClosed second secondClosed (none-cut first firstClosed p)
       (none-cut second secondClosed q) i j r hi hj
       (mutual-own first second epsilon i j r e)
+
+  -- the rows of all pairs
+  pub mutual-rows-plain : rowsOf (mutualLargeLook first firstClosed second secondClosed epsilon)
+      (mutualLargePairs first firstClosed second secondClosed)
+      ≡ rowsOf (tracedLook first second epsilon)
+      (mutualPairs (segmentCount first firstClosed) (segmentCount second secondClosed))
+  mutual-rows-plain = all-same (λ a b k l cs. rowsOf (tracedLook a b epsilon) (mutualPairs k l))
 
   range : InRange n m (mutualPairs n m)
   range = range-pairs (λ i. 0) (λ i. m) n m (λ i. omega arith)

@@ -2,7 +2,7 @@
 // halves, and the listing is that of the cut paths. A row names the old segments and their halves.
 pub mod cutting;
 pub mod jobs;
-pub mod mutual_large;
-pub mod mutual_page_large;
-pub mod self_large;
-pub mod self_page_large;
+pub mod mutual_cut;
+pub mod mutual_page_cut;
+pub mod self_cut;
+pub mod self_page_cut;

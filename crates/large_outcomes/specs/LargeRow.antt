@@ -19,6 +19,10 @@ largeIndicesOf first second r =
     let b = second (r .j) in
     a .index ∷ a .half ∷ b .index ∷ b .half ∷ r .class ∷ []
 
+-- a row of segments that are not cut: each old index with half 0
+abbrev pub withZeros : Row → List ℕ
+withZeros r = r .i ∷ 0 ∷ r .j ∷ 0 ∷ r .class ∷ []
+
 -- how many rows fit whole into both slices, by their lengths
 abbrev pub largeRowRoom : ℕ → ℕ → ℕ
 largeRowRoom indices points = min (indices / largeIndicesARow) (points / pointsARow)

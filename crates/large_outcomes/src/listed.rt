@@ -43,6 +43,7 @@ pub fn list_large(
         (Ready.lookBy (now (first .entry)) (now (second .entry)) job) (job_of.every job)
         (now (indices .entry)) (now (points .entry)))
         r (now (indices .exit)) (now (points .exit)) ⌝ }
+    ensures { λ _. ⌜ length (now (kept .exit)) ≡ length (now (kept .entry)) ⌝ }
 {
     let room = large_row_room(indices.len(), points.len());
     let threes = room * row::INDICES;
@@ -90,6 +91,7 @@ pub fn page_large(
         (Ready.lookBy (now (first .entry)) (now (second .entry)) job) (job_of.every job)
         position budget (now (indices .entry)) (now (points .entry)))
         r (now (indices .exit)) (now (points .exit)) ⌝ }
+    ensures { λ _. ⌜ length (now (kept .exit)) ≡ length (now (kept .entry)) ⌝ }
 {
     let room = large_row_room(indices.len(), points.len());
     let threes = room * row::INDICES;
@@ -146,6 +148,7 @@ pub fn list_boxed_large(
         (boxed_of.indexFor (now (first .entry)) (now (second .entry)) job)
         (now (boxes .entry)) (now (indices .entry)) (now (points .entry)))
         r (now (boxes .exit)) (now (indices .exit)) (now (points .exit)) ⌝ }
+    ensures { λ _. ⌜ length (now (kept .exit)) ≡ length (now (kept .entry)) ⌝ }
 {
     let room = large_row_room(indices.len(), points.len());
     let threes = room * row::INDICES;

@@ -1,4 +1,4 @@
-// Rows of three numbers become rows of five, in place: each index becomes the name of its segment.
+// Rows of three numbers become rows of five, in place: each index becomes the name of its segment, or gets half 0.
 ghost use mathlib.Core.Path.{_≡_};
 ghost use Prim.Native.Nat.{_≤_, _+_, _*_};
 ghost use lib.ListN.{length, getD};
@@ -42,7 +42,8 @@ fn put_names(indices: &mut [u64], k: usize, first: u64, second: u64, class: u64)
 pub fn spread(first: &[u64], second: &[u64], rows: usize, indices: &mut [u64])
     requires { ⌜ rows * LargeRow.largeIndicesARow ≤ length (now indices) ⌝ }
     ensures { λ _. ⌜
-        now (indices .exit) ≡ spread_of.spread (now (first .entry)) (now (second .entry)) rows (now (indices .entry)) ⌝ }
+        now (indices .exit)
+        ≡ spread_of.spread (spread_of.byNames (now (first .entry)) (now (second .entry))) rows (now (indices .entry)) ⌝ }
 {
     let mut k = rows;
     while k > 0 {
@@ -52,5 +53,36 @@ pub fn spread(first: &[u64], second: &[u64], rows: usize, indices: &mut [u64])
         let j = name_of(second, indices[a + 1]);
         let class = indices[a + 2];
         put_names(indices, k, i, j, class);
+    }
+}
+
+// Stores row k of five numbers: two indices, each with half 0, and the class.
+fn put_zeros(indices: &mut [u64], k: usize, i: u64, j: u64, class: u64)
+    requires { ⌜ (k + 1) * LargeRow.largeIndicesARow ≤ length (now indices) ⌝ }
+    ensures { λ _. ⌜
+        now (indices .exit)
+        ≡ sets (now (indices .entry)) (k * LargeRow.largeIndicesARow) (spread_of.zeroHalves i j class) ⌝ }
+{
+    let a = k * INDICES;
+    indices[a] = i;
+    indices[a + 1] = 0;
+    indices[a + 2] = j;
+    indices[a + 3] = 0;
+    indices[a + 4] = class;
+}
+
+// Spreads as `spread` does, where no segment is cut.
+pub fn spread_zeros(rows: usize, indices: &mut [u64])
+    requires { ⌜ rows * LargeRow.largeIndicesARow ≤ length (now indices) ⌝ }
+    ensures { λ _. ⌜ now (indices .exit) ≡ spread_of.spread spread_of.zeroHalves rows (now (indices .entry)) ⌝ }
+{
+    let mut k = rows;
+    while k > 0 {
+        k -= 1;
+        let a = k * row::INDICES;
+        let i = indices[a];
+        let j = indices[a + 1];
+        let class = indices[a + 2];
+        put_zeros(indices, k, i, j, class);
     }
 }

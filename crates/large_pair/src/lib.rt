@@ -1,10 +1,10 @@
 // How two segments meet in the mode of large arcs: up to four results. specs/LargePair.antt has the definition.
 use checks::fault::Fault;
 
-pub mod check;
+mod check;
 pub mod pair;
-pub mod put;
-pub mod starts;
+mod put;
+mod starts;
 
 // A slice has no room for four results; or a refusal and its place; or how many results there are.
 pub enum LargePair {

@@ -3,7 +3,7 @@
 -- trace. No row is left out of the joined rows either.
 use mathlib.Core.Path.{_≡_, refl, sym, ap, _∙_}
 use mathlib.Core.Bool.{Bool, true, false, cond}
-use mathlib.Core.List.{List, [], _∷_, _++_, append-nil}
+use mathlib.Core.List.{List, [], _∷_, _++_}
 use Prim.Native.Nat.{ℕ, zero, suc, _+_, _*_, _<_, zero-le}
 use native.Mathlib.Omega.{arith}
 use lib.Ieee.{Float}
@@ -13,16 +13,17 @@ use Rattle.checks.specs.declared.fault.Fault.{Fault}
 use Rattle.checks.specs.declared.fault.Checked.{Checked}
 use Rattle.checks.specs.declared.fault.Checked.the-variants.{Fine, Bad}
 use Rattle.checks.specs.First.{first as firstFault}
+use Rattle.arcs.specs.declared.pline_seg_intr.PlineSegIntr.{PlineSegIntr}
 use Rattle.crossing.specs.PlineSegIntr.{classOf}
-use Rattle.paths.specs.Segments.{segmentFrom, segmentCount}
+use Rattle.paths.specs.Segments.{segmentCount}
 use Rattle.listing_pairs.specs.declared.row.Row.{Row}
 use Rattle.listing_pairs.specs.declared.row.Look.{Look}
-use Rattle.listing_pairs.specs.declared.row.Look.the-variants.{Skipped, Nothing, Made}
+use Rattle.listing_pairs.specs.declared.row.Look.the-variants.{Nothing, Made}
 use Rattle.listing_pairs.specs.Order.{Pair, mutualPairs, selfPairs}
 use Rattle.listing_pairs.specs.Row.{indicesARow, pointsARow, indicesOf, pointsOf, numbersOfRows, row, unlessApart, lookOf}
 use Rattle.listing_pairs.specs.Rows.{rowsOf, count, lookedAt}
-use Rattle.listing_pairs.specs.Look.{look, selfLook, selfLookOf, tracedLook, tracedSelfLook}
-use Rattle.listing_pairs.specs.Traces.{oneTrace, tracedPairs}
+use Rattle.listing_pairs.specs.Look.{look, selfLookOf, tracedLook, tracedSelfLook}
+use Rattle.listing_pairs.specs.Traces.{oneTrace, traced, tracedPairs}
 use Rattle.listing_pairs.specs.TracedListing.{traced-looked}
 use Rattle.listing_pairs.specs.Neighbours.{atJoint}
 use Rattle.float_laws.specs.Stores.{flat-length}
@@ -32,11 +33,12 @@ use Rattle.listing_outcomes.specs.declared.answer.PageAnswer.{PageAnswer}
 use Rattle.listing_outcomes.specs.Outcome.{Outcome, overwrite, roomCheck, listedOf, outcome}
 use Rattle.listing_calls.specs.Listing.{mutualChecks, mutualListing, selfChecks, selfListing}
 use Rattle.listing_calls.specs.Pages.{mutualPage, selfPage}
-use Rattle.listing_calls.specs.HasRow.{HasRow, RowAt}
+use Rattle.listing_calls.specs.HasRow.{HasRow}
 use Rattle.listing_calls.specs.Complete.{pairOf, makes}
 use Rattle.listing_calls.specs.Chain.{Lent, Joined, chain}
-use Rattle.listing_calls.specs.Chained.{pagesOf, Whole, whole}
-use Rattle.listing_calls.specs.Laws.Complete.{Within, pairs-have, row-of-pair, row-in-slice}
+use Rattle.listing_calls.specs.Chained.{Whole, whole}
+use Rattle.listing_calls.specs.Joints.{AtJoint, own-pair, row-when}
+use Rattle.listing_calls.specs.Laws.Complete.{Within, pairs-have, row-of-pair, row-in-slice, overwrite-none}
 
 -- ---- the calls of a chain
 abbrev pub mutualPages : List Float → Bool → List Float → Bool → Float → ℕ → Lent → Outcome PageAnswer
@@ -68,15 +70,15 @@ unfolding look lookOf
 looks first second epsilon i j n =
     let m = pairOf first second epsilon i j in never-skipped (classOf m) (row i j m) n
 
-looks-at-own : (path : List Float) (closed : Bool) (epsilon : Float) (i j n : ℕ)
-    → count (selfLook path closed epsilon i j) n ≡ suc n
+looks-at-own : (n : ℕ) (path : List Float) (closed : Bool) (epsilon : Float) (i j k : ℕ)
+    → count (selfLookOf n path closed epsilon i j) k ≡ suc k
 unfolding selfLookOf lookOf
-looks-at-own path closed epsilon i j n =
+looks-at-own n path closed epsilon i j k =
     let m = pairOf path path epsilon i j in
-    go (atJoint path closed (segmentCount path closed) epsilon i j m) (unlessApart (classOf m) (row i j m))
-    (never-skipped (classOf m) (row i j m) n)
+    go (atJoint path closed n epsilon i j m) (unlessApart (classOf m) (row i j m))
+    (never-skipped (classOf m) (row i j m) k)
   where
-    go : (b : Bool) (s : Look) → count s n ≡ suc n → count (cond b Nothing s) n ≡ suc n
+    go : (b : Bool) (s : Look) → count s k ≡ suc k → count (cond b Nothing s) k ≡ suc k
     go true s e = refl
     go false s e = e
 
@@ -87,11 +89,12 @@ mutual-looked first second epsilon ps =
     traced-looked first second (look first second epsilon) ps
     ∙ all-looked (look first second epsilon) (looks first second epsilon) (tracedPairs first second ps)
 
-pub self-looked : (path : List Float) (closed : Bool) (epsilon : Float) (ps : List Pair)
-    → lookedAt (tracedSelfLook path closed epsilon) ps ≡ length (tracedPairs path path ps)
-self-looked path closed epsilon ps =
-    traced-looked path path (selfLook path closed epsilon) ps
-    ∙ all-looked (selfLook path closed epsilon) (looks-at-own path closed epsilon) (tracedPairs path path ps)
+-- of one path of n segments
+pub self-looked : (n : ℕ) (path : List Float) (closed : Bool) (epsilon : Float) (ps : List Pair)
+    → lookedAt (traced path path (selfLookOf n path closed epsilon)) ps ≡ length (tracedPairs path path ps)
+self-looked n path closed epsilon ps =
+    traced-looked path path (selfLookOf n path closed epsilon) ps
+    ∙ all-looked (selfLookOf n path closed epsilon) (looks-at-own n path closed epsilon) (tracedPairs path path ps)
 
 listed-never : {f : Fault} {k m : ℕ} → Refused f ≡ Listed k m → ⊥
 listed-never e = let z : _≡_ {A = ℕ} 0 1 = cc in omega (arith, z)
@@ -120,6 +123,17 @@ module _ (f : ℕ → ℕ → Look) (ps kept : List Pair) (seen : lookedAt f ps 
         indices = w .indices ∙ read indicesOf indicesARow (λ r. refl) indices rows rows-are;
         points = w .points ∙ read pointsOf pointsARow (λ r. refl) points rows rows-are;
       }
+
+  -- a pair of the sequence that makes a row has it among the joined rows
+  joined-row : (a b : ℕ) (met : PlineSegIntr) → Within (record { i = a; j = b }) ps → f a b ≡ Made (row a b met)
+      → HasRow (j .rows) (j .indices) a b
+  joined-row a b met here made =
+      let r = row a b met in
+      let v = row-of-pair f (record { i = a; j = b }) ps r here made in
+      let stands = row-in-slice r (rowsOf f ps) [] v in
+      let all : overwrite [] (numbersOfRows indicesOf (rowsOf f ps)) ≡ j .indices =
+      overwrite-none (numbersOfRows indicesOf (rowsOf f ps)) ∙ sym (w .indices) in
+      record { k = length (v .before); written = omega (arith, stands .0, w .rows); at = rw all at (stands .1) }
 
   same-outcome : {rows pairs : ℕ} → outcome checks f ps indices points .answer ≡ Listed rows pairs
       → SameAs (outcome checks f ps indices points) ps kept rows pairs j
@@ -163,29 +177,12 @@ module _ (first : List Float) (firstClosed : Bool) (second : List Float) (second
       → 0 < classOf (pairOf first second epsilon i j) → oneTrace first second (record { i = i; j = j }) ≡ false
       → HasRow (mutualChain lents .rows) (mutualChain lents .indices) i j
   chain-complete lents fine end i j hi hj meets other =
-      let f = tracedLook first second epsilon in
       let n = segmentCount first firstClosed in
       let m = segmentCount second secondClosed in
-      let ps = mutualPairs n m in
-      let all = mutual-whole lents fine end in
-      let r = row i j (pairOf first second epsilon i j) in
-      let here = pairs-have (λ i. 0) (λ i. m) i j n 0 zero-le (omega (arith, hi)) zero-le hj in
-      let w = row-of-pair f (record { i = i; j = j }) ps r here (makes first second epsilon i j meets other) in
-      let stands = row-in-slice r (rowsOf f ps) [] w in
-      let none : overwrite [] (numbersOfRows indicesOf (rowsOf f ps)) ≡ mutualChain lents .indices =
-      rest-none (numbersOfRows indicesOf (rowsOf f ps)) ∙ sym (all .indices) in
-      record {
-        k = length (w .before);
-        written = omega (arith, stands .0, all .rows);
-        at = rw none at (stands .1);
-      }
-    where
-      rest-none : (l : List ℕ) → overwrite [] l ≡ l
-      rest-none l = ap (λ (r : List ℕ). l ++ r) (nothing (length l)) ∙ append-nil l
-        where
-          nothing : (n : ℕ) → _≡_ {A = List ℕ} (drop n []) []
-          nothing zero = refl
-          nothing (suc n) = refl
+      joined-row (tracedLook first second epsilon) (mutualPairs n m) (tracedPairs first second (mutualPairs n m))
+      (mutual-looked first second epsilon (mutualPairs n m)) (mutualChecks first firstClosed second secondClosed epsilon)
+      (mutualChain lents) (mutual-whole lents fine end) [] [] i j (pairOf first second epsilon i j)
+      (pairs-have (λ i. 0) (λ i. m) i j n 0 zero-le (omega (arith, hi)) zero-le hj) (makes first second epsilon i j meets other)
 
 -- ---- one path
 module _ (path : List Float) (closed : Bool) (epsilon : Float) where
@@ -195,14 +192,33 @@ module _ (path : List Float) (closed : Bool) (epsilon : Float) where
   abbrev pub selfChain : List Lent → Joined
   selfChain lents = chain (selfPages path closed epsilon) 0 lents
 
+  self-whole : (lents : List Lent) → selfChain lents .refused ≡ false → selfChain lents .next ≡ selfEnd
+      → Whole (selfChecks path closed epsilon) (tracedSelfLook path closed epsilon) (selfPairs (segmentCount path closed))
+      (selfChain lents)
+  unfolding selfPage
+  self-whole lents =
+      whole (selfChecks path closed epsilon) (tracedSelfLook path closed epsilon) (selfPairs (segmentCount path closed)) lents
+
   pub self-chain : (lents : List Lent) → selfChain lents .refused ≡ false → selfChain lents .next ≡ selfEnd
       → (indices : List ℕ) (points : List Float) (rows pairs : ℕ)
       → selfListing path closed epsilon indices points .answer ≡ Listed rows pairs
       → let ps = selfPairs (segmentCount path closed) in
       SameAs (selfListing path closed epsilon indices points) ps (tracedPairs path path ps) rows pairs (selfChain lents)
-  unfolding selfPage selfListing
+  unfolding selfListing
   self-chain lents fine end indices points rows pairs e =
-      let ps = selfPairs (segmentCount path closed) in
-      let checks = selfChecks path closed epsilon in
-      same-outcome (tracedSelfLook path closed epsilon) ps (tracedPairs path path ps) (self-looked path closed epsilon ps) checks
-      (selfChain lents) (whole checks (tracedSelfLook path closed epsilon) ps lents fine end) indices points e
+      let n = segmentCount path closed in
+      same-outcome (tracedSelfLook path closed epsilon) (selfPairs n) (tracedPairs path path (selfPairs n))
+      (self-looked n path closed epsilon (selfPairs n)) (selfChecks path closed epsilon) (selfChain lents)
+      (self-whole lents fine end) indices points e
+
+  -- no row is left out, where a pair meets and not only at a joint
+  pub self-chain-complete : (lents : List Lent) → selfChain lents .refused ≡ false → selfChain lents .next ≡ selfEnd
+      → (i j : ℕ) → i < j → j < segmentCount path closed → 0 < classOf (pairOf path path epsilon i j)
+      → (AtJoint (segmentCount path closed) path closed epsilon i j → ⊥) → oneTrace path path (record { i = i; j = j }) ≡ false
+      → HasRow (selfChain lents .rows) (selfChain lents .indices) i j
+  self-chain-complete lents fine end i j order last meets elsewhere other =
+      let n = segmentCount path closed in
+      joined-row (tracedSelfLook path closed epsilon) (selfPairs n) (tracedPairs path path (selfPairs n))
+      (self-looked n path closed epsilon (selfPairs n)) (selfChecks path closed epsilon) (selfChain lents)
+      (self-whole lents fine end) [] [] i j (pairOf path path epsilon i j) (own-pair n i j order last)
+      (row-when n path closed epsilon i j .1 ((meets, elsewhere), other))

@@ -1,5 +1,6 @@
 -- Neighbours in a self listing: when exactly a pair makes a row; that a pair which shares no vertex, and an overlap, makes one
--- whenever it meets; and that no such row is left out of a listing, boxed or not. A pair of one trace is passed over.
+-- whenever it meets; and that no such row is left out of a listing, boxed or not. A pair of one trace is passed over. What is
+-- said of a pair is said of a path of n segments, for any n: the cut path of a large arc may have more than a call takes.
 use mathlib.Core.Path.{_≡_, refl, sym, ap, subst, _∙_}
 use mathlib.Core.Bool.{Bool, true, false, cond, _&&_, _||_, true≢false}
 use mathlib.Core.Logic.{_↔_, _⊎_, inl, inr}
@@ -29,9 +30,8 @@ use Rattle.listing_pairs.specs.declared.row.Look.{Look}
 use Rattle.listing_pairs.specs.declared.row.Look.the-variants.{Skipped, Nothing, Made}
 use Rattle.listing_pairs.specs.Row.{row, unlessApart, lookOf}
 use Rattle.listing_pairs.specs.Order.{selfPairs}
-use Rattle.listing_pairs.specs.Look.{selfLook, selfLookOf, tracedSelfLook}
+use Rattle.listing_pairs.specs.Look.{selfLookOf, tracedSelfLook}
 use Rattle.listing_pairs.specs.Traces.{oneTrace, traced}
-use Rattle.listing_pairs.specs.TracedListing.{not-of-one}
 use Rattle.listing_pairs.specs.Boxed.{boxesMeet, boxedPairs}
 use Rattle.listing_pairs.specs.Neighbours.{sharedVertices, nearSome, onlyAt, atJoint}
 use Rattle.listing_outcomes.specs.declared.answer.ListingAnswer.the-variants.{Listed}
@@ -113,28 +113,28 @@ near-some-when path epsilon (k ∷ ks) p = (
             or-true true = refl
             or-true false = refl
 
--- ---- one pair
-module _ (path : List Float) (closed : Bool) (epsilon : Float) (i j : ℕ) where
+-- ---- one pair of a path of n segments
+module _ (n : ℕ) (path : List Float) (closed : Bool) (epsilon : Float) (i j : ℕ) where
   -- how segments i and j meet, and which vertices they share
   abbrev pub met : PlineSegIntr
   met = pairOf path path epsilon i j
 
   abbrev pub shared : List ℕ
-  shared = sharedVertices (segmentCount path closed) closed i j
+  shared = sharedVertices n closed i j
 
   -- it makes a row, or it makes none and is looked at all the same
   abbrev pub AtJoint : Type 0
   AtJoint = EachNear (nearSome path epsilon shared) met
 
   abbrev silent : Bool
-  silent = atJoint path closed (segmentCount path closed) epsilon i j met
+  silent = atJoint path closed n epsilon i j met
 
   silent-when : (silent ≡ true) ↔ AtJoint
   unfolding atJoint
   silent-when = only-at-when (nearSome path epsilon shared) met
 
   -- ---- if the pair is looked at: no row exactly if the two are apart or at a joint
-  silent-pair : (selfLook path closed epsilon i j ≡ Nothing) ↔ ((classOf met ≡ 0) ⊎ AtJoint)
+  silent-pair : (selfLookOf n path closed epsilon i j ≡ Nothing) ↔ ((classOf met ≡ 0) ⊎ AtJoint)
   unfolding selfLookOf lookOf
   silent-pair = (forth (classOf met) silent refl refl, back)
     where
@@ -154,7 +154,7 @@ module _ (path : List Float) (closed : Bool) (epsilon : Float) (i j : ℕ) where
       back (inr h) = rw (silent-when .1 h) refl
 
   -- a row exactly if they meet, and not only at a joint
-  row-pair : (selfLook path closed epsilon i j ≡ Made (row i j met)) ↔ ((0 < classOf met) × (AtJoint → ⊥))
+  row-pair : (selfLookOf n path closed epsilon i j ≡ Made (row i j met)) ↔ ((0 < classOf met) × (AtJoint → ⊥))
   unfolding selfLookOf lookOf
   row-pair = (forth (classOf met) silent refl refl, back)
     where
@@ -175,6 +175,9 @@ module _ (path : List Float) (closed : Bool) (epsilon : Float) (i j : ℕ) where
           go false f (suc class) l = refl
 
   -- ---- in a listing: a pair of one trace is skipped, and any other is as above
+  abbrev pub inListing : Look
+  inListing = traced path path (selfLookOf n path closed epsilon) i j
+
   abbrev pub OneTrace : Bool
   OneTrace = oneTrace path path (record { i = i; j = j })
 
@@ -182,7 +185,7 @@ module _ (path : List Float) (closed : Bool) (epsilon : Float) (i j : ℕ) where
   split s r never when true = (λ e. absurd (never e), λ h. absurd (true≢false (h .1)))
   split s r never when false = (λ e. (when .0 e, refl), λ h. when .1 (h .0))
 
-  pub skipped-when : (tracedSelfLook path closed epsilon i j ≡ Skipped) ↔ (OneTrace ≡ true)
+  pub skipped-when : (inListing ≡ Skipped) ↔ (OneTrace ≡ true)
   unfolding traced selfLookOf lookOf
   skipped-when = go OneTrace silent (classOf met)
     where
@@ -199,18 +202,18 @@ module _ (path : List Float) (closed : Bool) (epsilon : Float) (i j : ℕ) where
       go false false (suc class) = (λ e. made refl e, λ e. absurd (true≢false (sym e)))
 
   -- it is looked at and makes no row exactly if the two are apart or at a joint
-  pub no-row-when : (tracedSelfLook path closed epsilon i j ≡ Nothing) ↔ (((classOf met ≡ 0) ⊎ AtJoint) × (OneTrace ≡ false))
+  pub no-row-when : (inListing ≡ Nothing) ↔ (((classOf met ≡ 0) ⊎ AtJoint) × (OneTrace ≡ false))
   unfolding traced
   no-row-when =
-      split (selfLook path closed epsilon i j) Nothing (λ e. let z : _≡_ {A = ℕ} 0 1 = cc in omega (arith, z)) silent-pair OneTrace
+      split (selfLookOf n path closed epsilon i j) Nothing (λ e. let z : _≡_ {A = ℕ} 0 1 = cc in omega (arith, z)) silent-pair
+      OneTrace
 
   -- it makes a row exactly if they meet, and not only at a joint
-  pub row-when : (tracedSelfLook path closed epsilon i j ≡ Made (row i j met))
-      ↔ (((0 < classOf met) × (AtJoint → ⊥)) × (OneTrace ≡ false))
+  pub row-when : (inListing ≡ Made (row i j met)) ↔ (((0 < classOf met) × (AtJoint → ⊥)) × (OneTrace ≡ false))
   unfolding traced
   row-when =
-      split (selfLook path closed epsilon i j) (Made (row i j met)) (λ e. let z : _≡_ {A = ℕ} 0 1 = cc in omega (arith, z)) row-pair
-      OneTrace
+      split (selfLookOf n path closed epsilon i j) (Made (row i j met))
+      (λ e. let z : _≡_ {A = ℕ} 0 1 = cc in omega (arith, z)) row-pair OneTrace
 
   -- a pair that shares no vertex is never at a joint, and neither is an overlap
   pub no-neighbours : shared ≡ [] → AtJoint → ⊥
@@ -236,16 +239,20 @@ module _ (path : List Float) (closed : Bool) (epsilon : Float) (i j : ℕ) where
       go (OverlappingArcs p q) l z = z
 
 -- ---- a listing: no such row is left out
+-- every i < j is one of the pairs
+pub own-pair : (n i j : ℕ) → i < j → j < n → Within (record { i = i; j = j }) (selfPairs n)
+own-pair n i j order last =
+    pairs-have (λ i. i + 1) (λ i. n) i j n 0 zero-le (omega (arith, order, last)) (omega (arith, order)) last
+
 module _ (path : List Float) (closed : Bool) (epsilon : Float) (rows pairs i j : ℕ) (order : i < j)
     (last : j < segmentCount path closed) (meets : 0 < classOf (pairOf path path epsilon i j))
-    (elsewhere : AtJoint path closed epsilon i j → ⊥) (other : oneTrace path path (record { i = i; j = j }) ≡ false) where
+    (elsewhere : AtJoint (segmentCount path closed) path closed epsilon i j → ⊥)
+    (other : oneTrace path path (record { i = i; j = j }) ≡ false) where
   here : Within (record { i = i; j = j }) (selfPairs (segmentCount path closed))
-  here =
-      let n = segmentCount path closed in
-      pairs-have (λ i. i + 1) (λ i. n) i j n 0 zero-le (omega (arith, order, last)) (omega (arith, order)) last
+  here = own-pair (segmentCount path closed) i j order last
 
   made : tracedSelfLook path closed epsilon i j ≡ Made (row i j (pairOf path path epsilon i j))
-  made = row-when path closed epsilon i j .1 ((meets, elsewhere), other)
+  made = row-when (segmentCount path closed) path closed epsilon i j .1 ((meets, elsewhere), other)
 
   pub self-complete : (indices : List ℕ) (points : List Float)
       → selfListing path closed epsilon indices points .answer ≡ Listed rows pairs

@@ -82,18 +82,21 @@ abbrev pub countedOf : Checked → Outcome ListingAnswer → List Row → List �
 countedOf (Bad fault) listing rows indices points report = unchanged (Answered (Refused fault)) indices points report
 countedOf Fine listing rows indices points report = counted listing rows report
 
+-- any listing, with its rows: no room if the report has too few words; then 19; then the listing
+abbrev pub countedListing : Outcome ListingAnswer → List Row → List ℕ → List Float → List ℕ → CountedOutcome
+countedListing listing rows indices points report =
+    cond (ltb (length report) words)
+    (unchanged NoRoom indices points report)
+    (countedOf (reportCheck report) listing rows indices points report)
+
 -- ---- two paths
 -- the rows of all their pairs
 abbrev pub mutualRows : List Float → Bool → List Float → Bool → Float → List Row
 mutualRows first firstClosed second secondClosed epsilon =
     rowsOf (tracedLook first second epsilon) (mutualPairs (segmentCount first firstClosed) (segmentCount second secondClosed))
 
--- no room if the report has too few words; then 19; then the listing
 unfoldable pub mutualCounted :
     List Float → Bool → List Float → Bool → Float → List ℕ → List Float → List ℕ → CountedOutcome
 mutualCounted first firstClosed second secondClosed epsilon indices points report =
-    cond (ltb (length report) words)
-    (unchanged NoRoom indices points report)
-    (countedOf (reportCheck report)
-    (mutualListing first firstClosed second secondClosed epsilon indices points)
-    (mutualRows first firstClosed second secondClosed epsilon) indices points report)
+    countedListing (mutualListing first firstClosed second secondClosed epsilon indices points)
+    (mutualRows first firstClosed second secondClosed epsilon) indices points report

@@ -1,14 +1,11 @@
 -- When exactly a counted listing and a join refuse, and what they leave then. 19 comes before all other checks of a counted
 -- listing: exactly if the report has 10,000 layouts or more, or one of its words 1 to 39 is too large. It leaves everything
 -- unchanged, whatever the paths, epsilon and slices are. All other refusals are the listing's.
-use mathlib.Core.Path.{_≡_, refl, sym, ap, _∙_}
-use mathlib.Core.Bool.{Bool, true, false, true≢false, _||_}
+use mathlib.Core.Path.{_≡_, refl}
+use mathlib.Core.Bool.{Bool, true}
 use mathlib.Core.Logic.{_↔_, _⊎_, inl, inr}
-use mathlib.Core.List.{List, [], _∷_, _++_}
+use mathlib.Core.List.{List, _∷_}
 use Prim.Native.Nat.{ℕ, _+_, _≤_, _<_}
-use native.Mathlib.Omega.{arith}
-use borrow.Author.Tests.{ltb-true, ltb-false, lt-ltb, le-ltb}
-use lib.Dec.{ltb}
 use lib.Ieee.{Float}
 use lib.ListN.{length}
 use Rattle.checks.specs.declared.fault.Item.the-variants.{Report}
@@ -17,18 +14,25 @@ use Rattle.checks.specs.declared.fault.Checked.{Checked}
 use Rattle.checks.specs.declared.fault.Checked.the-variants.{Fine, Bad}
 use Rattle.checks.specs.Fault.{whole}
 use Rattle.checks.specs.Refusal
+use Rattle.checks.specs.First.{first as firstFault}
+use Rattle.checks.specs.Answered.{answered}
 use Rattle.checks.specs.ExactlyWhen.{ExactlyWhen}
+use Rattle.listing_pairs.specs.declared.row.Row.{Row}
 use Rattle.listing_pairs.specs.Look.{tracedLook}
+use Rattle.listing_pairs.specs.Rows.{rowsOf, lookedAt}
+use Rattle.listing_outcomes.specs.declared.answer.ListingAnswer.{ListingAnswer}
 use Rattle.listing_outcomes.specs.declared.answer.ListingAnswer.the-variants.{Refused}
+use Rattle.listing_outcomes.specs.Outcome.{Outcome, listedOf, outcome}
 use Rattle.listing_calls.specs.Listing.{mutualChecks, mutualListing}
 use Rattle.listing_calls.specs.Refusals as listings
 use Rattle.month.specs.declared.join.JoinAnswer.the-variants as joins
 use Rattle.month.specs.declared.mutual_counted.CountedAnswer.{CountedAnswer}
 use Rattle.month.specs.declared.mutual_counted.CountedAnswer.the-variants.{NoRoom, Answered}
 use Rattle.month.specs.Report.{words, layouts, pairs, mostLayouts, largest, mostHeld, word, full}
-use Rattle.month.specs.Counted.{CountedOutcome, unchanged, reportCheck, mutualCounted}
-use Rattle.month.specs.Join.{JoinOutcome, tooMuch, join}
+use Rattle.month.specs.Counted.{unchanged, reportCheck, mutualRows, mutualCounted}
+use Rattle.month.specs.Join.{join}
 use Rattle.month.specs.Laws.Cases.{no-room-is, full-is}
+use Rattle.month.specs.Laws.Listings.{mutual-given}
 use Rattle.month.specs.Laws.Joins as cases
 use Rattle.month.specs.Laws.When as laws
 
@@ -63,28 +67,49 @@ accepted c = Answered (listings.counted c)
 
 module _ (first : List Float) (firstClosed : Bool) (second : List Float) (secondClosed : Bool) (epsilon : Float)
     (indices : List ℕ) (points : List Float) (report : List ℕ) where
+  abbrev listing : Outcome ListingAnswer
+  listing = mutualListing first firstClosed second secondClosed epsilon indices points
+
+  abbrev rows : List Row
+  rows = mutualRows first firstClosed second secondClosed epsilon
+
+  -- the listing answers by its first fault
+  by-fault : (c : Checked)
+      → (let f = tracedLook first second epsilon in
+      let ps = listings.between first firstClosed second secondClosed epsilon indices points in
+      listedOf c (rowsOf f ps) (lookedAt f ps) indices points .answer
+      ≡ answered Refused listings.counted c
+      (listings.counts (mutualChecks first firstClosed second secondClosed epsilon) f ps indices points))
+  by-fault Fine = refl
+  by-fault (Bad f) = refl
+
   -- no room, before everything
   pub no-room-when : (mutualCounted first firstClosed second secondClosed epsilon indices points report .listing .answer ≡ NoRoom)
       ↔ (length report < words)
-  no-room-when = laws.no-room-when first firstClosed second secondClosed epsilon indices points report
+  unfolding mutualCounted
+  no-room-when = laws.no-room-when listing rows indices points report
 
   pub no-room-leaves : length report < words
       → mutualCounted first firstClosed second secondClosed epsilon indices points report ≡ unchanged NoRoom indices points report
-  no-room-leaves = no-room-is first firstClosed second secondClosed epsilon indices points report
+  unfolding mutualCounted
+  no-room-leaves = no-room-is listing rows indices points report
 
   module _ (long : words ≤ length report) where
     -- 19: its answer, and all that it leaves
     pub full-leaves : full report ≡ true
         → mutualCounted first firstClosed second secondClosed epsilon indices points report
         ≡ unchanged (refusedWith (whole Refusal.report Report)) indices points report
-    full-leaves = full-is first firstClosed second secondClosed epsilon indices points report long
+    unfolding mutualCounted
+    full-leaves = full-is listing rows indices points report long
 
     pub report-when : (f : Fault) → f .number ≡ Refusal.report
         → (mutualCounted first firstClosed second secondClosed epsilon indices points report .listing .answer ≡ refusedWith f)
         → (mostLayouts ≤ word report layouts) ⊎ TooLarge report
+    unfolding mutualCounted
     report-when f is e =
         full-when report long .0
-        (laws.nineteen first firstClosed second secondClosed epsilon indices points report long f is e)
+        (laws.nineteen listing rows indices points report
+        (mutual-given first firstClosed second secondClosed epsilon indices points) long f is e)
 
     -- all refusals: the first fault of the report's check and then of the listing's
     pub counted-when :
@@ -95,21 +120,32 @@ module _ (first : List Float) (firstClosed : Bool) (second : List Float) (second
         (listings.between first firstClosed second secondClosed epsilon indices points) indices points)
         (listings.counts (mutualChecks first firstClosed second secondClosed epsilon) (tracedLook first second epsilon)
         (listings.between first firstClosed second secondClosed epsilon indices points) indices points)
-    counted-when = laws.counted-when first firstClosed second secondClosed epsilon indices points report long
+    unfolding mutualCounted mutualListing outcome
+    counted-when =
+        let checks = mutualChecks first firstClosed second secondClosed epsilon in
+        let f = tracedLook first second epsilon in
+        let ps = listings.between first firstClosed second secondClosed epsilon indices points in
+        let all = listings.all checks f ps indices points in
+        laws.counted-when listing rows indices points report all (listings.counts checks f ps indices points)
+        (by-fault (firstFault all)) long
 
   -- a refusal is 19, or the listing's own
   pub refused-by : (f : Fault)
       → mutualCounted first firstClosed second secondClosed epsilon indices points report .listing .answer ≡ refusedWith f
       → (f ≡ whole Refusal.report Report)
       ⊎ (mutualListing first firstClosed second secondClosed epsilon indices points .answer ≡ Refused f)
-  refused-by = laws.refused-by first firstClosed second secondClosed epsilon indices points report
+  unfolding mutualCounted
+  refused-by = laws.refused-by listing rows indices points report
 
   -- a refusal leaves the rows' slices unchanged
   pub refused-leaves : (f : Fault)
       → mutualCounted first firstClosed second secondClosed epsilon indices points report .listing .answer ≡ refusedWith f
       → (mutualCounted first firstClosed second secondClosed epsilon indices points report .listing .indices ≡ indices)
       × (mutualCounted first firstClosed second secondClosed epsilon indices points report .listing .points ≡ points)
-  refused-leaves = laws.refused-leaves first firstClosed second secondClosed epsilon indices points report
+  unfolding mutualCounted
+  refused-leaves =
+      laws.refused-leaves listing rows indices points report
+      (listings.mutual-untouched first firstClosed second secondClosed epsilon indices points)
 
 -- ---- a join
 -- some sum does not fit 64 bits

@@ -1,5 +1,6 @@
--- A run: one layout after the other, counted in one report.
-use mathlib.Core.Bool.{Bool, true, false, cond}
+-- A run: one layout after the other, counted in one report. `runOf`, `counted` and `sumOf` are of layouts of any kind: so a run of
+-- the mode of large arcs, or of both modes, is described by the same words.
+use mathlib.Core.Bool.{Bool, cond}
 use mathlib.Core.List.{List, [], _∷_}
 use Prim.Native.Nat.{ℕ, _+_, _-_, _*_}
 use lib.Dec.{eqb}
@@ -29,14 +30,17 @@ abbrev pub after : List ℕ → Layout → List ℕ
 after report l =
     mutualCounted (l .first) (l .firstClosed) (l .second) (l .secondClosed) (l .epsilon) (l .indices) (l .points) report .report
 
--- and after all of them; a layout that gets 19 leaves the report as it is
+-- and after all of them, of any kind; a layout that gets 19 leaves the report as it is
+abbrev pub runOf : {L : Type 0} → (List ℕ → L → List ℕ) → List ℕ → List L → List ℕ
+runOf after report [] = report
+runOf after report (l ∷ ls) = runOf after (after report l) ls
+
 abbrev pub run : List ℕ → List Layout → List ℕ
-run report [] = report
-run report (l ∷ ls) = run (after report l) ls
+run report ls = runOf after report ls
 
 -- ---- what a run is compared with
 -- the layouts that are counted: the first 10,000
-abbrev pub counted : List Layout → List Layout
+abbrev pub counted : {L : Type 0} → List L → List L
 counted ls = take mostLayouts ls
 
 -- what the mutual listing answers to a layout
@@ -71,14 +75,16 @@ abbrev pub ifAccepted : ListingAnswer → ℕ → ℕ
 ifAccepted (Refused f) n = 0
 ifAccepted (Listed rows looked) n = n
 
--- a layout's pairs: n * m, less those of one trace above 0
+-- the pairs of two paths of n and of m segments: n * m, less those of one trace above 0
+abbrev pub pairsBetween : List Float → List Float → ℕ → ℕ → ℕ
+pairsBetween first second n m = n * m - length (those (oneTrace first second) (mutualPairs n m))
+
+-- a layout's pairs
 abbrev pub pairsOf : Layout → ℕ
 pairsOf l =
-    let n = segmentCount (l .first) (l .firstClosed) in
-    let m = segmentCount (l .second) (l .secondClosed) in
-    n * m - length (those (oneTrace (l .first) (l .second)) (mutualPairs n m))
+    pairsBetween (l .first) (l .second) (segmentCount (l .first) (l .firstClosed)) (segmentCount (l .second) (l .secondClosed))
 
 -- a number of each layout, summed up
-abbrev pub sumOf : (Layout → ℕ) → List Layout → ℕ
+abbrev pub sumOf : {L : Type 0} → (L → ℕ) → List L → ℕ
 sumOf number [] = 0
 sumOf number (l ∷ ls) = number l + sumOf number ls

@@ -16,6 +16,7 @@ use Rattle.paths.specs.Segments.{segmentCount}
 use Rattle.listing_pairs.specs.Order.{Pair, mutualPairs, those}
 use Rattle.listing_pairs.specs.Traces.{tracedPairs}
 use Rattle.listing_outcomes.specs.declared.answer.ListingAnswer.the-variants.{Refused, Listed}
+use Rattle.listing_calls.specs.Listing.{mutualListing}
 use Rattle.listing_calls.specs.Complete.{pairOf}
 use Rattle.month.specs.declared.mutual_counted.CountedAnswer.the-variants.{Answered}
 use Rattle.month.specs.Report.{words, layouts, pairs, classes, refusals, refusalNumbers, word}
@@ -24,7 +25,14 @@ use Rattle.month.specs.Laws.Words.{word-plus, word-same}
 use Rattle.month.specs.Laws.Given.{given-below}
 use Rattle.month.specs.Laws.Listings.{mutual-counts, mutual-given}
 use Rattle.month.specs.Laws.Cases.{told-listed, told-refused}
-use Rattle.month.specs.Laws.Added.{accepted-adds, refused-layout, refused-number, refused-else, unchanged-behind}
+use Rattle.month.specs.Laws.Added.{
+  accepted-adds,
+  refused-layout,
+  refused-number,
+  refused-else,
+  mutual-small,
+  unchanged-behind,
+}
 
 -- how many classes there are
 abbrev pub classCount : ℕ
@@ -64,10 +72,15 @@ module _ (first : List Float) (firstClosed : Bool) (second : List Float) (second
       ≡ Answered (Listed rows looked)
       → WithAccepted first firstClosed second secondClosed epsilon report
       (mutualCounted first firstClosed second secondClosed epsilon indices points report .report)
+  unfolding mutualCounted
   accepted-totals rows looked e =
-      let told = told-listed first firstClosed second secondClosed epsilon indices points report rows looked e in
+      let told =
+      told-listed (mutualListing first firstClosed second secondClosed epsilon indices points)
+      (mutualRows first firstClosed second secondClosed epsilon) indices points report rows looked e in
       let its = mutual-counts first firstClosed second secondClosed epsilon indices points rows looked (told .listed) in
-      let l = accepted-adds first firstClosed second secondClosed epsilon looked (its .1) in
+      let l =
+      accepted-adds first second epsilon (mutualPairs (segmentCount first firstClosed) (segmentCount second secondClosed)) looked
+      (its .1) in
       let at : (k : ℕ) → k < words → word w k ≡ word report k + word (acceptedAdds (mutualRows first firstClosed second
       secondClosed epsilon) looked) k =
       λ k h. ap (λ (x : List ℕ). word x k) (told .sum) ∙ word-plus report _ k (omega (arith, h, told .long)) in
@@ -85,8 +98,11 @@ module _ (first : List Float) (firstClosed : Bool) (second : List Float) (second
       → mutualCounted first firstClosed second secondClosed epsilon indices points report .listing .answer ≡ Answered (Refused f)
       → (f .number ≡ Refusal.report → ⊥)
       → WithRefused (f .number) report (mutualCounted first firstClosed second secondClosed epsilon indices points report .report)
+  unfolding mutualCounted
   refused-totals f e other =
-      let told = told-refused first firstClosed second secondClosed epsilon indices points report f e other in
+      let told =
+      told-refused (mutualListing first firstClosed second secondClosed epsilon indices points)
+      (mutualRows first firstClosed second secondClosed epsilon) indices points report f e other in
       let n = f .number in
       let below : n < refusalNumbers =
       given-below n (mutual-given first firstClosed second secondClosed epsilon indices points f (told .listed)) in
@@ -104,5 +120,8 @@ module _ (first : List Float) (firstClosed : Bool) (second : List Float) (second
 pub behind : (first : List Float) (firstClosed : Bool) (second : List Float) (secondClosed : Bool) (epsilon : Float)
     (indices : List ℕ) (points : List Float) (report : List ℕ)
     → drop words (mutualCounted first firstClosed second secondClosed epsilon indices points report .report) ≡ drop words report
+unfolding mutualCounted
 behind first firstClosed second secondClosed epsilon indices points report =
-    unchanged-behind first firstClosed second secondClosed epsilon indices points report
+    unchanged-behind (mutualListing first firstClosed second secondClosed epsilon indices points)
+    (mutualRows first firstClosed second secondClosed epsilon) indices points
+    (mutual-small first firstClosed second secondClosed epsilon indices points) report

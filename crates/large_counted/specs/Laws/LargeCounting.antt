@@ -30,12 +30,12 @@ use Rattle.listing_pairs.specs.Rows.{rowsOf, lookedAt}
 use Rattle.listing_loop.specs.Laws.Pages.{few-looked}
 use Rattle.listing_outcomes.specs.declared.answer.ListingAnswer.{ListingAnswer}
 use Rattle.listing_outcomes.specs.declared.answer.ListingAnswer.the-variants.{Refused, Listed}
-use Rattle.listing_outcomes.specs.Outcome.{Outcome, Leaves, overwrite, listedOf}
+use Rattle.listing_outcomes.specs.Outcome.{Outcome, Leaves, overwrite, roomCheck, listedOf}
 use Rattle.listing_outcomes.specs.Workings.Outcome.{listed}
 use Rattle.large_outcomes.specs.LargeRow.{largeIndicesARow, largeRoom}
 use Rattle.large_outcomes.specs.LargeOutcome.{largeRoomCheck, largeListedOf}
 use Rattle.large_outcomes.specs.Laws.Parts.{indicesPart, pointsPart, rows-inside}
-use Rattle.large_outcomes.specs.Workings.Spread.{spread, fiveOf}
+use Rattle.large_outcomes.specs.Workings.Spread.{byNames, spread, fiveOf}
 use Rattle.large_outcomes.specs.Laws.Large.{few-rows, listed-whole, listed-refused, listed-spread}
 use Rattle.month.specs.declared.mutual_counted.CountedAnswer.the-variants.{NoRoom, Answered}
 use Rattle.month.specs.Report.{words, refusalNumbers, mostAdded, full, plus}
@@ -56,35 +56,37 @@ never e = let z : _≡_ {A = ℕ} 0 1 = cc in omega (arith, z)
 same-fault : {f g : Fault} → Refused f ≡ Refused g → f ≡ g
 same-fault e = cc
 
--- ---- the listing of checked paths, in the lent parts
+-- ---- a listing in the lent parts. `found` makes the first fault of all checks from 8's check, which is among them
 module _ (look : ℕ → ℕ → Look) (ps : List Pair) (few : length ps ≤ mostAdded) (i₀ : List ℕ) (p₀ : List Float) (m : ℕ)
-    (is : m ≡ largeRoom i₀ p₀) (r : ListingAnswer) (i : List ℕ) (p : List Float)
-    (l : Leaves (listed look ps (indicesPart i₀ p₀ m is) (pointsPart i₀ p₀ m is)) r i p) (w₀ : List ℕ) where
+    (is : m ≡ largeRoom i₀ p₀) (found : Checked → Checked) (among : (c : Checked) → found c ≡ Fine → c ≡ Fine)
+    (known : Known (found (largeRoomCheck (rowsOf look ps) i₀ p₀))) (r : ListingAnswer) (i : List ℕ) (p : List Float)
+    (l : Leaves (listedOf (found (roomCheck (rowsOf look ps) (indicesPart i₀ p₀ m is) (pointsPart i₀ p₀ m is)))
+    (rowsOf look ps) (lookedAt look ps) (indicesPart i₀ p₀ m is) (pointsPart i₀ p₀ m is)) r i p) (w₀ : List ℕ) where
   abbrev rows : List Row
   rows = rowsOf look ps
 
   abbrev check : Checked
-  check = largeRoomCheck rows i₀ p₀
+  check = found (largeRoomCheck rows i₀ p₀)
 
   abbrev now : List ℕ
   now = i ++ drop (m * indicesARow) i₀
 
   all : Leaves (listedOf check rows (lookedAt look ps) i₀ p₀) r now (p ++ drop (m * pointsARow) p₀)
-  all = listed-whole i₀ p₀ m is [] [] look ps r i p l
+  all = listed-whole i₀ p₀ m is (byNames [] []) (λ x y class. refl) look ps found among r i p l
 
   pub countable : words ≤ length w₀ → full w₀ ≡ false → Countable r (i ++ drop (m * indicesARow) i₀) w₀
   countable long roomy =
       record {
         long = long;
         roomy = roomy;
-        refused = λ f e. go-refused check (room-known rows i₀ p₀) (all .answer) f e;
+        refused = λ f e. go-refused check known (all .answer) f e;
         listed = λ n k e. go check refl all n k e;
       }
     where
       go-refused : (c : Checked) → Known c → r ≡ listedOf c rows (lookedAt look ps) i₀ p₀ .answer → (f : Fault) → r ≡ Refused f
           → f .number < refusalNumbers
-      go-refused Fine known h f e = absurd (never (sym e ∙ h))
-      go-refused (Bad g) known h f e = given-below (f .number) (known .known f (ap Bad (same-fault (sym h ∙ e))))
+      go-refused Fine k h f e = absurd (never (sym e ∙ h))
+      go-refused (Bad g) k h f e = given-below (f .number) (k .known f (ap Bad (same-fault (sym h ∙ e))))
 
       go : (c : Checked) → check ≡ c → Leaves (listedOf c rows (lookedAt look ps) i₀ p₀) r now (p ++ drop (m * pointsARow) p₀)
           → (n k : ℕ) → r ≡ Listed n k → Listing n k now
@@ -122,7 +124,7 @@ module _ (look : ℕ → ℕ → Look) (ps : List Pair) (few : length ps ≤ mos
           omega (
             arith,
             count,
-            few-rows i₀ p₀ m is rows h,
+            few-rows i₀ p₀ m is rows (among (largeRoomCheck rows i₀ p₀) h),
             rows-inside i₀ p₀ m is,
             ap length (leaves .indices),
             length-append three (drop (length three) i₀),
@@ -214,7 +216,7 @@ module _ (firsts seconds : List ℕ) (look : ℕ → ℕ → Look) (ps : List Pa
     (sum : w ≡ plus w₀ (addsBy r (i ++ drop (m * indicesARow) i₀))) where
   its-report : (a : ListingAnswer) → r ≡ a → w ≡ plus w₀ (adds a (rowsOf look ps))
   its-report a e =
-      added look ps few i₀ p₀ m is r i p l w₀ w sum
+      added look ps few i₀ p₀ m is (λ c. c) (λ c e. e) (room-known (rowsOf look ps) i₀ p₀) r i p l w₀ w sum
       ∙ ap (λ (x : ListingAnswer). plus w₀ (adds x (rowsOf look ps))) e
 
   pub counted-refused : (f : Fault) → r ≡ Refused f
@@ -222,16 +224,16 @@ module _ (firsts seconds : List ℕ) (look : ℕ → ℕ → Look) (ps : List Pa
       (p ++ drop (m * pointsARow) p₀) w
   counted-refused f e =
       record {
-        listing = listed-refused i₀ p₀ m is firsts seconds look ps r i p f e l;
+        listing = listed-refused i₀ p₀ m is (byNames firsts seconds) (λ x y class. refl) look ps (λ c. c) (λ c e. e) r i p f e l;
         report = its-report (Refused f) e;
       }
 
   pub counted-spread : (now : List ℕ) (n k : ℕ) → r ≡ Listed n k
-      → now ≡ spread firsts seconds n (i ++ drop (m * indicesARow) i₀)
+      → now ≡ spread (byNames firsts seconds) n (i ++ drop (m * indicesARow) i₀)
       → ListedCounted (fiveOf firsts seconds) look ps i₀ p₀ w₀ (Listed n k) now (p ++ drop (m * pointsARow) p₀) w
   counted-spread now n k e done =
       record {
-        listing = listed-spread i₀ p₀ m is firsts seconds look ps r i now p n k e l done;
+        listing = listed-spread i₀ p₀ m is (byNames firsts seconds) (λ x y class. refl) look ps (λ c. c) (λ c e. e) r i now p n k e l done;
         report = its-report (Listed n k) e;
       }
 

@@ -50,7 +50,7 @@ use Rattle.listing_outcomes.specs.declared.answer.ListingAnswer.the-variants.{R
 use Rattle.listing_outcomes.specs.declared.answer.PageAnswer.the-variants as page_answer
 use Rattle.listing_outcomes.specs.Outcome.{Outcome, overwrite}
 use Rattle.listing_outcomes.specs.BoxedOutcome.{indexCheck, boxesAfter}
-use Rattle.large_outcomes.specs.LargeRow.{largeIndicesOf, largeRoom}
+use Rattle.large_outcomes.specs.LargeRow.{largeIndicesOf, withZeros, largeRoom}
 use Rattle.large_outcomes.specs.LargeOutcome.{
   largeOf,
   largeRoomCheck,
@@ -71,7 +71,7 @@ decide y real e = go (lt Limit.largeBulge y) refl
         absurd (not-both y Limit.largeBulge (le-trans y f1 Limit.largeBulge (not-below y f1 real refl e) tt) (subst T (sym h) tt))
 
 -- what is not above 1 is not above 16
-not-larger : (y : Float) → lt f1 y ≡ false → lt Limit.largeBulge y ≡ false
+pub not-larger : (y : Float) → lt f1 y ≡ false → lt Limit.largeBulge y ≡ false
 unfolding isNan ofBits lt
 not-larger nan e = refl
 not-larger (inf s) e = decide (inf s) refl e
@@ -213,9 +213,6 @@ self-own n path closed epsilon i j r =
     (λ s h. never-nothing h) (of-class (classOf met) i j (row i j met) r (refl, refl)))
 
 -- ---- by the names of a path with nothing cut
-abbrev pub withZeros : Row → List ℕ
-withZeros r = r .i ∷ 0 ∷ r .j ∷ 0 ∷ r .class ∷ []
-
 pub zeros-named : (first : List Float) (firstClosed : Bool) (second : List Float) (secondClosed : Bool)
     → NoneLarge first firstClosed → NoneLarge second secondClosed → (i j : ℕ) (r : Row)
     → i < segmentCount first firstClosed → j < segmentCount second secondClosed → (r .i ≡ i) × (r .j ≡ j)

@@ -16,6 +16,7 @@ use Rattle.checks.specs.declared.fault.Checked.the-variants.{Fine, Bad}
 use Rattle.checks.specs.Fault.{at, bad, refuse, later}
 use Rattle.checks.specs.First.{first as firstFault}
 use Rattle.checks.specs.Refusal
+use Rattle.checks.specs.Laws.Chains.{first-append}
 use Rattle.checks.specs.Laws.Later.{later-fine}
 use Rattle.listing_pairs.specs.declared.row.Row.{Row}
 use Rattle.listing_pairs.specs.declared.row.Look.{Look}
@@ -31,9 +32,6 @@ use Rattle.listing_outcomes.specs.declared.answer.PageAnswer.the-variants as pa
 use Rattle.listing_outcomes.specs.Outcome.{Leaves, room, roomCheck, listedOf, outcomeOf}
 use Rattle.listing_outcomes.specs.PageOutcome.{positionCheck, budgetCheck, rowCheck, limits, pagedOf}
 use Rattle.listing_outcomes.specs.BoxedOutcome.{LeavesBoxed, indexCheck, boxesAfter, boxedOf}
-use Rattle.listing_outcomes.specs.Workings.Outcome.{listed}
-use Rattle.listing_outcomes.specs.Workings.PageOutcome.{paged}
-use Rattle.listing_outcomes.specs.Workings.BoxedOutcome.{boxed}
 use Rattle.large_outcomes.specs.LargeRow.{largeIndicesARow, largeRoom}
 use Rattle.large_outcomes.specs.LargeOutcome.{
   largeRoomCheck,
@@ -43,8 +41,7 @@ use Rattle.large_outcomes.specs.LargeOutcome.{
   largePagedOf,
   largeBoxedOf,
 }
-use Rattle.large_outcomes.specs.Workings.Spread.{spread, fiveOf}
-use Rattle.large_outcomes.specs.Workings.LargeOutcome.{largeListed, largePaged, largeBoxed}
+use Rattle.large_outcomes.specs.Workings.Spread.{spread, numbersBy}
 use Rattle.large_outcomes.specs.Laws.Parts.{
   indicesPart,
   pointsPart,
@@ -69,6 +66,17 @@ said-no : (b : Bool) (n : ℕ) (p : Place) → refuse b n p ≡ Fine → b ≡ f
 unfolding refuse
 said-no false n p e = refl
 said-no true n p e = let z : _≡_ {A = ℕ} 0 1 = cc in absurd (omega (arith, z))
+
+-- if all checks are fine, so are the later ones, and the last
+later-ones : (before more : List Checked) → firstFault (before ++ more) ≡ Fine → firstFault more ≡ Fine
+later-ones before more e = later-fine (firstFault before) (firstFault more) .0 (sym (first-append before more) ∙ e) .1
+
+pub last-fine : (before : List Checked) (c : Checked) → firstFault (before ++ (c ∷ [])) ≡ Fine → c ≡ Fine
+last-fine before c e = later-fine c Fine .0 (later-ones before (c ∷ []) e) .0
+
+last-of-two : (before : List Checked) (b c : Checked) → firstFault (before ++ (b ∷ c ∷ [])) ≡ Fine → c ≡ Fine
+last-of-two before b c e =
+    later-fine c Fine .0 (later-fine b (later c Fine) .0 (later-ones before (b ∷ c ∷ []) e) .1) .0
 
 module _ (indices : List ℕ) (points : List Float) (m : ℕ) (is : m ≡ largeRoom indices points) where
   abbrev is-part : List ℕ
@@ -99,97 +107,112 @@ module _ (indices : List ℕ) (points : List Float) (m : ℕ) (is : m ≡ largeR
   limits-same position all budget =
       ap (λ (c : Checked). positionCheck position all ∷ budgetCheck budget ∷ c ∷ []) row-check-same
 
-  module _ (first second : List ℕ) (look : ℕ → ℕ → Look) (ps : List Pair) where
+  -- `five`: what the three numbers of a row become
+  module _ (five : ℕ → ℕ → ℕ → List ℕ) (wide : (i j class : ℕ) → length (five i j class) ≡ largeIndicesARow)
+      (look : ℕ → ℕ → Look) (ps : List Pair) where
     abbrev rows : List Row
     rows = rowsOf look ps
 
-    -- ---- a listing
-    pub listed-refused : (r : ListingAnswer) (i : List ℕ) (p : List Float) (f : Fault) → r ≡ Refused f
-        → Leaves (listed look ps (indicesPart indices points m is) (pointsPart indices points m is)) r i p
-        → Leaves (largeListed (fiveOf first second) look ps indices points)
-        (Refused f) (i ++ drop (m * indicesARow) indices) (p ++ drop (m * pointsARow) points)
-    listed-refused r i p f e l =
-        part-refused indices points m is Refused (Listed (length rows) (lookedAt look ps)) rows first second
-        (largeRoomCheck rows indices points) r i p f e (listed-apart f _ _) (rw (check-same rows) at l)
+    -- ---- a listing. `found` makes the first fault of all checks from 8's check, which is among them
+    module _ (found : Checked → Checked) (among : (c : Checked) → found c ≡ Fine → c ≡ Fine) where
+      abbrev all-found : Checked
+      all-found = found (largeRoomCheck rows indices points)
 
-    pub listed-spread : (r : ListingAnswer) (i now : List ℕ) (p : List Float) (n k : ℕ) → r ≡ Listed n k
-        → Leaves (listed look ps (indicesPart indices points m is) (pointsPart indices points m is)) r i p
-        → now ≡ spread first second n (i ++ drop (m * indicesARow) indices)
-        → Leaves (largeListed (fiveOf first second) look ps indices points)
-        (Listed n k) now (p ++ drop (m * pointsARow) points)
-    listed-spread r i now p n k e l done =
-        let all : Leaves (largeListed (fiveOf first second) look ps indices points) r now (p ++ drop (m * pointsARow) points) =
-        part-spread indices points m is Refused (Listed (length rows) (lookedAt look ps)) rows first second
-        (largeRoomCheck rows indices points) r i now p n (λ f h. listed-apart f n k (sym h ∙ e)) (λ h. count n k (sym e ∙ h))
-        (few-rows rows) (rw (check-same rows) at l) done in
-        rw e at all
-      where
-        count : (n k : ℕ) → Listed n k ≡ Listed (length rows) (lookedAt look ps) → n ≡ length rows
-        count n k e = cc
+      -- what was left in the parts, and what is to stand in the whole slices
+      abbrev pub ListedPart : ListingAnswer → List ℕ → List Float → Type 0
+      ListedPart r i p = Leaves (listedOf (found (roomCheck rows is-part ps-part)) rows (lookedAt look ps) is-part ps-part) r i p
 
-    -- what stands in the whole slices before the rows are spread
-    pub listed-whole : (r : ListingAnswer) (i : List ℕ) (p : List Float)
-        → Leaves (listed look ps (indicesPart indices points m is) (pointsPart indices points m is)) r i p
-        → Leaves (listedOf (largeRoomCheck (rowsOf look ps) indices points) (rowsOf look ps) (lookedAt look ps) indices points)
-        r (i ++ drop (m * indicesARow) indices) (p ++ drop (m * pointsARow) points)
-    listed-whole r i p l =
-        part-whole indices points m is Refused (Listed (length rows) (lookedAt look ps)) rows first second
-        (largeRoomCheck rows indices points) r i p (few-rows rows) (rw (check-same rows) at l)
+      abbrev pub ListedWhole : ListingAnswer → List ℕ → List Float → Type 0
+      ListedWhole r i p = Leaves (largeListedOf (numbersBy five) all-found rows (lookedAt look ps) indices points) r i p
 
-    -- the rows that were written are few
-    pub listed-few : (r : ListingAnswer) (i : List ℕ) (p : List Float) (n k : ℕ) → r ≡ Listed n k
-        → Leaves (listed look ps (indicesPart indices points m is) (pointsPart indices points m is)) r i p
-        → n * largeIndicesARow ≤ length indices
-    listed-few r i p n k e l = go (largeRoomCheck rows indices points) refl (rw (check-same rows) at l)
-      where
-        go : (c : Checked) → largeRoomCheck rows indices points ≡ c
-            → Leaves (listedOf c rows (lookedAt look ps) is-part ps-part) r i p → n * largeIndicesARow ≤ length indices
-        go (Bad g) h l = absurd (listed-apart g n k (sym (l .answer) ∙ e))
-        go Fine h l =
-            let made = sym e ∙ l .answer in
-            let count : n ≡ length rows = cc in
-            omega (arith, count, few-rows rows h, rows-inside indices points m is)
+      on-part : (r : ListingAnswer) (i : List ℕ) (p : List Float) → ListedPart r i p
+          → Leaves (listedOf all-found rows (lookedAt look ps) is-part ps-part) r i p
+      on-part r i p l = rw (check-same rows) at l
 
-    -- ---- a page
-    module _ (position budget : ℕ) where
+      few-found : all-found ≡ Fine → length rows ≤ m
+      few-found e = few-rows rows (among (largeRoomCheck rows indices points) e)
+
+      pub listed-refused : (r : ListingAnswer) (i : List ℕ) (p : List Float) (f : Fault) → r ≡ Refused f → ListedPart r i p
+          → ListedWhole (Refused f) (i ++ drop (m * indicesARow) indices) (p ++ drop (m * pointsARow) points)
+      listed-refused r i p f e l =
+          part-refused indices points m is Refused (Listed (length rows) (lookedAt look ps)) rows five wide
+          all-found r i p f e (listed-apart f _ _) (on-part r i p l)
+
+      pub listed-spread : (r : ListingAnswer) (i now : List ℕ) (p : List Float) (n k : ℕ) → r ≡ Listed n k → ListedPart r i p
+          → now ≡ spread five n (i ++ drop (m * indicesARow) indices)
+          → ListedWhole (Listed n k) now (p ++ drop (m * pointsARow) points)
+      listed-spread r i now p n k e l done =
+          let all : ListedWhole r now (p ++ drop (m * pointsARow) points) =
+          part-spread indices points m is Refused (Listed (length rows) (lookedAt look ps)) rows five wide
+          all-found r i now p n (λ f h. listed-apart f n k (sym h ∙ e)) (λ h. count n k (sym e ∙ h))
+          few-found (on-part r i p l) done in
+          rw e at all
+        where
+          count : (n k : ℕ) → Listed n k ≡ Listed (length rows) (lookedAt look ps) → n ≡ length rows
+          count n k e = cc
+
+      -- what stands in the whole slices before the rows are spread
+      pub listed-whole : (r : ListingAnswer) (i : List ℕ) (p : List Float) → ListedPart r i p
+          → Leaves (listedOf (found (largeRoomCheck (rowsOf look ps) indices points)) (rowsOf look ps) (lookedAt look ps)
+          indices points) r (i ++ drop (m * indicesARow) indices) (p ++ drop (m * pointsARow) points)
+      listed-whole r i p l =
+          part-whole indices points m is Refused (Listed (length rows) (lookedAt look ps)) rows five wide
+          all-found r i p few-found (on-part r i p l)
+
+      -- the rows that were written are few
+      pub listed-few : (r : ListingAnswer) (i : List ℕ) (p : List Float) (n k : ℕ) → r ≡ Listed n k → ListedPart r i p
+          → n * largeIndicesARow ≤ length indices
+      listed-few r i p n k e l = go all-found refl (on-part r i p l)
+        where
+          go : (c : Checked) → all-found ≡ c
+              → Leaves (listedOf c rows (lookedAt look ps) is-part ps-part) r i p → n * largeIndicesARow ≤ length indices
+          go (Bad g) h l = absurd (listed-apart g n k (sym (l .answer) ∙ e))
+          go Fine h l =
+              let made = sym e ∙ l .answer in
+              let count : n ≡ length rows = cc in
+              omega (arith, count, few-found h, rows-inside indices points m is)
+
+    -- ---- a page. `before`: the checks that come before 13, 14 and 8
+    module _ (before : List Checked) (position budget : ℕ) where
       abbrev q : Page
       q = page look (drop position ps) (largeRoom indices points) budget
 
       few-on-page : length (q .rows) ≤ m
       few-on-page = omega (arith, is, joins look (drop position ps) (largeRoom indices points) budget .few)
 
-      abbrev found : Checked
-      found = firstFault (largeLimits position (length ps) budget indices points)
+      abbrev page-found : Checked
+      page-found = firstFault (before ++ largeLimits position (length ps) budget indices points)
 
-      abbrev part : PageAnswer → List ℕ → List Float → Type 0
-      part r i p = Leaves (paged look ps position budget is-part ps-part) r i p
+      abbrev pub PagedPart : PageAnswer → List ℕ → List Float → Type 0
+      PagedPart r i p =
+          Leaves (pagedOf (firstFault (before ++ limits position (length ps) budget is-part ps-part))
+          (page look (drop position ps) (room is-part ps-part) budget) position (length ps) is-part ps-part) r i p
 
-      on-part : (r : PageAnswer) (i : List ℕ) (p : List Float) → part r i p
-          → Leaves (pagedOf found q position (length ps) is-part ps-part) r i p
-      on-part r i p l = rw (row-check-same, room-same) at l
+      abbrev pub PagedWhole : PageAnswer → List ℕ → List Float → Type 0
+      PagedWhole r i p = Leaves (largePagedOf (numbersBy five) page-found q position (length ps) indices points) r i p
+
+      on-page : (r : PageAnswer) (i : List ℕ) (p : List Float) → PagedPart r i p
+          → Leaves (pagedOf page-found q position (length ps) is-part ps-part) r i p
+      on-page r i p l = rw (row-check-same, room-same) at l
 
       pub paged-refused : (r : PageAnswer) (i : List ℕ) (p : List Float) (f : Fault) → r ≡ page_answer.Refused f
-          → Leaves (paged look ps position budget (indicesPart indices points m is) (pointsPart indices points m is)) r i p
-          → Leaves (largePaged (fiveOf first second) look ps position budget indices points)
-          (page_answer.Refused f) (i ++ drop (m * indicesARow) indices) (p ++ drop (m * pointsARow) points)
+          → PagedPart r i p
+          → PagedWhole (page_answer.Refused f) (i ++ drop (m * indicesARow) indices) (p ++ drop (m * pointsARow) points)
       paged-refused r i p f e l =
           part-refused indices points m is page_answer.Refused
-          (page_answer.Paged (length (q .rows)) (q .passed) (position + q .passed) (length ps)) (q .rows) first second
-          found r i p f e (paged-apart f _ _ _ _) (on-part r i p l)
+          (page_answer.Paged (length (q .rows)) (q .passed) (position + q .passed) (length ps)) (q .rows) five wide
+          page-found r i p f e (paged-apart f _ _ _ _) (on-page r i p l)
 
-      pub paged-spread : (r : PageAnswer) (i now : List ℕ) (p : List Float) (n k next all : ℕ) → r ≡ page_answer.Paged n
-          k next all
-          → Leaves (paged look ps position budget (indicesPart indices points m is) (pointsPart indices points m is)) r i p
-          → now ≡ spread first second n (i ++ drop (m * indicesARow) indices)
-          → Leaves (largePaged (fiveOf first second) look ps position budget indices points)
-          (page_answer.Paged n k next all) now (p ++ drop (m * pointsARow) points)
+      pub paged-spread : (r : PageAnswer) (i now : List ℕ) (p : List Float) (n k next all : ℕ)
+          → r ≡ page_answer.Paged n k next all → PagedPart r i p
+          → now ≡ spread five n (i ++ drop (m * indicesARow) indices)
+          → PagedWhole (page_answer.Paged n k next all) now (p ++ drop (m * pointsARow) points)
       paged-spread r i now p n k next all e l done =
-          let whole : Leaves (largePaged (fiveOf first second) look ps position budget indices points) r now
-          (p ++ drop (m * pointsARow) points) =
+          let whole : PagedWhole r now (p ++ drop (m * pointsARow) points) =
           part-spread indices points m is page_answer.Refused
-          (page_answer.Paged (length (q .rows)) (q .passed) (position + q .passed) (length ps)) (q .rows) first second
-          found r i now p n (λ f h. paged-apart f n k next all (sym h ∙ e)) (λ h. count (sym e ∙ h))
-          (λ h. few-on-page) (on-part r i p l) done in
+          (page_answer.Paged (length (q .rows)) (q .passed) (position + q .passed) (length ps)) (q .rows) five wide
+          page-found r i now p n (λ f h. paged-apart f n k next all (sym h ∙ e)) (λ h. count (sym e ∙ h))
+          (λ h. few-on-page) (on-page r i p l) done in
           rw e at whole
         where
           count : page_answer.Paged n k next all
@@ -197,9 +220,8 @@ module _ (indices : List ℕ) (points : List Float) (m : ℕ) (is : m ≡ largeR
           count e = cc
 
       pub paged-few : (r : PageAnswer) (i : List ℕ) (p : List Float) (n k next all : ℕ) → r ≡ page_answer.Paged n k next all
-          → Leaves (paged look ps position budget (indicesPart indices points m is) (pointsPart indices points m is)) r i p
-          → n * largeIndicesARow ≤ length indices
-      paged-few r i p n k next all e l = go found (on-part r i p l)
+          → PagedPart r i p → n * largeIndicesARow ≤ length indices
+      paged-few r i p n k next all e l = go page-found (on-page r i p l)
         where
           go : (c : Checked) → Leaves (pagedOf c q position (length ps) is-part ps-part) r i p
               → n * largeIndicesARow ≤ length indices
@@ -209,61 +231,40 @@ module _ (indices : List ℕ) (points : List Float) (m : ℕ) (is : m ≡ largeR
               let count : n ≡ length (q .rows) = cc in
               omega (arith, count, few-on-page, rows-inside indices points m is)
 
-    -- ---- a boxed listing
-    module _ (idx b₀ : List Float) where
-      abbrev box-found : Checked
-      box-found = firstFault (indexCheck idx b₀ ∷ largeRoomCheck rows indices points ∷ [])
+    -- ---- a boxed listing. `before`: the checks that come before 17 and 8
+    module _ (before : List Checked) (idx b₀ : List Float) where
+      abbrev box-found : Checked → Checked
+      box-found c = firstFault (before ++ (indexCheck idx b₀ ∷ c ∷ []))
 
-      abbrev box-part : Checked → ListingAnswer → List Float → List ℕ → List Float → Type 0
-      box-part c r b i p = LeavesBoxed (boxedOf c rows (lookedAt look ps) idx b₀ is-part ps-part) r b i p
+      box-among : (c : Checked) → box-found c ≡ Fine → c ≡ Fine
+      box-among = last-of-two before (indexCheck idx b₀)
 
-      on-box : (r : ListingAnswer) (b : List Float) (i : List ℕ) (p : List Float)
-          → LeavesBoxed (boxed look ps idx b₀ is-part ps-part) r b i p → box-part box-found r b i p
-      on-box r b i p l = rw (check-same rows) at l
+      abbrev pub BoxedPart : ListingAnswer → List Float → List ℕ → List Float → Type 0
+      BoxedPart r b i p =
+          LeavesBoxed (boxedOf (box-found (roomCheck rows is-part ps-part)) rows (lookedAt look ps) idx b₀ is-part ps-part) r b i p
 
-      box-few : box-found ≡ Fine → length rows ≤ m
-      box-few e =
-          let a = later-fine (indexCheck idx b₀) (later (largeRoomCheck rows indices points) Fine) .0 e in
-          few-rows rows (later-fine (largeRoomCheck rows indices points) Fine .0 (a .1) .0)
+      abbrev pub BoxedWhole : ListingAnswer → List Float → List ℕ → List Float → Type 0
+      BoxedWhole r b i p =
+          LeavesBoxed (largeBoxedOf (numbersBy five) (box-found (largeRoomCheck rows indices points)) rows (lookedAt look ps)
+          idx b₀ indices points) r b i p
+
+      boxes-are : (r : ListingAnswer) (b : List Float) (i : List ℕ) (p : List Float) → BoxedPart r b i p
+          → b ≡ boxesAfter (box-found (largeRoomCheck rows indices points)) idx b₀
+      boxes-are r b i p l =
+          l .boxes ∙ ap (λ (c : Checked). boxesAfter (box-found c) idx b₀) (check-same rows)
 
       pub boxed-refused : (r : ListingAnswer) (b : List Float) (i : List ℕ) (p : List Float) (f : Fault) → r ≡ Refused f
-          → LeavesBoxed (boxed look ps idx b₀ (indicesPart indices points m is) (pointsPart indices points m is)) r b i p
-          → LeavesBoxed (largeBoxed (fiveOf first second) look ps idx b₀ indices points)
-          (Refused f) b (i ++ drop (m * indicesARow) indices) (p ++ drop (m * pointsARow) points)
+          → BoxedPart r b i p
+          → BoxedWhole (Refused f) b (i ++ drop (m * indicesARow) indices) (p ++ drop (m * pointsARow) points)
       boxed-refused r b i p f e l =
-          let h = on-box r b i p l in
-          record {
-            listing =
-                part-refused indices points m is Refused (Listed (length rows) (lookedAt look ps)) rows first second
-                box-found r i p f e (listed-apart f _ _) (h .listing);
-            boxes = h .boxes;
-          }
+          record { listing = listed-refused box-found box-among r i p f e (l .listing); boxes = boxes-are r b i p l }
 
       pub boxed-spread : (r : ListingAnswer) (b : List Float) (i now : List ℕ) (p : List Float) (n k : ℕ) → r ≡ Listed n k
-          → LeavesBoxed (boxed look ps idx b₀ (indicesPart indices points m is) (pointsPart indices points m is)) r b i p
-          → now ≡ spread first second n (i ++ drop (m * indicesARow) indices)
-          → LeavesBoxed (largeBoxed (fiveOf first second) look ps idx b₀ indices points)
-          (Listed n k) b now (p ++ drop (m * pointsARow) points)
+          → BoxedPart r b i p → now ≡ spread five n (i ++ drop (m * indicesARow) indices)
+          → BoxedWhole (Listed n k) b now (p ++ drop (m * pointsARow) points)
       boxed-spread r b i now p n k e l done =
-          let h = on-box r b i p l in
-          let all : Leaves (largeListedOf (fiveOf first second) box-found rows (lookedAt look ps) indices points) r now
-          (p ++ drop (m * pointsARow) points) =
-          part-spread indices points m is Refused (Listed (length rows) (lookedAt look ps)) rows first second
-          box-found r i now p n (λ f g. listed-apart f n k (sym g ∙ e)) (λ g. count (sym e ∙ g))
-          box-few (h .listing) done in
-          record { listing = rw e at all; boxes = h .boxes }
-        where
-          count : Listed n k ≡ Listed (length rows) (lookedAt look ps) → n ≡ length rows
-          count e = cc
+          record { listing = listed-spread box-found box-among r i now p n k e (l .listing) done; boxes = boxes-are r b i p l }
 
       pub boxed-few : (r : ListingAnswer) (b : List Float) (i : List ℕ) (p : List Float) (n k : ℕ) → r ≡ Listed n k
-          → LeavesBoxed (boxed look ps idx b₀ (indicesPart indices points m is) (pointsPart indices points m is)) r b i p
-          → n * largeIndicesARow ≤ length indices
-      boxed-few r b i p n k e l = go box-found refl (on-box r b i p l)
-        where
-          go : (c : Checked) → box-found ≡ c → box-part c r b i p → n * largeIndicesARow ≤ length indices
-          go (Bad g) h l = absurd (listed-apart g n k (sym (l .listing .answer) ∙ e))
-          go Fine h l =
-              let made = sym e ∙ l .listing .answer in
-              let count : n ≡ length rows = cc in
-              omega (arith, count, box-few h, rows-inside indices points m is)
+          → BoxedPart r b i p → n * largeIndicesARow ≤ length indices
+      boxed-few r b i p n k e l = listed-few box-found box-among r i p n k e (l .listing)

@@ -19,7 +19,7 @@ use Rattle.listing_pairs.specs.Row.{indicesARow, pointsARow, indicesOf, pointsO
 use Rattle.listing_outcomes.specs.Outcome.{Leaves, overwrite, room, outcomeOf}
 use Rattle.large_outcomes.specs.LargeRow.{largeIndicesARow, largeRoom}
 use Rattle.large_outcomes.specs.LargeOutcome.{largeOf}
-use Rattle.large_outcomes.specs.Workings.Spread.{spread, fiveOf}
+use Rattle.large_outcomes.specs.Workings.Spread.{spread, numbersBy}
 use Rattle.large_outcomes.specs.Laws.Spreading.{spread-rows}
 
 -- ---- values that overwrite the front of a part overwrite the front of the whole
@@ -57,12 +57,13 @@ module _ (indices : List ℕ) (points : List Float) (m : ℕ) (is : m ≡ largeR
       rw (a, b) (omega arith)
 
   -- ---- any call, by its first fault
-  module _ {A : Type 0} (refused : Fault → A) (answer : A) (rows : List Row) (first second : List ℕ) where
+  module _ {A : Type 0} (refused : Fault → A) (answer : A) (rows : List Row) (five : ℕ → ℕ → ℕ → List ℕ)
+      (wide : (i j class : ℕ) → length (five i j class) ≡ largeIndicesARow) where
     abbrev part : Checked → A → List ℕ → List Float → Type 0
     part c r i p = Leaves (outcomeOf refused c answer rows indicesPart pointsPart) r i p
 
     abbrev large : Checked → A → List ℕ → List Float → Type 0
-    large c r i p = Leaves (largeOf (fiveOf first second) refused c answer rows indices points) r i p
+    large c r i p = Leaves (largeOf (numbersBy five) refused c answer rows indices points) r i p
 
     -- what stands in the whole slices, before anything is spread
     pub part-whole : (c : Checked) (r : A) (i : List ℕ) (p : List Float) → (c ≡ Fine → length rows ≤ m) → part c r i p
@@ -107,7 +108,7 @@ module _ (indices : List ℕ) (points : List Float) (m : ℕ) (is : m ≡ largeR
     -- n rows were answered
     pub part-spread : (c : Checked) (r : A) (i now : List ℕ) (p : List Float) (n : ℕ)
         → ((f : Fault) → r ≡ refused f → ⊥) → (r ≡ answer → n ≡ length rows) → (c ≡ Fine → length rows ≤ m)
-        → part c r i p → now ≡ spread first second n (i ++ drop (m * indicesARow) indices)
+        → part c r i p → now ≡ spread five n (i ++ drop (m * indicesARow) indices)
         → large c r now (p ++ drop (m * pointsARow) points)
     part-spread (Bad g) r i now p n made count few l done = absurd (made g (l .answer))
     part-spread Fine r i now p n made count few l done =
@@ -117,8 +118,8 @@ module _ (indices : List ℕ) (points : List Float) (m : ℕ) (is : m ≡ largeR
           answer = l .answer;
           indices =
               done
-              ∙ ap (λ (k : ℕ). spread first second k (i ++ drop (m * indicesARow) indices)) (count (l .answer))
-              ∙ ap (spread first second (length rows)) (w .indices)
-              ∙ spread-rows first second rows indices (omega (arith, fits, rows-inside));
+              ∙ ap (λ (k : ℕ). spread five k (i ++ drop (m * indicesARow) indices)) (count (l .answer))
+              ∙ ap (spread five (length rows)) (w .indices)
+              ∙ spread-rows five wide rows indices (omega (arith, fits, rows-inside));
           points = w .points;
         }

@@ -1,5 +1,6 @@
--- Rows of three numbers, spread into rows of five from the last to the first, as `src/spread.rt` does it. A name is one word: the
--- index of a segment times 4, and its half.
+-- Rows of three numbers, spread into rows of five from the last to the first, as `src/spread.rt` does it. `five` says what five
+-- numbers a row's three become: by the names of both paths' segments, or with halves 0. A name is one word: the index of a
+-- segment times 4, and its half.
 use mathlib.Core.List.{List, [], _∷_}
 use Prim.Native.Nat.{ℕ, zero, suc, _+_, _*_, _/_, _%_}
 use lib.ListN.{getD}
@@ -16,16 +17,26 @@ abbrev pub namesAndClass : ℕ → ℕ → ℕ → List ℕ
 namesAndClass first second class =
     first / halves ∷ first % halves ∷ second / halves ∷ second % halves ∷ class ∷ []
 
--- what row k of three numbers becomes, by the names of both paths' segments
-abbrev pub spreadRow : List ℕ → List ℕ → List ℕ → ℕ → List ℕ
-spreadRow first second l k =
-    namesAndClass (getD first (getD l (k * indicesARow) 0) 0) (getD second (getD l (k * indicesARow + 1) 0) 0)
-    (getD l (k * indicesARow + 2) 0)
+-- by the words of both paths' names
+abbrev pub byNames : List ℕ → List ℕ → ℕ → ℕ → ℕ → List ℕ
+byNames first second i j class = namesAndClass (getD first i 0) (getD second j 0) class
 
-abbrev pub spread : List ℕ → List ℕ → ℕ → List ℕ → List ℕ
-spread first second zero l = l
-spread first second (suc k) l = spread first second k (sets l (k * largeIndicesARow) (spreadRow first second l k))
+-- no segment is cut
+abbrev pub zeroHalves : ℕ → ℕ → ℕ → List ℕ
+zeroHalves i j class = i ∷ 0 ∷ j ∷ 0 ∷ class ∷ []
 
--- the five numbers of a row, by the words of both paths' names
+-- what row k of three numbers becomes
+abbrev pub spreadRow : (ℕ → ℕ → ℕ → List ℕ) → List ℕ → ℕ → List ℕ
+spreadRow five l k =
+    five (getD l (k * indicesARow) 0) (getD l (k * indicesARow + 1) 0) (getD l (k * indicesARow + 2) 0)
+
+abbrev pub spread : (ℕ → ℕ → ℕ → List ℕ) → ℕ → List ℕ → List ℕ
+spread five zero l = l
+spread five (suc k) l = spread five k (sets l (k * largeIndicesARow) (spreadRow five l k))
+
+-- the five numbers of a row
+abbrev pub numbersBy : (ℕ → ℕ → ℕ → List ℕ) → Row → List ℕ
+numbersBy five r = five (r .i) (r .j) (r .class)
+
 abbrev pub fiveOf : List ℕ → List ℕ → Row → List ℕ
-fiveOf first second r = namesAndClass (getD first (r .i) 0) (getD second (r .j) 0) (r .class)
+fiveOf first second = numbersBy (byNames first second)

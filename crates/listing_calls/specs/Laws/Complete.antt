@@ -2,7 +2,7 @@
 use mathlib.Core.Path.{_≡_, refl, sym, ap, _∙_}
 use mathlib.Core.Bool.{Bool, true, false, cond}
 use mathlib.Core.Logic.{inl, inr}
-use mathlib.Core.List.{List, [], _∷_, _++_, append-assoc}
+use mathlib.Core.List.{List, [], _∷_, _++_, append-assoc, append-nil}
 use Prim.Native.Nat.{ℕ, zero, suc, _+_, _-_, _*_, _<_, _≤_}
 use native.Mathlib.Nat.{eq-or-lt-of-le, add-zero}
 use native.Mathlib.Omega.{arith}
@@ -117,6 +117,14 @@ module _ (look : ℕ → ℕ → Look) where
       }
 
 -- ---- its numbers in the slice
+-- over nothing at all
+pub overwrite-none : (l : List ℕ) → overwrite [] l ≡ l
+overwrite-none l = ap (λ (r : List ℕ). l ++ r) (nothing (length l)) ∙ append-nil l
+  where
+    nothing : (n : ℕ) → _≡_ {A = List ℕ} (drop n []) []
+    nothing zero = refl
+    nothing (suc n) = refl
+
 pub row-in-slice : (r : Row) (rows : List Row) (old : List ℕ) (w : Within r rows)
     → (length (w .before) < length rows) × RowAt (overwrite old (numbersOfRows indicesOf rows)) (length (w .before)) (r .i) (r .j)
 row-in-slice r rows old w =

@@ -1,15 +1,14 @@
 -- The words of what a listing adds to a report.
-use mathlib.Core.Path.{_≡_, refl, sym, ap, _∙_}
+use mathlib.Core.Path.{_≡_, refl, ap, _∙_}
 use mathlib.Core.Bool.{Bool, true, false}
 use mathlib.Core.List.{List, [], _∷_}
 use Prim.Native.Nat.{ℕ, zero, suc, _+_, _-_, _≤_, _<_}
 use native.Mathlib.Omega.{arith}
 use borrow.Author.Tests.{ltb-true, ltb-false}
-use lib.Dec.{eqb, ltb}
+use lib.Dec.{ltb}
 use lib.Ieee.{Float}
 use lib.ListN.{length, length-set, drop, set, drop-of-length-le}
 use lib.Seq.{getD-set-same, getD-set-other}
-use Rattle.checks.specs.declared.fault.Fault.{Fault}
 use Rattle.float_laws.specs.Stores.{sets-behind}
 use Rattle.paths.specs.Segments.{segmentCount}
 use Rattle.listing_pairs.specs.declared.row.Row.{Row}
@@ -20,10 +19,11 @@ use Rattle.listing_pairs.specs.Traces.{tracedPairs}
 use Rattle.listing_pairs.specs.TracedListing.{traced-rows}
 use Rattle.listing_outcomes.specs.declared.answer.ListingAnswer.{ListingAnswer}
 use Rattle.listing_outcomes.specs.declared.answer.ListingAnswer.the-variants.{Refused, Listed}
+use Rattle.listing_outcomes.specs.Outcome.{Outcome}
 use Rattle.listing_calls.specs.Listing.{mutualListing}
 use Rattle.listing_calls.specs.ChainedCalls.{mutual-looked}
 use Rattle.month.specs.Report.{words, layouts, pairs, classes, refusals, refusalNumbers, fresh, word, full, plus}
-use Rattle.month.specs.Counted.{CountedOutcome, inClass, refusedAdds, acceptedAdds, adds, mutualRows, mutualCounted}
+use Rattle.month.specs.Counted.{CountedOutcome, inClass, refusedAdds, acceptedAdds, adds, countedListing, mutualRows}
 use Rattle.month.specs.Laws.Words.{zeros, drop-plus, plus-none}
 use Rattle.month.specs.Laws.Listings.{Adds, refused-small, accepted-small, few-looked-at, rows-looked, mutual-counts}
 use Rattle.month.specs.Laws.Pairs.{isOf, rows-of-class, pairs-without-row}
@@ -61,12 +61,13 @@ unfolding acceptedAdds
 adds-one-layout (Refused f) rows = refused-layout (f .number)
 adds-one-layout (Listed n looked) rows = refl
 
-module _ (first : List Float) (firstClosed : Bool) (second : List Float) (secondClosed : Bool) (epsilon : Float) where
+-- of the pairs ps of two paths, taken by traces
+module _ (first second : List Float) (epsilon : Float) (ps : List Pair) where
   abbrev kept : List Pair
-  kept = tracedPairs first second (mutualPairs (segmentCount first firstClosed) (segmentCount second secondClosed))
+  kept = tracedPairs first second ps
 
   abbrev rows : List Row
-  rows = mutualRows first firstClosed second secondClosed epsilon
+  rows = rowsOf (tracedLook first second epsilon) ps
 
   -- the words of what an accepted layout adds
   pub record Accepts (l : List ℕ) : Type 0 where
@@ -75,24 +76,17 @@ module _ (first : List Float) (firstClosed : Bool) (second : List Float) (second
     pub each-class : (class : ℕ) → class < 6 → word l (classes + class) ≡ length (those (isOf first second epsilon class) kept)
     pub no-refusal : (k : ℕ) → refusals ≤ k → word l k ≡ 0
 
-  same-rows : mutualRows first firstClosed second secondClosed epsilon ≡ rowsOf (look first second epsilon) kept
-  same-rows =
-      traced-rows first second (look first second epsilon)
-      (mutualPairs (segmentCount first firstClosed) (segmentCount second secondClosed))
+  same-rows : rowsOf (tracedLook first second epsilon) ps ≡ rowsOf (look first second epsilon) kept
+  same-rows = traced-rows first second (look first second epsilon) ps
 
   class-rows : (c : ℕ) → 0 < c → inClass c rows ≡ length (those (isOf first second epsilon c) kept)
   class-rows c h = ap (inClass c) same-rows ∙ rows-of-class first second epsilon c h kept
 
-  pub accepted-adds : (looked : ℕ)
-      → looked
-      ≡ lookedAt (tracedLook first second epsilon)
-      (mutualPairs (segmentCount first firstClosed) (segmentCount second secondClosed))
-      → Accepts (acceptedAdds (mutualRows first firstClosed second secondClosed epsilon) looked)
+  pub accepted-adds : (looked : ℕ) → looked ≡ lookedAt (tracedLook first second epsilon) ps
+      → Accepts (acceptedAdds (rowsOf (tracedLook first second epsilon) ps) looked)
   unfolding acceptedAdds
   accepted-adds looked is =
-      let all : looked ≡ length kept =
-      is ∙ mutual-looked first second epsilon
-      (mutualPairs (segmentCount first firstClosed) (segmentCount second secondClosed)) in
+      let all : looked ≡ length kept = is ∙ mutual-looked first second epsilon ps in
       let none : looked - length rows ≡ length (those (isOf first second epsilon 0) kept) =
       omega (arith, all, ap length same-rows, pairs-without-row first second epsilon kept) in
       record {
@@ -129,28 +123,25 @@ module _ (first : List Float) (firstClosed : Bool) (second : List Float) (second
           (omega (arith, is .1, rows-looked (tracedLook first second epsilon) ps))
           (omega (arith, is .1, few-looked-at first firstClosed second secondClosed epsilon indices points))
 
+-- ---- words behind the report's are unchanged, by any listing that adds no more words
+module _ (listing : Outcome ListingAnswer) (rows : List Row) (indices : List ℕ) (points : List Float)
+    (few : Adds (adds (listing .answer) rows)) where
   pub unchanged-behind : (report : List ℕ)
-      → drop words (mutualCounted first firstClosed second secondClosed epsilon indices points report .report)
-      ≡ drop words report
+      → drop words (countedListing listing rows indices points report .report) ≡ drop words report
   unchanged-behind report =
       go (ltb (length report) words) (ltb-true (length report) words) (ltb-false (length report) words) (full report) refl
     where
       go : (t : Bool) → (t ≡ true → length report < words) → (t ≡ false → words ≤ length report)
           → (b : Bool) → full report ≡ b
-          → drop words (mutualCounted first firstClosed second secondClosed epsilon indices points report .report)
-          ≡ drop words report
+          → drop words (countedListing listing rows indices points report .report) ≡ drop words report
       go true short long b f =
-          ap (λ (x : CountedOutcome). drop words (x .report))
-          (no-room-is first firstClosed second secondClosed epsilon indices points report (short refl))
+          ap (λ (x : CountedOutcome). drop words (x .report)) (no-room-is listing rows indices points report (short refl))
       go false short long true f =
-          ap (λ (x : CountedOutcome). drop words (x .report))
-          (full-is first firstClosed second secondClosed epsilon indices points report (long refl) f)
+          ap (λ (x : CountedOutcome). drop words (x .report)) (full-is listing rows indices points report (long refl) f)
       go false short long false f =
-          let l = adds (mutualListing first firstClosed second secondClosed epsilon indices points .answer)
-          (mutualRows first firstClosed second secondClosed epsilon) in
-          let none : drop words l ≡ [] = drop-of-length-le l {i = words} (omega (arith, mutual-small .long)) in
-          ap (λ (x : CountedOutcome). drop words (x .report))
-          (counted-is first firstClosed second secondClosed epsilon indices points report (long refl) f)
+          let l = adds (listing .answer) rows in
+          let none : drop words l ≡ [] = drop-of-length-le l {i = words} (omega (arith, few .long)) in
+          ap (λ (x : CountedOutcome). drop words (x .report)) (counted-is listing rows indices points report (long refl) f)
           ∙ drop-plus words report l
           ∙ ap (plus (drop words report)) none
           ∙ plus-none (drop words report)

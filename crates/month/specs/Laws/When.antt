@@ -2,10 +2,10 @@
 use mathlib.Core.Path.{_≡_, refl, sym, ap, _∙_}
 use mathlib.Core.Bool.{Bool, true, false, true≢false, _||_}
 use mathlib.Core.Logic.{_↔_, _⊎_, inl, inr}
-use mathlib.Core.List.{List, [], _∷_, _++_}
-use Prim.Native.Nat.{ℕ, zero, suc, _+_, _≤_, _<_}
+use mathlib.Core.List.{List, [], _∷_}
+use Prim.Native.Nat.{ℕ, suc, _+_, _≤_, _<_}
 use native.Mathlib.Omega.{arith}
-use borrow.Author.Tests.{ltb-true, ltb-false, lt-ltb, le-ltb, leb-true, leb-false}
+use borrow.Author.Tests.{ltb-true, ltb-false, lt-ltb, le-ltb, leb-true}
 use lib.Dec.{leb, ltb}
 use lib.Ieee.{Float}
 use lib.ListN.{length, take}
@@ -18,26 +18,23 @@ use Rattle.checks.specs.Fault.{at, whole, refuse, later}
 use Rattle.checks.specs.Refusal
 use Rattle.checks.specs.First.{first as firstFault}
 use Rattle.checks.specs.Answered.{answered}
-use Rattle.checks.specs.ExactlyWhen.{ExactlyWhen, Distinct, exactly-when, no-number}
+use Rattle.checks.specs.ExactlyWhen.{ExactlyWhen, Distinct, exactly-when}
 use Rattle.listing_pairs.specs.declared.row.Row.{Row}
-use Rattle.listing_pairs.specs.Rows.{rowsOf, lookedAt}
-use Rattle.listing_pairs.specs.Look.{tracedLook}
 use Rattle.listing_outcomes.specs.declared.answer.ListingAnswer.{ListingAnswer}
-use Rattle.listing_outcomes.specs.declared.answer.ListingAnswer.the-variants.{Refused, Listed}
-use Rattle.listing_outcomes.specs.Outcome.{listedOf, outcome}
-use Rattle.listing_calls.specs.Listing.{mutualChecks, mutualListing}
+use Rattle.listing_outcomes.specs.declared.answer.ListingAnswer.the-variants.{Refused}
+use Rattle.listing_outcomes.specs.Outcome.{Outcome}
 use Rattle.listing_calls.specs.Refusals as listings
 use Rattle.month.specs.declared.join.JoinAnswer.{JoinAnswer}
 use Rattle.month.specs.declared.join.JoinAnswer.the-variants as joins
 use Rattle.month.specs.declared.mutual_counted.CountedAnswer.{CountedAnswer}
 use Rattle.month.specs.declared.mutual_counted.CountedAnswer.the-variants.{NoRoom, Answered}
-use Rattle.month.specs.Report.{words, layouts, pairs, mostLayouts, largest, mostHeld, word, someAbove, full, plus}
-use Rattle.month.specs.Counted.{CountedOutcome, countedOf, reportCheck, mutualCounted}
+use Rattle.month.specs.Report.{words, layouts, pairs, mostLayouts, largest, mostHeld, word, someAbove, full}
+use Rattle.month.specs.Counted.{CountedOutcome, countedOf, reportCheck, countedListing}
 use Rattle.month.specs.Join.{JoinOutcome, tooMuch, join}
 use Rattle.month.specs.Given.{among, given}
-use Rattle.month.specs.Laws.Words.{sums, length-sums, word-sums, much-by-layouts, much-fits, full-by-layouts}
-use Rattle.month.specs.Laws.Listings.{few-layouts, words-held, mutual-given}
-use Rattle.month.specs.Laws.Cases.{no-room-is, full-is, counted-is, same-answer, room-told, same-fault, told-refused}
+use Rattle.month.specs.Laws.Words.{sums, length-sums, word-sums, much-fits, full-by-layouts}
+use Rattle.month.specs.Laws.Listings.{words-held}
+use Rattle.month.specs.Laws.Cases.{no-room-is, full-is, counted-is, same-answer, room-told, same-fault}
 use Rattle.month.specs.Laws.Joins.{short-is, much-is, joined-is}
 
 -- ---- a word above a limit
@@ -88,68 +85,59 @@ module _ (report : List ℕ) where
             getD-drop 1 (take words report) (f .k) 0 ∙ getD-take words report (1 + f .k) 0 below in
             inr (record { k = 1 + f .k; from = omega arith; below = below; above = omega (arith, f .above, same) })
 
--- ---- a counted listing
-module _ (first : List Float) (firstClosed : Bool) (second : List Float) (secondClosed : Bool) (epsilon : Float)
-    (indices : List ℕ) (points : List Float) (report : List ℕ) where
+-- ---- a counted listing, of any listing
+module _ (listing : Outcome ListingAnswer) (rows : List Row) (indices : List ℕ) (points : List Float) (report : List ℕ) where
   abbrev o : CountedOutcome
-  o = mutualCounted first firstClosed second secondClosed epsilon indices points report
+  o = countedListing listing rows indices points report
 
   abbrev told : CountedOutcome → CountedAnswer
   told x = x .listing .answer
 
-  pub no-room-when : (mutualCounted first firstClosed second secondClosed epsilon indices points report .listing .answer ≡ NoRoom)
-      ↔ (length report < words)
+  pub no-room-when : (countedListing listing rows indices points report .listing .answer ≡ NoRoom) ↔ (length report < words)
   no-room-when = (
     λ e. go (ltb (length report) words) (ltb-true (length report) words) (ltb-false (length report) words) (full report) refl e,
-    λ h. ap told (no-room-is first firstClosed second secondClosed epsilon indices points report h),
+    λ h. ap told (no-room-is listing rows indices points report h),
   )
     where
       go : (t : Bool) → (t ≡ true → length report < words) → (t ≡ false → words ≤ length report)
           → (b : Bool) → full report ≡ b → o .listing .answer ≡ NoRoom → length report < words
       go true short long b f e = short refl
       go false short long true f e =
-          absurd (room-told
-          (sym e ∙ ap told (full-is first firstClosed second secondClosed epsilon indices points report (long refl) f)))
+          absurd (room-told (sym e ∙ ap told (full-is listing rows indices points report (long refl) f)))
       go false short long false f e =
-          absurd (room-told
-          (sym e ∙ ap told (counted-is first firstClosed second secondClosed epsilon indices points report (long refl) f)))
+          absurd (room-told (sym e ∙ ap told (counted-is listing rows indices points report (long refl) f)))
 
-  pub nineteen : words ≤ length report → (f : Fault) → f .number ≡ Refusal.report
-      → mutualCounted first firstClosed second secondClosed epsilon indices points report .listing .answer ≡ Answered (Refused f)
+  -- if the listing gives only refusals of the others, 19 tells that the report is full
+  pub nineteen : ((f : Fault) → listing .answer ≡ Refused f → among (f .number) given ≡ true)
+      → words ≤ length report → (f : Fault) → f .number ≡ Refusal.report
+      → countedListing listing rows indices points report .listing .answer ≡ Answered (Refused f)
       → full report ≡ true
-  nineteen long f is e = go (full report) refl
+  nineteen known long f is e = go (full report) refl
     where
       go : (b : Bool) → full report ≡ b → full report ≡ true
       go true x = x
       go false x =
-          let its : mutualListing first firstClosed second secondClosed epsilon indices points .answer ≡ Refused f =
-          same-answer
-          (sym (ap told (counted-is first firstClosed second secondClosed epsilon indices points report long x)) ∙ e) in
-          let known = mutual-given first firstClosed second secondClosed epsilon indices points f its in
-          absurd (true≢false (sym known ∙ ap (λ (n : ℕ). among n given) is))
+          let its : listing .answer ≡ Refused f =
+          same-answer (sym (ap told (counted-is listing rows indices points report long x)) ∙ e) in
+          absurd (true≢false (sym (known f its) ∙ ap (λ (n : ℕ). among n given) is))
 
   pub refused-by : (f : Fault)
-      → mutualCounted first firstClosed second secondClosed epsilon indices points report .listing .answer ≡ Answered (Refused f)
-      → (f ≡ whole Refusal.report Report)
-      ⊎ (mutualListing first firstClosed second secondClosed epsilon indices points .answer ≡ Refused f)
+      → countedListing listing rows indices points report .listing .answer ≡ Answered (Refused f)
+      → (f ≡ whole Refusal.report Report) ⊎ (listing .answer ≡ Refused f)
   refused-by f e =
       go (ltb (length report) words) (ltb-true (length report) words) (ltb-false (length report) words) (full report) refl
     where
       go : (t : Bool) → (t ≡ true → length report < words) → (t ≡ false → words ≤ length report)
-          → (b : Bool) → full report ≡ b
-          → (f ≡ whole Refusal.report Report)
-          ⊎ (mutualListing first firstClosed second secondClosed epsilon indices points .answer ≡ Refused f)
+          → (b : Bool) → full report ≡ b → (f ≡ whole Refusal.report Report) ⊎ (listing .answer ≡ Refused f)
       go true short long b x =
-          absurd (room-told
-          (sym (ap told (no-room-is first firstClosed second secondClosed epsilon indices points report (short refl))) ∙ e))
+          absurd (room-told (sym (ap told (no-room-is listing rows indices points report (short refl))) ∙ e))
       go false short long true x =
           inl (sym (same-fault (same-answer
-          (sym (ap told (full-is first firstClosed second secondClosed epsilon indices points report (long refl) x)) ∙ e))))
+          (sym (ap told (full-is listing rows indices points report (long refl) x)) ∙ e))))
       go false short long false x =
-          inr (same-answer
-          (sym (ap told (counted-is first firstClosed second secondClosed epsilon indices points report (long refl) x)) ∙ e))
+          inr (same-answer (sym (ap told (counted-is listing rows indices points report (long refl) x)) ∙ e))
 
-  -- ---- all refusals
+  -- ---- all refusals, if the listing answers by the first fault of these checks
   abbrev refusal : Fault → CountedAnswer
   refusal f = Answered (Refused f)
 
@@ -159,57 +147,49 @@ module _ (first : List Float) (firstClosed : Bool) (second : List Float) (second
   distinct : Distinct refusal listed
   distinct = record { faults = λ f g e. same-fault (same-answer e); kinds = λ f i e. listings.distinct .kinds f i (same-answer e) }
 
-  same : (b : Bool) (c : Checked) (rows : List Row) (looked : ℕ)
-      → countedOf (refuse b Refusal.report (at 0 0 Report)) (listedOf c rows looked indices points) rows indices points report
-      .listing .answer
-      ≡ answered refusal listed (later (refuse b Refusal.report (at 0 0 Report)) c)
-      (record { rows = length rows; pairs = looked })
+  lifted : (c : Checked) (counts : listings.Counts)
+      → Answered (answered Refused listings.counted c counts) ≡ answered refusal listed c counts
+  lifted Fine counts = refl
+  lifted (Bad g) counts = refl
+
+  same : (b : Bool) (c : Checked) (counts : listings.Counts) → listing .answer ≡ answered Refused listings.counted c counts
+      → countedOf (refuse b Refusal.report (at 0 0 Report)) listing rows indices points report .listing .answer
+      ≡ answered refusal listed (later (refuse b Refusal.report (at 0 0 Report)) c) counts
   unfolding refuse later
-  same true c rows looked = refl
-  same false Fine rows looked = refl
-  same false (Bad g) rows looked = refl
+  same true c counts is = refl
+  same false c counts is = ap Answered is ∙ lifted c counts
 
-  pub counted-when : words ≤ length report
+  pub counted-when : (all : List Checked) (counts : listings.Counts)
+      → listing .answer ≡ answered Refused listings.counted (firstFault all) counts
+      → words ≤ length report
       → ExactlyWhen (λ f. Answered (Refused f)) (λ c. Answered (listings.counted c))
-      (mutualCounted first firstClosed second secondClosed epsilon indices points report .listing .answer)
-      (reportCheck report
-      ∷ listings.all (mutualChecks first firstClosed second secondClosed epsilon) (tracedLook first second epsilon)
-      (listings.between first firstClosed second secondClosed epsilon indices points) indices points)
-      (listings.counts (mutualChecks first firstClosed second secondClosed epsilon) (tracedLook first second epsilon)
-      (listings.between first firstClosed second secondClosed epsilon indices points) indices points)
-  unfolding mutualCounted mutualListing outcome reportCheck
-  counted-when long =
-      let checks = mutualChecks first firstClosed second secondClosed epsilon in
-      let f = tracedLook first second epsilon in
-      let ps = listings.between first firstClosed second secondClosed epsilon indices points in
-      let all = listings.all checks f ps indices points in
-      rw (le-ltb (length report) words long, same (full report) (firstFault all) (rowsOf f ps) (lookedAt f ps))
-      (exactly-when refusal listed distinct (refuse (full report) Refusal.report (at 0 0 Report) ∷ all)
-      (listings.counts checks f ps indices points))
+      (countedListing listing rows indices points report .listing .answer) (reportCheck report ∷ all) counts
+  unfolding reportCheck
+  counted-when all counts is long =
+      rw (le-ltb (length report) words long, same (full report) (firstFault all) counts is)
+      (exactly-when refusal listed distinct (refuse (full report) Refusal.report (at 0 0 Report) ∷ all) counts)
 
-  pub refused-leaves : (f : Fault)
-      → mutualCounted first firstClosed second secondClosed epsilon indices points report .listing .answer ≡ Answered (Refused f)
-      → (mutualCounted first firstClosed second secondClosed epsilon indices points report .listing .indices ≡ indices)
-      × (mutualCounted first firstClosed second secondClosed epsilon indices points report .listing .points ≡ points)
-  refused-leaves f e =
+  -- a refusal leaves the rows' slices unchanged, if the listing's own does
+  pub refused-leaves : listings.Untouched listing indices points → (f : Fault)
+      → countedListing listing rows indices points report .listing .answer ≡ Answered (Refused f)
+      → (countedListing listing rows indices points report .listing .indices ≡ indices)
+      × (countedListing listing rows indices points report .listing .points ≡ points)
+  refused-leaves kept f e =
       go (ltb (length report) words) (ltb-true (length report) words) (ltb-false (length report) words) (full report) refl
     where
       go : (t : Bool) → (t ≡ true → length report < words) → (t ≡ false → words ≤ length report)
           → (b : Bool) → full report ≡ b → (o .listing .indices ≡ indices) × (o .listing .points ≡ points)
       go true short long b x =
-          let is = no-room-is first firstClosed second secondClosed epsilon indices points report (short refl) in
+          let is = no-room-is listing rows indices points report (short refl) in
           (ap (λ (y : CountedOutcome). y .listing .indices) is, ap (λ (y : CountedOutcome). y .listing .points) is)
       go false short long true x =
-          let is = full-is first firstClosed second secondClosed epsilon indices points report (long refl) x in
+          let is = full-is listing rows indices points report (long refl) x in
           (ap (λ (y : CountedOutcome). y .listing .indices) is, ap (λ (y : CountedOutcome). y .listing .points) is)
       go false short long false x =
-          let is = counted-is first firstClosed second secondClosed epsilon indices points report (long refl) x in
-          let its : mutualListing first firstClosed second secondClosed epsilon indices points .answer ≡ Refused f =
-          same-answer (sym (ap told is) ∙ e) in
-          let kept =
-          listings.mutual-untouched first firstClosed second secondClosed epsilon indices points .as-found f its in (
-            ap (λ (y : CountedOutcome). y .listing .indices) is ∙ kept .0,
-            ap (λ (y : CountedOutcome). y .listing .points) is ∙ kept .1,
+          let is = counted-is listing rows indices points report (long refl) x in
+          let its = kept .as-found f (same-answer (sym (ap told is) ∙ e)) in (
+            ap (λ (y : CountedOutcome). y .listing .indices) is ∙ its .0,
+            ap (λ (y : CountedOutcome). y .listing .points) is ∙ its .1,
           )
 
 -- ---- a join

@@ -1,6 +1,6 @@
 -- `capi::dxf::vj_dxf_export` meets its contract: without room for what is told nothing is done; else the export is handed over.
 use borrow.Author.Needs.{needs}
-use Rattle.capi.proofs.DxfEnds.{no-room-told, handed-told}
+use Rattle.capi.specs.Laws.DxfEnds.{no-room-told, handed-told}
 use Rattle.capi.proofs.dxf.vj_dxf_export.Statement.{statement}
 use Rattle.capi.proofs.dxf.vj_dxf_export.Tie as tie
 

@@ -1,6 +1,6 @@
 -- `capi::dxf::vj_dxf_import` meets its contract: without room for what is told nothing is done; else the import is handed over.
 use borrow.Author.Needs.{needs}
-use Rattle.capi.proofs.DxfEnds.{no-room-told, handed-told}
+use Rattle.capi.specs.Laws.DxfEnds.{no-room-told, handed-told}
 use Rattle.capi.proofs.dxf.vj_dxf_import.Statement.{statement}
 use Rattle.capi.proofs.dxf.vj_dxf_import.Tie as tie
 

@@ -12,6 +12,7 @@ use Rattle.listing_pairs.specs.Workings.Ready.{lookBy}
 use Rattle.listing_outcomes.specs.Workings.PageOutcome.{every-few}
 use Rattle.large_outcomes.specs.Laws.Parts.{indices-inside, points-inside}
 use Rattle.month.specs.Report.{mostAdded}
+use Rattle.large_counted.specs.Laws.LargeGiven.{room-known}
 use Rattle.large_counted.specs.Laws.LargeCounting.{countable, still-fits, counted-refused, counted-spread}
 use Rattle.large_counted.proofs.mutual_counted_large.list_counted.Statement.{statement}
 use Rattle.large_counted.proofs.mutual_counted_large.list_counted.Tie as tie
@@ -63,7 +64,7 @@ count-requires c κs =
     let a = s .args in
     let p = s .pre .1 .1 .1 in
     countable (lookBy (now (a .first)) (now (a .second)) (a .job)) (every (a .job)) (few l) (now (a .indices)) (now (a .points)) _
-    (r .large-row-room .ensures) _ _ _ (l .list-in .ensures .0) _ (p .0) (p .1)
+    (r .large-row-room .ensures) (λ c. c) (λ c e. e) (room-known _ _ _) _ _ _ (l .list-in .ensures .0) _ (p .0) (p .1)
 
 -- from the place after both
 abbrev counted : tie.After-slice-known8 → tie.After-count
@@ -77,7 +78,8 @@ spread-requires c κs =
     let a = start r .args in
     still-fits (lookBy (now (a .first)) (now (a .second)) (a .job)) (every (a .job)) (few l) (now (a .indices))
     (now (a .points)) _
-    (r .large-row-room .ensures) _ _ _ (l .list-in .ensures .0) (now (a .report)) _ _ (k .answer2 .given .1)
+    (r .large-row-room .ensures) (λ c. c) (λ c e. e) (room-known _ _ _) _ _ _ (l .list-in .ensures .0) (now (a .report)) _ _
+    (k .answer2 .given .1)
 
 returns : tie.Need-returns
 returns c =

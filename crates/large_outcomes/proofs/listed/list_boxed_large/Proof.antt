@@ -1,6 +1,7 @@
 -- `large_outcomes::listed::list_boxed_large` meets its contract: what the boxed listing leaves in the lent parts, with its rows
 -- spread, is the outcome with rows of five.
-use mathlib.Core.Path.{sym}
+use mathlib.Core.Path.{refl, sym}
+use mathlib.Core.List.{[]}
 use native.Mathlib.Omega.{arith}
 use borrow.Author.Needs.{needs}
 use denote.Ref.{now}
@@ -8,6 +9,7 @@ use lib.Seq.{length-take-le}
 use Rattle.listing_pairs.specs.Workings.Job.{every}
 use Rattle.listing_pairs.specs.Workings.Ready.{lookBy}
 use Rattle.listing_outcomes.specs.Workings.BoxedOutcome.{indexFor}
+use Rattle.large_outcomes.specs.Workings.Spread.{byNames}
 use Rattle.large_outcomes.specs.Laws.Parts.{indices-inside, points-inside}
 use Rattle.large_outcomes.specs.Laws.Large.{boxed-refused, boxed-spread, boxed-few}
 use Rattle.large_outcomes.proofs.listed.list_boxed_large.Statement.{statement}
@@ -55,8 +57,8 @@ spread-requires c κs =
     let r = roomed l in
     let a = start r .args in
     let few = boxed-few (now (a .indices)) (now (a .points)) _ (r .large-row-room .ensures)
-    (now (a .first-names)) (now (a .second-names))
-    (lookBy (now (a .first)) (now (a .second)) (a .job)) (every (a .job))
+    (byNames (now (a .first-names)) (now (a .second-names))) (λ i j class. refl)
+    (lookBy (now (a .first)) (now (a .second)) (a .job)) (every (a .job)) []
     (indexFor (now (a .first)) (now (a .second)) (a .job)) (now (a .boxes))
     _ _ _ _ _ _ (k .answer2 .given .1) (l .boxed-in .ensures .0) in
     omega (arith, few)
@@ -67,11 +69,11 @@ returns c =
     let l = done (k .before .before) in
     let r = roomed l in
     let a = start r .args in
-    boxed-refused (now (a .indices)) (now (a .points)) _ (r .large-row-room .ensures)
-    (now (a .first-names)) (now (a .second-names))
-    (lookBy (now (a .first)) (now (a .second)) (a .job)) (every (a .job))
+    (boxed-refused (now (a .indices)) (now (a .points)) _ (r .large-row-room .ensures)
+    (byNames (now (a .first-names)) (now (a .second-names))) (λ i j class. refl)
+    (lookBy (now (a .first)) (now (a .second)) (a .job)) (every (a .job)) []
     (indexFor (now (a .first)) (now (a .second)) (a .job)) (now (a .boxes))
-    _ _ _ _ _ (k .answer .given .1) (l .boxed-in .ensures .0)
+    _ _ _ _ _ (k .answer .given .1) (l .boxed-in .ensures .0), l .boxed-in .ensures .1)
 
 returns-2 : tie.Need-returns-2
 returns-2 c =
@@ -80,11 +82,11 @@ returns-2 c =
     let l = done (k .before .before) in
     let r = roomed l in
     let a = start r .args in
-    boxed-spread (now (a .indices)) (now (a .points)) _ (r .large-row-room .ensures)
-    (now (a .first-names)) (now (a .second-names))
-    (lookBy (now (a .first)) (now (a .second)) (a .job)) (every (a .job))
+    (boxed-spread (now (a .indices)) (now (a .points)) _ (r .large-row-room .ensures)
+    (byNames (now (a .first-names)) (now (a .second-names))) (λ i j class. refl)
+    (lookBy (now (a .first)) (now (a .second)) (a .job)) (every (a .job)) []
     (indexFor (now (a .first)) (now (a .second)) (a .job)) (now (a .boxes))
-    _ _ _ _ _ _ _ (k .answer2 .given .1) (l .boxed-in .ensures .0) (s .spread .ensures)
+    _ _ _ _ _ _ _ (k .answer2 .given .1) (l .boxed-in .ensures .0) (s .spread .ensures), l .boxed-in .ensures .1)
 
 pub list-boxed-large-spec : {M : Type 1} → statement M
 list-boxed-large-spec =

@@ -1,12 +1,13 @@
 -- `large_outcomes::listed::list_large` meets its contract: what the listing leaves in the lent parts, with its rows spread, is
 -- the outcome with rows of five.
-use mathlib.Core.Path.{sym}
+use mathlib.Core.Path.{refl, sym}
 use native.Mathlib.Omega.{arith}
 use borrow.Author.Needs.{needs}
 use denote.Ref.{now}
 use lib.Seq.{length-take-le}
 use Rattle.listing_pairs.specs.Workings.Job.{every}
 use Rattle.listing_pairs.specs.Workings.Ready.{lookBy}
+use Rattle.large_outcomes.specs.Workings.Spread.{byNames}
 use Rattle.large_outcomes.specs.Laws.Parts.{indices-inside, points-inside}
 use Rattle.large_outcomes.specs.Laws.Large.{listed-refused, listed-spread, listed-few}
 use Rattle.large_outcomes.proofs.listed.list_large.Statement.{statement}
@@ -54,8 +55,9 @@ spread-requires c κs =
     let r = roomed l in
     let a = start r .args in
     let few = listed-few (now (a .indices)) (now (a .points)) _ (r .large-row-room .ensures)
-    (now (a .first-names)) (now (a .second-names))
+    (byNames (now (a .first-names)) (now (a .second-names))) (λ i j class. refl)
     (lookBy (now (a .first)) (now (a .second)) (a .job)) (every (a .job))
+    (λ c. c) (λ c e. e)
     _ _ _ _ _ (k .answer2 .given .1) (l .list-in .ensures .0) in
     omega (arith, few)
 
@@ -65,10 +67,11 @@ returns c =
     let l = done (k .before .before) in
     let r = roomed l in
     let a = start r .args in
-    listed-refused (now (a .indices)) (now (a .points)) _ (r .large-row-room .ensures)
-    (now (a .first-names)) (now (a .second-names))
+    (listed-refused (now (a .indices)) (now (a .points)) _ (r .large-row-room .ensures)
+    (byNames (now (a .first-names)) (now (a .second-names))) (λ i j class. refl)
     (lookBy (now (a .first)) (now (a .second)) (a .job)) (every (a .job))
-    _ _ _ _ (k .answer .given .1) (l .list-in .ensures .0)
+    (λ c. c) (λ c e. e)
+    _ _ _ _ (k .answer .given .1) (l .list-in .ensures .0), l .list-in .ensures .1)
 
 returns-2 : tie.Need-returns-2
 returns-2 c =
@@ -77,10 +80,11 @@ returns-2 c =
     let l = done (k .before .before) in
     let r = roomed l in
     let a = start r .args in
-    listed-spread (now (a .indices)) (now (a .points)) _ (r .large-row-room .ensures)
-    (now (a .first-names)) (now (a .second-names))
+    (listed-spread (now (a .indices)) (now (a .points)) _ (r .large-row-room .ensures)
+    (byNames (now (a .first-names)) (now (a .second-names))) (λ i j class. refl)
     (lookBy (now (a .first)) (now (a .second)) (a .job)) (every (a .job))
-    _ _ _ _ _ _ (k .answer2 .given .1) (l .list-in .ensures .0) (s .spread .ensures)
+    (λ c. c) (λ c e. e)
+    _ _ _ _ _ _ (k .answer2 .given .1) (l .list-in .ensures .0) (s .spread .ensures), l .list-in .ensures .1)
 
 pub list-large-spec : {M : Type 1} → statement M
 list-large-spec =

@@ -1,12 +1,14 @@
 -- `large_outcomes::listed::page_large` meets its contract: what the page leaves in the lent parts, with its rows spread, is the
 -- outcome with rows of five.
-use mathlib.Core.Path.{sym}
+use mathlib.Core.Path.{refl, sym}
+use mathlib.Core.List.{[]}
 use native.Mathlib.Omega.{arith}
 use borrow.Author.Needs.{needs}
 use denote.Ref.{now}
 use lib.Seq.{length-take-le}
 use Rattle.listing_pairs.specs.Workings.Job.{every}
 use Rattle.listing_pairs.specs.Workings.Ready.{lookBy}
+use Rattle.large_outcomes.specs.Workings.Spread.{byNames}
 use Rattle.large_outcomes.specs.Laws.Parts.{indices-inside, points-inside}
 use Rattle.large_outcomes.specs.Laws.Large.{paged-refused, paged-spread, paged-few}
 use Rattle.large_outcomes.proofs.listed.page_large.Statement.{statement}
@@ -54,8 +56,8 @@ spread-requires c κs =
     let r = roomed l in
     let a = start r .args in
     let few = paged-few (now (a .indices)) (now (a .points)) _ (r .large-row-room .ensures)
-    (now (a .first-names)) (now (a .second-names))
-    (lookBy (now (a .first)) (now (a .second)) (a .job)) (every (a .job)) (a .position) (a .budget)
+    (byNames (now (a .first-names)) (now (a .second-names))) (λ i j class. refl)
+    (lookBy (now (a .first)) (now (a .second)) (a .job)) (every (a .job)) [] (a .position) (a .budget)
     _ _ _ _ _ _ _ (k .answer2 .given .1) (l .page-in .ensures .0) in
     omega (arith, few)
 
@@ -65,10 +67,10 @@ returns c =
     let l = done (k .before .before) in
     let r = roomed l in
     let a = start r .args in
-    paged-refused (now (a .indices)) (now (a .points)) _ (r .large-row-room .ensures)
-    (now (a .first-names)) (now (a .second-names))
-    (lookBy (now (a .first)) (now (a .second)) (a .job)) (every (a .job)) (a .position) (a .budget)
-    _ _ _ _ (k .answer .given .1) (l .page-in .ensures .0)
+    (paged-refused (now (a .indices)) (now (a .points)) _ (r .large-row-room .ensures)
+    (byNames (now (a .first-names)) (now (a .second-names))) (λ i j class. refl)
+    (lookBy (now (a .first)) (now (a .second)) (a .job)) (every (a .job)) [] (a .position) (a .budget)
+    _ _ _ _ (k .answer .given .1) (l .page-in .ensures .0), l .page-in .ensures .1)
 
 returns-2 : tie.Need-returns-2
 returns-2 c =
@@ -77,10 +79,10 @@ returns-2 c =
     let l = done (k .before .before) in
     let r = roomed l in
     let a = start r .args in
-    paged-spread (now (a .indices)) (now (a .points)) _ (r .large-row-room .ensures)
-    (now (a .first-names)) (now (a .second-names))
-    (lookBy (now (a .first)) (now (a .second)) (a .job)) (every (a .job)) (a .position) (a .budget)
-    _ _ _ _ _ _ _ _ (k .answer2 .given .1) (l .page-in .ensures .0) (s .spread .ensures)
+    (paged-spread (now (a .indices)) (now (a .points)) _ (r .large-row-room .ensures)
+    (byNames (now (a .first-names)) (now (a .second-names))) (λ i j class. refl)
+    (lookBy (now (a .first)) (now (a .second)) (a .job)) (every (a .job)) [] (a .position) (a .budget)
+    _ _ _ _ _ _ _ _ (k .answer2 .given .1) (l .page-in .ensures .0) (s .spread .ensures), l .page-in .ensures .1)
 
 pub page-large-spec : {M : Type 1} → statement M
 page-large-spec =

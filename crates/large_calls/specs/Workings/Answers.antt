@@ -1,0 +1,32 @@
+-- What is read off the old mode's answer, as `src/answers.rt` does it: how many rows it has written, and whether it is refusal 3,
+-- a bulge above 1.
+use mathlib.Core.Bool.{Bool, false}
+use Prim.Native.Nat.{ℕ}
+use lib.Dec.{eqb}
+use Rattle.checks.specs.declared.fault.Fault.{Fault}
+use Rattle.checks.specs.Refusal
+use Rattle.listing_outcomes.specs.declared.answer.ListingAnswer.{ListingAnswer}
+use Rattle.listing_outcomes.specs.declared.answer.ListingAnswer.the-variants as listing
+use Rattle.listing_outcomes.specs.declared.answer.PageAnswer.{PageAnswer}
+use Rattle.listing_outcomes.specs.declared.answer.PageAnswer.the-variants as page
+
+abbrev pub ofBulge : Fault → Bool
+ofBulge fault = eqb (fault .number) Refusal.bulge
+
+-- ---- a listing
+abbrev pub listedRows : ListingAnswer → ℕ
+listedRows (listing.Refused fault) = 0
+listedRows (listing.Listed rows pairs) = rows
+
+abbrev pub listedBulge : ListingAnswer → Bool
+listedBulge (listing.Refused fault) = ofBulge fault
+listedBulge (listing.Listed rows pairs) = false
+
+-- ---- a page
+abbrev pub pagedRows : PageAnswer → ℕ
+pagedRows (page.Refused fault) = 0
+pagedRows (page.Paged rows pairs next all) = rows
+
+abbrev pub pagedBulge : PageAnswer → Bool
+pagedBulge (page.Refused fault) = ofBulge fault
+pagedBulge (page.Paged rows pairs next all) = false

@@ -1,0 +1,77 @@
+// A page of the crossings of a path with itself, in the mode of large arcs.
+ghost use mathlib.Core.Path.{_≡_};
+ghost use Rattle.checks.specs.declared.fault.Checked.the-variants.{Fine};
+ghost use Rattle.listing_outcomes.specs.Outcome;
+ghost use Rattle.large_listings.specs.LargeListings;
+use super::cutting::FLOATS;
+use super::cutting::KEPT;
+use super::cutting::cut;
+use super::jobs;
+use checks::fault::Checked;
+use large_outcomes::listed;
+use listing_outcomes::answer::PageAnswer;
+use paths::path;
+
+// The same of a path that was checked.
+fn page_self(
+    path: &[f64],
+    closed: bool,
+    epsilon: f64,
+    position: usize,
+    budget: usize,
+    indices: &mut [u64],
+    points: &mut [f64],
+) -> PageAnswer
+    requires { ⌜ LargeListings.checkSelfLarge (now path) closed epsilon ≡ Fine ⌝ }
+    ensures { λ r. ⌜
+        Outcome.Leaves
+        (LargeListings.selfPageLarge (now (path .entry)) closed epsilon position budget
+        (now (indices .entry)) (now (points .entry)))
+        r (now (indices .exit)) (now (points .exit)) ⌝ }
+{
+    let mut floats = [0.0f64; FLOATS];
+    let mut names = [0u64; path::SEGMENTS];
+    let sizes = cut(path, closed, &mut floats, &mut names);
+    let n = sizes.floats;
+    let k = sizes.segments;
+    let job = jobs::self_job(k, closed, false, epsilon);
+    let own = &floats[..n];
+    let own_names = &names[..k];
+    let mut kept = [0.0f64; KEPT];
+    listed::page_large(
+        own,
+        own,
+        own_names,
+        own_names,
+        job,
+        position,
+        budget,
+        &mut kept,
+        indices,
+        points,
+    )
+}
+
+// Lists as `self_cut` does, from a position on: how many pairs of the cut path come before it. It stops at the end, when
+// `budget` pairs are passed, or before a pair whose row does not fit.
+pub fn self_page_cut(
+    path: &[f64],
+    closed: bool,
+    epsilon: f64,
+    position: usize,
+    budget: usize,
+    indices: &mut [u64],
+    points: &mut [f64],
+) -> PageAnswer
+    ensures { λ r. ⌜
+        Outcome.Leaves
+        (LargeListings.selfPageLarge (now (path .entry)) closed epsilon position budget
+        (now (indices .entry)) (now (points .entry)))
+        r (now (indices .exit)) (now (points .exit)) ⌝ }
+{
+    let checked = jobs::check_self_large(path, closed, epsilon);
+    match checked {
+        Checked::Fine => page_self(path, closed, epsilon, position, budget, indices, points),
+        Checked::Bad(fault) => PageAnswer::Refused(fault),
+    }
+}
