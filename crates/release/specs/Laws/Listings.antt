@@ -28,7 +28,7 @@ use Rattle.listing_calls.specs.Chain.{Lent, chain}
 use Rattle.listing_calls.specs.ChainedCalls.{mutualPages, selfPages}
 use Rattle.month.specs.declared.mutual_counted.CountedAnswer.the-variants as CountedAnswer·
 use Rattle.month.specs.Report.{words}
-use Rattle.month.specs.Counted.{unchanged, reportCheck, countedOf, mutualRows, mutualCounted}
+use Rattle.month.specs.Counted.{unchanged, reportCheck, countedOf, countedListing, mutualRows, mutualCounted}
 use Rattle.release.specs.Words.{Wrote, Listings, listed, paged, counted}
 use Rattle.release.specs.Release.{GoodOld}
 use Rattle.release.specs.Laws.Rows.{Inside, GoodLook, those-each, mutual-inside, self-inside, none-written}
@@ -39,9 +39,7 @@ use Rattle.release.specs.Laws.Looks.{old-sound, mutual-good, self-good, 
 -- ---- a counted listing has the rows of the listing
 pub counted-wrote : (P : Row → Type 0) (numbers : Row → List ℕ) (listing : Outcome ListingAnswer) (rows : List Row) (i : List ℕ)
     (p : List Float) (report : List ℕ) → Wrote listed P numbers listing
-    → Wrote counted P numbers
-    (cond (ltb (length report) words) (unchanged CountedAnswer·.NoRoom i p report)
-    (countedOf (reportCheck report) listing rows i p report) .listing)
+    → Wrote counted P numbers (countedListing listing rows i p report .listing)
 counted-wrote P numbers listing rows i p report h = go (ltb (length report) words) (reportCheck report)
   where
     go : (few : Bool) (c : Checked)
