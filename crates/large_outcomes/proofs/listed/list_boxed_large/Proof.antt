@@ -68,12 +68,14 @@ returns c =
     let k = c .before in
     let l = done (k .before .before) in
     let r = roomed l in
-    let a = start r .args in
-    (boxed-refused (now (a .indices)) (now (a .points)) _ (r .large-row-room .ensures)
-    (byNames (now (a .first-names)) (now (a .second-names))) (λ i j class. refl)
-    (lookBy (now (a .first)) (now (a .second)) (a .job)) (every (a .job)) []
-    (indexFor (now (a .first)) (now (a .second)) (a .job)) (now (a .boxes))
-    _ _ _ _ _ (k .answer .given .1) (l .boxed-in .ensures .0), l .boxed-in .ensures .1)
+    let a = start r .args in (
+      boxed-refused (now (a .indices)) (now (a .points)) _ (r .large-row-room .ensures)
+          (byNames (now (a .first-names)) (now (a .second-names))) (λ i j class. refl)
+          (lookBy (now (a .first)) (now (a .second)) (a .job)) (every (a .job)) []
+          (indexFor (now (a .first)) (now (a .second)) (a .job)) (now (a .boxes))
+          _ _ _ _ _ (k .answer .given .1) (l .boxed-in .ensures .0),
+      l .boxed-in .ensures .1,
+    )
 
 returns-2 : tie.Need-returns-2
 returns-2 c =
@@ -81,12 +83,14 @@ returns-2 c =
     let k = s .before .before .before in
     let l = done (k .before .before) in
     let r = roomed l in
-    let a = start r .args in
-    (boxed-spread (now (a .indices)) (now (a .points)) _ (r .large-row-room .ensures)
-    (byNames (now (a .first-names)) (now (a .second-names))) (λ i j class. refl)
-    (lookBy (now (a .first)) (now (a .second)) (a .job)) (every (a .job)) []
-    (indexFor (now (a .first)) (now (a .second)) (a .job)) (now (a .boxes))
-    _ _ _ _ _ _ _ (k .answer2 .given .1) (l .boxed-in .ensures .0) (s .spread .ensures), l .boxed-in .ensures .1)
+    let a = start r .args in (
+      boxed-spread (now (a .indices)) (now (a .points)) _ (r .large-row-room .ensures)
+          (byNames (now (a .first-names)) (now (a .second-names))) (λ i j class. refl)
+          (lookBy (now (a .first)) (now (a .second)) (a .job)) (every (a .job)) []
+          (indexFor (now (a .first)) (now (a .second)) (a .job)) (now (a .boxes))
+          _ _ _ _ _ _ _ (k .answer2 .given .1) (l .boxed-in .ensures .0) (s .spread .ensures),
+      l .boxed-in .ensures .1,
+    )
 
 pub list-boxed-large-spec : {M : Type 1} → statement M
 list-boxed-large-spec =

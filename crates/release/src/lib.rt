@@ -1,0 +1,1 @@
+// What the release form says of every answer, as theorems in specs/. There is no code here.
