@@ -45,6 +45,8 @@ mod plane;
 mod probe;
 mod program;
 mod record;
+#[cfg(feature = "rust-text")]
+mod release;
 mod rng;
 mod roots;
 mod search;
@@ -68,7 +70,8 @@ usage: compare check [COUNT [SEED]]  compare each float function on COUNT random
                                      limits; each kernel and the pair call until twice as many were answered, and on some
                                      that are refused; listings of whole paths until as many pairs were looked at, and on
                                      chosen ones; then as compare pages, as compare boxed, as compare month, as compare large,
-                                     as compare joints, as compare findings, and as compare edges with a tenth of COUNT
+                                     as compare joints, as compare findings, as compare release with a quarter of COUNT, and
+                                     as compare edges with a tenth of COUNT
        compare roots [COUNT [SEED]]  compare the root with the machine's own on COUNT patterns (default 10485760, seed 1): at
                                      every exponent its ends, random digits, squares of every count of digits, numbers
                                      next to ties, and the neighbours of these; subnormals of every count of digits
@@ -93,6 +96,10 @@ usage: compare check [COUNT [SEED]]  compare each float function on COUNT random
                                      compare the pair call with findings: on COUNT / 4 pairs, on damaged ones, and on at least
                                      as many made for rare cells, until each value came up a thousand times in each branch
                                      (default 10485760, seed 1; fewer times with a smaller COUNT)
+       compare release [COUNT [SEED]]
+                                     search for a breach of what the release form says, at the extremes, on COUNT answers of the
+                                     library and of the Rust text: kernels, pair calls, and rows of listings (default 10485760,
+                                     seed 1; at least 1048576)
        compare packed [COUNT [SEED]] compare the moves of layouts between text and packed form: on chosen texts and files, on
                                      COUNT / 10 drawn layouts both ways, and on as many damaged files (default 10485760,
                                      seed 1)
@@ -153,6 +160,7 @@ fn main() -> ExitCode {
         ["large", ref numbers @ ..] => large(numbers),
         ["joints", ref numbers @ ..] => joints(numbers),
         ["findings", ref numbers @ ..] => findings(numbers),
+        ["release", ref numbers @ ..] => release(numbers),
         ["packed", ref numbers @ ..] => packed(numbers),
         ["dxf", ref numbers @ ..] => dxf(numbers),
         ["drawings", folder] => drawings(Path::new(folder)),
@@ -254,6 +262,14 @@ fn findings(numbers: &[&str]) -> Result<(), String> {
     match check_findings(count, seed) {
         0 => Ok(()),
         differences => Err(format!("{differences} differences")),
+    }
+}
+
+fn release(numbers: &[&str]) -> Result<(), String> {
+    let (count, seed) = count_and_seed(numbers, COUNT)?;
+    match check_release(count, seed) {
+        0 => Ok(()),
+        wrong => Err(format!("{wrong} breaches, differences or absences")),
     }
 }
 
@@ -380,6 +396,7 @@ fn check_text(count: u64, seed: u64) -> u64 {
         + check_large(count, seed)
         + check_joints(count, seed)
         + check_findings(count, seed)
+        + check_release(count / 4, seed)
         + check_edges(count / 10, seed)
 }
 
@@ -416,6 +433,17 @@ fn check_joints(count: u64, seed: u64) -> u64 {
 #[cfg(feature = "rust-text")]
 fn check_findings(count: u64, seed: u64) -> u64 {
     findings::check(count, seed)
+}
+
+#[cfg(feature = "rust-text")]
+fn check_release(count: u64, seed: u64) -> u64 {
+    release::check(count, seed)
+}
+
+#[cfg(not(feature = "rust-text"))]
+fn check_release(_count: u64, _seed: u64) -> u64 {
+    println!("rust text not compiled in: nothing was compared with it");
+    0
 }
 
 #[cfg(not(feature = "rust-text"))]
