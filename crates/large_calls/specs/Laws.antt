@@ -2,3 +2,4 @@
 pub mod Agree
 pub mod Answered
 pub mod OldFirst
+pub mod Starts

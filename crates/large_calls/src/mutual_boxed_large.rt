@@ -1,8 +1,9 @@
 // The crossings of two paths, found by boxes, in the mode of large arcs.
 ghost use Rattle.listing_outcomes.specs.BoxedOutcome;
 ghost use Rattle.large_listings.specs.LargeListings;
-use super::answers::listed_bulge;
-use super::answers::spread_listed;
+use super::old_answer::listed_bulge;
+use super::old_answer::spread_listed;
+use super::old_answer::starts_large;
 use large_boxed::mutual_boxed_cut::mutual_boxed_cut;
 use large_outcomes::room::large_row_room;
 use listing_calls::mutual_boxed::mutual_boxed;
@@ -26,6 +27,18 @@ pub fn mutual_boxed_large(
         (now (boxes .entry)) (now (indices .entry)) (now (points .entry)))
         r (now (boxes .exit)) (now (indices .exit)) (now (points .exit)) ⌝ }
 {
+    if starts_large(first) {
+        return mutual_boxed_cut(
+            first,
+            first_closed,
+            second,
+            second_closed,
+            epsilon,
+            boxes,
+            indices,
+            points,
+        );
+    }
     let room = large_row_room(indices.len(), points.len());
     let threes = room * row::INDICES;
     let fours = room * row::POINTS;

@@ -1,8 +1,9 @@
 // The crossings of two paths, in the mode of large arcs.
 ghost use Rattle.listing_outcomes.specs.Outcome;
 ghost use Rattle.large_listings.specs.LargeListings;
-use super::answers::listed_bulge;
-use super::answers::spread_listed;
+use super::old_answer::listed_bulge;
+use super::old_answer::spread_listed;
+use super::old_answer::starts_large;
 use large_listings::mutual_cut::mutual_cut;
 use large_outcomes::room::large_row_room;
 use listing_calls::mutual_listing::mutual_listing;
@@ -25,6 +26,17 @@ pub fn mutual_large(
         (now (indices .entry)) (now (points .entry)))
         r (now (indices .exit)) (now (points .exit)) ⌝ }
 {
+    if starts_large(first) {
+        return mutual_cut(
+            first,
+            first_closed,
+            second,
+            second_closed,
+            epsilon,
+            indices,
+            points,
+        );
+    }
     let room = large_row_room(indices.len(), points.len());
     let threes = room * row::INDICES;
     let fours = room * row::POINTS;

@@ -1,8 +1,9 @@
 // A page of the crossings of two paths, in the mode of large arcs.
 ghost use Rattle.listing_outcomes.specs.Outcome;
 ghost use Rattle.large_listings.specs.LargeListings;
-use super::answers::paged_bulge;
-use super::answers::spread_paged;
+use super::old_answer::paged_bulge;
+use super::old_answer::spread_paged;
+use super::old_answer::starts_large;
 use large_listings::mutual_page_cut::mutual_page_cut;
 use large_outcomes::room::large_row_room;
 use listing_calls::mutual_page::mutual_page;
@@ -28,6 +29,19 @@ pub fn mutual_page_large(
         (now (indices .entry)) (now (points .entry)))
         r (now (indices .exit)) (now (points .exit)) ⌝ }
 {
+    if starts_large(first) {
+        return mutual_page_cut(
+            first,
+            first_closed,
+            second,
+            second_closed,
+            epsilon,
+            position,
+            budget,
+            indices,
+            points,
+        );
+    }
     let room = large_row_room(indices.len(), points.len());
     let threes = room * row::INDICES;
     let fours = room * row::POINTS;

@@ -1,8 +1,9 @@
 // The crossings of a path with itself, found by boxes, in the mode of large arcs.
 ghost use Rattle.listing_outcomes.specs.BoxedOutcome;
 ghost use Rattle.large_listings.specs.LargeListings;
-use super::answers::listed_bulge;
-use super::answers::spread_listed;
+use super::old_answer::listed_bulge;
+use super::old_answer::spread_listed;
+use super::old_answer::starts_large;
 use large_boxed::self_boxed_cut::self_boxed_cut;
 use large_outcomes::room::large_row_room;
 use listing_calls::self_boxed::self_boxed;
@@ -24,6 +25,9 @@ pub fn self_boxed_large(
         (now (boxes .entry)) (now (indices .entry)) (now (points .entry)))
         r (now (boxes .exit)) (now (indices .exit)) (now (points .exit)) ⌝ }
 {
+    if starts_large(path) {
+        return self_boxed_cut(path, closed, epsilon, boxes, indices, points);
+    }
     let room = large_row_room(indices.len(), points.len());
     let threes = room * row::INDICES;
     let fours = room * row::POINTS;

@@ -1,8 +1,9 @@
 // The crossings of a path with itself, in the mode of large arcs.
 ghost use Rattle.listing_outcomes.specs.Outcome;
 ghost use Rattle.large_listings.specs.LargeListings;
-use super::answers::listed_bulge;
-use super::answers::spread_listed;
+use super::old_answer::listed_bulge;
+use super::old_answer::spread_listed;
+use super::old_answer::starts_large;
 use large_listings::self_cut::self_cut;
 use large_outcomes::room::large_row_room;
 use listing_calls::self_listing::self_listing;
@@ -24,6 +25,9 @@ pub fn self_large(
         (now (indices .entry)) (now (points .entry)))
         r (now (indices .exit)) (now (points .exit)) ⌝ }
 {
+    if starts_large(path) {
+        return self_cut(path, closed, epsilon, indices, points);
+    }
     let room = large_row_room(indices.len(), points.len());
     let threes = room * row::INDICES;
     let fours = room * row::POINTS;

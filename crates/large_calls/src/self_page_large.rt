@@ -1,8 +1,9 @@
 // A page of the crossings of a path with itself, in the mode of large arcs.
 ghost use Rattle.listing_outcomes.specs.Outcome;
 ghost use Rattle.large_listings.specs.LargeListings;
-use super::answers::paged_bulge;
-use super::answers::spread_paged;
+use super::old_answer::paged_bulge;
+use super::old_answer::spread_paged;
+use super::old_answer::starts_large;
 use large_listings::self_page_cut::self_page_cut;
 use large_outcomes::room::large_row_room;
 use listing_calls::self_page::self_page;
@@ -26,6 +27,9 @@ pub fn self_page_large(
         (now (indices .entry)) (now (points .entry)))
         r (now (indices .exit)) (now (points .exit)) ⌝ }
 {
+    if starts_large(path) {
+        return self_page_cut(path, closed, epsilon, position, budget, indices, points);
+    }
     let room = large_row_room(indices.len(), points.len());
     let threes = room * row::INDICES;
     let fours = room * row::POINTS;

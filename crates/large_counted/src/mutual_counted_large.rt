@@ -18,8 +18,9 @@ use checks::fault::Checked;
 use checks::fault::Item;
 use checks::fault::whole;
 use checks::refusal;
-use large_calls::answers::listed_bulge;
-use large_calls::answers::spread_listed;
+use large_calls::old_answer::listed_bulge;
+use large_calls::old_answer::spread_listed;
+use large_calls::old_answer::starts_large;
 use large_listings::cutting::FLOATS;
 use large_listings::cutting::KEPT;
 use large_listings::cutting::cut;
@@ -180,6 +181,18 @@ fn counted_listing(
         (now (indices .entry)) (now (points .entry)) (now (report .entry))
         r (now (indices .exit)) (now (points .exit)) (now (report .exit)) ⌝ }
 {
+    if starts_large(first) {
+        return counted_large(
+            first,
+            first_closed,
+            second,
+            second_closed,
+            epsilon,
+            indices,
+            points,
+            report,
+        );
+    }
     let room = large_row_room(indices.len(), points.len());
     let threes = room * row::INDICES;
     let fours = room * row::POINTS;

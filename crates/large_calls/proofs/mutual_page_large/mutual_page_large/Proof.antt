@@ -14,7 +14,7 @@ use Rattle.large_calls.proofs.mutual_page_large.mutual_page_large.State
 use Rattle.large_calls.proofs.mutual_page_large.mutual_page_large.Tie as tie
 
 abbrev start : tie.After-large-row-room → tie.Start
-start c = c .before .before .before .before .before
+start c = c .before .before .before .before .before .before .before
 
 -- from the place after the test to that after the old mode's call, and from there to the room
 abbrev listed : tie.After-paged-bulge → tie.After-mutual-page
@@ -35,9 +35,9 @@ points-long c =
     let a = start r .args in
     sym (length-take-le _ _ (points-inside (now (a .indices)) (now (a .points)) _ (r .large-row-room .ensures)))
 
-returns : tie.Need-returns
+returns-2 : tie.Need-returns-2
 unfolding mutualPage
-returns c =
+returns-2 c =
     let k = c .before .before .before .before in
     let t = k .before .before .before in
     let h = t .before in
@@ -47,8 +47,8 @@ returns c =
     then-cut (λ i p. mutualPageLarge (now (a .first)) (a .first-closed) (now (a .second)) (a .second-closed) (a .epsilon) (a .position) (a .budget) i p)
     (now (a .indices)) _ (now (a .points)) _
     (page-refusal-kept _ _ _ (now (a .indices)) (now (a .points)) _ (r .large-row-room .ensures) _ _ _ _ _
-    (sym (h .paged-bulge .ensures) ∙ t .if1 .taken) (l .mutual-page .ensures))
-    _ _ _ (k .mutual-page-cut .ensures)
+    (sym (h .paged-bulge .ensures) ∙ t .if2 .taken) (l .mutual-page .ensures))
+    _ _ _ (k .mutual-page-cut2 .ensures)
 
 spread-paged-requires : tie.Need-spread-paged-requires
 unfolding mutualPage
@@ -60,9 +60,9 @@ spread-paged-requires c κs =
     (l .mutual-page .ensures) in
     omega (arith, few)
 
-returns-2 : tie.Need-returns-2
+returns-3 : tie.Need-returns-3
 unfolding mutualPage
-returns-2 c =
+returns-3 c =
     let s = c .before .before in
     let t = s .before .before in
     let h = t .before in
@@ -70,7 +70,7 @@ returns-2 c =
     let r = roomed l in
     let a = start r .args in
     mutual-page-first (now (a .first)) (a .first-closed) (now (a .second)) (a .second-closed) (a .epsilon)
-    (now (a .indices)) (now (a .points)) _ _ (a .position) (a .budget) _ (sym (h .paged-bulge .ensures) ∙ t .if1 .left)
+    (now (a .indices)) (now (a .points)) _ _ (a .position) (a .budget) _ (sym (h .paged-bulge .ensures) ∙ t .if2 .left)
     (paged-answered _ _ _ (now (a .indices)) (now (a .points)) _ (r .large-row-room .ensures) _ _ _ _ _ _
     (l .mutual-page .ensures) (s .spread-paged .ensures))
 
@@ -78,8 +78,9 @@ pub mutual-page-large-spec : {M : Type 1} → statement M
 mutual-page-large-spec =
     tie.close
     (tie.spec
+    (λ c. search needs) (λ c. search needs) (λ c. search needs) (λ c. search needs) (λ c. search needs)
     (λ c. search needs) (λ c. search needs) (λ c. search needs)
     (λ c. search needs) indices-long (λ c. search needs) points-long
     (λ c. search needs) (λ c. search needs) (λ c. search needs)
-    (λ c. search needs) (λ c. search needs) returns
-    spread-paged-requires (λ c. search needs) (λ c. search needs) returns-2)
+    (λ c. search needs) (λ c. search needs) returns-2
+    spread-paged-requires (λ c. search needs) (λ c. search needs) returns-3)

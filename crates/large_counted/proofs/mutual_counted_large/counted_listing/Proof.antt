@@ -10,7 +10,7 @@ use Rattle.large_counted.proofs.mutual_counted_large.counted_listing.St
 use Rattle.large_counted.proofs.mutual_counted_large.counted_listing.Tie as tie
 
 abbrev start : tie.After-large-row-room → tie.Start
-start c = c .before .before .before .before .before .before
+start c = c .before .before .before .before .before .before .before .before
 
 -- from the place after the test to that after the old mode's call, and from there to the room
 abbrev listed : tie.After-listed-bulge → tie.After-mutual-listing
@@ -31,8 +31,8 @@ points-long c =
     let a = start r .args in
     sym (length-take-le _ _ (points-inside (now (a .indices)) (now (a .points)) _ (r .large-row-room .ensures)))
 
-returns : tie.Need-returns
-returns c =
+returns-2 : tie.Need-returns-2
+returns-2 c =
     let k = c .before .before .before .before .before .before in
     let t = k .before .before .before .before in
     let h = t .before in
@@ -41,7 +41,7 @@ returns c =
     let a = start r .args in
     then-counted (now (a .first)) (a .first-closed) (now (a .second)) (a .second-closed) (a .epsilon)
     (now (a .indices)) (now (a .points)) _ (r .large-row-room .ensures) _ _ _ (l .mutual-listing .ensures) (now (a .report))
-    (sym (h .listed-bulge .ensures) ∙ t .if1 .taken) _ _ _ _ (k .counted-large .ensures)
+    (sym (h .listed-bulge .ensures) ∙ t .if2 .taken) _ _ _ _ (k .counted-large2 .ensures)
 
 count-requires : tie.Need-count-requires
 count-requires c κs =
@@ -61,8 +61,8 @@ spread-listed-requires c κs =
     old-fits (now (a .first)) (a .first-closed) (now (a .second)) (a .second-closed) (a .epsilon)
     (now (a .indices)) (now (a .points)) _ (r .large-row-room .ensures) _ _ _ (l .mutual-listing .ensures) (now (a .report))
 
-returns-2 : tie.Need-returns-2
-returns-2 c =
+returns-3 : tie.Need-returns-3
+returns-3 c =
     let s = c .before .before in
     let n = s .before .before .before .before in
     let t = n .before .before .before in
@@ -72,15 +72,16 @@ returns-2 c =
     let a = start r .args in
     old-added (now (a .first)) (a .first-closed) (now (a .second)) (a .second-closed) (a .epsilon)
     (now (a .indices)) (now (a .points)) _ (r .large-row-room .ensures) _ _ _ (l .mutual-listing .ensures) (now (a .report))
-    (sym (h .listed-bulge .ensures) ∙ t .if1 .left) _ _ (n .count .ensures) (s .spread-listed .ensures)
+    (sym (h .listed-bulge .ensures) ∙ t .if2 .left) _ _ (n .count .ensures) (s .spread-listed .ensures)
 
 pub counted-listing-spec : {M : Type 1} → statement M
 counted-listing-spec =
     tie.close
     (tie.spec
+    (λ c. search needs) (λ c. search needs) (λ c. search needs) (λ c. search needs) (λ c. search needs) (λ c. search needs)
     (λ c. search needs) (λ c. search needs) (λ c. search needs)
     (λ c. search needs) indices-long (λ c. search needs) points-long
     (λ c. search needs) (λ c. search needs) (λ c. search needs)
-    (λ c. search needs) (λ c. search needs) (λ c. search needs) returns
+    (λ c. search needs) (λ c. search needs) (λ c. search needs) returns-2
     count-requires spread-listed-requires
-    (λ c. search needs) (λ c. search needs) (λ c. search needs) returns-2)
+    (λ c. search needs) (λ c. search needs) (λ c. search needs) returns-3)

@@ -1,16 +1,16 @@
--- `large_calls::answers::spread_paged` meets its contract: a refusal has no rows.
+-- `large_calls::old_answer::spread_listed` meets its contract: a refusal has no rows.
 use mathlib.Core.Path.{ap}
 use native.Mathlib.Omega.{arith}
 use borrow.Author.Needs.{needs}
-use Rattle.large_calls.specs.Workings.Answers.{pagedRows}
-use Rattle.large_calls.proofs.answers.spread_paged.Statement.{statement}
-use Rattle.large_calls.proofs.answers.spread_paged.Tie as tie
+use Rattle.large_calls.specs.Workings.Answers.{listedRows}
+use Rattle.large_calls.proofs.old_answer.spread_listed.Statement.{statement}
+use Rattle.large_calls.proofs.old_answer.spread_listed.Tie as tie
 
 spread-zeros-requires : tie.Need-spread-zeros-requires
 spread-zeros-requires c κs =
     let k = c .before .before in
     let s = k .before .before .before in
-    omega (arith, ap pagedRows (k .answer2 .given .1), s .pre)
+    omega (arith, ap listedRows (k .answer2 .given .1), s .pre)
 
 returns-2 : tie.Need-returns-2
 returns-2 c =
@@ -18,8 +18,8 @@ returns-2 c =
     let k = z .before .before .before in
     rw (k .answer2 .given .1) (z .spread-zeros .ensures)
 
-pub spread-paged-spec : {M : Type 1} → statement M
-spread-paged-spec =
+pub spread-listed-spec : {M : Type 1} → statement M
+spread-listed-spec =
     tie.close
     (tie.spec
     (λ c. search needs) (λ c. search needs) spread-zeros-requires

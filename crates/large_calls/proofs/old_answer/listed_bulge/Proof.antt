@@ -1,7 +1,7 @@
--- `large_calls::answers::listed_bulge` meets its contract, case by case.
+-- `large_calls::old_answer::listed_bulge` meets its contract, case by case.
 use borrow.Author.Needs.{needs}
-use Rattle.large_calls.proofs.answers.listed_bulge.Statement.{statement}
-use Rattle.large_calls.proofs.answers.listed_bulge.Tie as tie
+use Rattle.large_calls.proofs.old_answer.listed_bulge.Statement.{statement}
+use Rattle.large_calls.proofs.old_answer.listed_bulge.Tie as tie
 
 pub listed-bulge-spec : {M : Type 1} → statement M
 listed-bulge-spec =

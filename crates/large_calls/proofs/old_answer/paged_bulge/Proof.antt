@@ -1,7 +1,7 @@
--- `large_calls::answers::paged_bulge` meets its contract, case by case.
+-- `large_calls::old_answer::paged_bulge` meets its contract, case by case.
 use borrow.Author.Needs.{needs}
-use Rattle.large_calls.proofs.answers.paged_bulge.Statement.{statement}
-use Rattle.large_calls.proofs.answers.paged_bulge.Tie as tie
+use Rattle.large_calls.proofs.old_answer.paged_bulge.Statement.{statement}
+use Rattle.large_calls.proofs.old_answer.paged_bulge.Tie as tie
 
 pub paged-bulge-spec : {M : Type 1} → statement M
 paged-bulge-spec =

@@ -1,4 +1,5 @@
-// What is read off an answer of the old mode: whether it is refusal 3, and its rows, which are spread.
+// What is read off an answer of the old mode: whether it is refusal 3, and its rows, which are spread. And whether a path begins
+// with a large arc, so that the old mode need not be asked.
 ghost use mathlib.Core.Path.{_≡_};
 ghost use Prim.Native.Nat.{_≤_, _*_};
 ghost use lib.ListN.{length};
@@ -6,9 +7,11 @@ ghost use Rattle.large_outcomes.specs.LargeRow;
 ghost use Rattle.large_outcomes.specs.Workings.Spread as spread_of;
 ghost use Rattle.large_calls.specs.Workings.Answers;
 use checks::refusal;
+use cuts::cut::is_large;
 use large_outcomes::spread::spread_zeros;
 use listing_outcomes::answer::ListingAnswer;
 use listing_outcomes::answer::PageAnswer;
+use paths::path;
 
 // Whether a listing is refused for a bulge.
 pub fn listed_bulge(answer: ListingAnswer) -> bool
@@ -66,4 +69,16 @@ pub fn spread_paged(answer: PageAnswer, indices: &mut [u64])
             spread_zeros(rows, indices);
         }
     }
+}
+
+// Whether the first bulge of a path is above 1 in magnitude. Then the paths are cut at once. Since the cut is so called from two
+// places, the compiler leaves it a function of its own, and its buffers are not on the stack of a call that cuts nothing.
+pub fn starts_large(path: &[f64]) -> bool
+    ensures { λ r. ⌜ r ≡ Answers.startsLarge (now (path .entry)) ⌝ }
+{
+    if path::vertex_count(path) > 0 {
+        let v = path::vertex(path, 0);
+        return is_large(v.bulge);
+    }
+    false
 }
