@@ -433,6 +433,8 @@ compare_listed() {
     fi
     "$1" listed target/bin/crossings "$2" || fail "the program that lists and its model differ"
     "$1" listed library "$3" || fail "the call of the program that lists and its model differ"
+    # as .ci/own does with somebody's own layouts
+    quietly "$1" own layouts target/bin/crossings || fail "the program answers a stored layout otherwise than the Rust text"
     mkdir "$scratch/layouts"
     cp layouts/*.txt "$scratch/layouts"
     quietly "$1" layouts "$scratch/layouts" || fail "compare layouts failed"

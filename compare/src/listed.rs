@@ -8,6 +8,7 @@ mod draw;
 mod examples;
 mod kinds;
 mod model;
+mod own;
 mod score;
 mod sheet;
 mod stored;
@@ -15,6 +16,7 @@ mod stored;
 mod tests;
 mod verdict;
 
+pub use own::own;
 pub use stored::write;
 
 use answering::Answering;

@@ -127,6 +127,8 @@ usage: compare check [COUNT [SEED]]  compare each float function on COUNT random
                                      their packed form, damaged files, texts; and on every damage of a byte of the first
                                      line. If PROGRAM is the word library, its call is asked instead, in one process
        compare layouts FOLDER        write the model's output NAME.out for each text NAME.txt of the form there
+       compare own FOLDER PROGRAM    say for each text NAME.txt there whether the program that lists answers its packed form as the
+                                     Rust text does
        compare packed-layouts FOLDER write packed/NAME.packed for each text NAME.txt of the form there, NAME.expected for each
                                      other text, and packed/NAME.expected for each packed/NAME.packed that is no layout
        compare record FILE           write the recorded list for the program replay
@@ -173,6 +175,7 @@ fn main() -> ExitCode {
         ["arcs", ref numbers @ ..] => search_arcs(numbers),
         ["listed", program, ref numbers @ ..] => listed(program, numbers),
         ["layouts", folder] => layouts(Path::new(folder)),
+        ["own", folder, program] => own(Path::new(folder), program),
         ["record", file] => record(file),
         ["bench"] => time(&BENCHES),
         ["bench", ref parts @ ..] => time(parts),
@@ -569,6 +572,23 @@ fn layouts(folder: &Path) -> Result<(), String> {
 #[cfg(not(feature = "rust-text"))]
 fn layouts(_folder: &Path) -> Result<(), String> {
     Err("rust text not compiled in: there is no model of the program".to_string())
+}
+
+#[cfg(feature = "rust-text")]
+fn own(folder: &Path, program: &str) -> Result<(), String> {
+    let own = listed::own(folder, program)?;
+    let (same, different) = (own.same, own.different);
+    println!("{same} the same, {different} different, {} not of the form", own.broken);
+    match (same, different) {
+        (_, 1..) => Err(format!("{different} layouts are answered differently")),
+        (0, 0) => Err("no layout was compared".to_string()),
+        _ => Ok(()),
+    }
+}
+
+#[cfg(not(feature = "rust-text"))]
+fn own(_folder: &Path, _program: &str) -> Result<(), String> {
+    Err("rust text not compiled in: there is nothing to compare with".to_string())
 }
 
 fn record(file: &str) -> Result<(), String> {

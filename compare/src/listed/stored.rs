@@ -43,7 +43,7 @@ pub fn write(folder: &Path) -> Result<usize, String> {
 }
 
 /// In the order of their names.
-fn texts(folder: &Path) -> std::io::Result<Vec<PathBuf>> {
+pub fn texts(folder: &Path) -> std::io::Result<Vec<PathBuf>> {
     let mut texts = Vec::new();
     for entry in fs::read_dir(folder)? {
         let path = entry?.path();
