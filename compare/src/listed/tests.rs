@@ -6,7 +6,7 @@ use super::run;
 use crate::form;
 use crate::packed::model as packed;
 
-const COUNT: u64 = 6_144;
+const COUNT: u64 = 3_072;
 const SEED: u64 = 1;
 
 /// A stand-in that prints what is said, if there is room.
