@@ -36,6 +36,7 @@ const LEAST: u64 = 1 << 20;
 /// there were, plus what never occurred.
 pub fn check(count: u64, seed: u64) -> u64 {
     let mut run = Run::new(calls::OURS, calls::TEXT, seed, ENOUGH);
-    run.all(count.max(LEAST));
+    run.examples();
+    run.inputs(count.max(LEAST));
     run.report()
 }

@@ -1,6 +1,7 @@
 //! Pairs of segments at the extremes, by family.
 
 use super::numbers::{bulge, coordinate, epsilon, far, least_bulge, nudge, point, ulps, Point};
+use crate::crossing::faults::two_to;
 use crate::inputs::values::{beside, down, power, whole, LARGEST_EPSILON, LINE_LIMIT, SMALLEST};
 use crate::inputs::{Kind, Pair, Vertex};
 use crate::rng::Rng;
@@ -123,20 +124,37 @@ fn parallel(epsilon: f64, rng: &mut Rng) -> Drawn {
     ((v1, 0.0, v2), (u1, 0.0, u2), epsilon)
 }
 
+/// A length, an epsilon, and a place beyond the length by less than epsilon: as a parameter it is rounded up, so that it comes to
+/// lie epsilon beyond.
+pub fn tie(rng: &mut Rng) -> [f64; 3] {
+    let n = 2 + rng.below(39);
+    let floats = n + rng.below(n);
+    let half = floats as f64 + 0.5;
+    let low = if half > 8.0 { 9 } else { 11 };
+    let exponent = (low + rng.below(20 - low)) as i32;
+    let float = two_to(exponent - 52);
+    let length = half / n as f64 * two_to(exponent);
+    [length, half * float, length + floats as f64 * float]
+}
+
 /// Lines on one axis, the second from 0 on: they overlap, touch or miss by a few floats, or by epsilon up to a few floats.
 fn end_to_end(rng: &mut Rng) -> Drawn {
-    let length = power(rng, 0, 19);
-    // epsilon is some of the floats at the second one's end
-    let float = length.next_up() - length;
-    let epsilon = (float * rng.between(1.0, 40.0)).clamp(SMALLEST, LARGEST_EPSILON);
-    let gap = match rng.below(4) {
-        0 => 0.0,
-        1 => -epsilon,
-        _ => epsilon,
+    let [length, epsilon, from] = if rng.one_in(2) {
+        tie(rng)
+    } else {
+        let length = power(rng, 0, 19);
+        // epsilon is some of the floats at the second one's end
+        let float = length.next_up() - length;
+        let epsilon = (float * rng.between(1.0, 40.0)).clamp(SMALLEST, LARGEST_EPSILON);
+        let gap = match rng.below(4) {
+            0 => 0.0,
+            1 => -epsilon,
+            _ => epsilon,
+        };
+        [length, epsilon, ulps(length + gap, 4, rng)]
     };
-    let from = ulps(length + gap, 4, rng);
     let to = match rng.below(4) {
-        0 => ulps(length + gap, 4, rng),
+        0 => ulps(from, 4, rng),
         1 => rng.between(-length, 2.0 * length),
         2 => ulps(0.0, 2, rng) + nudge(epsilon, rng),
         _ => length + power(rng, -20, 18),
@@ -272,7 +290,7 @@ impl Circle {
         let scale = match rng.below(4) {
             0 => 1.0,
             1 => power(rng, -40, 17),
-            2 => crate::crossing::faults::two_to(rng.below(57) as i32 - 40),
+            2 => two_to(rng.below(57) as i32 - 40),
             _ => power(rng, -3, 3),
         };
         let middle = |rng: &mut Rng| match rng.below(4) {
