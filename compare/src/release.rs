@@ -16,11 +16,13 @@ mod kinds;
 mod listed;
 mod numbers;
 mod paths;
+mod round;
 mod rows;
 mod run;
 mod score;
 #[cfg(test)]
 mod stand_in;
+mod straight;
 #[cfg(test)]
 mod tests;
 

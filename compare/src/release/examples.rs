@@ -55,6 +55,27 @@ const ALL: &[Example] = &[
         class: 1,
         values: [0, 0x42b2_7c97_0d8a_62a8, 0, 0],
     },
+    Example {
+        name: "the same on a diagonal of the box, 5e13 away in each coordinate",
+        call: PAIR,
+        on: &[
+            0xc130_0000_0000_0000,
+            0xc12f_ffff_ffff_ffff,
+            0xbe45_798e_e230_8c3c,
+            0x4130_0000_0000_0000,
+            0x412f_ffff_ffff_ffff,
+            0,
+            0xc130_0000_0000_0000,
+            0xc12f_ffff_ffff_ffff,
+            0xbe45_798e_e230_8c3d,
+            0x4130_0000_0000_0000,
+            0x412f_ffff_ffff_ffff,
+            0,
+            0x3f74_636f_b2b4_e1ac,
+        ],
+        class: 1,
+        values: [0xc2c8_287c_0000_0002, 0x42c8_287c_0000_0001, 0, 0],
+    },
 ];
 
 pub fn all() -> &'static [Example] {

@@ -1,7 +1,8 @@
 //! Layouts of two short paths made of segments at the extremes. Their vertices come from few points, so that many pairs meet.
 
-use super::draw::{tie, Circle};
 use super::numbers::{bulge, epsilon, far, least_bulge, nudge, point, ulps, Point};
+use super::round::Circle;
+use super::straight::tie;
 use crate::inputs::values::{down, power, up, whole, LINE_LIMIT, SMALLEST};
 use crate::listings::layout::{Drawn, Layout};
 use crate::rng::Rng;

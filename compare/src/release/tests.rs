@@ -89,5 +89,5 @@ fn the_examples() {
     }
     set("far points are infinite", "");
     let wrong = |example: &&examples::Example| example.wrong(&STAND_IN, TEXT_STAND_IN).is_some();
-    assert_eq!(examples::all().iter().filter(wrong).count(), 1);
+    assert_eq!(examples::all().iter().filter(wrong).count(), 2);
 }
