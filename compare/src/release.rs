@@ -16,11 +16,13 @@ mod kinds;
 mod listed;
 mod numbers;
 mod paths;
+mod round;
 mod rows;
 mod run;
 mod score;
 #[cfg(test)]
 mod stand_in;
+mod straight;
 #[cfg(test)]
 mod tests;
 
@@ -36,6 +38,7 @@ const LEAST: u64 = 1 << 20;
 /// there were, plus what never occurred.
 pub fn check(count: u64, seed: u64) -> u64 {
     let mut run = Run::new(calls::OURS, calls::TEXT, seed, ENOUGH);
-    run.all(count.max(LEAST));
+    run.examples();
+    run.inputs(count.max(LEAST));
     run.report()
 }

@@ -45,7 +45,8 @@ pub fn finite(answer: &Answer) -> Option<Breach> {
 pub fn of_pair(answer: &Answer, ends: &Ends) -> Option<Breach> {
     finite(answer).or_else(|| {
         let [a, b, c, d] = answer.values;
-        let copies = answer.class != ARCS || [[a, b], [c, d]].iter().all(|p| is_copy(p, ends));
+        let copied = |point: &[f64; 2]| ends.iter().any(|end| is_copy(point, end));
+        let copies = answer.class != ARCS || [[a, b], [c, d]].iter().all(copied);
         (!copies).then_some(Breach::NoCopy)
     })
 }
@@ -59,15 +60,9 @@ pub fn of_lines(answer: &Answer) -> Option<Breach> {
     })
 }
 
-/// Whether both coordinates have the bits of one of the ends.
-fn is_copy(point: &[f64; 2], ends: &Ends) -> bool {
-    which_end(point, ends).is_some()
-}
-
-/// The first end of which the point is a bit copy.
-pub fn which_end(point: &[f64; 2], ends: &Ends) -> Option<usize> {
-    let bits = |p: &[f64; 2]| p.map(f64::to_bits);
-    ends.iter().position(|end| bits(end) == bits(point))
+/// Whether both coordinates have the bits of this end.
+pub fn is_copy(point: &[f64; 2], end: &[f64; 2]) -> bool {
+    point.map(f64::to_bits) == end.map(f64::to_bits)
 }
 
 #[cfg(test)]

@@ -1,7 +1,7 @@
 //! Kinds of input that must have come up in each call, read from the numbers and from the answer.
 
 use super::calls::{CIRCLES, LINES, LINE_AND_CIRCLE, PAIR};
-use super::judge::{which_end, Answer, Ends, ARCS, OVERLAPPING};
+use super::judge::{is_copy, Answer, Ends, ARCS, OVERLAPPING};
 use crate::crossing::faults::two_to;
 use crate::inputs::values::{COORDINATE_LIMIT, LINE_LIMIT, SMALLEST};
 use crate::met::Met;
@@ -39,9 +39,7 @@ impl Case {
         }
         let [a, b, c, d] = self.answer.values;
         let ends = self.ends();
-        let is = |point: [f64; 2], end: usize| {
-            which_end(&point, &ends[end..=end].repeat(4).try_into().expect("four")).is_some()
-        };
+        let is = |point: [f64; 2], end: usize| is_copy(&point, &ends[end]);
         is([a, b], from) && is([c, d], to)
     }
 }

@@ -70,14 +70,12 @@ pub fn listed(layout: &Layout, own: bool) -> Listed<'_> {
 
 impl Found {
     /// Of accepted paths. Without large arcs nothing is cut.
-    pub fn new(text: Text, large: bool, layout: &Layout, own: bool) -> Found {
-        let epsilon = layout.epsilon;
-        let paths = if own {
-            [&layout.first; 2]
-        } else {
-            [&layout.first, &layout.second]
+    pub fn new(text: Text, large: bool, listed: Listed, epsilon: f64) -> Found {
+        let (own, paths) = match listed {
+            Listed::Own(path) => (true, [path; 2]),
+            Listed::Mutual(first, second) => (false, [first, second]),
         };
-        let cuts = paths.map(|drawn| Cut::by(&RULE, drawn.path()));
+        let cuts = paths.map(|path| Cut::by(&RULE, path));
         let [first, second] = [0, 1].map(|at: usize| cuts[at].path());
         let boxes = [first, second].map(|path| Boxes::of(path, epsilon));
         let mut found = Found {

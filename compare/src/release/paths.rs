@@ -1,8 +1,9 @@
 //! Layouts of two short paths made of segments at the extremes. Their vertices come from few points, so that many pairs meet.
 
-use super::draw::Circle;
 use super::numbers::{bulge, epsilon, far, least_bulge, nudge, point, ulps, Point};
-use crate::inputs::values::{down, power, up, whole, LARGEST_EPSILON, LINE_LIMIT, SMALLEST};
+use super::round::Circle;
+use super::straight::tie;
+use crate::inputs::values::{down, power, up, whole, LINE_LIMIT, SMALLEST};
 use crate::listings::layout::{Drawn, Layout};
 use crate::rng::Rng;
 
@@ -18,11 +19,10 @@ pub fn layout(large: bool, rng: &mut Rng) -> Layout {
             [0, 1].map(|_| on_circle(&circle, large, rng))
         }
         3 => {
-            let length = power(rng, 0, 19);
-            let float = length.next_up() - length;
-            epsilon = (float * rng.between(1.0, 40.0)).clamp(SMALLEST, LARGEST_EPSILON);
+            let [length, given, beyond] = tie(rng);
+            epsilon = given;
             let by_y = rng.one_in(2);
-            [0, 1].map(|_| on_axis(length, epsilon, by_y, rng))
+            [0, 1].map(|_| on_axis([length, epsilon, beyond], by_y, rng))
         }
         4 | 5 => {
             let ends = [[far(rng), 0.0], [far(rng), far(rng)]];
@@ -77,11 +77,12 @@ fn on_circle(circle: &Circle, large: bool, rng: &mut Rng) -> Drawn {
 }
 
 /// Lines on one axis, to and fro, between few places that are epsilon or some floats apart.
-fn on_axis(length: f64, epsilon: f64, by_y: bool, rng: &mut Rng) -> Drawn {
+fn on_axis([length, epsilon, beyond]: [f64; 3], by_y: bool, rng: &mut Rng) -> Drawn {
     let place = |rng: &mut Rng| match rng.below(8) {
         0 | 1 => 0.0,
         2 | 3 => length,
-        4 | 5 => ulps(length + epsilon, 3, rng),
+        4 => beyond,
+        5 => ulps(length + epsilon, 3, rng),
         6 => nudge(epsilon, rng),
         _ => length + power(rng, -20, 18),
     };

@@ -3,7 +3,7 @@
 use super::calls::{Ours, Text, CIRCLES, LINES, LINE_AND_CIRCLE, PAIR};
 use super::draw::{self, Numbers};
 use super::judge::{finite, of_lines, of_pair, Answer};
-use super::listed::{ends, is_accepted, Found, FORMS};
+use super::listed::{ends, is_accepted, listed, Found, FORMS};
 use super::rows::{Asked, Room};
 use super::score::{Measure, Score, Stronger};
 use super::{examples, kernels, kinds, paths};
@@ -81,8 +81,8 @@ impl Run {
         }
     }
 
-    pub fn all(&mut self, count: u64) {
-        self.examples();
+    /// Every call, until there are so many answers.
+    pub fn inputs(&mut self, count: u64) {
         let tenth = count / 10;
         for call in [LINES, LINE_AND_CIRCLE, CIRCLES] {
             while self.calls[call].answered < tenth && self.goes_on() {
@@ -96,14 +96,19 @@ impl Run {
         while self.large.answered < 2 * tenth && self.goes_on() {
             self.large_pair();
         }
-        while self.rows_answered() < 2 * tenth && self.goes_on() {
+        self.rows_only(2 * tenth);
+    }
+
+    /// Every listing, until there are so many rows.
+    pub fn rows_only(&mut self, count: u64) {
+        while self.rows_answered() < count && self.goes_on() {
             for large in [false, true] {
                 self.layout(large);
             }
         }
     }
 
-    fn examples(&mut self) {
+    pub fn examples(&mut self) {
         for example in examples::all() {
             if let Some(what) = example.wrong(&self.ours, self.text) {
                 println!("release: the example \"{}\" {what}", example.name);
@@ -222,7 +227,7 @@ impl Run {
             if !is_accepted(large, &layout, own) {
                 continue;
             }
-            let found = Found::new(self.text, large, &layout, own);
+            let found = Found::new(self.text, large, listed(&layout, own), layout.epsilon);
             for (at, (form, of_one)) in FORMS.into_iter().enumerate() {
                 if of_one != own {
                     continue;
