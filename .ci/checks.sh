@@ -397,16 +397,16 @@ begin_comparison() {
 # The other runs, and the end of the longest. The quick gate takes a tenth of the inputs, but all texts and packed files that go
 # through programs: they are few, and some kinds of them are rare.
 run_comparison() {
-    local compare=$1 pairs=4194304 arcs=11534336 texts=3072 movers=2048
+    local compare=$1 pairs=4194304 arcs=11534336 texts=3072 calls=262144 movers=2048
     if [ -n "$quick" ]; then
-        pairs=$((pairs / 10)) arcs=$((arcs / 10))
+        pairs=$((pairs / 10)) arcs=$((arcs / 10)) calls=$((calls / 10))
     fi
     "$compare" search "$pairs" || fail "an answer breaks what is promised on the grid"
     search_arcs "$compare" "$arcs"
     quietly "$compare" record "$scratch/list" || fail "compare record failed"
     check_list "$scratch/list" crates/replay/stdin
     compare_movers "$compare" "$movers"
-    compare_listed "$compare" "$texts" $((inputs / 40))
+    compare_listed "$compare" "$texts" "$calls"
     wait "$check" || {
         cat "$scratch/check"
         fail "the library and Rust differ"
