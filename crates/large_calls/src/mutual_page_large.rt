@@ -25,7 +25,8 @@ pub fn mutual_page_large(
 ) -> PageAnswer
     ensures { λ r. ⌜
         Outcome.Leaves
-        (LargeListings.mutualPageLarge (now (first .entry)) «first_closed» (now (second .entry)) «second_closed» epsilon position budget
+        (LargeListings.mutualPageLarge (now (first .entry)) «first_closed» (now (second .entry)) «second_closed» epsilon
+        position budget
         (now (indices .entry)) (now (points .entry)))
         r (now (indices .exit)) (now (points .exit)) ⌝ }
 {

@@ -1,5 +1,5 @@
--- The checks of both modes agree, but for refusal 3 of the old one: if its first fault is another, or if there is none, so it is in
--- the mode of large arcs. If there is none, no bulge is above 1 in magnitude.
+-- The checks of both modes agree, but for refusal 3 of the old one: if its first fault is another, or if there is none, so it
+-- is in the mode of large arcs. If there is none, no bulge is above 1 in magnitude.
 use mathlib.Core.Path.{_≡_, refl, sym, ap, _∙_, subst}
 use mathlib.Core.Bool.{Bool, true, false, not, true≢false}
 use mathlib.Core.Logic.{Iff·rfl}

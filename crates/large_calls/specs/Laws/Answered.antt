@@ -1,5 +1,5 @@
--- What the old mode's call leaves in the lent parts, with its rows spread as many as it answers, is the outcome with rows of five;
--- and a refusal leaves the slices as they were. The same for a listing, a page and a boxed listing.
+-- What the old mode's call leaves in the lent parts, with its rows spread as many as it answers, is the outcome with rows of
+-- five; and a refusal leaves the slices as they were. The same for a listing, a page and a boxed listing.
 use mathlib.Core.Path.{_≡_, refl, sym, ap, _∙_, subst}
 use mathlib.Core.Bool.{Bool, true, false, true≢false}
 use mathlib.Core.List.{List, [], _∷_, _++_}
@@ -221,7 +221,8 @@ module _ (checks : List Checked) (look : ℕ → ℕ → Look) (ps : List Pair) 
 
   -- ---- a boxed listing
   module _ (idx x₀ : List Float) (r : ListingAnswer) (x : List Float) (i : List ℕ) (p : List Float) where
-    pub boxed-answered-few : LeavesBoxed (boxedOutcome checks look ps idx x₀ (indicesPart i₀ p₀ m is) (pointsPart i₀ p₀ m is)) r x i p
+    pub boxed-answered-few :
+        LeavesBoxed (boxedOutcome checks look ps idx x₀ (indicesPart i₀ p₀ m is) (pointsPart i₀ p₀ m is)) r x i p
         → listedRows r * largeIndicesARow ≤ length i₀
     unfolding boxedOutcome
     boxed-answered-few l = go r refl

@@ -103,7 +103,8 @@ boxed-first checks larges more agree rows k idx x₀ i₀ p₀ r x i p other who
     go : (c : Checked) → firstFault checks ≡ c → LeavesBoxed whole r x i p
     go Fine e = subst (λ (o : BoxedOutcome). LeavesBoxed o r x i p) (sym (plain e)) l
     go (Bad f) e =
-        let left : LeavesBoxed (largeBoxedOf withZeros (Bad f) rows k idx x₀ i₀ p₀) r x i p = rw (after-bad checks more f e) at l in
+        let left : LeavesBoxed (largeBoxedOf withZeros (Bad f) rows k idx x₀ i₀ p₀) r x i p =
+        rw (after-bad checks more f e) at l in
         let same = agree (ap overBulge e ∙ other f (left .listing .answer)) ∙ e in
         let b = bad f same in
         record {

@@ -1,5 +1,5 @@
--- What is read off the old mode's answer, as `src/old_answer.rt` does it: how many rows it has written, and whether it is refusal 3,
--- a bulge above 1.
+-- What is read off the old mode's answer, as `src/old_answer.rt` does it: how many rows it has written, and whether it is
+-- refusal 3, a bulge above 1.
 use mathlib.Core.Bool.{Bool, false, cond}
 use mathlib.Core.List.{List}
 use Prim.Native.Nat.{ℕ}

@@ -233,7 +233,9 @@ module _ (firsts seconds : List ℕ) (look : ℕ → ℕ → Look) (ps : List Pa
       → ListedCounted (fiveOf firsts seconds) look ps i₀ p₀ w₀ (Listed n k) now (p ++ drop (m * pointsARow) p₀) w
   counted-spread now n k e done =
       record {
-        listing = listed-spread i₀ p₀ m is (byNames firsts seconds) (λ x y class. refl) look ps (λ c. c) (λ c e. e) r i now p n k e l done;
+        listing =
+            listed-spread i₀ p₀ m is (byNames firsts seconds) (λ x y class. refl) look ps (λ c. c) (λ c e. e)
+            r i now p n k e l done;
         report = its-report (Listed n k) e;
       }
 

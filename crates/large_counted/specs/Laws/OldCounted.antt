@@ -1,5 +1,5 @@
--- The counted listing that asks the old mode first: what the old mode's rows of three add to the report is what the definition adds,
--- unless the old mode refuses a bulge.
+-- The counted listing that asks the old mode first: what the old mode's rows of three add to the report is what the definition
+-- adds, unless the old mode refuses a bulge.
 use mathlib.Core.Path.{_≡_, refl, sym, ap, _∙_}
 use mathlib.Core.Bool.{Bool, true, false}
 use mathlib.Core.List.{List, [], _∷_, _++_}
@@ -145,8 +145,8 @@ module _ (first : List Float) (firstClosed : Bool) (second : List Float) (second
 
     -- a bulge is refused: the slices are as they were, and the paths are cut
     pub then-counted : listedBulge r ≡ true → (a : ListingAnswer) (j : List ℕ) (q : List Float) (w : List ℕ)
-        → LargeAdded first firstClosed second secondClosed epsilon (i ++ drop (m * indicesARow) i₀) (p ++ drop (m * pointsARow) p₀)
-        w₀ a j q w
+        → LargeAdded first firstClosed second secondClosed epsilon (i ++ drop (m * indicesARow) i₀)
+        (p ++ drop (m * pointsARow) p₀) w₀ a j q w
         → LargeAdded first firstClosed second secondClosed epsilon i₀ p₀ w₀ a j q w
     unfolding mutualListing
     then-counted b a j q w h =

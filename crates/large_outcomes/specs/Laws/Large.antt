@@ -241,7 +241,8 @@ module _ (indices : List ℕ) (points : List Float) (m : ℕ) (is : m ≡ largeR
 
       abbrev pub BoxedPart : ListingAnswer → List Float → List ℕ → List Float → Type 0
       BoxedPart r b i p =
-          LeavesBoxed (boxedOf (box-found (roomCheck rows is-part ps-part)) rows (lookedAt look ps) idx b₀ is-part ps-part) r b i p
+          LeavesBoxed (boxedOf (box-found (roomCheck rows is-part ps-part)) rows (lookedAt look ps) idx b₀ is-part ps-part)
+          r b i p
 
       abbrev pub BoxedWhole : ListingAnswer → List Float → List ℕ → List Float → Type 0
       BoxedWhole r b i p =

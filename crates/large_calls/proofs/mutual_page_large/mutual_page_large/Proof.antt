@@ -1,5 +1,5 @@
--- `large_calls::mutual_page_large::mutual_page_large` meets its contract: if the old mode refuses a bulge, the slices are as they were, and
--- the paths are cut; else its answer holds, with its rows spread.
+-- `large_calls::mutual_page_large::mutual_page_large` meets its contract. If the old mode refuses a bulge, the slices are as they
+-- were, and the paths are cut; else its answer holds, with its rows spread.
 use mathlib.Core.Path.{sym, _∙_}
 use native.Mathlib.Omega.{arith}
 use borrow.Author.Needs.{needs}
@@ -44,7 +44,8 @@ returns-2 c =
     let l = listed h in
     let r = roomed l in
     let a = start r .args in
-    then-cut (λ i p. mutualPageLarge (now (a .first)) (a .first-closed) (now (a .second)) (a .second-closed) (a .epsilon) (a .position) (a .budget) i p)
+    then-cut (mutualPageLarge (now (a .first)) (a .first-closed) (now (a .second)) (a .second-closed) (a .epsilon)
+    (a .position) (a .budget))
     (now (a .indices)) _ (now (a .points)) _
     (page-refusal-kept _ _ _ (now (a .indices)) (now (a .points)) _ (r .large-row-room .ensures) _ _ _ _ _
     (sym (h .paged-bulge .ensures) ∙ t .if2 .taken) (l .mutual-page .ensures))

@@ -1,5 +1,5 @@
--- `large_counted::mutual_counted_large::counted_listing` meets its contract: if the old mode refuses a bulge, the slices are as they
--- were, and the paths are cut; else its answer holds, with its rows counted and spread.
+-- `large_counted::mutual_counted_large::counted_listing` meets its contract: if the old mode refuses a bulge, the slices are as
+-- they were, and the paths are cut; else its answer holds, with its rows counted and spread.
 use mathlib.Core.Path.{sym, _∙_}
 use borrow.Author.Needs.{needs}
 use denote.Ref.{now}

@@ -17,7 +17,8 @@ returns-3 : tie.Need-returns-3
 returns-3 c =
     let m = c .before .before .before .before .before .before in
     let e = m .before .before .before .before in
-    counted-listed _ _ _ _ _ _ _ _ (search needs) _ (e .before .full .ensures) (e .if2 .left) _ _ _ _ (m .counted-listing .ensures)
+    counted-listed _ _ _ _ _ _ _ _ (search needs) _ (e .before .full .ensures) (e .if2 .left) _ _ _ _
+    (m .counted-listing .ensures)
 
 pub mutual-counted-large-spec : {M : Type 1} → statement M
 mutual-counted-large-spec =

@@ -20,6 +20,7 @@ spread-spec =
     let n = p .before .before .before in
     let l = n .before .before .before .before in
     let a = l .before .before .before .before .before .args in
-    names-turn (now (a .first)) (now (a .second)) (l .before .loop .inv) (search needs) _ _ _ (n .before .before .name-of .ensures) (n .name-of2 .ensures)
+    names-turn (now (a .first)) (now (a .second)) (l .before .loop .inv) (search needs) _ _ _
+    (n .before .before .name-of .ensures) (n .name-of2 .ensures)
     (p .put-names .ensures))
     (λ c. search needs) (λ c. spreading-ends (c .before .loop .inv) (search needs)))
