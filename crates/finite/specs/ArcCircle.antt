@@ -11,8 +11,8 @@ use Rattle.plane.specs.PlineSeg.{segArcRadiusAndCenter}
 use Rattle.plane.specs.declared.vector2.Vector2.{Vector2}
 use Rattle.plane.specs.declared.pline_vertex.PlineVertex.{PlineVertex}
 use Rattle.plane.specs.declared.pline_seg.ArcRadiusCenter.{ArcRadiusCenter}
-use Rattle.checks.specs.Laws.Lengths.{Small}
-use Rattle.finite.specs.Leaves.{abs-small, root-small}
+use Rattle.float_laws.specs.Sizes.{Small}
+use Rattle.floats.specs.Laws.Sizes.{abs-small, root-small}
 use Rattle.finite.specs.Doubles.{wider, plus, minus, times, over, times-sizable, not-zero}
 use Rattle.finite.specs.Doubles.{one-small, four-small, two-sizable, four-sizable}
 use Rattle.finite.specs.Vectors.{SmallPoint, point-wider, add-point, sub-point, scale-point, perp-small}

@@ -13,7 +13,6 @@ use Rattle.plane.specs.Vector2 as vector2
 use Rattle.plane.specs.declared.vector2.Vector2.{Vector2}
 use Rattle.plane.specs.Fuzzy.{fuzzyEqEps, fuzzyEqZeroEps, fuzzyGtEps, fuzzyLtEps}
 use Rattle.checks.specs.Laws.Fine.{neither}
-use Rattle.checks.specs.Laws.Lengths.{Small}
 use Rattle.crossing.specs.CircleCircle as kernel
 use Rattle.crossing.specs.declared.circle_circle_intr.CircleCircleIntr.{CircleCircleIntr}
 use Rattle.crossing.specs.declared.circle_circle_intr.CircleCircleIntr.the-variants.{
@@ -23,8 +22,8 @@ use Rattle.crossing.specs.declared.circle_circle_intr.CircleCircleIntr.the-vari
   Overlapping,
 }
 use Rattle.finite.specs.Branch.{by-test}
-use Rattle.finite.specs.Sizes.{Sizable, small-finite}
-use Rattle.finite.specs.Leaves.{root-small}
+use Rattle.float_laws.specs.Sizes.{Small, Sizable, small-finite}
+use Rattle.floats.specs.Laws.Sizes.{root-small}
 use Rattle.finite.specs.Doubles.{Epsilon, wider, plus, minus, times, over, times-sizable, two-small, two-sizable}
 use Rattle.finite.specs.Vectors.{SmallPoint, point-of, point-wider, add-point, sub-point, scale-point}
 use Rattle.finite.specs.Vectors.{dot-small, dot-least, not-near-zero}

@@ -21,8 +21,8 @@ use Rattle.floats.specs.Laws.Leaves.{abs-value}
 use Rattle.plane.specs.Fuzzy.{fuzzyEpsilon}
 use Rattle.checks.specs.Limit
 use Rattle.checks.specs.Laws.Fine.{Between}
-use Rattle.checks.specs.Laws.Lengths.{Small}
-use Rattle.finite.specs.Sizes.{
+use Rattle.float_laws.specs.Sizes.{
+  Small,
   Sizable,
   Apart,
   small-up,

@@ -14,7 +14,7 @@ use Rattle.float_laws.specs.Chains.{written-diff}
 use Rattle.floats.specs.F64
 use Rattle.checks.specs.Limit
 use Rattle.checks.specs.Laws.Fine.{Within, Between}
-use Rattle.checks.specs.Laws.Lengths.{Small}
+use Rattle.float_laws.specs.Sizes.{Small}
 
 -- at most 2 ^ k in magnitude
 pub within-small : (k : ℕ) (most x : Float) → Diff most (2 ^ k) 0 1 → Within most x → Small k x

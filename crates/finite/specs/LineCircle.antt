@@ -17,14 +17,13 @@ use Rattle.plane.specs.declared.vector2.Vector2.{Vector2}
 use Rattle.plane.specs.Fuzzy as fuzzy
 use Rattle.plane.specs.BaseMath.{minMax}
 use Rattle.plane.specs.declared.base_math.MinMax.{MinMax}
-use Rattle.checks.specs.Laws.Lengths.{Small}
 use Rattle.crossing.specs.LineCircle as kernel
 use Rattle.crossing.specs.declared.line_circle_intr.LineCircleIntr.{LineCircleIntr}
 use Rattle.crossing.specs.declared.line_circle_intr.LineCircleIntr.the-variants.{NoIntersect, TangentIntersect, TwoIntersects}
 use Rattle.crossing.specs.declared.line_circle.Line.{Line}
 use Rattle.finite.specs.Branch.{by-test}
-use Rattle.finite.specs.Sizes.{neg-small}
-use Rattle.finite.specs.Leaves.{abs-small, abs-least, root-small, square-least, least-added}
+use Rattle.float_laws.specs.Sizes.{Small, neg-small}
+use Rattle.floats.specs.Laws.Sizes.{abs-small, abs-least, root-small, square-least, least-added}
 use Rattle.finite.specs.Doubles.{Epsilon, wider, plus, minus, times, over, not-zero, sizable-above}
 use Rattle.finite.specs.Doubles.{zero-small, one-small, two-sizable}
 use Rattle.finite.specs.Vectors.{SmallPoint, point-of, sub-point, parameter-small}

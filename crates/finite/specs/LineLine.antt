@@ -10,7 +10,6 @@ use Rattle.plane.specs.declared.vector2.Vector2.{Vector2}
 use Rattle.plane.specs.Fuzzy.{fuzzyEqZeroEps, fuzzyGtEps, fuzzyLtEps}
 use Rattle.plane.specs.BaseMath.{parametricFromPoint}
 use Rattle.ranges.specs.Range.{onSegment}
-use Rattle.checks.specs.Laws.Lengths.{Small}
 use Rattle.crossing.specs.LineLine as kernel
 use Rattle.crossing.specs.declared.line_line_intr.LineLineIntr.{LineLineIntr}
 use Rattle.crossing.specs.declared.line_line_intr.LineLineIntr.the-variants.{
@@ -21,8 +20,8 @@ use Rattle.crossing.specs.declared.line_line_intr.LineLineIntr.the-variants.{
 }
 use Rattle.crossing.specs.declared.line_line.Span.{Span}
 use Rattle.finite.specs.Branch.{by-test}
-use Rattle.finite.specs.Sizes.{Sizable}
-use Rattle.finite.specs.Leaves.{min-small, max-small}
+use Rattle.float_laws.specs.Sizes.{Small, Sizable}
+use Rattle.floats.specs.Laws.Sizes.{min-small, max-small}
 use Rattle.finite.specs.Doubles.{Epsilon, wider, over, not-near, zero-small, one-small}
 use Rattle.finite.specs.Vectors.{SmallPoint, sub-point, perp-dot-small, sides, parameter-small, not-near-zero}
 

@@ -12,7 +12,7 @@ use Rattle.plane.specs.declared.pline_seg.ArcRadiusCenter.{ArcRadiusCenter}
 use Rattle.arcs.specs.ArcGeometry.{ofSegment}
 use Rattle.arcs.specs.declared.arc_geometry.ArcGeometry.{ArcGeometry}
 use Rattle.checks.specs.Laws.Chains.{PointFine, VertexFine}
-use Rattle.checks.specs.Laws.Lengths.{Small}
+use Rattle.float_laws.specs.Sizes.{Small}
 use Rattle.crossing.specs.LineArc.{lineArcOf, processLineArcIntr}
 use Rattle.crossing.specs.ArcArc.{arcArcOf, arcArc}
 use Rattle.crossing.specs.PlineSeg.{lineLineOf, processLineLineIntr, plineSeg}

@@ -16,9 +16,9 @@ use Rattle.plane.specs.Fuzzy as fuzzy
 use Rattle.plane.specs.BaseMath.{pointFromParametric, parametricFromPoint}
 use Rattle.plane.specs.declared.vector2.Vector2.{Vector2}
 use Rattle.checks.specs.Laws.Chains.{PointFine}
-use Rattle.checks.specs.Laws.Lengths.{Small, coordinate-small}
-use Rattle.finite.specs.Sizes.{Sizable, small-finite, neg-small}
-use Rattle.finite.specs.Leaves.{square-least, sum-least}
+use Rattle.checks.specs.Laws.Lengths.{coordinate-small}
+use Rattle.float_laws.specs.Sizes.{Small, Sizable, small-finite, neg-small}
+use Rattle.floats.specs.Laws.Sizes.{square-least, sum-least}
 use Rattle.finite.specs.Doubles.{Epsilon, wider, plus, minus, times, over}
 use Rattle.finite.specs.Doubles.{real-abs, not-under, not-near, near-turned}
 

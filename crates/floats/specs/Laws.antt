@@ -7,6 +7,7 @@ pub mod Pairs
 pub mod Picked
 pub mod Sqrt
 pub mod Leaves
+pub mod Sizes
 pub mod RootPowers
 pub mod RootBeside
 pub mod Nan

@@ -37,7 +37,7 @@ use Rattle.floats.specs.Ops.{_⊕_, _⊖_, _≼_, f0}
 use Rattle.checks.specs.Limit
 use Rattle.checks.specs.Chord.{Length, chordMost}
 use Rattle.checks.specs.Laws.Fine as fine
-use Rattle.checks.specs.Laws.Lengths.{Small}
+use Rattle.float_laws.specs.Sizes.{Small}
 
 -- ---- a sum whose second operand is not zero: one rounding, of a size above zero if it has a minus
 record Made (f : Format) (r : Float) (c most : ℕ) : Type 0 where

@@ -19,20 +19,12 @@ use Rattle.float_laws.specs.Chains.{written-diff}
 use Rattle.float_laws.specs.Rounded.{sub-rounded, mul-count, add-count}
 use Rattle.float_laws.specs.Roundings.{Within, rounded-within}
 use Rattle.float_laws.specs.Magnitudes.{within-finite, mul-within, add-within}
+use Rattle.float_laws.specs.Sizes.{Small}
 use Rattle.floats.specs.F64
 use Rattle.floats.specs.F64.{rootOf}
 use Rattle.floats.specs.Laws.Sqrt.{root-of, root-zero, root-within}
 use Rattle.checks.specs.Limit
 use Rattle.checks.specs.Laws.Fine as fine
-
--- x is a fraction, at most 2 ^ k in size
-pub record Small (k : ℕ) (x : Float) : Type 0 where
-  pub s : Bool
-  pub size : ℕ
-  pub over : ℕ
-  pub some : 0 < over
-  pub value : HasValue x s size over
-  pub le : size ≤ 2 ^ k * over
 
 -- x has no sign, and is at most 2 ^ K units
 pub record Unsigned (f : Format) (K : ℕ) (x : Float) : Type 0 where

@@ -24,7 +24,8 @@ use Rattle.plane.specs.PlineVertex as vertices
 use Rattle.checks.specs.Limit
 use Rattle.checks.specs.Laws.Fine as fine
 use Rattle.checks.specs.Laws.Chains.{PointFine}
-use Rattle.checks.specs.Laws.Lengths.{Small, coordinate-small}
+use Rattle.checks.specs.Laws.Lengths.{coordinate-small}
+use Rattle.float_laws.specs.Sizes.{Small}
 use Rattle.cuts.specs.Cut.{cutPoint, cutVertex}
 
 -- x as a difference

@@ -9,7 +9,6 @@ use Rattle.checks.specs.Number.{notFinite}
 use Rattle.checks.specs.Answered.{answered}
 use Rattle.checks.specs.Calls.{checkLineLine, checkLineCircle, checkCircleCircle}
 use Rattle.checks.specs.Laws.Fine.{of-number}
-use Rattle.checks.specs.Laws.Lengths.{Small}
 use Rattle.crossing.specs.LineLine as kernel
 use Rattle.crossing.specs.LineCircle.{lineCircle}
 use Rattle.crossing.specs.CircleCircle.{circleCircle}
@@ -25,7 +24,7 @@ use Rattle.crossing.specs.declared.line_circle_intr.LineCircleIntr.the-variants
 use Rattle.crossing.specs.declared.circle_circle_intersect.CircleCircleAnswer.the-variants as CircleCircleAnswer·
 use Rattle.crossing.specs.declared.circle_circle_intr.CircleCircleIntr.{CircleCircleIntr}
 use Rattle.crossing.specs.declared.circle_circle_intr.CircleCircleIntr.the-variants as CircleCircleIntr·
-use Rattle.finite.specs.Sizes.{small-finite}
+use Rattle.float_laws.specs.Sizes.{Small, small-finite}
 use Rattle.finite.specs.Doubles.{wider}
 use Rattle.finite.specs.Limits.{radius-small, center-small}
 use Rattle.finite.specs.Vectors.{SmallPoint, point-small, point-wider}

@@ -24,12 +24,20 @@ use lib.Ieee.{Float, nan, inf, fin, Format, emax, low, up, down, unlike, round, 
 use lib.Ieee.Exact.{HasValue}
 use lib.Ieee.Fits.{down-pos}
 use lib.Ieee.Scale.{finite, grid, overflow}
 use Rattle.float_laws.specs.Best.{held-pow, grid-le, grid-ge}
 use Rattle.float_laws.specs.Count.{round-count}
 use Rattle.float_laws.specs.Signed.{Diff, SizeOf, ups, downs, own-diff, neg-value, diff-finite}
 use Rattle.float_laws.specs.Rounded.{Rounded, add-rounded, sub-rounded, mul-rounded, mul-count, div-rounded, signed-by}
 use Rattle.float_laws.specs.Roundings.{rounded-within, rounded-at}
-use Rattle.checks.specs.Laws.Lengths.{Small}
+
+-- x is a fraction, at most 2 ^ k in size
+pub record Small (k : ℕ) (x : Float) : Type 0 where
+  pub s : Bool
+  pub size : ℕ
+  pub over : ℕ
+  pub some : 0 < over
+  pub value : HasValue x s size over
+  pub le : size ≤ 2 ^ k * over
 
 -- x is a fraction, at least 1 / 2 ^ j in size
 pub record Sizable (j : ℕ) (x : Float) : Type 0 where

@@ -16,12 +16,11 @@ use Rattle.float_laws.specs.Chains.{le-trans as float-trans}
 use Rattle.float_laws.specs.Binary64.{units64, add-least}
 use Rattle.float_laws.specs.Rounded.{mul-rounded}
 use Rattle.float_laws.specs.Roundings.{rounded-ge}
+use Rattle.float_laws.specs.Sizes.{Small, small-finite, small-diff, same-over}
 use Rattle.floats.specs.Ops.{_⊕_, _⊗_, _≼_, f0}
 use Rattle.floats.specs.F64
 use Rattle.floats.specs.Laws.Leaves.{abs-value, min-is, max-is}
 use Rattle.floats.specs.Laws.Sqrt.{sqrt-is, root-zero, root-within}
-use Rattle.checks.specs.Laws.Lengths.{Small}
-use Rattle.finite.specs.Sizes.{small-finite, small-diff, same-over}
 
 -- ---- the absolute value
 pub abs-small : (k : ℕ) (x : Float) → Small k x → Small k (F64.abs x)
