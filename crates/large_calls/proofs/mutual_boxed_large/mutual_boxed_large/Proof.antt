@@ -1,5 +1,5 @@
--- `large_calls::mutual_boxed_large::mutual_boxed_large` meets its contract. If the old mode refuses a bulge, the slices are as they
--- were, and the paths are cut; else its answer holds, with its rows spread.
+-- `large_calls::mutual_boxed_large::mutual_boxed_large` meets its contract. If the old mode refuses a bulge, the slices are as
+-- they were, and the paths are cut; else its answer holds, with its rows spread.
 use mathlib.Core.Path.{sym, _∙_}
 use native.Mathlib.Omega.{arith}
 use borrow.Author.Needs.{needs}
