@@ -275,7 +275,8 @@ fn pairs(rng: &mut Rng) {
     }
 }
 
-/// With room for all rows, and with room for all but one, which is refused.
+/// With room for all rows, and with room for all but one, which is refused: of paths whose arcs are all cut, of such that begin
+/// with a line, and of such without a large arc.
 fn stacks(rng: &mut Rng) {
     let layout = Layout {
         first: all_cut(4096, true, rng),
@@ -288,24 +289,56 @@ fn stacks(rng: &mut Rng) {
         ..layout.clone()
     };
     println!("stack, bytes");
+    let bulges: [(&str, Bulge); 3] = [
+        ("all cut", |_, bulge| bulge),
+        ("a line first", |at, bulge| if at == 0 { 0.0 } else { bulge }),
+        ("no large arc", |_, bulge| bulge / 16.0),
+    ];
     for (layout, call) in [(&short, Call::Mutual), (&layout, Call::Own)] {
-        let listed = layout.listed(call);
-        let large = Large::new(listed, EPSILON);
-        for kind in KINDS {
-            if kind == Kind::Counted && call == Call::Own {
-                continue;
-            }
-            for short in [0, 1] {
-                let asked = Asked::exact(kind, &large);
-                let asked = asked.with_rows((asked.room.points / 4).saturating_sub(short));
-                let mut lent = Lent::new(&asked);
-                let bytes = stack::of(|| {
-                    black_box(OURS.asked(listed, EPSILON, &asked, &mut lent));
-                });
-                println!("{kind:?}, {call:?}, {short} rows short: {bytes:10}");
-            }
+        for (what, bulge) in bulges {
+            let layout = Layout {
+                first: bent(&layout.first, bulge),
+                second: bent(&layout.second, bulge),
+                epsilon: EPSILON,
+            };
+            stacks_of(&layout, call, what);
         }
     }
+    stack_of_pair();
+}
+
+/// A vertex's bulge, by its index and the bulge that it had.
+type Bulge = fn(usize, f64) -> f64;
+
+/// The path with other bulges.
+fn bent(path: &Drawn, bulge: Bulge) -> Drawn {
+    let mut path = path.clone();
+    for (at, vertex) in path.numbers.chunks_exact_mut(4).enumerate() {
+        vertex[2] = bulge(at, vertex[2]);
+    }
+    path
+}
+
+fn stacks_of(layout: &Layout, call: Call, what: &str) {
+    let listed = layout.listed(call);
+    let large = Large::new(listed, EPSILON);
+    for kind in KINDS {
+        if kind == Kind::Counted && call == Call::Own {
+            continue;
+        }
+        for short in [0, 1] {
+            let asked = Asked::exact(kind, &large);
+            let asked = asked.with_rows((asked.room.points / 4).saturating_sub(short));
+            let mut lent = Lent::new(&asked);
+            let bytes = stack::of(|| {
+                black_box(OURS.asked(listed, EPSILON, &asked, &mut lent));
+            });
+            println!("{kind:?}, {call:?}, {what}, {short} rows short: {bytes:10}");
+        }
+    }
+}
+
+fn stack_of_pair() {
     let arc = [
         0.0, 0.0, 4.0, 1.0, 0.0, 0.0, 0.5, 0.0, 3.0, 1.5, 0.0, 0.0, EPSILON,
     ];
