@@ -839,13 +839,13 @@ uint64_t vj_dxf_export(const double *path, size_t len, bool closed,
  *     far they lie from the circle was measured, not proved: docs/LIMITS.md.
  *
  * These calls are in a library of their own, libcapi_large.a, and need more stack
- * than the others, since a cut path has up to 8,192 segments. In bytes:
+ * than the others, since a cut path has up to 8,192 segments. In KiB, at most:
  *
- *                      two paths     one path
- *   a listing          1,039,648     711,936
- *   a page               924,432     596,688
- *   a boxed listing    1,319,424     991,680
- *   a counted listing  1,039,744
+ *                      two paths   one path
+ *   a listing          1,200         850
+ *   a page             1,050         730
+ *   a boxed listing    1,600       1,250
+ *   a counted listing  1,200
  *
  * vj_pair_large and an export need less than 4 KiB, an import some 129 KiB.
  *
