@@ -45,8 +45,7 @@ prove() {
     local start=$SECONDS
     command -v rt > /dev/null || fail "the Rattle kit's rt is not on the PATH"
     rm -rf target
-    # what rt proves comes first, since crates wait for one another
-    nice -n 19 .ci/trials until "$scratch/proved" > "$scratch/trials" 2>&1 &
+    .ci/trials until "$scratch/proved" > "$scratch/trials" 2>&1 &
     trials=$!
     if ! rt ci 2>&1 | tee "$scratch/rt" | sed -u '$d'; then
         tail -n 1 "$scratch/rt"
