@@ -3,7 +3,7 @@
 //! and counted listings and the pair call, their refusals with their places, every place of the lent slices, and both modes
 //! beside each other. The circles of the halves are measured on a sample.
 
-mod ask;
+pub mod ask;
 mod bench;
 mod beside;
 mod circle;
@@ -14,8 +14,8 @@ mod edges;
 mod examples;
 pub mod faults;
 mod joint;
-mod lent;
-mod model;
+pub mod lent;
+pub mod model;
 mod pairs;
 mod run;
 mod score;
@@ -27,6 +27,7 @@ mod stand_in;
 mod tests;
 
 pub use bench::run as bench;
+pub use ours::OURS;
 
 use ask::{Asked, Kind};
 use lent::Lent;
@@ -41,16 +42,16 @@ const ENOUGH: u64 = 1000;
 /// Our calls. Rows of indices have five words; of a pair the results go into the words, their points into the floats.
 #[derive(Clone, Copy)]
 pub struct Ours {
-    full: fn(Listed, f64, Rows) -> u64,
-    page: fn(Listed, f64, Span, Rows) -> u64,
-    boxed: fn(Listed, f64, &mut [f64], Rows) -> u64,
-    counted: fn(Listed, f64, Rows, &mut [u64]) -> u64,
-    pair: fn(&[f64; 13], &mut [u64], &mut [f64]) -> u64,
+    pub full: fn(Listed, f64, Rows) -> u64,
+    pub page: fn(Listed, f64, Span, Rows) -> u64,
+    pub boxed: fn(Listed, f64, &mut [f64], Rows) -> u64,
+    pub counted: fn(Listed, f64, Rows, &mut [u64]) -> u64,
+    pub pair: fn(&[f64; 13], &mut [u64], &mut [f64]) -> u64,
 }
 
 impl Ours {
     /// The call that is asked for, with its slices.
-    fn asked(self, listed: Listed, epsilon: f64, asked: &Asked, lent: &mut Lent) -> u64 {
+    pub fn asked(self, listed: Listed, epsilon: f64, asked: &Asked, lent: &mut Lent) -> u64 {
         let (rows, boxes, report) = lent.slices();
         match asked.kind {
             Kind::Full => (self.full)(listed, epsilon, rows),
@@ -121,7 +122,7 @@ mod ours {
 /// random layouts until these have `count / 4` pairs. Measures the circles of the halves of `count / 32` arcs. Answers how many
 /// differences there were, plus the kinds of call that never occurred.
 pub fn check(count: u64, seed: u64) -> u64 {
-    let mut run = Run::new(ours::OURS, seed, ENOUGH);
+    let mut run = Run::new(OURS, seed, ENOUGH);
     run.examples();
     run.circles(count);
     joint::count(count / 512, seed);

@@ -3,6 +3,7 @@
 
 pub mod bench;
 pub mod damage;
+pub mod dense;
 pub mod draw;
 #[cfg(test)]
 mod examples;

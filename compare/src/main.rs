@@ -50,6 +50,8 @@ mod release;
 mod rng;
 mod roots;
 mod search;
+#[cfg(feature = "rust-text")]
+mod sieve;
 mod stack;
 mod tally;
 #[cfg(feature = "rust-text")]
@@ -71,13 +73,17 @@ usage: compare check [COUNT [SEED]]  compare each float function on COUNT random
                                      that are refused; listings of whole paths until as many pairs were looked at, and on
                                      chosen ones; then as compare pages, as compare boxed, as compare month, as compare large,
                                      as compare joints, as compare findings, as compare release with a quarter of COUNT, and
-                                     as compare edges with a tenth of COUNT
+                                     as compare edges with a tenth of COUNT and as compare sieve with a 64th
        compare roots [COUNT [SEED]]  compare the root with the machine's own on COUNT patterns (default 10485760, seed 1): at
                                      every exponent its ends, random digits, squares of every count of digits, numbers
                                      next to ties, and the neighbours of these; subnormals of every count of digits
        compare edges [COUNT [SEED]]  compare the kernels, the pair call and listings on COUNT inputs an edge (default 1048576,
                                      seed 1): where two numbers that are compared, by the Rust or by a shortcut of ours,
                                      are all but equal
+       compare sieve [COUNT [SEED]]  compare full listings where what makes them quick is on its edge: COUNT / 2 pairs on each
+                                     side of each edge of the sieve of lines (default 1048576, seed 1), and as many in
+                                     listings of each size about a block; rows at each place of a block; and listings with
+                                     many rows, in each form and with rooms about them
        compare pages [COUNT [SEED]]  compare pages of listings: every position on small paths, and chains of calls on random
                                      paths, a tenth of COUNT calls (default 10485760, seed 1)
        compare boxed [COUNT [SEED]]  compare boxed listings: on chosen paths, and on random ones until these have COUNT pairs
@@ -134,7 +140,9 @@ usage: compare check [COUNT [SEED]]  compare each float function on COUNT random
        compare record FILE           write the recorded list for the program replay
        compare bench [PART...]       nanoseconds of processor time a call or a pair, ours beside the machine's own and the Rust's,
                                      the least of five rounds or more by turns; all parts, or some of: floats calls findings
-                                     listings pages boxed month large packed dxf";
+                                     listings dense pages boxed month large packed dxf
+       compare bench layouts FOLDER  write the layouts of the part dense to a folder, for other programs: NAME.first and
+                                     NAME.second, a line a vertex";
 
 const COUNT: u64 = 10 << 20;
 const ON_AN_EDGE: u64 = 1 << 20;
@@ -145,8 +153,9 @@ const LISTED: u64 = 3072;
 const MOVED: u64 = 2048;
 const EXPORTED: u64 = 1024;
 const SEED: u64 = 1;
-const BENCHES: [&str; 10] = [
-    "floats", "calls", "findings", "listings", "pages", "boxed", "month", "large", "packed", "dxf",
+const BENCHES: [&str; 11] = [
+    "floats", "calls", "findings", "listings", "dense", "pages", "boxed", "month", "large",
+    "packed", "dxf",
 ];
 
 fn main() -> ExitCode {
@@ -156,6 +165,7 @@ fn main() -> ExitCode {
         ["check", ref numbers @ ..] => check(numbers),
         ["roots", ref numbers @ ..] => roots(numbers),
         ["edges", ref numbers @ ..] => edges(numbers),
+        ["sieve", ref numbers @ ..] => sieve(numbers),
         ["pages", ref numbers @ ..] => pages(numbers),
         ["boxed", ref numbers @ ..] => boxed(numbers),
         ["month", ref numbers @ ..] => month(numbers),
@@ -178,6 +188,7 @@ fn main() -> ExitCode {
         ["own", folder, program] => own(Path::new(folder), program),
         ["record", file] => record(file),
         ["bench"] => time(&BENCHES),
+        ["bench", "layouts", folder] => timed_layouts(Path::new(folder)),
         ["bench", ref parts @ ..] => time(parts),
         _ => Err(USAGE.to_string()),
     };
@@ -215,6 +226,14 @@ fn roots(numbers: &[&str]) -> Result<(), String> {
 fn edges(numbers: &[&str]) -> Result<(), String> {
     let (count, seed) = count_and_seed(numbers, ON_AN_EDGE)?;
     match check_edges(count, seed) {
+        0 => Ok(()),
+        differences => Err(format!("{differences} differences")),
+    }
+}
+
+fn sieve(numbers: &[&str]) -> Result<(), String> {
+    let (count, seed) = count_and_seed(numbers, ON_AN_EDGE)?;
+    match check_sieve(count, seed) {
         0 => Ok(()),
         differences => Err(format!("{differences} differences")),
     }
@@ -361,6 +380,7 @@ fn time(parts: &[&str]) -> Result<(), String> {
             "calls" => time_calls(),
             "findings" => time_findings(),
             "listings" => time_listings(),
+            "dense" => time_dense(),
             "pages" => time_pages(),
             "boxed" => time_boxed(),
             "month" => time_month(),
@@ -401,11 +421,17 @@ fn check_text(count: u64, seed: u64) -> u64 {
         + check_findings(count, seed)
         + check_release(count / 4, seed)
         + check_edges(count / 10, seed)
+        + check_sieve(count / 64, seed)
 }
 
 #[cfg(feature = "rust-text")]
 fn check_edges(count: u64, seed: u64) -> u64 {
     crossing::check_edges(count, seed)
+}
+
+#[cfg(feature = "rust-text")]
+fn check_sieve(count: u64, seed: u64) -> u64 {
+    sieve::check(count, seed)
 }
 
 #[cfg(feature = "rust-text")]
@@ -468,6 +494,12 @@ fn check_edges(_count: u64, _seed: u64) -> u64 {
 }
 
 #[cfg(not(feature = "rust-text"))]
+fn check_sieve(_count: u64, _seed: u64) -> u64 {
+    println!("rust text not compiled in: nothing was compared with it");
+    0
+}
+
+#[cfg(not(feature = "rust-text"))]
 fn check_pages(_count: u64, _seed: u64) -> u64 {
     println!("rust text not compiled in: nothing was compared with it");
     0
@@ -513,6 +545,25 @@ fn time_findings() {}
 #[cfg(feature = "rust-text")]
 fn time_listings() {
     listings::bench::run();
+}
+
+#[cfg(feature = "rust-text")]
+fn time_dense() {
+    listings::dense::run();
+}
+
+#[cfg(not(feature = "rust-text"))]
+fn time_dense() {}
+
+#[cfg(feature = "rust-text")]
+fn timed_layouts(folder: &Path) -> Result<(), String> {
+    println!("{} layouts", listings::dense::write(folder)?);
+    Ok(())
+}
+
+#[cfg(not(feature = "rust-text"))]
+fn timed_layouts(_folder: &Path) -> Result<(), String> {
+    Err("rust text not compiled in: the layouts are drawn with it".to_string())
 }
 
 #[cfg(feature = "rust-text")]

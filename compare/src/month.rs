@@ -7,7 +7,7 @@ mod case;
 mod draw;
 mod examples;
 mod kinds;
-mod lent;
+pub mod lent;
 pub mod model;
 mod run;
 mod score;

@@ -1,5 +1,5 @@
 //! What boxes save: the boxed listing beside our own full one, on the same paths and with the same rooms, by turns; the boxed
-//! one with traces beside that with all traces 0; and the stack that each takes.
+//! one with traces beside that with all traces 0; how the boxed one grows with the paths; and the stack that each takes.
 
 use std::hint::black_box;
 
@@ -23,6 +23,8 @@ const EPSILONS: [f64; 2] = [1.0 / 1024.0, EPSILON];
 /// A listing of fewer pairs than this is repeated until a round has as many.
 const A_ROUND: u64 = 1 << 18;
 const SIZES: [usize; 3] = [1024, 2048, 4096];
+/// How the coils of a size are listed.
+const HOW: [(Call, &str); 2] = [(Call::Mutual, "two"), (Call::Own, "by itself")];
 /// Two coils in short lines, and two in short arcs.
 const ROUND: [(&str, &Sheet); 2] = [("lines", &SHEETS[1]), ("arcs", &SHEETS[7])];
 
@@ -63,18 +65,12 @@ pub fn run() {
     }
 
     head("growth, closed coils");
-    for size in SIZES {
-        let layout = rectangular(size, true);
-        both(&format!("{size} rectangular"), &layout);
-    }
+    let mut grown = vec![Grown::of("rectangular", |size| rectangular(size, true))];
     for (name, sheet) in ROUND {
-        for size in SIZES {
-            both(
-                &format!("{size} {name}, round"),
-                &round(sheet, size, &mut rng),
-            );
-        }
+        let layout = |size: usize| round(sheet, size, &mut rng);
+        grown.push(Grown::of(&format!("{name}, round"), layout));
     }
+    print_growth(&grown);
 
     println!("stack, bytes: {:>10} {:>10}", "boxed", "full");
     for (name, sheet) in ROUND {
@@ -85,9 +81,44 @@ pub fn run() {
     }
 }
 
-fn both(name: &str, layout: &Layout) {
-    for (call, how) in [(Call::Mutual, "two"), (Call::Own, "by itself")] {
-        timed(&format!("{name}, {how}"), layout, EPSILON, call);
+/// Nanoseconds of the boxed listing at each size, of either call.
+struct Grown {
+    name: String,
+    times: [[f64; SIZES.len()]; HOW.len()],
+}
+
+impl Grown {
+    /// Times coils of each size, and prints their lines of the table.
+    fn of(name: &str, mut layout: impl FnMut(usize) -> Layout) -> Grown {
+        let mut times = [[0.0; SIZES.len()]; HOW.len()];
+        for (at, size) in SIZES.into_iter().enumerate() {
+            let layout = layout(size);
+            for (times, (call, how)) in times.iter_mut().zip(HOW) {
+                let name = format!("{size} {name}, {how}");
+                times[at] = timed(&name, &layout, EPSILON, call);
+            }
+        }
+        let name = name.to_string();
+        Grown { name, times }
+    }
+}
+
+/// The time of the boxed listing at each size, and how many times that at the first size it is.
+fn print_growth(grown: &[Grown]) {
+    let [first, second, third] = SIZES.map(|size| format!("{size} us"));
+    let [to_second, to_third] = [1, 2].map(|at: usize| format!("{}/{}", SIZES[at], SIZES[0]));
+    let part = "growth of boxed, closed coils";
+    println!("{part:52} {first:>10} {second:>10} {third:>10} {to_second:>10} {to_third:>10}");
+    for Grown { name, times } in grown {
+        for (times, (_, how)) in times.iter().zip(HOW) {
+            let name = format!("{name}, {how}");
+            let [first, second, third] = times.map(|time| time / 1000.0);
+            println!(
+                "{name:52} {first:10.1} {second:10.1} {third:10.1} {:10.2} {:10.2}",
+                second / first,
+                third / first
+            );
+        }
     }
 }
 
@@ -190,7 +221,8 @@ fn head(part: &str) {
     );
 }
 
-fn timed(name: &str, layout: &Layout, epsilon: f64, call: Call) {
+/// Prints the line of a layout, and those of the same with traces. Answers the nanoseconds of the boxed listing.
+fn timed(name: &str, layout: &Layout, epsilon: f64, call: Call) -> f64 {
     let listed = layout.listed(call);
     let model = Boxed::new(listed, epsilon);
     let (mut lent, mut lent_too) = (
@@ -216,6 +248,7 @@ fn timed(name: &str, layout: &Layout, epsilon: f64, call: Call) {
         assert_eq!(counts, model.counts(), "{name}: other counts");
         line(name, epsilon, &model, [with, without], with / without);
     }
+    boxed
 }
 
 /// A line of the table: two times in nanoseconds, and their ratio. With traces, the second is ours with all traces 0, and the

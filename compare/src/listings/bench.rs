@@ -154,7 +154,7 @@ fn anywhere(rng: &mut Rng) -> Layout {
 }
 
 /// Slices with room for this many rows.
-struct Lent {
+pub(super) struct Lent {
     indices: Vec<u64>,
     points: Vec<f64>,
     counts: [u64; 2],
@@ -186,17 +186,8 @@ impl Lent {
 
 fn timed(name: &str, layout: &Layout, epsilon: f64, call: Call) {
     let listed = layout.listed(call);
-    let rows = listed.rows(epsilon);
-    let (pairs, rows) = (rows.pairs, rows.rows.len());
-    let (mut lent, mut lent_too) = (Lent::new(rows), Lent::new(rows));
-    let accepted = |answer: u64| assert_eq!(black_box(answer), 0, "{name}: refused");
-    let row = bench::Row::new(name).epsilon(epsilon).of(pairs);
-    row.meeting(rows).timed(
-        A_ROUND,
-        || accepted(ours(listed, epsilon, lent.slices())),
-        || accepted(plain(listed, epsilon, lent_too.slices())),
-    );
-    assert!(lent.is(&lent_too), "{name}: the two differ");
+    let mut lent = beside_plain(name, listed, epsilon, Room::ForRows);
+    let [_, pairs] = lent.counts;
     for (name, layout) in with_traces(layout) {
         let traced = layout.listed(call);
         let found = traced.rows(epsilon);
@@ -204,12 +195,44 @@ fn timed(name: &str, layout: &Layout, epsilon: f64, call: Call) {
         let row = bench::Row::new(name).epsilon(epsilon).of(pairs);
         row.meeting(found.rows.len()).timed(
             A_ROUND,
-            || accepted(ours(traced, epsilon, lent_traced.slices())),
-            || accepted(ours(listed, epsilon, lent.slices())),
+            || accepted(name, ours(traced, epsilon, lent_traced.slices())),
+            || accepted(name, ours(listed, epsilon, lent.slices())),
         );
         let counts = [found.rows.len() as u64, found.pairs];
         assert_eq!(lent_traced.counts, counts, "{name}: other counts");
     }
+}
+
+/// For how many rows there is room.
+#[derive(Clone, Copy)]
+pub(super) enum Room {
+    /// For exactly those that the listing has.
+    ForRows,
+    /// For one of every pair.
+    ForPairs,
+}
+
+/// Ours beside the plain loop, each with the same room. Answers what ours wrote.
+pub(super) fn beside_plain(name: &str, listed: Listed, epsilon: f64, room: Room) -> Lent {
+    let found = listed.rows(epsilon);
+    let (pairs, rows) = (found.pairs, found.rows.len());
+    let room = match room {
+        Room::ForRows => rows,
+        Room::ForPairs => pairs as usize,
+    };
+    let (mut lent, mut lent_too) = (Lent::new(room), Lent::new(room));
+    let row = bench::Row::new(name).epsilon(epsilon).of(pairs);
+    row.meeting(rows).timed(
+        A_ROUND,
+        || accepted(name, ours(listed, epsilon, lent.slices())),
+        || accepted(name, plain(listed, epsilon, lent_too.slices())),
+    );
+    assert!(lent.is(&lent_too), "{name}: the two differ");
+    lent
+}
+
+fn accepted(name: &str, answer: u64) {
+    assert_eq!(black_box(answer), 0, "{name}: refused");
 }
 
 /// The same layout in two tracks, half of whose pairs are of one trace, and in one, all of whose pairs are. Their rows of the

@@ -56,6 +56,7 @@ pub enum Listed<'a> {
 }
 
 /// A pair that meets: its indices, its class, and the coordinates of its points, two or four numbers, followed by +0.
+#[derive(Clone)]
 pub struct Row {
     pub indices: [u64; 2],
     pub class: u64,

@@ -55,6 +55,21 @@ impl<'a> Known<'a> {
         }
     }
 
+    /// The same without what traces do in it, which takes about as long as the listing: for calls that are not counted here.
+    pub fn plain(layout: &'a Layout, call: Call) -> Known<'a> {
+        Known {
+            layout,
+            call,
+            listing: Listing::new(layout.listed(call), layout.epsilon),
+            passed: Passed::default(),
+        }
+    }
+
+    /// The model's listing.
+    pub fn listing(&self) -> &Listing {
+        &self.listing
+    }
+
     /// How many rows it has; none if it is refused.
     pub fn rows(&self) -> usize {
         self.listing.rows.rows.len()
