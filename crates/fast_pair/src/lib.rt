@@ -4,5 +4,5 @@ pub mod all_fine;
 mod circles;
 pub mod kept;
 mod line;
-mod lines;
+pub mod lines;
 pub mod pair;

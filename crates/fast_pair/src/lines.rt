@@ -11,7 +11,7 @@ const AFTER_END: f64 = 33.0 / 32.0;
 const BEFORE_START: f64 = -1.0 / 32.0;
 
 // Whether n / d is clearly outside, without the division: n is above both limits times d, or below both.
-fn quotient_outside(n: f64, d: f64) -> bool
+pub fn quotient_outside(n: f64, d: f64) -> bool
     ensures { λ r. ⌜ r ≡ ClearlyApart.quotientOutside n d ⌝ }
 {
     let end = d * AFTER_END;

@@ -73,6 +73,40 @@ pub fn pline_seg_kept(
     pline_seg_after_checks(v1, v2, circle_of(v), u1, u2, circle_of(u), pos_equal_eps)
 }
 
+// A quick test whether a line and an arc are apart, in this order: what a sieve of lines has not judged.
+fn left_apart(v1: PlineVertex, v2: PlineVertex, v: Kept, u1: PlineVertex, u: Kept, eps: f64) -> bool
+    ensures { λ r. ⌜ r ≡ ClearlyApart.leftApart v1 v2 v u1 u eps ⌝ }
+{
+    if !v1.bulge_is_zero() {
+        return false;
+    }
+    if u1.bulge_is_zero() {
+        return false;
+    }
+    line_beside(v1.pos(), v2.pos(), v, circle_of(u), eps)
+}
+
+// The same as `pline_seg_kept`, for a pair that a sieve has left: what the sieve has tested is not tested again.
+pub fn pline_seg_left(
+    v1: PlineVertex,
+    v2: PlineVertex,
+    v: Kept,
+    u1: PlineVertex,
+    u2: PlineVertex,
+    u: Kept,
+    pos_equal_eps: f64,
+) -> PlineSegIntr
+    requires { ⌜ Calls.checkPlineSeg v1 v2 u1 u2 «pos_equal_eps» ≡ Fine ⌝ }
+    requires { ⌜ v ≡ workings.keptOf v1 v2 «pos_equal_eps» ⌝ }
+    requires { ⌜ u ≡ workings.keptOf u1 u2 «pos_equal_eps» ⌝ }
+    ensures { λ r. ⌜ r ≡ PlineSeg.plineSeg v1 v2 u1 u2 «pos_equal_eps» ⌝ }
+{
+    if left_apart(v1, v2, v, u1, u, pos_equal_eps) {
+        return PlineSegIntr::NoIntersect;
+    }
+    pline_seg_after_checks(v1, v2, circle_of(v), u1, u2, circle_of(u), pos_equal_eps)
+}
+
 // A quick test whether both segments are lines and apart.
 fn line_pair_apart(
     v1: PlineVertex,

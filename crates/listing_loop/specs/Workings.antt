@@ -2,3 +2,5 @@
 -- believe it.
 pub mod Filling
 pub mod Runs
+pub mod Sift
+pub mod Walk

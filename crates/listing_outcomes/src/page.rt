@@ -19,6 +19,7 @@ use checks::fault::Item;
 use checks::fault::whole;
 use checks::refusal;
 use listing_loop::fill::Filling;
+use listing_loop::fill::How;
 use listing_loop::fill::Part;
 use listing_loop::fill::fill;
 use listing_pairs::keeping;
@@ -62,7 +63,24 @@ fn fill_from(
         budget: budget,
         write: true,
     };
-    fill(first, second, kept, job, part, indices, points)
+    let how = How {
+        sieved: false,
+        noting: false,
+        recalling: false,
+    };
+    let mut none = [0u64; 1];
+    fill(
+        first,
+        second,
+        kept,
+        kept,
+        job,
+        how,
+        part,
+        &mut none,
+        indices,
+        points,
+    )
 }
 
 // The page of a job from a position on. If the position is beyond the end, if there is no budget, or if no whole row fits, it is

@@ -1,7 +1,8 @@
 -- Two segments that are clearly apart: the pair's definition finds that they do not meet, whatever kinds they are.
-use mathlib.Core.Path.{_≡_, refl, ap, _∙_, subst}
-use mathlib.Core.Bool.{Bool, true, false, not, cond, _&&_, _||_}
+use mathlib.Core.Path.{_≡_, refl, sym, ap, _∙_, subst}
+use mathlib.Core.Bool.{Bool, true, false, not, cond, _&&_, _||_, true≢false}
 use lib.Dec.{T}
+use denote.Floats.{passes}
 use lib.Ieee.{Float, binary64, fits}
 use Rattle.floats.specs.F64
 use Rattle.floats.specs.Ops.{_⊕_, _⊖_}
@@ -24,7 +25,8 @@ use Rattle.arcs.specs.declared.pline_seg_intr.PlineSegIntr.{PlineSegIntr}
 use Rattle.arcs.specs.declared.pline_seg_intr.PlineSegIntr.the-variants.{NoIntersect}
 use Rattle.fast_pair.specs.declared.kept.Kept.{Kept}
 use Rattle.fast_pair.specs.Workings.Kept.{keptOf, ofLine, ofArc, circleOf}
-use Rattle.fast_pair.specs.Workings.ClearlyApart.{linesApart, lineBeside, circlesApart, clearlyApart, linePairApart}
+use Rattle.fast_pair.specs.Workings.ClearlyApart.{linesApart, lineBeside, circlesApart, clearlyApart, leftApart}
+use Rattle.fast_pair.specs.Workings.ClearlyApart.{linePairApart}
 use Rattle.fast_pair.specs.Laws.Lines.{apart-lines}
 use Rattle.fast_pair.specs.Laws.Line.{beside-circle}
 
@@ -103,6 +105,27 @@ module _ (v1 v2 u1 u2 : PlineVertex) (eps : Float) (e-fits : T (fits binary64 ep
           apart-arcs v1 v2 u1 u2 eps e-fits
           (subst (λ (c : ArcRadiusCenter). T (circlesApart c (segArcRadiusAndCenter u1 u2) eps)) (circle-kept v1 v2)
           (subst (λ (c : ArcRadiusCenter). T (circlesApart (circleOf (ofArc v1 v2)) c eps)) (circle-kept u1 u2) t))
+
+-- ---- what a quick test on what is kept says
+pub answer-known : (r : Bool) (v1 v2 u1 u2 : PlineVertex) (v u : Kept) (eps : Float) → T (fits binary64 eps)
+    → v ≡ keptOf v1 v2 eps → u ≡ keptOf u1 u2 eps → r ≡ clearlyApart v1 v2 v u1 u2 u eps → r ≡ true
+    → plineSeg v1 v2 u1 u2 eps ≡ NoIntersect
+answer-known r v1 v2 u1 u2 v u eps f ev eu e y =
+    apart-pair v1 v2 u1 u2 eps f
+    (passes _ (ap (λ (k : Kept). clearlyApart v1 v2 k u1 u2 (keptOf u1 u2 eps) eps) (sym ev)
+    ∙ ap (λ (k : Kept). clearlyApart v1 v2 v u1 u2 k eps) (sym eu)
+    ∙ sym e ∙ y))
+
+-- ---- a line and an arc that a sieve of lines has left
+pub left-clearly : (v1 v2 : PlineVertex) (v : Kept) (u1 u2 : PlineVertex) (u : Kept) (eps : Float)
+    → leftApart v1 v2 v u1 u eps ≡ true → clearlyApart v1 v2 v u1 u2 u eps ≡ true
+unfolding leftApart clearlyApart
+left-clearly v1 v2 v u1 u2 u eps h = go (bulgeIsZero v1) (bulgeIsZero u1) _ _ _ h
+  where
+    go : (a b l : Bool) (x y : Bool) → cond (not a) false (cond b false l) ≡ true → cond a (cond b x l) y ≡ true
+    go true true l x y e = absurd (true≢false (sym e))
+    go true false l x y e = e
+    go false b l x y e = absurd (true≢false (sym e))
 
 -- ---- two lines, if nothing is kept of them
 pub apart-line-pair : (v1 v2 u1 u2 : PlineVertex) (eps : Float) → T (fits binary64 eps) → T (linePairApart v1 v2 u1 u2 eps)

@@ -83,6 +83,12 @@ clearlyApart v1 v2 v u1 u2 u eps =
     (lineBeside (pos u1) (pos u2) u (circleOf v) eps)
     (circlesApart (circleOf v) (circleOf u) eps))
 
+-- a line and an arc that a sieve of lines has left
+unfoldable pub leftApart : PlineVertex → PlineVertex → Kept → PlineVertex → Kept → Float → Bool
+leftApart v1 v2 v u1 u eps =
+    let circle = circleOf u in
+    cond (not (bulgeIsZero v1)) false (cond (bulgeIsZero u1) false (lineBeside (pos v1) (pos v2) v circle eps))
+
 -- two lines, if nothing is kept of them
 unfoldable pub linePairApart : PlineVertex → PlineVertex → PlineVertex → PlineVertex → Float → Bool
 linePairApart v1 v2 u1 u2 eps =

@@ -68,15 +68,18 @@ module _ (v : Segment) (second : List Float) (job : Job) (i j : ℕ) (met : Plin
       either true = refl
       either false = refl
 
-  -- and whether that is at a joint
-  module _ (said : Bool) (asked : said ≡ (job .own && atJoint second (job .closed) (job .m) (job .epsilon) i j met)) where
-    pub at-a-joint : said ≡ true → Nothing ≡ lookOn v second job i j
-    unfolding lookOn
-    at-a-joint e = rw (← is, ← asked, e) refl
+  pub given : (r : Look) → r ≡ givenBy second job i j met → r ≡ lookOn v second job i j
+  unfolding lookOn
+  given r e = rw (← is) e
 
-    pub elsewhere : said ≡ false → (r : Look) → r ≡ lookOf i j met → r ≡ lookOn v second job i j
-    unfolding lookOn
-    elsewhere e r f = rw (← is, ← asked, e) f
+-- and from whether that is at a joint
+module _ (second : List Float) (job : Job) (i j : ℕ) (met : PlineSegIntr) (said : Bool)
+    (asked : said ≡ (job .own && atJoint second (job .closed) (job .m) (job .epsilon) i j met)) where
+  pub at-a-joint : said ≡ true → Nothing ≡ givenBy second job i j met
+  at-a-joint e = rw (← asked, e) refl
+
+  pub elsewhere : said ≡ false → (r : Look) → r ≡ lookOf i j met → r ≡ givenBy second job i j met
+  elsewhere e r f = rw (← asked, e) f
 
 -- two paths, and one
 pub each-of-two : (first second : List Float) (job : Job) → job .own ≡ false → (i j : ℕ)

@@ -1,85 +1,83 @@
--- `listing_loop::fill::fill` meets its contract: the state of Laws/Loop is an invariant of its three loops. The pairs between a
--- place and the next run are skipped, and each arm of the inner loop is one of the state's steps.
+-- `listing_loop::fill::fill` meets its contract: the state of Laws/Loop is an invariant of its two loops. The pairs between a
+-- place and the next run are skipped, and the walk of a run goes on from its first pair.
 use mathlib.Core.Path.{_≡_, refl, sym, _∙_}
+use mathlib.Core.Bool.{true, false, true≢false}
 use mathlib.Core.List.{List}
 use Prim.Native.Nat.{ℕ, suc, _+_, _-_, _<_, _≤_}
-use native.Mathlib.Nat.{le-refl, sub-self, sub-zero}
 use native.Mathlib.Omega.{arith}
 use borrow.Author.Needs.{needs}
 use denote.Ref.{now}
 use lib.Ieee.{Float}
+use lib.ListN.{length}
 use Rattle.listing_pairs.specs.Workings.Job as job_of
-use Rattle.listing_pairs.specs.Workings.Ready.{eachLook, lookBy, at-segment, look-on}
+use Rattle.listing_pairs.specs.Workings.Ready.{eachLook, lookBy, lookOn, at-segment, look-on}
+use Rattle.sieves.specs.Workings.Marks.{Fair, fair}
 use Rattle.listing_loop.specs.Workings.Filling.{EndsWithin, so-ends}
 use Rattle.listing_loop.specs.Workings.Runs.{Runs, next-runs}
-use Rattle.listing_loop.specs.Laws.Loop.{mostPairs, State, starts, few, ends, next-i, spent, kept-here, skips}
-use Rattle.listing_loop.specs.Laws.Loop.{looks, makes, stops, skips-over}
+use Rattle.listing_loop.specs.Workings.Sift.{asked}
+use Rattle.listing_loop.specs.Laws.Loop.{State, starts, few, ends, all-noted, next-i, spent, stops, skips-over}
+use Rattle.listing_loop.specs.Laws.Loop.{kept-along, marked-along}
 use Rattle.listing_loop.proofs.fill.fill.Statement.{statement}
 use Rattle.listing_loop.proofs.fill.fill.Tie as tie
 
--- An inner loop does not know what the slices held at the call: whatever that was, the state holds. The innermost walks a run.
-abbrev Inv-loop3 : tie.InvT-loop3
-Inv-loop3 first second kept job part indices₀ points₀ i j₀ rows₀ budget looked₀ v v-kept v-box to start end stop
-    indices points j rows looked =
-    (j₀ ≤ j)
-    × (j ≤ stop)
-    × ((x : List ℕ) (y : List Float)
-    → State first second kept job part x y i j₀ rows₀ (budget - (j₀ - start)) looked₀ indices₀ points₀
-    → State first second kept job part x y i j rows (budget - (j - start)) looked indices points)
-
-abbrev μ-loop3 : tie.MeasureT-loop3
-μ-loop3 first second kept job part indices₀ points₀ i j₀ rows₀ budget looked₀ v v-kept v-box to start end stop
-    indices points j rows looked =
-    stop - j
-
+-- The inner loop does not know what the slices held at the call: whatever that was, the state holds.
 abbrev Inv-loop2 : tie.InvT-loop2
-Inv-loop2 first second kept job part indices₀ points₀ i j₀ rows₀ budget looked₀ v v-kept v-box to start end
-    indices points j rows looked =
+Inv-loop2 first second kept sides job how part marks₀ indices₀ points₀ grain i j₀ rows₀ budget looked₀ v v-kept v-box lines to start
+    end marks indices points j rows looked =
     (j₀ ≤ j)
     × (j - j₀ ≤ budget)
+    × (length marks ≡ length marks₀)
     × ((x : List ℕ) (y : List Float)
-    → State first second kept job part x y i j₀ rows₀ budget looked₀ indices₀ points₀
-    → State first second kept job part x y i j rows (budget - (j - j₀)) looked indices points)
+    → State first second kept job grain how part x y i j₀ rows₀ budget looked₀ indices₀ points₀ marks₀
+    → State first second kept job grain how part x y i j rows (budget - (j - j₀)) looked indices points marks)
 
 abbrev μ-loop2 : tie.MeasureT-loop2
-μ-loop2 first second kept job part indices₀ points₀ i j₀ rows₀ budget looked₀ v v-kept v-box to start end
-    indices points j rows looked =
+μ-loop2 first second kept sides job how part marks₀ indices₀ points₀ grain i j₀ rows₀ budget looked₀ v v-kept v-box lines to start
+    end marks indices points j rows looked =
     end - j
 
 abbrev Inv-loop : tie.InvT-loop
-Inv-loop first second kept job part indices₀ points₀ i₀ j₀ rows₀ budget₀ looked₀ indices points i j rows budget looked =
-    State first second kept job part indices₀ points₀ i j rows budget looked indices points
+Inv-loop first second kept sides job how part marks₀ indices₀ points₀ grain i₀ j₀ rows₀ budget₀ looked₀ marks indices points i j rows
+    budget looked =
+    State first second kept job grain how part indices₀ points₀ i j rows budget looked indices points marks
+    × (length marks ≡ length marks₀)
 
 abbrev μ-loop : tie.MeasureT-loop
-μ-loop first second kept job part indices₀ points₀ i₀ j₀ rows₀ budget₀ looked₀ indices points i j rows budget looked = job .n - i
+μ-loop first second kept sides job how part marks₀ indices₀ points₀ grain i₀ j₀ rows₀ budget₀ looked₀ marks indices points i j rows
+    budget looked =
+    job .n - i
 
 -- ---- the places
 abbrev Outer : Type 0
-Outer = tie.At-loop Inv-loop3 μ-loop3 Inv-loop2 μ-loop2 Inv-loop μ-loop
+Outer = tie.At-loop Inv-loop2 μ-loop2 Inv-loop μ-loop
 
 abbrev Middle : Type 0
-Middle = tie.At-loop2 Inv-loop3 μ-loop3 Inv-loop2 μ-loop2 Inv-loop μ-loop
+Middle = tie.At-loop2 Inv-loop2 μ-loop2 Inv-loop μ-loop
 
 abbrev Found : Type 0
-Found = tie.After-next-run Inv-loop3 μ-loop3 Inv-loop2 μ-loop2 Inv-loop μ-loop
+Found = tie.After-next-run Inv-loop2 μ-loop2 Inv-loop μ-loop
 
-abbrev Inner : Type 0
-Inner = tie.At-loop3 Inv-loop3 μ-loop3 Inv-loop2 μ-loop2 Inv-loop μ-loop
+abbrev Walked : Type 0
+Walked = tie.After-walk-run Inv-loop2 μ-loop2 Inv-loop μ-loop
 
-abbrev In : Type 0
-In = tie.In-loop3 Inv-loop3 μ-loop3 Inv-loop2 μ-loop2 Inv-loop μ-loop
+abbrev start : Outer → tie.Start Inv-loop2 μ-loop2 Inv-loop μ-loop
+start c = c .before .before .before .before .before .before .before .before .before
 
 abbrev outer : Middle → Outer
-outer c = c .before .before .before .before .before .before .before
-
-abbrev start : Outer → tie.Start Inv-loop3 μ-loop3 Inv-loop2 μ-loop2 Inv-loop μ-loop
-start c = c .before .before .before .before .before .before
+outer c = c .before .before .before .before .before .before .before .before
 
 abbrev middle : Found → Middle
 middle c = c .before .before
 
-abbrev found : Inner → Found
-found c = c .before
+abbrev found : Walked → Found
+found c = c .before .before .before .before
+
+-- where the walk has ended and its slices are back
+abbrev walked : tie.After-slice-known6 Inv-loop2 μ-loop2 Inv-loop μ-loop → Walked
+walked c = c .before .before .before .before .before .before
+
+abbrev read : Middle → tie.After-segment-from Inv-loop2 μ-loop2 Inv-loop μ-loop
+read c = c .before .before .before .before .before
 
 -- the budget that is left at an index
 abbrev left : Middle → ℕ → ℕ
@@ -87,7 +85,7 @@ left c j = outer c .loop .budget - (j - outer c .loop .j)
 
 -- i is a segment of the first path
 inside : (c : Middle) → outer c .loop .i < start (outer c) .args .job .n
-inside c = c .before .before .before .before .before .if1 .taken
+inside c = read c .before .if1 .taken
 
 -- where the indices end
 bounds : (c : Middle)
@@ -98,14 +96,15 @@ bounds c = so-ends (c .before .end-within .ensures)
 end-inside : (c : Middle) → c .before .end-within .result ≤ job_of.to (start (outer c) .args .job) (outer c .loop .i)
 end-inside c = bounds c .inside
 
--- ---- the state in the middle loop, and from there to the start of a run, over skipped pairs
+-- ---- the state in the inner loop, and from there to the start of a run, over skipped pairs
 mid-state : (c : Middle)
     → let a = start (outer c) .args in
-    State (now (a .first)) (now (a .second)) (now (a .kept)) (a .job) (a .part)
+    State (now (a .first)) (now (a .second)) (now (a .kept)) (a .job) (outer c .before .grain-of .result) (a .how) (a .part)
     (now (a .indices)) (now (a .points))
     (outer c .loop .i) (c .loop2 .j) (c .loop2 .rows) (left c (c .loop2 .j)) (c .loop2 .looked) (c .loop2 .indices)
-    (c .loop2 .points)
-mid-state c = let a = start (outer c) .args in c .loop2 .inv .2 (now (a .indices)) (now (a .points)) (outer c .loop .inv)
+    (c .loop2 .points) (c .loop2 .marks)
+mid-state c =
+    let a = start (outer c) .args in c .loop2 .inv .3 (now (a .indices)) (now (a .points)) (outer c .loop .inv .0)
 
 run : (c : Found)
     → let m = middle c in
@@ -116,10 +115,9 @@ run : (c : Found)
 run c =
     let m = middle c in
     let a = start (outer m) .args in
-    let b = m .before .before in
     next-runs _ _ _ _ _ _ _ _ _ _ _ (c .before .loop2-test .taken)
     (omega (arith, end-inside m, job_of.to-within (a .job) (outer m .loop .i))) (start (outer m) .pre .0 .boxes)
-    (b .before .before .segment-from .ensures) (b .box-for .ensures) refl (c .next-run .ensures)
+    (read m .segment-from .ensures) (m .before .before .before .box-for .ensures) refl (c .next-run .ensures)
 
 -- the budget allows what lies between
 allows : (start j from end budget : ℕ) → start ≤ j → j ≤ from → from ≤ end → end - start ≤ budget
@@ -129,12 +127,12 @@ allows start j from end budget a b c d = omega arith
 skip : (c : Found) (x : List ℕ) (y : List Float)
     → let m = middle c in
     let a = start (outer m) .args in
-    State (now (a .first)) (now (a .second)) (now (a .kept)) (a .job) (a .part) x y
+    State (now (a .first)) (now (a .second)) (now (a .kept)) (a .job) (outer m .before .grain-of .result) (a .how) (a .part) x y
     (outer m .loop .i) (m .loop2 .j) (m .loop2 .rows) (left m (m .loop2 .j)) (m .loop2 .looked) (m .loop2 .indices)
-    (m .loop2 .points)
-    → State (now (a .first)) (now (a .second)) (now (a .kept)) (a .job) (a .part) x y
+    (m .loop2 .points) (m .loop2 .marks)
+    → State (now (a .first)) (now (a .second)) (now (a .kept)) (a .job) (outer m .before .grain-of .result) (a .how) (a .part) x y
     (outer m .loop .i) (c .next-run .result .from) (m .loop2 .rows) (left m (c .next-run .result .from)) (m .loop2 .looked)
-    (m .loop2 .indices) (m .loop2 .points)
+    (m .loop2 .indices) (m .loop2 .points) (m .loop2 .marks)
 skip c x y s =
     let m = middle c in
     let r = run c in
@@ -147,71 +145,134 @@ skip c x y s =
     (m .loop2 .inv .0) (r .low) before (bounds m .allowed)) (r .skipped) in
     rw same at over
 
--- ---- the state in the inner loop
-inner : (c : Inner)
+-- the state at the start of a run
+run-state : (c : Found)
+    → let m = middle c in
+    let a = start (outer m) .args in
+    State (now (a .first)) (now (a .second)) (now (a .kept)) (a .job) (outer m .before .grain-of .result) (a .how) (a .part)
+    (now (a .indices)) (now (a .points))
+    (outer m .loop .i) (c .next-run .result .from) (m .loop2 .rows) (left m (c .next-run .result .from)) (m .loop2 .looked)
+    (m .loop2 .indices) (m .loop2 .points) (m .loop2 .marks)
+run-state c = skip c _ _ (mid-state (middle c))
+
+-- what a pair of a run gives
+seen : (c : Found) (k : ℕ) → c .next-run .result .from ≤ k → k < c .next-run .result .to
+    → let m = middle c in
+    let a = start (outer m) .args in
+    lookBy (now (a .first)) (now (a .second)) (a .job) (outer m .loop .i) k
+    ≡ lookOn (read m .segment-from .result) (now (a .second)) (a .job) (outer m .loop .i) k
+seen c k low high = run c .seen k low high ∙ sym (look-on _ _ _ _ _ _ (read (middle c) .segment-from .ensures))
+
+-- the run's end goes with i, and the budget allows the run
+run-end : (c : Found)
+    → let m = middle c in c .next-run .result .to ≤ job_of.to (start (outer m) .args .job) (outer m .loop .i)
+run-end c = omega (arith, run c .high, end-inside (middle c))
+
+run-allowed : (c : Found)
+    → let r = c .next-run .result in r .to - r .from ≤ left (middle c) (r .from)
+run-allowed c =
+    let m = middle c in omega (arith, bounds m .allowed, run c .low, run c .middle, run c .high, m .loop2 .inv .0)
+
+-- ---- and after the walk of a run
+within-run : (from j to budget : ℕ) → j ≤ to → to - from ≤ budget → j - from ≤ budget
+within-run from j to budget a b = omega arith
+
+spends : (start from j budget : ℕ) → start ≤ from → from ≤ j → budget - (from - start) - (j - from) ≡ budget - (j - start)
+spends start from j budget a b = omega arith
+
+walk-on : (c : Walked) (x : List ℕ) (y : List Float)
     → let m = middle (found c) in
     let a = start (outer m) .args in
-    State (now (a .first)) (now (a .second)) (now (a .kept)) (a .job) (a .part)
+    let r = c .walk-run .result in
+    State (now (a .first)) (now (a .second)) (now (a .kept)) (a .job) (outer m .before .grain-of .result) (a .how) (a .part) x y
+    (outer m .loop .i) (m .loop2 .j) (m .loop2 .rows) (left m (m .loop2 .j)) (m .loop2 .looked) (m .loop2 .indices)
+    (m .loop2 .points) (m .loop2 .marks)
+    → State (now (a .first)) (now (a .second)) (now (a .kept)) (a .job) (outer m .before .grain-of .result) (a .how) (a .part) x y
+    (outer m .loop .i) (r .j) (r .rows) (left m (r .j)) (r .looked)
+    (c .walk-run .last .1 .1 .1 .1 .1 .1 .1 .1 .1 .1 .1 .1 .1 .1 .1 .1 .0)
+    (c .walk-run .last .1 .1 .1 .1 .1 .1 .1 .1 .1 .1 .1 .1 .1 .1 .1 .1 .1 .0)
+    (c .walk-run .last .1 .1 .1 .1 .1 .1 .1 .1 .1 .1 .1 .1 .1 .1 .1 .0)
+walk-on c x y s =
+    let f = found c in
+    let m = middle f in
+    let w = c .walk-run .ensures in
+    let j = c .walk-run .result .j in
+    let from = f .next-run .result .from in
+    let after : outer m .loop .j ≤ from = omega (arith, m .loop2 .inv .0, run f .low) in
+    let same : left m from - (j - from) ≡ left m j = spends _ from j _ after (w .walking .low) in
+    rw same at
+    (w .walking .state _ x y (left m from) (read m .segment-from .ensures) (inside m) (omega (arith, w .high, run-end f))
+    (within-run from j (f .next-run .result .to) _ (w .high) (run-allowed f)) (λ k low high. seen f k low (omega (arith, high, w .high))) (skip f x y s))
+
+-- the state there
+end-state : (c : Walked)
+    → let m = middle (found c) in
+    let a = start (outer m) .args in
+    let r = c .walk-run .result in
+    State (now (a .first)) (now (a .second)) (now (a .kept)) (a .job) (outer m .before .grain-of .result) (a .how) (a .part)
     (now (a .indices)) (now (a .points))
-    (outer m .loop .i) (c .loop3 .j) (c .loop3 .rows) (left m (c .loop3 .j)) (c .loop3 .looked) (c .loop3 .indices)
-    (c .loop3 .points)
-inner c =
-    let m = middle (found c) in
-    let a = start (outer m) .args in
-    c .loop3 .inv .2 (now (a .indices)) (now (a .points)) (skip (found c) (now (a .indices)) (now (a .points)) (mid-state m))
+    (outer m .loop .i) (r .j) (r .rows) (left m (r .j)) (r .looked)
+    (c .walk-run .last .1 .1 .1 .1 .1 .1 .1 .1 .1 .1 .1 .1 .1 .1 .1 .1 .0)
+    (c .walk-run .last .1 .1 .1 .1 .1 .1 .1 .1 .1 .1 .1 .1 .1 .1 .1 .1 .1 .0)
+    (c .walk-run .last .1 .1 .1 .1 .1 .1 .1 .1 .1 .1 .1 .1 .1 .1 .1 .0)
+end-state c = walk-on c _ _ (mid-state (middle (found c)))
 
--- j is an index that goes with i, and the budget allows it
-below : (c : In)
-    → let m = middle (found (c .before)) in c .before .loop3 .j < job_of.to (start (outer m) .args .job) (outer m .loop .i)
-below c =
-    let f = found (c .before) in omega (arith, c .loop3-test .taken, run f .high, end-inside (middle f))
-
-abbrev less : In → ℕ
-less c = left (middle (found (c .before))) (c .before .loop3 .j + 1)
-
--- j is not before the place where the indices of i start
-after : (c : Inner) → outer (middle (found c)) .loop .j ≤ c .loop3 .j
-after c = let f = found c in omega (arith, middle f .loop2 .inv .0, run f .low, c .loop3 .inv .0)
-
-allowed : (c : In) → left (middle (found (c .before))) (c .before .loop3 .j) ≡ suc (less c)
-allowed c =
-    let f = found (c .before) in
-    omega (arith, bounds (middle f) .allowed, c .loop3-test .taken, run f .high, after (c .before))
-
-on : (c : In) → found (c .before) .next-run .result .from ≤ c .before .loop3 .j + 1
-on c = omega (arith, c .before .loop3 .inv .0)
-
-up : (c : In) → c .before .loop3 .j + 1 ≤ found (c .before) .next-run .result .to
-up c = omega (arith, c .loop3-test .taken)
-
--- what was seen is what the pair gives
-seen : (c : tie.After-look Inv-loop3 μ-loop3 Inv-loop2 μ-loop2 Inv-loop μ-loop)
-    → let l = c .before .before in
-    let m = middle (found l) in
-    let a = start (outer m) .args in
-    lookBy (now (a .first)) (now (a .second)) (a .job) (outer m .loop .i) (l .loop3 .j) ≡ c .look .result
-seen c =
-    let l = c .before .before in
-    let s = middle (found l) .before .before .before .before in
-    run (found l) .seen (l .loop3 .j) (l .loop3 .inv .0) (c .before .loop3-test .taken)
-    ∙ sym (look-on _ _ _ _ _ _ (s .segment-from .ensures)) ∙ sym (c .look .ensures)
-
-few-pairs : (c : Inner) → c .loop3 .looked ≤ mostPairs
-few-pairs c =
-    let ready = start (outer (middle (found c))) .pre .0 .pairs in few (inner c) (ready .few) (ready .few-second)
+-- the walk goes on, but not beyond the run
+ahead : (c : Walked)
+    → let m = middle (found c) in
+    (outer m .loop .j ≤ c .walk-run .result .j) × (c .walk-run .result .j - outer m .loop .j ≤ outer m .loop .budget)
+ahead c =
+    let f = found c in
+    let m = middle f in
+    let w = c .walk-run .ensures in (
+      omega (arith, m .loop2 .inv .0, run f .low, w .walking .low),
+      omega (arith, w .high, run f .high, bounds m .allowed),
+    )
 
 -- ---- what is owed
-loop-holds : tie.Need-loop-holds Inv-loop3 μ-loop3 Inv-loop2 μ-loop2 Inv-loop μ-loop
+grain-fair : (o : Outer) → Fair (o .before .grain-of .result)
+grain-fair o = rw (o .before .grain-of .ensures) (fair _ _ _ (start o .pre .1 .1 .1 .1 .few))
+
+marks-long : (c : Walked)
+    → length (c .walk-run .last .1 .1 .1 .1 .1 .1 .1 .1 .1 .1 .1 .1 .1 .1 .1 .0) ≡ length (now (start (outer (middle (found c))) .args .marks))
+marks-long c =
+    let m = middle (found c) in c .walk-run .ensures .walking .marks ∙ m .loop2 .inv .2 ∙ outer m .loop .inv .1
+
+grain-of-requires : tie.Need-grain-of-requires Inv-loop2 μ-loop2 Inv-loop μ-loop
+grain-of-requires c κs =
+    let p = c .before .before .before .before .before .before .before .pre in
+    (p .0 .pairs .few-second, p .1 .1 .1 .1 .few)
+
+loop-holds : tie.Need-loop-holds Inv-loop2 μ-loop2 Inv-loop μ-loop
 loop-holds c =
-    let s = c .before .before .before .before .before in starts _ _ _ _ _ _ _ (s .pre .0 .keeps) (search needs) (search needs)
+    let s = c .before .before .before .before .before .before .before .before in (
+      starts _ _ _ _ _ _ _ _ _ _ (s .pre .0 .keeps) (s .pre .1 .0 .1) (s .pre .1 .0 .0)
+          (λ h. rw (c .grain-of .ensures) (s .pre .1 .1 .1 .1 .noted h)),
+      refl,
+    )
 
-loop2-holds : tie.Need-loop2-holds Inv-loop3 μ-loop3 Inv-loop2 μ-loop2 Inv-loop μ-loop
+segment-from-requires : tie.Need-segment-from-requires Inv-loop2 μ-loop2 Inv-loop μ-loop
+segment-from-requires c κs = search needs
+
+kept-of-requires : tie.Need-kept-of-requires Inv-loop2 μ-loop2 Inv-loop μ-loop
+kept-of-requires c κs = search needs
+
+box-for-requires : tie.Need-box-for-requires Inv-loop2 μ-loop2 Inv-loop μ-loop
+box-for-requires c κs = search needs
+
+by-lines-requires : tie.Need-by-lines-requires Inv-loop2 μ-loop2 Inv-loop μ-loop
+by-lines-requires c κs = search needs
+
+end-within-requires : tie.Need-end-within-requires Inv-loop2 μ-loop2 Inv-loop μ-loop
+end-within-requires c κs = search needs
+
+loop2-holds : tie.Need-loop2-holds Inv-loop2 μ-loop2 Inv-loop μ-loop
 loop2-holds c =
-    let o = c .before .before .before .before .before .before in
+    let o = c .before .before .before .before .before .before .before in
     let none : o .loop .budget - (o .loop .j - o .loop .j) ≡ o .loop .budget = omega arith in
-    (omega arith, omega arith, λ x y s. rw none s)
+    (omega arith, omega arith, refl, λ x y s. rw none s)
 
-next-run-requires : tie.Need-next-run-requires Inv-loop3 μ-loop3 Inv-loop2 μ-loop2 Inv-loop μ-loop
+next-run-requires : tie.Need-next-run-requires Inv-loop2 μ-loop2 Inv-loop μ-loop
 next-run-requires c κs =
     let m = c .before in
     let s = start (outer m) in
@@ -227,148 +288,118 @@ next-run-requires c κs =
       ),
     )
 
-loop3-holds : tie.Need-loop3-holds Inv-loop3 μ-loop3 Inv-loop2 μ-loop2 Inv-loop μ-loop
-loop3-holds c = (omega arith, run c .middle, λ x y s. s)
+walk-run-requires : tie.Need-walk-run-requires Inv-loop2 μ-loop2 Inv-loop μ-loop
+walk-run-requires c κs =
+    let f = c .before .before .before in
+    let m = middle f in
+    let o = outer m in
+    let b = start o in
+    let h = b .pre .0 in
+    let r = f .next-run .result in
+    let s = run-state f in
+    let v = read m .segment-from in
+    let e = m .before .before .by-lines .ensures in
+    let far : r .from + (r .to - r .from) ≡ r .to = omega (arith, run f .middle) in
+    record {
+      segment = at-segment _ _ _ _ _ (h .pairs) (inside m) (v .ensures);
+      own = m .before .before .before .before .kept-of .ensures;
+      others = λ k low high.
+          kept-along (now (b .args .first)) (now (b .args .second)) (now (b .args .kept)) (b .args .job) (o .loop .i) (inside m) (r .to - r .from) (r .from) (left m (r .from)) (s .keeps)
+          (omega (arith, far, run-end f)) (run-allowed f) k low (omega (arith, high, far));
+      sieves =
+          record {
+            fair = grain-fair o;
+            usual = λ l. asked _ _ _ _ e l .1;
+            kept = λ l. b .pre .1 .1 .1 .0 (asked _ _ _ _ e l .0);
+            noted = λ l k low high row made.
+                marked-along (now (b .args .first)) (now (b .args .second)) (now (b .args .kept)) (b .args .job) (o .loop .i)
+                (inside m) (o .before .grain-of .result) (m .loop2 .marks)
+                (r .to - r .from) (r .from) (s .recalls l) (omega (arith, far, run-end f)) k low (omega (arith, high, far)) row
+                (seen f k low high ∙ made);
+          };
+      ordered = run f .middle;
+      within = omega (arith, run f .high, end-inside m, job_of.to-within (b .args .job) (o .loop .i));
+      few = h .pairs .few-second;
+      few-first = omega (arith, inside m, h .pairs .few);
+      fits = s .fits;
+      room = omega (arith, b .pre .1 .1 .0 .0, s .indices);
+      points-room = omega (arith, b .pre .1 .1 .0 .1, s .points);
+      few-looked = few s (h .pairs .few) (h .pairs .few-second);
+    }
 
-loop2-less : tie.Need-loop2-less Inv-loop3 μ-loop3 Inv-loop2 μ-loop2 Inv-loop μ-loop
-loop2-less c =
-    let f = found (c .before) in omega (arith, c .loop3-test .left, run f .on (f .before .loop2-test .taken))
+sub-t35 : tie.Need-sub-t35 Inv-loop2 μ-loop2 Inv-loop μ-loop
+sub-t35 c = omega (arith, ahead (walked (c .before)))
 
-loop2-again : tie.Need-loop2-again Inv-loop3 μ-loop3 Inv-loop2 μ-loop2 Inv-loop μ-loop
-loop2-again c =
-    let l = c .before in
-    let f = found l in
-    let m = middle f in (
-      after l,
-      omega (arith, l .loop3 .inv .1, run f .high, bounds m .allowed, after l),
-      λ x y s. l .loop3 .inv .2 x y (skip f x y (m .loop2 .inv .2 x y s)),
-    )
+sub-t36 : tie.Need-sub-t36 Inv-loop2 μ-loop2 Inv-loop μ-loop
+sub-t36 c = omega (arith, ahead (walked (c .before)))
 
-look-requires : tie.Need-look-requires Inv-loop3 μ-loop3 Inv-loop2 μ-loop2 Inv-loop μ-loop
-look-requires c κs =
-    let l = c .before in
-    let m = middle (found l) in
-    let s = start (outer m) in
-    let h = s .pre .0 in
-    let b = m .before .before in
-    let within : l .loop3 .j < s .args .job .m = omega (arith, below c, job_of.to-within (s .args .job) (outer m .loop .i)) in (
-      at-segment _ _ _ _ _ (h .pairs) (inside m) (b .before .before .segment-from .ensures),
-      (
-        kept-here (inner l) (inside m) (below c) (less c) (allowed c),
-        (b .before .kept-of .ensures, (within, omega (arith, inside m, h .pairs .few))),
-      ),
-    )
+sub-t37 : tie.Need-sub-t37 Inv-loop2 μ-loop2 Inv-loop μ-loop
+sub-t37 c = omega (arith, end-state (walked (c .before .before)) .allowed)
 
-loop3-again : tie.Need-loop3-again Inv-loop3 μ-loop3 Inv-loop2 μ-loop2 Inv-loop μ-loop
-loop3-again c =
-    let k = c .before .before in
-    let q = k .before in
-    let l = q .before in (
-      on q,
-      up q,
-      λ x y s. skips (l .loop3 .inv .2 x y s) (inside (middle (found l))) (below q) (less q) (allowed q)
-          (seen k ∙ c .enum-told .given .1),
-    )
+same-length : tie.Need-same-length Inv-loop2 μ-loop2 Inv-loop μ-loop
+same-length c = let w = walked (c .before .before) in marks-long w
 
-add-looked : tie.Need-add-looked Inv-loop3 μ-loop3 Inv-loop2 μ-loop2 Inv-loop μ-loop
-add-looked c = omega (arith, few-pairs (c .before .before .before .before))
+same-length-2 : tie.Need-same-length-2 Inv-loop2 μ-loop2 Inv-loop μ-loop
+same-length-2 c = end-state (walked (c .before .before)) .indices
 
-loop3-again-2 : tie.Need-loop3-again-2 Inv-loop3 μ-loop3 Inv-loop2 μ-loop2 Inv-loop μ-loop
-loop3-again-2 c =
-    let k = c .before .before in
-    let q = k .before in
-    let l = q .before in (
-      on q,
-      up q,
-      λ x y s. looks (l .loop3 .inv .2 x y s) (inside (middle (found l))) (below q) (less q) (allowed q)
-          (seen k ∙ c .enum-told2 .given .1),
-    )
+same-length-3 : tie.Need-same-length-3 Inv-loop2 μ-loop2 Inv-loop μ-loop
+same-length-3 c = end-state (walked (c .before .before)) .points
 
--- from the place where a pair's row has no room, or has room, back to what was seen
-abbrev saw : tie.After-struct-known2 Inv-loop3 μ-loop3 Inv-loop2 μ-loop2 Inv-loop μ-loop
-    → tie.After-look Inv-loop3 μ-loop3 Inv-loop2 μ-loop2 Inv-loop μ-loop
-saw c = c .before .before .before .before
-
-sub-t27 : tie.Need-sub-t27 Inv-loop3 μ-loop3 Inv-loop2 μ-loop2 Inv-loop μ-loop
-sub-t27 c = omega (arith, after (saw (c .before) .before .before))
-
-sub-t28 : tie.Need-sub-t28 Inv-loop3 μ-loop3 Inv-loop2 μ-loop2 Inv-loop μ-loop
-sub-t28 c = let q = saw (c .before) .before in omega (arith, allowed q, after (q .before))
-
-sub-t29 : tie.Need-sub-t29 Inv-loop3 μ-loop3 Inv-loop2 μ-loop2 Inv-loop μ-loop
-sub-t29 c = omega (arith, inner (saw (c .before .before) .before .before) .allowed)
-
-same-length : tie.Need-same-length Inv-loop3 μ-loop3 Inv-loop2 μ-loop2 Inv-loop μ-loop
-same-length c = inner (saw (c .before .before) .before .before) .indices
-
-same-length-2 : tie.Need-same-length-2 Inv-loop3 μ-loop3 Inv-loop2 μ-loop2 Inv-loop μ-loop
-same-length-2 c = inner (saw (c .before .before) .before .before) .points
-
-returns : tie.Need-returns Inv-loop3 μ-loop3 Inv-loop2 μ-loop2 Inv-loop μ-loop
+returns : tie.Need-returns Inv-loop2 μ-loop2 Inv-loop μ-loop
 returns c =
-    let n = c .before .before in
-    let k = saw n in
-    let q = k .before in
-    let l = q .before in
-    stops (inner l) (inside (middle (found l))) (below q) (less q) (allowed q) _ (seen k ∙ n .before .before .seen .given .1)
-    (c .before .if2 .taken)
-
-put-row-requires : tie.Need-put-row-requires Inv-loop3 μ-loop3 Inv-loop2 μ-loop2 Inv-loop μ-loop
-put-row-requires c κs =
-    let e = c .before .before in
-    let l = saw (e .before) .before .before in
-    let h = start (outer (middle (found l))) .pre in
-    (omega (arith, inner l .indices, h, e .if2 .left), omega (arith, inner l .points, h, e .if2 .left))
-
-abbrev roomy : tie.After-slice-known4 Inv-loop3 μ-loop3 Inv-loop2 μ-loop2 Inv-loop μ-loop
-    → tie.Else2 Inv-loop3 μ-loop3 Inv-loop2 μ-loop2 Inv-loop μ-loop
-roomy c = c .before .before .before .before .before .before .before
-
-add-rows : tie.Need-add-rows Inv-loop3 μ-loop3 Inv-loop2 μ-loop2 Inv-loop μ-loop
-add-rows c =
-    let e = roomy c in omega (arith, e .if2 .left, e .before .struct-known2 .given)
-
-add-looked-2 : tie.Need-add-looked-2 Inv-loop3 μ-loop3 Inv-loop2 μ-loop2 Inv-loop μ-loop
-add-looked-2 c = omega (arith, few-pairs (saw (roomy c .before) .before .before))
-
-add-j-3 : tie.Need-add-j-3 Inv-loop3 μ-loop3 Inv-loop2 μ-loop2 Inv-loop μ-loop
-add-j-3 c =
-    let q = saw (roomy c .before) .before in
-    let o = outer (middle (found (q .before))) in
-    omega (arith, below q, job_of.to-within (start o .args .job) (o .loop .i), start o .pre .0 .pairs .few-second)
-
-loop3-again-3 : tie.Need-loop3-again-3 Inv-loop3 μ-loop3 Inv-loop2 μ-loop2 Inv-loop μ-loop
-loop3-again-3 c =
-    let w = c .before .before .before .before .put-row .ensures in
-    let e = roomy c in
-    let n = e .before in
-    let k = saw n in
-    let q = k .before in
-    let l = q .before in (
-      on q,
-      up q,
-      λ x y s.
-          rw (w .0, w .1)
-          (makes (l .loop3 .inv .2 x y s) (inside (middle (found l))) (below q) (less q) (allowed q) _
-          (seen k ∙ n .before .before .seen .given .1) (e .if2 .left)),
+    let t = c .before in
+    let w = walked (t .before) in
+    let f = found w in
+    let m = middle f in
+    let e = w .walk-run .ensures in
+    let full = e .stops (t .if2 .taken) in
+    let j = w .walk-run .result .j in
+    let below : j < job_of.to (start (outer m) .args .job) (outer m .loop .i) = omega (arith, full .0, run-end f) in
+    let allowed : left m j ≡ suc (left m (j + 1)) = omega (
+      arith,
+      full .0,
+      run f .high,
+      bounds m .allowed,
+      ahead w .0,
+    ) in (
+      stops (end-state w) (inside m) below (left m (j + 1)) allowed (full .2 .0)
+          (seen f j (e .walking .low) (full .0) ∙ full .2 .1) (full .1),
+      record { long = marks-long w; noted = λ n d. absurd (true≢false (sym d)) },
     )
 
-sub-budget : tie.Need-sub-budget Inv-loop3 μ-loop3 Inv-loop2 μ-loop2 Inv-loop μ-loop
+loop2-less : tie.Need-loop2-less Inv-loop2 μ-loop2 Inv-loop μ-loop
+loop2-less c =
+    let w = walked (c .before) in
+    let f = found w in omega (arith, w .walk-run .ensures .done (c .if2 .left), run f .on (f .before .loop2-test .taken))
+
+loop2-again : tie.Need-loop2-again Inv-loop2 μ-loop2 Inv-loop μ-loop
+loop2-again c =
+    let w = walked (c .before) in (
+      ahead w .0,
+      ahead w .1,
+      w .walk-run .ensures .walking .marks ∙ middle (found w) .loop2 .inv .2,
+      λ x y s. walk-on w x y (middle (found w) .loop2 .inv .3 x y s),
+    )
+
+sub-budget : tie.Need-sub-budget Inv-loop2 μ-loop2 Inv-loop μ-loop
 sub-budget c = omega (arith, c .before .loop2 .inv .0)
 
-sub-budget-2 : tie.Need-sub-budget-2 Inv-loop3 μ-loop3 Inv-loop2 μ-loop2 Inv-loop μ-loop
+sub-budget-2 : tie.Need-sub-budget-2 Inv-loop2 μ-loop2 Inv-loop μ-loop
 sub-budget-2 c = omega (arith, c .before .loop2 .inv .1)
 
-sub-t36 : tie.Need-sub-t36 Inv-loop3 μ-loop3 Inv-loop2 μ-loop2 Inv-loop μ-loop
-sub-t36 c = omega (arith, mid-state (c .before .before .before) .allowed)
+sub-t39 : tie.Need-sub-t39 Inv-loop2 μ-loop2 Inv-loop μ-loop
+sub-t39 c = omega (arith, mid-state (c .before .before .before) .allowed)
 
-same-length-3 : tie.Need-same-length-3 Inv-loop3 μ-loop3 Inv-loop2 μ-loop2 Inv-loop μ-loop
-same-length-3 c = mid-state (c .before .before .before) .indices
+same-length-4 : tie.Need-same-length-4 Inv-loop2 μ-loop2 Inv-loop μ-loop
+same-length-4 c = let m = c .before .before .before in m .loop2 .inv .2 ∙ outer m .loop .inv .1
 
-same-length-4 : tie.Need-same-length-4 Inv-loop3 μ-loop3 Inv-loop2 μ-loop2 Inv-loop μ-loop
-same-length-4 c = mid-state (c .before .before .before) .points
+same-length-5 : tie.Need-same-length-5 Inv-loop2 μ-loop2 Inv-loop μ-loop
+same-length-5 c = mid-state (c .before .before .before) .indices
 
-returns-2 : tie.Need-returns-2 Inv-loop3 μ-loop3 Inv-loop2 μ-loop2 Inv-loop μ-loop
+same-length-6 : tie.Need-same-length-6 Inv-loop2 μ-loop2 Inv-loop μ-loop
+same-length-6 c = mid-state (c .before .before .before) .points
+
+returns-2 : tie.Need-returns-2 Inv-loop2 μ-loop2 Inv-loop μ-loop
 returns-2 c =
     let t = c .before in
     let m = t .before .before in
@@ -377,35 +408,56 @@ returns-2 c =
       arith,
       end .spent (omega (arith, t .before .loop2-test .left, t .if3 .taken)),
       t .before .loop2-test .left,
-    ) in
-    spent (mid-state m) (inside m) (t .if3 .taken) none
+    ) in (
+      spent (mid-state m) (inside m) (t .if3 .taken) none,
+      record {
+        long = m .loop2 .inv .2 ∙ outer m .loop .inv .1;
+        noted = λ n d. absurd (true≢false (sym d));
+      },
+    )
 
-from-requires : tie.Need-from-requires Inv-loop3 μ-loop3 Inv-loop2 μ-loop2 Inv-loop μ-loop
+add-i : tie.Need-add-i Inv-loop2 μ-loop2 Inv-loop μ-loop
+add-i c = search needs
+
+from-requires : tie.Need-from-requires Inv-loop2 μ-loop2 Inv-loop μ-loop
 from-requires c κs =
     let m = c .before .before in omega (arith, inside m, start (outer m) .pre .0 .pairs .few)
 
-loop-again : tie.Need-loop-again Inv-loop3 μ-loop3 Inv-loop2 μ-loop2 Inv-loop μ-loop
+loop-less : tie.Need-loop-less Inv-loop2 μ-loop2 Inv-loop μ-loop
+loop-less c = search needs
+
+loop-again : tie.Need-loop-again Inv-loop2 μ-loop2 Inv-loop μ-loop
 loop-again c =
     let e = c .before in
     let m = e .before .before in
-    rw (c .from .ensures) (next-i (mid-state m) (inside m) (e .if3 .left))
+    (rw (c .from .ensures) (next-i (mid-state m) (inside m) (e .if3 .left)), m .loop2 .inv .2 ∙ outer m .loop .inv .1)
 
-sub-t37 : tie.Need-sub-t37 Inv-loop3 μ-loop3 Inv-loop2 μ-loop2 Inv-loop μ-loop
-sub-t37 c = omega (arith, c .before .before .before .loop .inv .allowed)
+sub-t26 : tie.Need-sub-t26 Inv-loop2 μ-loop2 Inv-loop μ-loop
+sub-t26 c = search needs
 
-returns-3 : tie.Need-returns-3 Inv-loop3 μ-loop3 Inv-loop2 μ-loop2 Inv-loop μ-loop
-returns-3 c = ends (c .before .before .before .loop .inv) (c .before .if1 .left)
+same-length-7 : tie.Need-same-length-7 Inv-loop2 μ-loop2 Inv-loop μ-loop
+same-length-7 c = search needs
+
+same-length-8 : tie.Need-same-length-8 Inv-loop2 μ-loop2 Inv-loop μ-loop
+same-length-8 c = search needs
+
+same-length-9 : tie.Need-same-length-9 Inv-loop2 μ-loop2 Inv-loop μ-loop
+same-length-9 c = search needs
+
+returns-3 : tie.Need-returns-3 Inv-loop2 μ-loop2 Inv-loop μ-loop
+returns-3 c =
+    let o = c .before .before .before in
+    let beyond = c .before .if1 .left in (
+      ends (o .loop .inv .0) beyond,
+      record {
+        long = o .loop .inv .1;
+        noted = λ n d. rw (← o .before .grain-of .ensures) (all-noted (o .loop .inv .0) beyond n);
+      },
+    )
 
 pub fill-spec : {M : Type 1} → statement M
 fill-spec =
     tie.close
     (tie.spec
-    Inv-loop3 μ-loop3 Inv-loop2 μ-loop2 Inv-loop μ-loop loop-holds
-    (λ c. search needs) (λ c. search needs) (λ c. search needs) (λ c. search needs)
-    loop2-holds next-run-requires loop3-holds loop2-less loop2-again look-requires
-    (λ c. search needs) (λ c. search needs) (λ c. search needs) loop3-again
-    (λ c. search needs) add-looked (λ c. search needs) (λ c. search needs) loop3-again-2 (λ c. search needs)
-    sub-t27 sub-t28 sub-t29 same-length same-length-2 returns put-row-requires add-rows add-looked-2 add-j-3
-    (λ c. search needs) loop3-again-3 sub-budget sub-budget-2 sub-t36 same-length-3 same-length-4 returns-2
-    (λ c. search needs) from-requires (λ c. search needs) loop-again sub-t37 (λ c. search needs) (λ c. search needs)
-    returns-3)
+    Inv-loop2 μ-loop2 Inv-loop μ-loop
+    grain-of-requires loop-holds segment-from-requires kept-of-requires box-for-requires by-lines-requires end-within-requires loop2-holds next-run-requires walk-run-requires sub-t35 sub-t36 sub-t37 same-length same-length-2 same-length-3 returns loop2-less loop2-again sub-budget sub-budget-2 sub-t39 same-length-4 same-length-5 same-length-6 returns-2 add-i from-requires loop-less loop-again sub-t26 same-length-7 same-length-8 same-length-9 returns-3)

@@ -1,50 +1,37 @@
--- `listing_outcomes::buffer::list_kept` meets its contract: where every pair could have a row, the page of all pairs is the
--- listing; else rows are held back.
+-- `listing_outcomes::buffer::list_kept` meets its contract: with the sieve of lines or without, the listing is the same.
+use mathlib.Core.Path.{_≡_, refl, sym}
+use mathlib.Core.Bool.{Bool, true, false, _||_, true≢false}
 use native.Mathlib.Omega.{arith}
 use borrow.Author.Needs.{needs}
-use denote.Ref.{now}
-use Rattle.listing_pairs.specs.Workings.Ready.{lookBy}
-use Rattle.listing_pairs.specs.Workings.Job as job_of
-use Rattle.listing_pairs.specs.Workings.Reached.{all-ready}
-use Rattle.listing_outcomes.specs.Workings.Outcome.{filled-first, joins-every, no-more, on-one-page}
+use borrow.Author.Tests.{ltb-false}
+use lib.Dec.{ltb}
+use Rattle.paths.specs.Path.{mostVertices}
 use Rattle.listing_outcomes.proofs.buffer.list_kept.Statement.{statement}
 use Rattle.listing_outcomes.proofs.buffer.list_kept.Tie as tie
 
-abbrev start : tie.After-row-room → tie.Start
+neither : (a b : Bool) → (a || b) ≡ false → a ≡ false
+neither true b e = e
+neither false b e = refl
+
+abbrev start : tie.After-every-pair → tie.Start
 start c = c .before .before .before .before .before .before
 
 every-pair-requires : tie.Need-every-pair-requires
-every-pair-requires c κs = let ready = start c .pre .pairs in (ready .few, ready .few-second)
+every-pair-requires c κs = let ready = c .before .before .before .before .before .pre .pairs in (ready .few, ready .few-second)
 
-fill-requires : tie.Need-fill-requires
-fill-requires c κs =
-    let n = c .before .before .before .before .before in
-    let e = n .row-room .ensures in
-    (all-ready (start n .pre) _ _ _, (omega arith, (omega arith, (omega (arith, e), omega (arith, e)))))
+list-by-requires : tie.Need-list-by-requires
+list-by-requires c κs = (start (c .before .before .before .before) .pre, (λ e. absurd (true≢false (sym e))))
 
-returns : tie.Need-returns
-returns c =
-    let f = c .before .before .before .before in
-    let t = f .before .before .before .before in
-    let b = t .before in
-    let n = b .before in
-    let a = start n .args in
-    let F = lookBy (now (a .first)) (now (a .second)) (a .job) in
-    let ps = job_of.every (a .job) in
-    let room = n .row-room .result in
-    let done = filled-first F (a .job) (f .before .before .before .from .result) room (b .every-pair .result) (f .fill .result)
-    (now (a .indices)) _ (now (a .points)) _ (f .before .before .before .from .ensures) (b .every-pair .ensures)
-    (f .fill .ensures) in
-    on-one-page F ps (now (a .indices)) (now (a .points)) (joins-every F (a .job) room) (omega (arith, n .row-room .ensures))
-    (no-more F (a .job) room (rw (b .every-pair .ensures) at (t .if1 .taken))) _ _ _ _
-    (done .rows) (done .looked) (done .indices) (done .points)
-
-list-held-back-requires : tie.Need-list-held-back-requires
-list-held-back-requires c κs = let n = c .before .before .before .before in (start n .pre, n .row-room .ensures)
+list-sieved-requires : tie.Need-list-sieved-requires
+list-sieved-requires c κs =
+    let o = c .before .before in
+    let s = start (o .before .before) in
+    let few = ltb-false mostVertices (s .args .job .m) (neither (ltb mostVertices (s .args .job .m)) _ (o .if1 .left)) in
+    (s .pre, omega (arith, few))
 
 pub list-kept-spec : {M : Type 1} → statement M
 list-kept-spec =
     tie.close
     (tie.spec
-    (λ c. search needs) every-pair-requires (λ c. search needs) fill-requires (λ c. search needs) (λ c. search needs) returns
-    list-held-back-requires (λ c. search needs) (λ c. search needs) (λ c. search needs))
+    every-pair-requires list-by-requires (λ c. search needs) (λ c. search needs) (λ c. search needs)
+    list-sieved-requires (λ c. search needs) (λ c. search needs) (λ c. search needs))

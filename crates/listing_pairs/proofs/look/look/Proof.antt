@@ -1,5 +1,5 @@
 -- `listing_pairs::look::look` meets its contract: the pair call's own check finds no fault in the pair, so the call may be made;
--- and if the two meet, they are asked for a joint first.
+-- and if the two meet, `look_met` says what that gives.
 use mathlib.Core.Path.{_≡_, sym, ap, _∙_}
 use borrow.Author.Needs.{needs}
 use native.Mathlib.Omega.{arith}
@@ -8,7 +8,7 @@ use Rattle.crossing.specs.PlineSeg.{plineSeg}
 use Rattle.paths.specs.declared.path.Segment.{Segment}
 use Rattle.paths.specs.Segments.{segmentFrom}
 use Rattle.listing_pairs.specs.Workings.Keeping.{ofSegment}
-use Rattle.listing_pairs.specs.Workings.Ready.{apart, at-a-joint, elsewhere}
+use Rattle.listing_pairs.specs.Workings.Ready.{apart, given}
 use Rattle.listing_pairs.proofs.look.look.Statement.{statement}
 use Rattle.listing_pairs.proofs.look.look.Tie as tie
 
@@ -30,8 +30,8 @@ pline-seg-kept-requires c κs =
       ),
     )
 
-at-joint-requires : tie.Need-at-joint-requires
-at-joint-requires c κs =
+look-met-requires : tie.Need-look-met-requires
+look-met-requires c κs =
     let s = c .before .before .before .before .before .before in
     (s .pre .1 .1 .1 .1, omega (arith, s .pre .0 .m-within, s .pre .1 .1 .1 .0))
 
@@ -54,21 +54,12 @@ returns c =
 
 returns-2 : tie.Need-returns-2
 returns-2 c =
-    let k = c .before .before .before in
+    let k = c .before .before in
     let a = k .before .before .before .before .before .args in
-    at-a-joint (a .v) (now (a .second)) (a .job) (a .i) (a .j) _ (met k) _ (c .before .at-joint .ensures) (c .if1 .taken)
-
-returns-3 : tie.Need-returns-3
-returns-3 c =
-    let e = c .before in
-    let k = e .before .before .before in
-    let a = k .before .before .before .before .before .args in
-    elsewhere (a .v) (now (a .second)) (a .job) (a .i) (a .j) _ (met k) _ (e .before .at-joint .ensures) (e .if1 .left)
-    _ (c .look-of .ensures)
+    given (a .v) (now (a .second)) (a .job) (a .i) (a .j) _ (met k) _ (c .look-met .ensures)
 
 pub look-spec : {M : Type 1} → statement M
 look-spec =
     tie.close
     (tie.spec
-    (λ c. search needs) kept-at-requires pline-seg-kept-requires (λ c. search needs) returns at-joint-requires returns-2
-    (λ c. search needs) returns-3)
+    (λ c. search needs) kept-at-requires pline-seg-kept-requires (λ c. search needs) returns look-met-requires returns-2)
