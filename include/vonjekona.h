@@ -357,8 +357,9 @@ uint64_t vj_pair_findings(double v1x, double v1y, double v1_bulge,
  *
  * examples/tracks.c lists two tracks that are joined at a pad.
  *
- * A listing needs some 246 KiB of stack: a buffer that holds rows back until it
- * is known that all fit, and four numbers for each segment of the second path.
+ * A listing needs some 506 KiB of stack: a buffer that holds rows back until it
+ * is known that all fit, eight numbers for each segment of the second path, and
+ * marks of the pairs that make the rows beyond the buffer.
  */
 
 /* Every segment of the first path with every segment of the second. */
@@ -535,7 +536,7 @@ uint64_t vj_self_page(const double *path, size_t len, bool closed,
  * to 1/2, have boxes that meet, so no such pair is lost. docs/LIMITS.md says
  * what is known of others.
  *
- * A boxed listing needs some 383 KiB of stack: what a listing needs, and the
+ * A boxed listing needs some 643 KiB of stack: what a listing needs, and the
  * second path's boxes.
  *
  * examples/boxed.c lists a coil both ways.
@@ -842,10 +843,10 @@ uint64_t vj_dxf_export(const double *path, size_t len, bool closed,
  * than the others, since a cut path has up to 8,192 segments. In KiB, at most:
  *
  *                      two paths   one path
- *   a listing          1,200         850
+ *   a listing          1,460       1,110
  *   a page             1,050         730
- *   a boxed listing    1,600       1,250
- *   a counted listing  1,200
+ *   a boxed listing    1,860       1,510
+ *   a counted listing  1,460
  *
  * vj_pair_large and an export need less than 4 KiB, an import some 129 KiB.
  *
