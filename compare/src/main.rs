@@ -73,7 +73,7 @@ usage: compare check [COUNT [SEED]]  compare each float function on COUNT random
                                      that are refused; listings of whole paths until as many pairs were looked at, and on
                                      chosen ones; then as compare pages, as compare boxed, as compare month, as compare large,
                                      as compare joints, as compare findings, as compare release with a quarter of COUNT, and
-                                     as compare edges with a tenth of COUNT and as compare sieve with a 64th
+                                     as compare edges with a tenth of COUNT and as compare sieve with an 80th
        compare roots [COUNT [SEED]]  compare the root with the machine's own on COUNT patterns (default 10485760, seed 1): at
                                      every exponent its ends, random digits, squares of every count of digits, numbers
                                      next to ties, and the neighbours of these; subnormals of every count of digits
@@ -421,7 +421,7 @@ fn check_text(count: u64, seed: u64) -> u64 {
         + check_findings(count, seed)
         + check_release(count / 4, seed)
         + check_edges(count / 10, seed)
-        + check_sieve(count / 64, seed)
+        + check_sieve(count / 80, seed)
 }
 
 #[cfg(feature = "rust-text")]

@@ -18,16 +18,20 @@ pub const PAIRS: [[usize; 2]; 6] = [[23, 89], [32, 64], [64, 32], [3, 683], [45,
 #[derive(Clone, Copy, Debug, PartialEq)]
 pub enum Sort {
     Lines,
-    /// Lines, and in the second path some arcs among them.
+    /// Lines, and in the second path some arcs among them; as many as there may be for the sieve, and one more.
     WithArcs,
+    AnEighth,
+    BeyondAnEighth,
     /// One path of arcs, the other of lines.
     ArcsFirst,
     ArcsSecond,
 }
 
-pub const SORTS: [Sort; 4] = [
+pub const SORTS: [Sort; 6] = [
     Sort::Lines,
     Sort::WithArcs,
+    Sort::AnEighth,
+    Sort::BeyondAnEighth,
     Sort::ArcsFirst,
     Sort::ArcsSecond,
 ];
@@ -68,7 +72,8 @@ pub fn draw(sizes: [usize; 2], sort: Sort, call: Call, cut: Cut, rng: &mut Rng) 
         tracks[from - 1] = ACROSS;
         tracks[from + length] = ACROSS;
     }
-    let targets = targets(n, &tracks, cut, rng);
+    let arcs: Vec<usize> = (0..m).filter(|j| second[*j].bulge.abs() > 0.1).collect();
+    let targets = targets(n, &tracks, &arcs, cut, rng);
     let first = match sort {
         Sort::ArcsFirst => hops(&targets),
         _ => uprights(&targets, &second),
@@ -132,25 +137,30 @@ fn tracks(vertices: usize, rng: &mut Rng) -> Vec<f64> {
 
 /// Segments of length 1 along x, with some arcs or with all.
 fn chain(segments: usize, sort: Sort, rng: &mut Rng) -> Vec<Vertex> {
-    let one_in = match sort {
+    let arcs = match sort {
         Sort::Lines | Sort::ArcsFirst => 0,
-        Sort::WithArcs => rng.pick(&[2, 8, 64]),
-        Sort::ArcsSecond => 1,
+        Sort::WithArcs => 1 + rng.below(segments as u64 / 10) as usize,
+        Sort::AnEighth => segments / 8,
+        Sort::BeyondAnEighth => segments / 8 + 1,
+        Sort::ArcsSecond => segments,
     };
-    let mut bulge = || {
-        if one_in > 0 && rng.one_in(one_in) {
+    let mut left = arcs;
+    let mut bulge = |i: usize| {
+        // each index is as likely as each other
+        if i < segments && (rng.below((segments - i) as u64) as usize) < left {
+            left -= 1;
             rng.sign() * rng.pick(&[1.0, 0.75, 0.5])
         } else {
             line_bulge(rng)
         }
     };
     (0..=segments)
-        .map(|x| vertex(x as f64, 0.0, bulge()))
+        .map(|i| vertex(i as f64, 0.0, bulge(i)))
         .collect()
 }
 
-/// Which indices are gone across: the first and the last of each block, of each track and of all, and any.
-fn targets(count: usize, tracks: &[f64], cut: Cut, rng: &mut Rng) -> Vec<usize> {
+/// Which indices are gone across: the first and the last of each block, of each track and of all, those of arcs, and any.
+fn targets(count: usize, tracks: &[f64], arcs: &[usize], cut: Cut, rng: &mut Rng) -> Vec<usize> {
     let m = tracks.len() - 1;
     let bounds: Vec<usize> = match cut {
         Cut::Into { from, length } => vec![from, from + length],
@@ -162,7 +172,8 @@ fn targets(count: usize, tracks: &[f64], cut: Cut, rng: &mut Rng) -> Vec<usize> 
             0 => 0,
             1 => m - 1,
             2 => rng.pick(&[block, block + 63, block + 64]),
-            3..=6 if !bounds.is_empty() => rng.pick(&bounds) - rng.below(2) as usize,
+            3 | 4 if !arcs.is_empty() => rng.pick(arcs),
+            4..=6 if !bounds.is_empty() => rng.pick(&bounds) - rng.below(2) as usize,
             _ => rng.below(m as u64) as usize,
         };
         at.min(m - 1)
@@ -263,11 +274,12 @@ pub fn unusual(call: Call, rng: &mut Rng) -> Layout {
         let each = lines.iter().flat_map(|[a, b]| [*a, *b, *a]);
         each.map(|at| Vertex { at, bulge: 0.0 }).collect()
     };
-    let (first, second) = (path(&shorts), path(&longs));
-    let (first, second) = if rng.one_in(2) {
-        (first, second)
-    } else {
-        (second, first)
+    // an eighth of the second path may be such lines, and of one path
+    let mixed = [&longs[..], &longs[..], &longs[..], &shorts[..4]].concat();
+    let (first, second) = match call {
+        Call::Own => (path(&mixed), path(&longs)),
+        _ if rng.one_in(2) => (path(&shorts), path(&longs)),
+        _ => (path(&longs), path(&mixed)),
     };
     match call {
         Call::Own => Layout {

@@ -2,6 +2,7 @@
 //! are all but equal. Of each listing that is made for an edge, every pair is counted below it, at it or above it, by the formula.
 
 use super::lines::{beside_circle, Crossing, Side, AFTER, BEFORE, RULE};
+use super::places::is_sieved;
 use crate::crossing::faults::two_to;
 use crate::listings::model::Listed;
 
@@ -113,11 +114,18 @@ impl Edges {
         ]
     }
 
-    /// Counts every pair of a listing.
+    /// Counts every pair of a listing, if it is sieved. With an epsilon beyond what is usual it is not.
     pub fn count(&mut self, listed: Listed, epsilon: f64) {
         let paths = listed.paths();
         let own = paths.len() == 1;
         let [first, second] = [paths[0], paths[paths.len() - 1]].map(Side::all);
+        let by_epsilon = matches!(self.family, Family::Largest(_) | Family::Smallest(_));
+        let usual = (two_to(-40)..=two_to(-10)).contains(&epsilon);
+        let may_be = is_sieved(first.len(), &second, epsilon) || by_epsilon && !usual;
+        // an arc first is never judged
+        if !may_be && self.family != Family::Round(1) {
+            return;
+        }
         for (i, v) in first.iter().enumerate() {
             let from = if own { i + 1 } else { 0 };
             for u in second.iter().skip(from) {

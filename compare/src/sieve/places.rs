@@ -10,13 +10,26 @@ use crate::listings::model::{Listed, Path, Row};
 /// So many consecutive indices of a run are a block.
 pub const BLOCK: usize = 64;
 
-/// From so many segments of the second path, up to so many, and from so many pairs on a listing is sieved.
-pub const LEAST_SEGMENTS: usize = 32;
-pub const MOST_SEGMENTS: usize = 4096;
-pub const LEAST_PAIRS: usize = 2048;
+/// From so many segments of the second path, up to so many, and from so many pairs on a listing is sieved, if the sieve judges seven
+/// of eight segments of the second path.
+const LEAST_SEGMENTS: usize = 32;
+const MOST_SEGMENTS: usize = 4096;
+const LEAST_PAIRS: usize = 2048;
 
-pub fn is_sieved(n: usize, m: usize) -> bool {
+pub fn is_sieved(first: usize, second: &[Side], epsilon: f64) -> bool {
+    let m = second.len();
+    could_be_sieved([first, m]) && 8 * unjudged(second, epsilon) <= m
+}
+
+/// By its sizes.
+pub fn could_be_sieved([n, m]: [usize; 2]) -> bool {
     (LEAST_SEGMENTS..=MOST_SEGMENTS).contains(&m) && n * m >= LEAST_PAIRS
+}
+
+/// How many segments of the second path the sieve does not judge.
+pub fn unjudged(second: &[Side], epsilon: f64) -> usize {
+    let judged = |side: &&Side| RULE.judges(side, 1, epsilon);
+    second.len() - second.iter().filter(judged).count()
 }
 
 type Each = [u64; BLOCK];
@@ -35,12 +48,11 @@ struct Counts {
 }
 
 /// Why the sieve leaves a pair that its test would take away, and that makes a row.
-const GUARDS: [&str; 5] = [
+const GUARDS: [&str; 4] = [
     "the first is an arc",
     "the second is an arc",
     "the first is short",
     "the second is short",
-    "epsilon is large",
 ];
 
 const POINTS: [&str; 2] = [
@@ -76,10 +88,10 @@ impl Places {
             Listed::Mutual(first, second) => (first, second, false),
             Listed::Own(path) => (path, path, true),
         };
-        if !is_sieved(first.segments(), second.segments()) {
+        let sides = [first, second].map(Side::all);
+        if !is_sieved(first.segments(), &sides[1], epsilon) {
             return;
         }
-        let sides = [first, second].map(Side::all);
         for of_one in rows.chunk_by(|a, b| a.indices[0] == b.indices[0]) {
             let i = of_one[0].indices[0] as usize;
             let mut runs = Runs::of(first, second, i, own);
@@ -104,13 +116,7 @@ impl Places {
             *points += u64::from(side.square == 0.0);
         }
         let is_short = |side: &Side| side.square < two_to(-10);
-        let guards = [
-            v.is_arc(),
-            u.is_arc(),
-            is_short(v),
-            is_short(u),
-            epsilon > two_to(-10),
-        ];
+        let guards = [v.is_arc(), u.is_arc(), is_short(v), is_short(u)];
         if !RULE.says_apart(v, u, epsilon) || guards.iter().filter(|is| **is).count() != 1 {
             return false;
         }

@@ -178,13 +178,13 @@ impl Run {
                 }
             }
             // each sort, with tracks and without
-            pairs += 8 * 2047;
+            pairs += 2 * SORTS.len() as u64 * 2047;
         }
-        for turn in 0..3 + self.half / (1 << 17) {
+        for turn in 0..5 + self.half / (1 << 17) {
             for rest in 0..BLOCK {
-                for sort in [Sort::Lines, SORTS[1 + (turn as usize + rest) % 3]] {
+                for sort in [Sort::Lines, SORTS[1 + (turn as usize + rest) % 5]] {
                     let n = 32 + self.rng.below(16) as usize;
-                    let m = BLOCK * (2 + self.rng.below(2) as usize) + rest;
+                    let m = 2 * BLOCK + rest;
                     // an odd factor, so that there is a run from each place on
                     let from = 1 + (5 * rest + 13 * turn as usize) % BLOCK;
                     let length = if rest == 0 { BLOCK } else { rest };
@@ -193,10 +193,9 @@ impl Run {
                         self.block_of([n, m], sort, call, Cut::Into { from, length });
                     }
                 }
-                for call in [Call::Mutual, Call::Own] {
-                    let layout = blocks::unusual(call, &mut self.rng);
-                    self.once(&layout, call, ABOUT_BLOCKS);
-                }
+                let call = [Call::Mutual, Call::Own][usize::from(rest % 8 == 0)];
+                let layout = blocks::unusual(call, &mut self.rng);
+                self.once(&layout, call, ABOUT_BLOCKS);
             }
         }
     }

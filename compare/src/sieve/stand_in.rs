@@ -7,7 +7,7 @@ use std::collections::HashSet;
 use super::forms::{Form, Plain};
 use super::lines::{beside_circle, Rule, Side, RULE};
 use super::marks::{grain, HELD};
-use super::places::{is_sieved, places_of};
+use super::places::{could_be_sieved, is_sieved, places_of};
 use super::Ours;
 use crate::capi::Rows;
 use crate::crossing::NO_ROOM;
@@ -118,9 +118,12 @@ fn left(form: Form, listed: Listed, epsilon: f64, rows: &[&Row], room: usize) ->
     let sizes = [first.segments(), second.segments()];
     let boxed = matches!(form, Form::Boxed | Form::Large(Kind::Boxed));
     let mut kept: Vec<usize> = (0..rows.len()).collect();
-    if is_sieved(sizes[0], sizes[1]) && !boxed {
-        let rule = rule(&is);
-        let sides = [first, second].map(Side::all);
+    let sides = [first, second].map(Side::all);
+    let rule = rule(&is);
+    // what is judged wrongly makes more listings sieved
+    let judged = |side: &&Side| rule.judges(side, 1, epsilon);
+    let many = 8 * sides[1].iter().filter(judged).count() >= 7 * sizes[1];
+    if (is_sieved(sizes[0], &sides[1], epsilon) || many && could_be_sieved(sizes)) && !boxed {
         let owned: Vec<Row> = rows.iter().map(|row| (*row).clone()).collect();
         let places = places_of(listed, &owned);
         kept.retain(|at| {

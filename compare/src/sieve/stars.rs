@@ -7,6 +7,7 @@
 
 use super::edges::Family;
 use super::lines::{beside_circle, Circle, Side};
+use super::places::unjudged;
 use crate::crossing::faults::two_to;
 use crate::inputs::shapes::{near, unit};
 use crate::inputs::values::{line_bulge, power, whole};
@@ -51,10 +52,14 @@ pub fn draw(family: Family, exact: bool, rng: &mut Rng) -> (Layout, Call) {
         Family::Round(which) => [which == 1, which == 0],
         _ => [false; 2],
     };
-    let [first, second] = [0, 1].map(|at: usize| walked(&star.lines[at], arcs[at], shaken, rng));
+    let [first, mut second] =
+        [0, 1].map(|at: usize| walked(&star.lines[at], arcs[at], shaken, rng));
     let closed = [0; 2].map(|_| rng.one_in(4));
     let epsilon = star.epsilon;
-    if rng.one_in(4) {
+    let own = rng.one_in(4);
+    let rest = pad(if own { &first } else { &[] }, &second, epsilon);
+    second.extend(rest);
+    if own {
         let first = Drawn::new(&[first, second].concat(), closed[0]);
         let second = Drawn::default();
         let layout = Layout {
@@ -71,6 +76,29 @@ pub fn draw(family: Family, exact: bool, rng: &mut Rng) -> (Layout, Call) {
     };
     (layout, Call::Mutual)
 }
+
+/// Usual lines far away, so many that the sieve judges seven of eight segments of the second path, or of both in one.
+fn pad(first: &[Vertex], second: &[Vertex], epsilon: f64) -> Vec<Vertex> {
+    let all = [first, second].concat();
+    let drawn = Drawn::new(&all, true);
+    let unjudged = unjudged(&Side::all(drawn.path()), epsilon);
+    let missing = (8 * (unjudged + 2)).saturating_sub(all.len());
+    if missing > MOST_PADDING {
+        return Vec::new();
+    }
+    let far = |v: &Vertex| v.at.x.abs().max(v.at.y.abs());
+    let far = 10.0 + 4.0 * all.iter().map(far).fold(0.0, f64::max);
+    let place = |k: usize| at(far + (k % 2) as f64, far + (k / 16) as f64);
+    (0..missing)
+        .map(|k| Vertex {
+            at: place(k),
+            bulge: 0.0,
+        })
+        .collect()
+}
+
+/// More than this no padding helps.
+const MOST_PADDING: usize = 2000;
 
 /// How many lines each path has.
 fn counts(rng: &mut Rng) -> [usize; 2] {
@@ -269,10 +297,7 @@ fn ends(which: usize, exact: bool, rng: &mut Rng) -> Star {
             epsilon,
         };
     }
-    let epsilon = match rng.below(4) {
-        0 => power(rng, -10, -1),
-        _ => usual_epsilon(rng),
-    };
+    let epsilon = usual_epsilon(rng);
     let size = power(rng, -4, 8);
     let hub = near(Point::default(), rng.pick(&[0.0, size]), rng);
     let mut line = || {
