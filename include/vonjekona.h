@@ -457,7 +457,7 @@ uint64_t vj_self(const double *path, size_t len, bool closed, double epsilon,
  * A call has no state, so it can start at any position: several machines can
  * share a listing if each takes a range of positions, with budgets that end at
  * the end of its range. Each call checks both paths anew, however small its
- * budget is. A page needs some 134 KiB of stack: it holds no rows back, but it
+ * budget is. A page needs some 136 KiB of stack: it holds no rows back, but it
  * has four numbers for each segment of the second path.
  *
  * examples/panel.c is a panel's cycle.
