@@ -3,3 +3,4 @@ pub mod Lines
 pub mod Line
 pub mod Pair
 pub mod AllFine
+pub mod Misses

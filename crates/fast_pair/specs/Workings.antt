@@ -3,3 +3,4 @@
 pub mod ClearlyApart
 pub mod Kept
 pub mod AllFine
+pub mod Misses

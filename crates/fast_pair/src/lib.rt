@@ -5,4 +5,5 @@ mod circles;
 pub mod kept;
 mod line;
 pub mod lines;
+mod misses;
 pub mod pair;

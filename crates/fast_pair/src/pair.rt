@@ -15,6 +15,7 @@ use super::kept::Kept;
 use super::kept::circle_of;
 use super::line::line_beside;
 use super::lines::lines_apart;
+use super::misses::misses;
 use arcs::circle::circle_if_arc;
 use arcs::pline_seg_intr::PlineSegIntr;
 use checks::arc;
@@ -70,6 +71,9 @@ pub fn pline_seg_kept(
     if clearly_apart(v1, v2, v, u1, u2, u, pos_equal_eps) {
         return PlineSegIntr::NoIntersect;
     }
+    if misses(v1, v2, v, u1, u2, u, pos_equal_eps) {
+        return PlineSegIntr::NoIntersect;
+    }
     pline_seg_after_checks(v1, v2, circle_of(v), u1, u2, circle_of(u), pos_equal_eps)
 }
 
@@ -86,7 +90,8 @@ fn left_apart(v1: PlineVertex, v2: PlineVertex, v: Kept, u1: PlineVertex, u: Kep
     line_beside(v1.pos(), v2.pos(), v, circle_of(u), eps)
 }
 
-// The same as `pline_seg_kept`, for a pair that a sieve has left: what the sieve has tested is not tested again.
+// The same as `pline_seg_kept`, for a pair that a sieve has left: what the sieve has tested is not tested again, and spans are not
+// asked, since most of what is left meets.
 pub fn pline_seg_left(
     v1: PlineVertex,
     v2: PlineVertex,
