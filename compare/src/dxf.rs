@@ -8,7 +8,7 @@ mod draw;
 mod examples;
 mod kinds;
 mod lent;
-mod model;
+pub mod model;
 mod run;
 #[cfg(test)]
 mod stand_in;

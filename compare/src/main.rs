@@ -5,6 +5,8 @@ mod answer;
 mod arcs;
 mod bench;
 #[cfg(feature = "rust-text")]
+mod beside;
+#[cfg(feature = "rust-text")]
 mod boxed;
 mod capi;
 mod classes;
@@ -135,6 +137,15 @@ usage: compare check [COUNT [SEED]]  compare each float function on COUNT random
        compare layouts FOLDER        write the model's output NAME.out for each text NAME.txt of the form there
        compare own FOLDER PROGRAM    say for each text NAME.txt there whether the program that lists answers its packed form as the
                                      Rust text does
+       compare beside [--epsilon E] [--closed] FILE...
+                                     list somebody's own layouts with the Rust text and with the library, and print a table: rows,
+                                     equal, different, refused with the place in words. FILE is a layout's text (.txt), a packed
+                                     file (.packed), the body of one LWPOLYLINE (.body), which is listed with itself, or plain
+                                     numbers (.numbers), which may be NaN; with another suffix its bytes tell. Plain numbers
+                                     are a line `x y bulge` a vertex, with a trace behind it or without, and an empty line
+                                     between two paths; a number is decimal, NaN, inf, or 0x and the 16 hex digits of its bits.
+                                     Epsilon is 1/1024 if none is given; --closed closes all paths but a body's. Ends with status
+                                     1 if something differs, else with 2 if a file cannot be read
        compare packed-layouts FOLDER write packed/NAME.packed for each text NAME.txt of the form there, NAME.expected for each
                                      other text, and packed/NAME.expected for each packed/NAME.packed that is no layout
        compare record FILE           write the recorded list for the program replay
@@ -161,6 +172,9 @@ const BENCHES: [&str; 11] = [
 fn main() -> ExitCode {
     let words: Vec<String> = env::args().skip(1).collect();
     let words: Vec<&str> = words.iter().map(String::as_str).collect();
+    if let ["beside", ref rest @ ..] = words[..] {
+        return list_beside(rest);
+    }
     let done = match words[..] {
         ["check", ref numbers @ ..] => check(numbers),
         ["roots", ref numbers @ ..] => roots(numbers),
@@ -640,6 +654,22 @@ fn own(folder: &Path, program: &str) -> Result<(), String> {
 #[cfg(not(feature = "rust-text"))]
 fn own(_folder: &Path, _program: &str) -> Result<(), String> {
     Err("rust text not compiled in: there is nothing to compare with".to_string())
+}
+
+/// It has a status of its own for a file that cannot be read, and for wrong words.
+#[cfg(feature = "rust-text")]
+fn list_beside(words: &[&str]) -> ExitCode {
+    let status = beside::run(words).unwrap_or_else(|why| {
+        eprintln!("{why}\n{}", beside::USAGE);
+        beside::UNREAD
+    });
+    ExitCode::from(status)
+}
+
+#[cfg(not(feature = "rust-text"))]
+fn list_beside(_words: &[&str]) -> ExitCode {
+    eprintln!("rust text not compiled in: there is nothing to list beside");
+    ExitCode::from(2)
 }
 
 fn record(file: &str) -> Result<(), String> {
