@@ -49,32 +49,45 @@ static const struct {
 };
 
 /* By the refusal's number. Those of an import and of an export. */
-static const char *const reasons[] = {
-    [2] = "above 1,048,576 in magnitude",
-    [3] = "above 1 in magnitude",
-    [5] = "shorter than 2^-40, of an arc",
-    [6] = "no multiple of 4",
-    [7] = "more than 4,096 vertices",
-    [11] = "NaN",
-    [12] = "infinite",
-    [15] = "no whole number from 0 to 255",
-    [20] = "no code, or no number",
-    [21] = "a group out of place, or missing",
-    [22] = "not as many vertices as it says",
-    [23] = "no number of six digits",
-    [24] = "too little",
-};
+static const char *reason(uint64_t number)
+{
+    switch (number) {
+    case 2: return "above 1,048,576 in magnitude";
+    case 3: return "above 1 in magnitude";
+    case 5: return "shorter than 2^-40, of an arc";
+    case 6: return "no multiple of 4";
+    case 7: return "more than 4,096 vertices";
+    case 11: return "NaN";
+    case 12: return "infinite";
+    case 15: return "no whole number from 0 to 255";
+    case 20: return "no code, or no number";
+    case 21: return "a group out of place, or missing";
+    case 22: return "not as many vertices as it says";
+    case 23: return "no number of six digits";
+    case 24: return "too little";
+    default: return "no reason that these calls have";
+    }
+}
+
+/* What is at fault. */
+static const char *name(uint64_t item)
+{
+    switch (item) {
+    case VJ_ITEM_X: return "x of vertex";
+    case VJ_ITEM_Y: return "y of vertex";
+    case VJ_ITEM_BULGE: return "bulge of vertex";
+    case VJ_ITEM_CHORD: return "segment";
+    case VJ_ITEM_LENGTH: return "length";
+    case VJ_ITEM_TRACE: return "trace of vertex";
+    case VJ_ITEM_LINE: return "line";
+    case VJ_ITEM_ROOM: return "room";
+    default: return "no item that these calls have";
+    }
+}
 
 /* What a call returned, in words. */
 static void tell(const char *what, uint64_t word)
 {
-    static const char *const items[] = {
-        [VJ_ITEM_X] = "x of vertex", [VJ_ITEM_Y] = "y of vertex",
-        [VJ_ITEM_BULGE] = "bulge of vertex", [VJ_ITEM_CHORD] = "segment",
-        [VJ_ITEM_LENGTH] = "length", [VJ_ITEM_TRACE] = "trace of vertex",
-        [VJ_ITEM_LINE] = "line", [VJ_ITEM_ROOM] = "room",
-    };
-
     printf("%s: ", what);
     if (word == VJ_NO_ROOM)
         printf("no room for what is told\n");
@@ -82,10 +95,11 @@ static void tell(const char *what, uint64_t word)
         printf("done\n");
     else if (VJ_ITEM(word) == VJ_ITEM_ROOM || VJ_ITEM(word) == VJ_ITEM_LENGTH)
         printf("refused %" PRIu64 ", %s: %s\n", VJ_NUMBER(word),
-               items[VJ_ITEM(word)], reasons[VJ_NUMBER(word)]);
+               name(VJ_ITEM(word)), reason(VJ_NUMBER(word)));
     else
         printf("refused %" PRIu64 ", %s %" PRIu64 ": %s\n", VJ_NUMBER(word),
-               items[VJ_ITEM(word)], VJ_INDEX(word), reasons[VJ_NUMBER(word)]);
+               name(VJ_ITEM(word)), VJ_INDEX(word),
+               reason(VJ_NUMBER(word)));
 }
 
 static uint64_t import(const char *body, double *path, size_t room,

@@ -56,13 +56,13 @@ static const double twice[] = {
 
 static void show(const uint64_t *index, const double *point)
 {
-    uint64_t class = index[2];
+    uint64_t row_class = index[2];
 
     printf("  segments %" PRIu64 " and %" PRIu64 ", class %" PRIu64
            ": (%g, %g)",
-           index[0], index[1], class, point[0], point[1]);
+           index[0], index[1], row_class, point[0], point[1]);
     /* only these classes have a second point */
-    if (class >= 3)
+    if (row_class >= 3)
         printf(" and (%g, %g)", point[2], point[3]);
     printf("\n");
 }

@@ -83,11 +83,11 @@ static void show_fault(uint64_t word)
     }
 }
 
-static void show_points(uint64_t class, const double *point)
+static void show_points(uint64_t row_class, const double *point)
 {
-    printf("class %" PRIu64 ": (%g, %g)", class, point[0], point[1]);
+    printf("class %" PRIu64 ": (%g, %g)", row_class, point[0], point[1]);
     /* only these classes have a second point */
-    if (class >= 3)
+    if (row_class >= 3)
         printf(" and (%g, %g)", point[2], point[3]);
     printf("\n");
 }

@@ -48,18 +48,24 @@ static const double bad_trace[] = { 0, 2, 0, 256,  4, 2, 0, 0 };
 static const double bad_x[] = { 0, 2, 0, 0,  NAN, 2, 0, 0 };
 
 /* By the refusal's number. Those of a listing are no larger than 15. */
-static const char *const reasons[] = {
-    [2] = "a coordinate is too large",
-    [3] = "a bulge is above 1",
-    [4] = "epsilon is out of range",
-    [5] = "an arc's chord is too short",
-    [6] = "no whole vertices",
-    [7] = "too many vertices",
-    [8] = "too many rows",
-    [11] = "a number is NaN",
-    [12] = "a number is infinite",
-    [15] = "no such trace",
-};
+#define MOST_NUMBER 15
+
+static const char *reason(uint64_t number)
+{
+    switch (number) {
+    case 2: return "a coordinate is too large";
+    case 3: return "a bulge is above 1";
+    case 4: return "epsilon is out of range";
+    case 5: return "an arc's chord is too short";
+    case 6: return "no whole vertices";
+    case 7: return "too many vertices";
+    case 8: return "too many rows";
+    case 11: return "a number is NaN";
+    case 12: return "a number is infinite";
+    case 15: return "no such trace";
+    default: return "no refusal of a listing";
+    }
+}
 
 static const char *const classes[] = {
     "apart", "tangent", "one point", "two points", "lines overlap",
@@ -82,18 +88,18 @@ static void show(const char *title, const uint64_t *report)
     uint64_t refused = 0;
     size_t i;
 
-    for (i = 0; i < COUNT(reasons); i++)
+    for (i = 0; i <= MOST_NUMBER; i++)
         refused += report[VJ_REPORT_REFUSED(i)];
     printf("%s\n", title);
     printf("  layouts             %8" PRIu64 "\n", layouts);
     show_part("listed", layouts - refused, layouts);
     show_part("refused", refused, layouts);
-    for (i = 0; i < COUNT(reasons); i++) {
+    for (i = 0; i <= MOST_NUMBER; i++) {
         uint64_t with = report[VJ_REPORT_REFUSED(i)];
 
         if (with > 0)
             printf("      %2zu              %8" PRIu64 "  %s\n", i, with,
-                   reasons[i]);
+                   reason(i));
     }
     printf("  pairs looked at     %8" PRIu64 "\n", pairs);
     for (i = 0; i < COUNT(classes); i++)

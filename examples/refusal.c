@@ -46,23 +46,27 @@ static const char *const items[] = {
 };
 
 /* By the refusal's number. A text's refusal, 10, comes from no call. */
-static const char *const reasons[] = {
-    [2] = "above 1,048,576 in magnitude",
-    [3] = "above 1 in magnitude",
-    [4] = "NaN, infinite, or not in 2^-40 to 1/2",
-    [5] = "shorter than 2^-40, of an arc",
-    [6] = "no multiple of 4",
-    [7] = "more than 4,096 vertices",
-    [8] = "more than there is room for",
-    [9] = "beyond a circle's limits",
-    [11] = "NaN",
-    [12] = "infinite",
-    [13] = "beyond the end",
-    [14] = "0",
-    [15] = "no whole number from 0 to 255",
-    [17] = "more than there is room for",
-    [19] = "full, or the sum of two does not fit",
-};
+static const char *reason(uint64_t number)
+{
+    switch (number) {
+    case 2: return "above 1,048,576 in magnitude";
+    case 3: return "above 1 in magnitude";
+    case 4: return "NaN, infinite, or not in 2^-40 to 1/2";
+    case 5: return "shorter than 2^-40, of an arc";
+    case 6: return "no multiple of 4";
+    case 7: return "more than 4,096 vertices";
+    case 8: return "more than there is room for";
+    case 9: return "beyond a circle's limits";
+    case 11: return "NaN";
+    case 12: return "infinite";
+    case 13: return "beyond the end";
+    case 14: return "0";
+    case 15: return "no whole number from 0 to 255";
+    case 17: return "more than there is room for";
+    case 19: return "full, or the sum of two does not fit";
+    default: return "no reason that these calls have";
+    }
+}
 
 static void tell_owner(uint64_t word, const struct places *places)
 {
@@ -101,7 +105,7 @@ static void tell(const char *call, uint64_t word, const struct places *places)
     default:
         tell_owner(word, places);
     }
-    printf("%s: %s\n", items[VJ_ITEM(word)], reasons[VJ_NUMBER(word)]);
+    printf("%s: %s\n", items[VJ_ITEM(word)], reason(VJ_NUMBER(word)));
 }
 
 /* x, y, bulge and trace of each vertex of a zigzag. */
