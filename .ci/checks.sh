@@ -1,4 +1,6 @@
-# The checks of the gate, one function each. `.ci/run` calls them in order; `.ci/test` tests that each can fail.
+# The checks of the gate, one function each. `.ci/run` calls them in order; `.ci/test` tests that each can fail. Those of what
+# people use, the examples and the bindings, stand in `.ci/users.sh`.
+source .ci/users.sh
 
 scratch=$(mktemp -d)
 trap 'end_rest; rm -rf "$scratch"' EXIT
@@ -269,36 +271,6 @@ check_streams() {
 
 check_replaying() {
     check_streams target/bin/replay crates/replay/stdin crates/replay/stdout
-}
-
-# ---- the examples in C
-
-# It comes when nothing else runs rt, since it may have to make the library.
-check_examples() {
-    local start=$SECONDS
-    if ! command -v cc > /dev/null; then
-        [ "${CI:-}" != true ] || fail "no C compiler on this machine: the examples cannot be run"
-        say "no C compiler on this machine: NO EXAMPLE IN C WAS RUN"
-        return
-    fi
-    make_libraries
-    run_examples examples target/staticlib/libcapi_large.a target/staticlib/libcapi.a
-    note_time "$start"
-}
-
-# Compiles each example against the header and the libraries, runs it, and compares what it prints with the stored text.
-run_examples() {
-    local sources=("$1"/*.c) texts=("$1"/*.expected) source text
-    local words=(-std=c11 -Wall -Wextra -Werror -Iinclude)
-    [ -f "${sources[0]}" ] || fail "no examples are stored"
-    for source in "${sources[@]}"; do
-        text=${source%.c}.expected
-        quietly cc "${words[@]}" "$source" "${@:2}" -o "$scratch/example" || fail "$source does not compile"
-        "$scratch/example" > "$scratch/printed" || fail "$source failed"
-        cmp "$scratch/printed" "$text" || fail "$source does not print $text"
-    done
-    [ ${#sources[@]} = ${#texts[@]} ] || fail "there are texts in $1 without an example"
-    say "ran ${#sources[@]} examples in C"
 }
 
 # ---- the root without products
