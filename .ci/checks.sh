@@ -117,6 +117,7 @@ check_texts() {
     local start=$SECONDS
     quietly rt fmt --check || fail "rt fmt would change the files above"
     check_paths
+    check_links
     .ci/promises || fail "the documents and the sources differ as above: .ci/promises write writes what is generated"
     note_time "$start"
 }
@@ -131,6 +132,23 @@ check_paths() {
     0) fail "the lines above name paths of a machine" ;;
     *) fail "git grep could not look for paths of a machine: status $status" ;;
     esac
+}
+
+# What a document links to is there, and so is each file of docs/ that a tracked file names.
+check_links() {
+    local file name missing=
+    while IFS=: read -r file name; do
+        name=${name#"]("}
+        name=${name%)}
+        case $name in
+        http*) ;;
+        *) [ -e "$(dirname "$file")/${name%%#*}" ] || missing+="$file: $name"$'\n' ;;
+        esac
+    done < <(git grep -oE '\]\([^)]+\)' -- '*.md')
+    while IFS=: read -r file name; do
+        [ -e "$name" ] || missing+="$file: $name"$'\n'
+    done < <(git grep -ohE '(^|[^[:alnum:]_./-])docs/[[:alnum:]_/-]+\.[[:alpha:]]+' | sed -E 's|.*(docs/.*)|docs:\1|' | sort -u)
+    [ -z "$missing" ] || fail "what documents name is not there: $missing"
 }
 
 # docs/FRAUDS.md says where each wrong program was rejected. Some fact must fail for each must-fail edit too.

@@ -1,4 +1,4 @@
-"""Layouts in their two forms, the text and the packed form, read as README.md says of them and as the programs do."""
+"""Layouts in their two forms, the text and the packed form, read as docs/FORMATS.md says and as the programs do."""
 import re
 from typing import NamedTuple
 

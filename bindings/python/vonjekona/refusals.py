@@ -40,7 +40,7 @@ FAULTS = {
 class Refusal(ValueError):
     """The answer of a call in which a check finds a fault. Only the first fault is told.
 
-    number   the refusal's number, as README.md's table has it
+    number   the refusal's number, as docs/REFUSALS.md has it
     item     what is at fault, a word: "x", "bulge", "chord", "epsilon"; None of a layout's file
     owner    whose item it is, from 0 on, as the header says for each call
     index    which of the owner's, from 0 on
