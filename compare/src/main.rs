@@ -54,6 +54,8 @@ mod roots;
 mod search;
 #[cfg(feature = "rust-text")]
 mod sieve;
+#[cfg(feature = "rust-text")]
+mod spans;
 mod stack;
 mod tally;
 #[cfg(feature = "rust-text")]
@@ -75,7 +77,8 @@ usage: compare check [COUNT [SEED]]  compare each float function on COUNT random
                                      that are refused; listings of whole paths until as many pairs were looked at, and on
                                      chosen ones; then as compare pages, as compare boxed, as compare month, as compare large,
                                      as compare joints, as compare findings, as compare release with a quarter of COUNT, and
-                                     as compare edges with a tenth of COUNT and as compare sieve with an 80th
+                                     as compare edges with a tenth of COUNT, and as compare sieve and as compare spans with
+                                     an 80th
        compare roots [COUNT [SEED]]  compare the root with the machine's own on COUNT patterns (default 10485760, seed 1): at
                                      every exponent its ends, random digits, squares of every count of digits, numbers
                                      next to ties, and the neighbours of these; subnormals of every count of digits
@@ -86,6 +89,9 @@ usage: compare check [COUNT [SEED]]  compare each float function on COUNT random
                                      side of each edge of the sieve of lines (default 1048576, seed 1), and as many in
                                      listings of each size about a block; rows at each place of a block; and listings with
                                      many rows, in each form and with rooms about them
+       compare spans [COUNT [SEED]]  compare listings where the quick test of a line and an arc, or of two arcs, is on its edge:
+                                     COUNT / 2 pairs on each side of each edge (default 1048576, seed 1), and as many
+                                     of each sort all over a sheet
        compare pages [COUNT [SEED]]  compare pages of listings: every position on small paths, and chains of calls on random
                                      paths, a tenth of COUNT calls (default 10485760, seed 1)
        compare boxed [COUNT [SEED]]  compare boxed listings: on chosen paths, and on random ones until these have COUNT pairs
@@ -180,6 +186,7 @@ fn main() -> ExitCode {
         ["roots", ref numbers @ ..] => roots(numbers),
         ["edges", ref numbers @ ..] => edges(numbers),
         ["sieve", ref numbers @ ..] => sieve(numbers),
+        ["spans", ref numbers @ ..] => spans(numbers),
         ["pages", ref numbers @ ..] => pages(numbers),
         ["boxed", ref numbers @ ..] => boxed(numbers),
         ["month", ref numbers @ ..] => month(numbers),
@@ -248,6 +255,14 @@ fn edges(numbers: &[&str]) -> Result<(), String> {
 fn sieve(numbers: &[&str]) -> Result<(), String> {
     let (count, seed) = count_and_seed(numbers, ON_AN_EDGE)?;
     match check_sieve(count, seed) {
+        0 => Ok(()),
+        differences => Err(format!("{differences} differences")),
+    }
+}
+
+fn spans(numbers: &[&str]) -> Result<(), String> {
+    let (count, seed) = count_and_seed(numbers, ON_AN_EDGE)?;
+    match check_spans(count, seed) {
         0 => Ok(()),
         differences => Err(format!("{differences} differences")),
     }
@@ -436,6 +451,7 @@ fn check_text(count: u64, seed: u64) -> u64 {
         + check_release(count / 4, seed)
         + check_edges(count / 10, seed)
         + check_sieve(count / 80, seed)
+        + check_spans(count / 80, seed)
 }
 
 #[cfg(feature = "rust-text")]
@@ -446,6 +462,11 @@ fn check_edges(count: u64, seed: u64) -> u64 {
 #[cfg(feature = "rust-text")]
 fn check_sieve(count: u64, seed: u64) -> u64 {
     sieve::check(count, seed)
+}
+
+#[cfg(feature = "rust-text")]
+fn check_spans(count: u64, seed: u64) -> u64 {
+    spans::check(count, seed)
 }
 
 #[cfg(feature = "rust-text")]
@@ -509,6 +530,12 @@ fn check_edges(_count: u64, _seed: u64) -> u64 {
 
 #[cfg(not(feature = "rust-text"))]
 fn check_sieve(_count: u64, _seed: u64) -> u64 {
+    println!("rust text not compiled in: nothing was compared with it");
+    0
+}
+
+#[cfg(not(feature = "rust-text"))]
+fn check_spans(_count: u64, _seed: u64) -> u64 {
     println!("rust text not compiled in: nothing was compared with it");
     0
 }
