@@ -71,3 +71,28 @@ pub fn misses(
         eps,
     )
 }
+
+// The same for a pair that a sieve has left, if it is a line and an arc, in this order: of the others most meet. It is also a second caller
+// of `misses`: with one, the compiler would put that into the loop of a listing, which then takes a third longer on coils
+// (docs/MEASURES.md).
+pub fn left_misses(
+    v1: PlineVertex,
+    v2: PlineVertex,
+    v: Kept,
+    u1: PlineVertex,
+    u2: PlineVertex,
+    u: Kept,
+    eps: f64,
+) -> bool
+    requires { ⌜ v ≡ workings.keptOf v1 v2 eps ⌝ }
+    requires { ⌜ u ≡ workings.keptOf u1 u2 eps ⌝ }
+    ensures { λ r. ⌜ misses_of.Misses r v1 v2 u1 u2 eps ⌝ }
+{
+    if !v1.bulge_is_zero() {
+        return false;
+    }
+    if u1.bulge_is_zero() {
+        return false;
+    }
+    misses(v1, v2, v, u1, u2, u, eps)
+}

@@ -15,6 +15,7 @@ use super::kept::Kept;
 use super::kept::circle_of;
 use super::line::line_beside;
 use super::lines::lines_apart;
+use super::misses::left_misses;
 use super::misses::misses;
 use arcs::circle::circle_if_arc;
 use arcs::pline_seg_intr::PlineSegIntr;
@@ -90,8 +91,7 @@ fn left_apart(v1: PlineVertex, v2: PlineVertex, v: Kept, u1: PlineVertex, u: Kep
     line_beside(v1.pos(), v2.pos(), v, circle_of(u), eps)
 }
 
-// The same as `pline_seg_kept`, for a pair that a sieve has left: what the sieve has tested is not tested again, and spans are not
-// asked, since most of what is left meets.
+// The same as `pline_seg_kept`, for a pair that a sieve has left: what the sieve has tested is not tested again.
 pub fn pline_seg_left(
     v1: PlineVertex,
     v2: PlineVertex,
@@ -107,6 +107,9 @@ pub fn pline_seg_left(
     ensures { λ r. ⌜ r ≡ PlineSeg.plineSeg v1 v2 u1 u2 «pos_equal_eps» ⌝ }
 {
     if left_apart(v1, v2, v, u1, u, pos_equal_eps) {
+        return PlineSegIntr::NoIntersect;
+    }
+    if left_misses(v1, v2, v, u1, u2, u, pos_equal_eps) {
         return PlineSegIntr::NoIntersect;
     }
     pline_seg_after_checks(v1, v2, circle_of(v), u1, u2, circle_of(u), pos_equal_eps)

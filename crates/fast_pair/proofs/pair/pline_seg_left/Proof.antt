@@ -17,9 +17,11 @@ returns c =
 pline-seg-after-checks-requires : tie.Need-pline-seg-after-checks-requires
 pline-seg-after-checks-requires c κs =
     let k = c .before in
-    let h = k .before .before .before .pre in
+    let h = k .before .before .before .before .before .pre in
     (h .0, (circle-given _ _ _ _ _ (h .1 .0) (k .circle-of .ensures), circle-given _ _ _ _ _ (h .1 .1) (c .circle-of2 .ensures)))
 
 pub pline-seg-left-spec : {M : Type 1} → statement M
 pline-seg-left-spec =
-    tie.close (tie.spec (search needs) returns (search needs) (search needs) pline-seg-after-checks-requires (λ c. search needs))
+    tie.close
+    (tie.spec (search needs) returns (λ c. search needs) (λ c. sym (c .before .left-misses .ensures (c .if2 .taken))) (search needs)
+    (search needs) pline-seg-after-checks-requires (λ c. search needs))
