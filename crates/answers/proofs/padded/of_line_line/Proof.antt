@@ -15,8 +15,5 @@ of_line_line_spec =
     (λ c. search rules) (λ c. search rules) (λ c. search rules) (λ c. search rules) (λ c. search rules) (λ c. search rules)
     (λ c. search rules) (λ c. search rules) (λ c. search rules) (λ c. search rules) (λ c. search rules)
     (λ c. search (as-refused of_line_line)) (λ c. search (as-met of_line_line Met))
-    (λ c.
-    let true-intersect = c.before.before in
-    as-met of_line_line Met _ _ _ _ true-intersect.in-Met.is true-intersect.in-TrueIntersect.is
-    c.case-in-TrueIntersect.ensures)
+    (λ c. as-met of_line_line Met _ _ _ _ c.in-Met.is c.in-TrueIntersect.is c.case-in-TrueIntersect.ensures)
     (λ c. search (as-met of_line_line Met)) (λ c. search (as-met of_line_line Met)))
