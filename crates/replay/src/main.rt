@@ -6,7 +6,7 @@
 use std::io::{Stdin, Stdout};
 
 // What reading one record showed.
-#[derive(Drop)]
+#[derive(Clone, Copy)]
 enum Seen {
     End,
     Right,
@@ -14,7 +14,7 @@ enum Seen {
     Unread,
 }
 
-#[derive(Drop)]
+#[derive(Clone, Copy)]
 struct Tally {
     records: u64,
     differences: u64,

@@ -10,7 +10,7 @@ use std::io::{ErrorKind, Read, Stdin, Stdout, Write};
 const TRIES: u64 = u64::MAX;
 
 // How many bytes were read, and whether a read failed.
-#[derive(Drop)]
+#[derive(Clone, Copy)]
 pub struct Input {
     pub bytes: usize,
     pub failed: bool,
