@@ -36,11 +36,11 @@ at_joint_spec =
     joint.meets-one a.path.now a.job a.i a.j a.met (own e) _ _ c.in-OneIntersect.is c.near_some-in-OneIntersect.ensures)
     (λ c. let e = c.before.before.before in
     let a = (start e).args in
-    joint.meets-two a.path.now a.job a.i a.j a.met-1 (own e) _ _ _ _ c.in-TwoIntersects.is
+    joint.meets-two a.path.now a.job a.i a.j a.met (own e) _ _ _ _ c.in-TwoIntersects.is
     c.near_some-first.ensures c.near_some-second.ensures)
-    (λ c. let e = c.before.before.before in
+    (λ c. let e = c.before in
     let a = (start e).args in
-    joint.meets-lines a.path.now a.job a.i a.j a.met-1 (own e) _ _ c.in-OverlappingLines.is)
-    (λ c. let e = c.before.before.before in
+    joint.meets-lines a.path.now a.job a.i a.j a.met (own e) _ _ c.in-OverlappingLines.is)
+    (λ c. let e = c.before in
     let a = (start e).args in
-    joint.meets-arcs a.path.now a.job a.i a.j a.met-1 (own e) _ _ c.in-OverlappingArcs.is))
+    joint.meets-arcs a.path.now a.job a.i a.j a.met (own e) _ _ c.in-OverlappingArcs.is))
