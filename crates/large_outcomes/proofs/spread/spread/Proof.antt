@@ -16,7 +16,7 @@ spread_spec =
     (λ c. search rules) (λ c. search rules) (λ c. search rules) (λ c. search rules) (λ c. search rules)
     (λ c. search rules) (λ c. search rules) (λ c. search rules) (λ c. search rules)
     (λ c. let a = c.args in
-    names-turn (now a.first) (now a.second) c.loop-k.invariant (search rules) _ _ _
+    names-turn a.first.now a.second.now c.loop-k.invariant (search rules) _ _ _
     c.name_of-i.ensures c.name_of-j.ensures
     c.put_names.ensures)
     (λ c. search rules) (λ c. spreading-ends c.loop-k.invariant (search rules)))
