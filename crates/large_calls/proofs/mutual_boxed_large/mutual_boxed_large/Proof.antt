@@ -53,7 +53,7 @@ spread-listed-requires c κs =
     let l = listed c.before.before in
     let r = roomed l in
     let a = (start r).args in
-    let few = boxed-answered-few _ _ _ a.indices.now a.points-1.now _ r.large_row_room-room.ensures _ a.boxes-1.now
+    let few = boxed-answered-few _ _ _ a.indices.now a.points.now _ r.large_row_room-room.ensures _ a.boxes.now
     _ _ _ _
     l.mutual_boxed-answer.ensures in
     omega (arith, few)
