@@ -4,7 +4,7 @@ use Rattle.std.proofs.Common.{sym, ap, ◌∙◌, subst, arith, eqb-true, length
 use Rattle.dxf_form.specs.Form.{WholeText, Group, OtherCode, ValueText, count-value, flags-value, x-value, y-value}
 use Rattle.dxf_form.specs.Form.{bulge-value, other-value, count_code, flags_code, xCode, yCode, bulge_code}
 use Rattle.dxf_form.specs.Form.{count, flags, x, y, bulge}
-use Rattle.dxf_form.specs.Order.{count_turn, flags_turn, xTurn, yTurn, bulge_turn, turn_at, turn_of, out_of_place}
+use Rattle.dxf_form.specs.Order.{count_turn, flags_turn, x_turn, y_turn, bulge_turn, turn_at, turn_of, out_of_place}
 use Rattle.dxf_form.specs.Refusal
 use Rattle.dxf_form.specs.Workings.Reader.{Got, nothing, got, is_empty, fault, pair, whole_line, value_for}
 use Rattle.dxf_form.specs.Workings.Reader.{by_code, pair_of}
@@ -56,14 +56,14 @@ flags-in Due·.Vertex h = never-so h
 flags-in Due·.Y h = never-so h
 flags-in Due·.Bulge h = never-so h
 
-x-in : (due : Due) → out_of_place (xTurn due) ≡ false → xTurn due ≡ Turn·.X
+x-in : (due : Due) → out_of_place (x_turn due) ≡ false → x_turn due ≡ Turn·.X
 x-in Due·.Count h = never-so h
 x-in Due·.Flags h = never-so h
 x-in Due·.Vertex h = refl
 x-in Due·.Y h = never-so h
 x-in Due·.Bulge h = refl
 
-y-in : (due : Due) → out_of_place (yTurn due) ≡ false → yTurn due ≡ Turn·.Y
+y-in : (due : Due) → out_of_place (y_turn due) ≡ false → y_turn due ≡ Turn·.Y
 y-in Due·.Count h = never-so h
 y-in Due·.Flags h = never-so h
 y-in Due·.Vertex h = never-so h
