@@ -3,7 +3,7 @@ use Rattle.std.specs.Prelude.{ℕ, ◌≡◌, refl, Bool, true, false, cond, Lis
 use Rattle.std.proofs.Common.{ap, ◌∙◌, true≢false, arith}
 use Rattle.dxf_form.specs.Form.{Group, count, flags, x, y, bulge}
 use Rattle.dxf_form.specs.Form.{count_code, flags_code, xCode, yCode, bulge_code}
-use Rattle.dxf_form.specs.Order.{turn_at, turn_of, out_of_place, count_turn, flags_turn, xTurn, yTurn, bulge_turn}
+use Rattle.dxf_form.specs.Order.{turn_at, turn_of, out_of_place, count_turn, flags_turn, x_turn, y_turn, bulge_turn}
 use Rattle.dxf_form.specs.Refusal
 use Rattle.dxf_form.specs.Workings.Reader as reader
 use Rattle.dxf_form.specs.Workings.Reader.{Got, nothing, got, fault, pair, Passed, cut, over, is_empty}
@@ -95,14 +95,14 @@ module _ (negative : Bool) (n : ℕ) where
   right-flags Due·.Y h = absurd (true≢false h)
   right-flags Due·.Bulge h = absurd (true≢false h)
 
-  right-x : (due : Due) → Right due negative n (xTurn due)
+  right-x : (due : Due) → Right due negative n (x_turn due)
   right-x Due·.Count h = absurd (true≢false h)
   right-x Due·.Flags h = absurd (true≢false h)
   right-x Due·.Vertex h = refl
   right-x Due·.Y h = absurd (true≢false h)
   right-x Due·.Bulge h = refl
 
-  right-y : (due : Due) → Right due negative n (yTurn due)
+  right-y : (due : Due) → Right due negative n (y_turn due)
   right-y Due·.Count h = absurd (true≢false h)
   right-y Due·.Flags h = absurd (true≢false h)
   right-y Due·.Vertex h = absurd (true≢false h)
