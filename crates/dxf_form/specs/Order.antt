@@ -1,7 +1,7 @@
 -- The order of the groups, by request 10: 90, then 70, then for each vertex 10, 20 and perhaps 42. All other codes may stand
 -- anywhere.
 use Rattle.std.specs.Prelude.{ℕ, ◌≡◌, Bool, true, false, cond, List, [], ◌∷◌, eqb}
-use Rattle.dxf_form.specs.Form.{Group, count, flags, x, y, bulge, other, count_code, flags_code, xCode, yCode, bulge_code}
+use Rattle.dxf_form.specs.Form.{Group, count, flags, x, y, bulge, other, count_code, flags_code, x_code, y_code, bulge_code}
 use Rattle.dxf_form.specs.declared.order.Due.{Due}
 use Rattle.dxf_form.specs.declared.order.Due.TheVariants as Due·
 use Rattle.dxf_form.specs.declared.order.Turn.{Turn}
@@ -48,8 +48,8 @@ abbrev pub turn_at : Due → ℕ → Turn
 turn_at due code =
     cond (eqb code count_code) (count_turn due)
     (cond (eqb code flags_code) (flags_turn due)
-    (cond (eqb code xCode) (x_turn due)
-    (cond (eqb code yCode) (y_turn due)
+    (cond (eqb code x_code) (x_turn due)
+    (cond (eqb code y_code) (y_turn due)
     (cond (eqb code bulge_code) (bulge_turn due)
     Turn·.Other))))
 

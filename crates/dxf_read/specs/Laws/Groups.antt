@@ -2,7 +2,7 @@
 use Rattle.std.specs.Prelude.{ℕ, ◌≡◌, refl, Bool, true, false, cond, List, eqb, ℤ}
 use Rattle.std.proofs.Common.{ap, ◌∙◌, true≢false, arith}
 use Rattle.dxf_form.specs.Form.{Group, count, flags, x, y, bulge}
-use Rattle.dxf_form.specs.Form.{count_code, flags_code, xCode, yCode, bulge_code}
+use Rattle.dxf_form.specs.Form.{count_code, flags_code, x_code, y_code, bulge_code}
 use Rattle.dxf_form.specs.Order.{turn_at, turn_of, out_of_place, count_turn, flags_turn, x_turn, y_turn, bulge_turn}
 use Rattle.dxf_form.specs.Refusal
 use Rattle.dxf_form.specs.Workings.Reader as reader
@@ -58,8 +58,8 @@ turn-kept due c =
     rw (
       eqb-kept c count_code (omega arith),
       eqb-kept c flags_code (omega arith),
-      eqb-kept c xCode (omega arith),
-      eqb-kept c yCode (omega arith),
+      eqb-kept c x_code (omega arith),
+      eqb-kept c y_code (omega arith),
       eqb-kept c bulge_code (omega arith),
     )
 
@@ -121,6 +121,6 @@ module _ (negative : Bool) (n : ℕ) where
   in-turn due c =
       pick (Right due negative n) (eqb c count_code) (right-count due)
       (pick (Right due negative n) (eqb c flags_code) (right-flags due)
-      (pick (Right due negative n) (eqb c xCode) (right-x due)
-      (pick (Right due negative n) (eqb c yCode) (right-y due)
+      (pick (Right due negative n) (eqb c x_code) (right-x due)
+      (pick (Right due negative n) (eqb c y_code) (right-y due)
       (pick (Right due negative n) (eqb c bulge_code) (right-bulge due) (λ h. refl)))))
