@@ -9,7 +9,7 @@
 pub mod base_math;
 pub mod filled;
 pub mod fuzzy;
-pub mod layouts;
+pub mod layout_calls;
 mod out;
 pub mod pline_seg;
 pub mod pline_vertex;

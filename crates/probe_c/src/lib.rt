@@ -5,7 +5,7 @@
 pub mod base_math;
 pub mod filled;
 pub mod fuzzy;
-pub mod layouts;
+pub mod layout_calls;
 pub mod pline_seg;
 pub mod pline_vertex;
 pub mod segments;

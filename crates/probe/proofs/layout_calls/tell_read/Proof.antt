@@ -1,10 +1,10 @@
--- `probe::layouts::tell_read` meets its contract: each case tells its numbers.
+-- `probe::layout_calls::tell_read` meets its contract: each case tells its numbers.
 use mathlib.Core.Path.{ap}
 use borrow.Author.Rules.{rules}
 use Rattle.probe.specs.Told.{of_unpacking}
 use Rattle.probe.proofs.Tellings.{two-told}
-use Rattle.probe.proofs.layouts.tell_read.Statement.{statement}
-use Rattle.probe.proofs.layouts.tell_read.Tie as tie
+use Rattle.probe.proofs.layout_calls.tell_read.Statement.{statement}
+use Rattle.probe.proofs.layout_calls.tell_read.Tie as tie
 
 pub tell_read_spec : {M : Type 1} → statement M
 tell_read_spec =

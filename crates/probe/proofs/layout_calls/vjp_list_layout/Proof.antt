@@ -1,8 +1,8 @@
--- `probe::layouts::vjp_list_layout` meets its contract: how many bytes `list_layout` has written is answered.
+-- `probe::layout_calls::vjp_list_layout` meets its contract: how many bytes `list_layout` has written is answered.
 use borrow.Author.Rules.{rules}
 use Rattle.probe.proofs.Tellings.{listed-told}
-use Rattle.probe.proofs.layouts.vjp_list_layout.Statement.{statement}
-use Rattle.probe.proofs.layouts.vjp_list_layout.Tie as tie
+use Rattle.probe.proofs.layout_calls.vjp_list_layout.Statement.{statement}
+use Rattle.probe.proofs.layout_calls.vjp_list_layout.Tie as tie
 
 returns : tie.Need-returns
 returns c =

@@ -1,8 +1,8 @@
--- `probe::layouts::vjp_pack_layout` meets its contract: what the move answers is told.
+-- `probe::layout_calls::vjp_pack_layout` meets its contract: what the move answers is told.
 use borrow.Author.Rules.{rules}
 use Rattle.probe.proofs.Tellings.{untold, moved_told}
-use Rattle.probe.proofs.layouts.vjp_pack_layout.Statement.{statement}
-use Rattle.probe.proofs.layouts.vjp_pack_layout.Tie as tie
+use Rattle.probe.proofs.layout_calls.vjp_pack_layout.Statement.{statement}
+use Rattle.probe.proofs.layout_calls.vjp_pack_layout.Tie as tie
 
 returns-2 : tie.Need-returns
 returns-2 c =

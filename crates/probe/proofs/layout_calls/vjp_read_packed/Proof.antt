@@ -1,8 +1,8 @@
--- `probe::layouts::vjp_read_packed` meets its contract: what the reader answers is told.
+-- `probe::layout_calls::vjp_read_packed` meets its contract: what the reader answers is told.
 use borrow.Author.Rules.{rules}
 use Rattle.probe.proofs.Tellings.{unread, read_told}
-use Rattle.probe.proofs.layouts.vjp_read_packed.Statement.{statement}
-use Rattle.probe.proofs.layouts.vjp_read_packed.Tie as tie
+use Rattle.probe.proofs.layout_calls.vjp_read_packed.Statement.{statement}
+use Rattle.probe.proofs.layout_calls.vjp_read_packed.Tie as tie
 
 returns-2 : tie.Need-returns
 returns-2 c =
