@@ -1,4 +1,5 @@
 // The writer: an answer as text lines. specs/Lines.antt has the text, and specs/Written.antt what the writer promises.
+#![tactic(auto)]
 ghost use Rattle.answer_lines.specs.Written.{RefusalLine, RefusalAtLine, AnswerLines};
 
 use put_text::{put_byte, put_whole, put_word};
@@ -16,7 +17,7 @@ pub const INDICES: usize = 3;
 pub const POINTS: usize = 4;
 
 // How many bytes were written; or that the rows' slices hold fewer rows than `rows`; or that the text has too little room.
-#[derive(Drop)]
+#[derive(Clone, Copy)]
 pub enum Written {
     Length(usize),
     NoRows,

@@ -5,7 +5,7 @@ ghost use Rattle.answers.specs.ClassAndPoints as intr;
 use arcs::pline_seg_intr::PlineSegIntr;
 
 // The class's number and its points. A point that the class lacks is +0.
-#[derive(Drop)]
+#[derive(Clone, Copy)]
 pub struct ClassAndPoints {
     pub class: u64,
     pub x1: f64,

@@ -14,7 +14,7 @@ use crossing::line_line_intr::LineLineIntr;
 use crossing::pline_seg_intersect::PlineSegAnswer;
 
 // A refusal and its word, or the number of the case and four values. Values that the case lacks are +0.
-#[derive(Drop)]
+#[derive(Clone, Copy)]
 pub struct PaddedAnswer {
     pub refused: bool,
     pub number: u64,

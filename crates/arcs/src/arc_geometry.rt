@@ -12,7 +12,7 @@ use plane::vector2::Vector2;
 
 // A sweep, and the bounds radius - epsilon and radius + epsilon. Both are squared, so that no root is needed. The lower one is
 // also there as it is: if it is below zero, it bounds nothing.
-#[derive(Drop)]
+#[derive(Clone, Copy)]
 pub struct ArcGeometry {
     pub sweep: ArcSweep,
     pub radius_lower_bound: f64,

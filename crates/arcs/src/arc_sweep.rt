@@ -7,7 +7,7 @@ use plane::vector2::Vector2;
 
 // A wedge around a centre, from one direction to another, clockwise if `is_clockwise` says so. The limits say how far beside its
 // two edges a point may lie. They are squared, so that no root is needed.
-#[derive(Drop)]
+#[derive(Clone, Copy)]
 pub struct ArcSweep {
     pub center: Vector2,
     pub start_vector: Vector2,

@@ -13,14 +13,14 @@ use plane::vector2::Vector2;
 use ranges::range::on_segment;
 
 // A point of the line that lies on the segment and in the arc's sweep, or none.
-#[derive(Drop)]
+#[derive(Clone, Copy)]
 pub enum PointInSweep {
     Nothing,
     At(Vector2),
 }
 
 // Two points, the first first.
-#[derive(Drop)]
+#[derive(Clone, Copy)]
 pub struct TwoPoints {
     pub point1: Vector2,
     pub point2: Vector2,

@@ -11,7 +11,7 @@ use plane::pline_vertex::PlineVertex;
 use plane::vector2::Vector2;
 
 // Where an arc starts and ends.
-#[derive(Drop)]
+#[derive(Clone, Copy)]
 pub struct ArcEnds {
     pub start: Vector2,
     pub end: Vector2,

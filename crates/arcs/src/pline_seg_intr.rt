@@ -2,7 +2,7 @@
 use plane::vector2::Vector2;
 
 // How two segments meet. Two points stand in the order of the second segment, except for two arcs on two circles.
-#[derive(Drop)]
+#[derive(Clone, Copy)]
 pub enum PlineSegIntr {
     // Apart.
     NoIntersect,

@@ -3,7 +3,7 @@ ghost use Rattle.std.specs.Prelude.{◌≡◌};
 ghost use Rattle.arcs.specs.ArcSweep as sweep;
 
 // Where a point lies for a sweep: outside, or inside by the first rule that says yes.
-#[derive(Drop)]
+#[derive(Clone, Copy)]
 pub enum SweepFinding {
     // No rule says yes.
     Outside,

@@ -10,7 +10,7 @@ use plane::base_math::dist_squared;
 use plane::vector2::Vector2;
 
 // Room for one end point: empty, or taken by a point.
-#[derive(Drop)]
+#[derive(Clone, Copy)]
 pub enum Slot {
     Empty,
     Taken(Vector2),

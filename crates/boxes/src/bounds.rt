@@ -7,7 +7,7 @@ use floats::{max, min};
 use plane::pline_vertex::PlineVertex;
 
 // A box: the least and the greatest x and y.
-#[derive(Drop)]
+#[derive(Clone, Copy)]
 pub struct Box {
     pub least_x: f64,
     pub least_y: f64,

@@ -5,6 +5,7 @@
 // `boxed` the boxed listings, which promise `HandedBoxed`; `counted` has the counted listing and the join, which promise
 // `HandedCounted` and `HandedJoin`; `pair_findings` has the pair call with findings, which promises `HandedFindings`; `dxf` has
 // the import and the export of a drawing's path, which promise `HandedImport` and `HandedExport`.
+#![tactic(auto)]
 ghost use Rattle.std.specs.Prelude.{◌≡◌};
 ghost use Rattle.floats.specs.F64;
 ghost use Rattle.floats.specs.Bits;

@@ -3,6 +3,7 @@
 // has the pair call, which promises `HandedLarge`. The others promise what their twins in `capi` do: `listing` has the listings,
 // `page` their pages, `boxed` the boxed listings, `counted` the counted listing, and `dxf` the import and the export of a
 // drawing's path.
+#![tactic(auto)]
 pub mod boxed;
 pub mod counted;
 pub mod dxf;

@@ -2,7 +2,7 @@
 -- refusal 5 never depends on a NaN, and a chord that passes is at least 2^-40. Chords.antt of `paths` says the same for a path.
 use Rattle.std.specs.Prelude.{◌≡◌, refl, ◌↔◌, true, false, ◌||◌, List, [], ◌∷◌, ◌++◌, ℕ, ◌+◌, ◌*◌, ◌^◌, ◌≤◌, T, Float}
 use Rattle.std.proofs.Common.{sym, subst, le_trans, le_of_eq, zero-lt-suc, arith, lit≤, pow-add, pow_pos}
-use Rattle.std.proofs.Math.Logic.{Iff·rfl}
+use Rattle.std.proofs.Math.Logic.Iff
 use Rattle.std.specs.Float.{binary64}
 use Rattle.std.specs.Float.Ieee.{low, of_bits, is_nan}
 use Rattle.std.specs.Float.Ieee.Bits.{is_true}
@@ -83,7 +83,7 @@ of-points a b p q =
     (subst (λ (c : Float). Unsigned binary64 (22 + low binary64) c) (sym (sqrt-is _)) w)
 
 split : (cs ds : List Checked) → first (cs ++ ds) ≡ Fine → (first cs ≡ Fine) × (first ds ≡ Fine)
-split cs ds e = (append-fine cs ds Iff·rfl Iff·rfl).0 e
+split cs ds e = (append-fine cs ds Iff.rfl Iff.rfl).0 e
 
 -- ---- one segment
 

@@ -2,7 +2,7 @@
 -- refusal; the first that says yes decides. Checks made by `refuse` and `later` do so.
 use Rattle.std.specs.Prelude.{◌≡◌, refl, ◌↔◌, ◌⊎◌, ℕ}
 use Rattle.std.proofs.Common.{sym, ap, ◌∙◌, inl, inr, true≢false}
-use Rattle.std.proofs.Math.Logic.{Iff·trans}
+use Rattle.std.proofs.Math.Logic.Iff
 use Rattle.std.proofs.Math.Bool.{Bool, true, false}
 use mathlib.Core.List.{List, [], ◌∷◌}
 use Rattle.checks.specs.declared.fault.Place.{Place}
@@ -109,7 +109,7 @@ module _ (p : Place) where
 pub gives : (c : Checked) (p : Place) (tests : List Test) → c ≡ tested p tests → Gives c p tests
 gives c p tests e =
     record {
-      refused = λ n. Iff·trans (λ h. sym e ∙ h, λ h. e ∙ h) (refused-when p n tests);
-      fine = Iff·trans (λ h. sym e ∙ h, λ h. e ∙ h) (fine-when p tests);
+      refused = λ n. Iff.trans (λ h. sym e ∙ h, λ h. e ∙ h) (refused-when p n tests);
+      fine = Iff.trans (λ h. sym e ∙ h, λ h. e ∙ h) (fine-when p tests);
       there = λ f h. there-when p tests f (sym e ∙ h);
     }

@@ -2,7 +2,7 @@
 -- pass the check of a trace. It refuses a NaN with 11, an infinity with 12, and every other number with 15.
 use Rattle.std.specs.Prelude.{◌≡◌, refl, ◌↔◌, ◌⊎◌, false, List, ◌∷◌, ℕ, ◌≤◌, T, pos, Float}
 use Rattle.std.proofs.Common.{sym, subst, inl, inr, arith}
-use Rattle.std.proofs.Math.Logic.{Iff·trans}
+use Rattle.std.proofs.Math.Logic.Iff
 use Rattle.std.specs.Float.{binary64}
 use Rattle.std.specs.Float.Ieee.{of_int, of_bits, fits, is_nan, lt}
 use Rattle.checks.specs.declared.fault.Place.{Place}
@@ -22,7 +22,7 @@ IsTrace x = ((n : ℕ) × (n ≤ 255) × (x ≡ of_int binary64 (pos n))) ⊎ (x
 -- ---- exactly when, for every value x of an f64
 module _ (x : Float) (t : T (fits binary64 x)) where
   pub is-trace : (no_trace x ≡ false) ↔ IsTrace x
-  is-trace = Iff·trans (by_value x) (
+  is-trace = Iff.trans (by_value x) (
     to-float x t,
     λ h. elim h [
       | inl n ↦ subst WholeTo255 (sym n.2) (of-float n.0 n.1)
@@ -32,14 +32,14 @@ module _ (x : Float) (t : T (fits binary64 x)) where
 
   -- the check finds it fine
   pub passes-when : (p : Place) → (Each.trace x p ≡ Fine) ↔ IsTrace x
-  passes-when p = Iff·trans (trace-fine x p) is-trace
+  passes-when p = Iff.trans (trace-fine x p) is-trace
 
   -- the check refuses it with 15: it is finite and no trace
   pub refused-when : (p : Place)
       → (Each.trace x p ≡ bad 15 p) ↔ ((is_nan x ≡ false) × (is_infinite x ≡ false) × (IsTrace x → ⊥))
   unfolding no_trace
   refused-when p =
-      Iff·trans ((RefusalTable.trace x p).refused 15)
+      Iff.trans ((RefusalTable.trace x p).refused 15)
       (third-yes (is_nan x) (is_infinite x) (no_trace x) 11 12 15 (λ e. omega arith) (λ e. omega arith)
       (yes-unless (no_trace x) is-trace))
 

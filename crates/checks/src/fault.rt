@@ -6,7 +6,7 @@ ghost use Rattle.checks.specs.Fault as fault;
 // `Position` and `Budget` are a page's, `Boxes` is a boxed listing's index, `Trace` is a path's vertex's, and `Report` is a
 // counted listing's. `Line` is a line of a drawing's text, by its number from 1 on, and `Room` is the lent slice that an import
 // or an export writes to. `CutX` and `CutY` are the coordinates of the point at which a large arc is cut.
-#[derive(Drop)]
+#[derive(Clone, Copy)]
 pub enum Item {
     Epsilon,
     X,
@@ -30,7 +30,7 @@ pub enum Item {
 }
 
 // Where a number stands in a call.
-#[derive(Drop)]
+#[derive(Clone, Copy)]
 pub struct Place {
     // which thing of the call: a kernel's point or circle in the order of the arguments, a pair's segment (0 v, 1 u), a listing's
     // path (0, 1)
@@ -41,14 +41,14 @@ pub struct Place {
 }
 
 // A number that is refused: the scope's number of the refusal, and where the number stands.
-#[derive(Drop)]
+#[derive(Clone, Copy)]
 pub struct Fault {
     pub number: u64,
     pub place: Place,
 }
 
 // What a check answers.
-#[derive(Drop)]
+#[derive(Clone, Copy)]
 pub enum Checked {
     Fine,
     Bad(Fault),

@@ -1,7 +1,7 @@
 use plane::vector2::Vector2;
 
 // How two circles meet.
-#[derive(Drop)]
+#[derive(Clone, Copy)]
 pub enum CircleCircleIntr {
     // Outside each other, or one inside the other.
     NoIntersect,

@@ -17,7 +17,7 @@ const LOWER: f64 = 15.0 / 16.0;
 const INSIDE: f64 = 127.0 / 128.0;
 
 // The straight line a * x + b * y + c = 0.
-#[derive(Drop)]
+#[derive(Clone, Copy)]
 pub struct Line {
     pub a: f64,
     pub b: f64,

@@ -1,5 +1,5 @@
 // How a line and a circle meet. A parameter t gives the point p0 + t * (p1 - p0); below 0 or above 1 it lies beyond an end.
-#[derive(Drop)]
+#[derive(Clone, Copy)]
 pub enum LineCircleIntr {
     // Apart.
     NoIntersect,

@@ -9,7 +9,7 @@ use plane::vector2::Vector2;
 use ranges::range::on_segment;
 
 // Two parameters on a segment's straight line: the first and the last of a stretch.
-#[derive(Drop)]
+#[derive(Clone, Copy)]
 pub struct Span {
     pub t0: f64,
     pub t1: f64,

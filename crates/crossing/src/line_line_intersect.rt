@@ -9,7 +9,7 @@ use checks::fault::{Checked, Fault};
 use plane::vector2::Vector2;
 
 // What the call answers: how they meet, or the first fault.
-#[derive(Drop)]
+#[derive(Clone, Copy)]
 pub enum LineLineAnswer {
     Refused(Fault),
     Met(LineLineIntr),

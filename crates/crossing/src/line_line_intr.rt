@@ -1,5 +1,5 @@
 // How two line segments meet. A parameter t gives the point p0 + t * (p1 - p0) of its segment.
-#[derive(Drop)]
+#[derive(Clone, Copy)]
 pub enum LineLineIntr {
     // Parallel and apart, on one straight line or not. A segment that is a point counts as parallel.
     NoIntersect,

@@ -14,7 +14,7 @@ use plane::pline_seg::ArcRadiusCenter;
 use plane::pline_vertex::PlineVertex;
 
 // The kind of a pair, and what the kernel of a line and a circle, or of two circles, found.
-#[derive(Drop)]
+#[derive(Clone, Copy)]
 pub enum PairKernel {
     // Two lines. Their kernel is not asked here.
     TwoLines,

@@ -13,7 +13,7 @@ use plane::pline_seg::ArcRadiusCenter;
 use plane::pline_vertex::PlineVertex;
 
 // What the call answers: how they meet, or the first fault.
-#[derive(Drop)]
+#[derive(Clone, Copy)]
 pub enum PlineSegAnswer {
     Refused(Fault),
     Met(PlineSegIntr),

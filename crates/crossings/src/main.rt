@@ -1,5 +1,6 @@
 // Lists where the two paths of a layout meet: it reads the text line "packed" and then a packed file from standard input, and
 // writes the listing's text to standard output. If a read or a write fails, it says so in one text line on standard error.
+#![tactic(auto)]
 use answer_lines::Written;
 
 fn main() {

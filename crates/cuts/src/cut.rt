@@ -6,7 +6,7 @@ use plane::pline_vertex::PlineVertex;
 use plane::vector2::Vector2;
 
 // The starts of the two halves of an arc. The first half ends where the second one starts, and the second one where the arc ends.
-#[derive(Drop)]
+#[derive(Clone, Copy)]
 pub struct Halves {
     pub first: PlineVertex,
     pub second: PlineVertex,

@@ -3,7 +3,7 @@ ghost use Rattle.std.specs.Prelude.{◌≡◌};
 ghost use Rattle.dxf_form.specs.Order as order;
 
 // What is due: the count; the flags; a vertex or the end; a vertex's y; its bulge, the next vertex or the end.
-#[derive(Drop)]
+#[derive(Clone, Copy)]
 pub enum Due {
     Count,
     Flags,
@@ -13,7 +13,7 @@ pub enum Due {
 }
 
 // What a code is for: one of the groups that count, one to be skipped, or out of place.
-#[derive(Drop)]
+#[derive(Clone, Copy)]
 pub enum Turn {
     Count,
     Flags,

@@ -3,7 +3,7 @@
 -- of dxf_write. A refusal writes nothing, and what follows stays.
 use Rattle.std.specs.Prelude.{ℕ, ◌<◌, ◌≡◌, refl, ◌↔◌, Bool, true, false, List, ◌++◌, T, length, drop, Float}
 use Rattle.std.proofs.Common.{sym, ap, ◌∙◌, true≢false}
-use Rattle.std.proofs.Math.Logic.{Iff·trans}
+use Rattle.std.proofs.Math.Logic.Iff
 use Rattle.std.proofs.lemmas.List.Edits.{sets}
 use Rattle.std.specs.Float.{binary64}
 use Rattle.std.specs.Float.Ieee.{fits, of_bits, of_fields, le, lt, eq}
@@ -67,7 +67,7 @@ module _ (text : List ℕ) (old : List Float) (n f : ℕ) (vs : List Corner) (s 
   -- the first fault is told
   pub import-refused-when : (fault : Fault) → ((import_large text old).answer ≡ Imported·.Refused fault)
       ↔ FirstFault fault import_checks
-  import-refused-when fault = rw by_first (Iff·trans (by (first import_checks)) (first-bad import_checks fault))
+  import-refused-when fault = rw by_first (Iff.trans (by (first import_checks)) (first-bad import_checks fault))
     where
       fault-of : Imported → Fault
       fault-of (Imported·.Path k closed) = fault
@@ -131,26 +131,26 @@ module _ (path : List Float) (closed : Bool) (old : List ℕ) where
     -- a number below 20 is that of one of the path's own checks
     pub own-when : (f : Fault) → f.number < 20
         → ((export_large path closed old).answer ≡ Exported·.Refused f) ↔ FirstFault f (large_checks_of path closed)
-    own-when f few = Iff·trans (refused-when f) (when.own-after own path closed old (judged path closed) f64 f few)
+    own-when f few = Iff.trans (refused-when f) (when.own-after own path closed old (judged path closed) f64 f few)
 
     -- 23 at a number of vertex i: all before is fine, and no number text has that number's value
     pub no-text-when : (i : ℕ) (item : Item)
         → ((export_large path closed old).answer ≡ Exported·.Refused (record { number = Refusal.no_text; place = at 0 i item }))
         ↔ NoText (large_checks_of path closed) path i item
     no-text-when i item =
-        Iff·trans (refused-when _) (when.no-text-after own path closed old (judged path closed) f64 i item)
+        Iff.trans (refused-when _) (when.no-text-after own path closed old (judged path closed) f64 i item)
 
     -- 24: all before is fine, and the text does not fit
     pub no-room-when : ((export_large path closed old).answer ≡ Exported·.Refused (whole Refusal.room Room))
         ↔ NoRoom (large_checks_of path closed) path closed old
-    no-room-when = Iff·trans (refused-when _) (when.no-room-after own path closed old (judged path closed) f64)
+    no-room-when = Iff.trans (refused-when _) (when.no-room-after own path closed old (judged path closed) f64)
 
     -- its bytes are answered exactly if nothing is at fault
     pub exported-when : ((export_large path closed old).answer ≡ Exported·.Bytes (length (bytes_of path closed)))
         ↔ Exportable (large_checks_of path closed) path closed old
     unfolding export_large
     exported-when =
-        Iff·trans (when.bytes_after own path closed old) (when.fine-after own path closed old (judged path closed) f64)
+        Iff.trans (when.bytes_after own path closed old) (when.fine-after own path closed old (judged path closed) f64)
 
   module _ {r : Exported} {now : List ℕ} (x : Exports (export_large path closed old) r now) where
     -- a refusal writes nothing

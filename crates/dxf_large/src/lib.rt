@@ -1,6 +1,7 @@
 // Imports and exports drawings in the mode of large arcs: as dxf_read and dxf_write do, but a bulge may be up to 16 in magnitude,
 // and the path has the checks of crate cuts. A path is read and written as it stands: nothing is cut. specs/Large.antt has what
 // the two functions promise.
+#![tactic(auto)]
 ghost use Rattle.std.specs.Prelude.{◌≤◌, length};
 ghost use Rattle.cuts.specs.LargeChecks as checks_of;
 ghost use Rattle.dxf_read.specs.Import as import_of;

@@ -14,7 +14,7 @@ pub const TOP: u64 = 1844674407370955160;
 pub const HIGH: u64 = 18446744073709551614;
 
 // Digits: the number, how many they are, and the place after them.
-#[derive(Drop)]
+#[derive(Clone, Copy)]
 pub struct Run {
     pub number: u64,
     pub many: usize,

@@ -1,4 +1,5 @@
 // Imports the body of an LWPOLYLINE entity. Crate dxf_form has the form of a text; specs/Import.antt has what an import promises.
+#![tactic(auto)]
 ghost use Rattle.std.specs.Prelude.{◌≤◌, length};
 ghost use Rattle.dxf_read.specs.Import as import_of;
 ghost use Rattle.dxf_read.specs.Workings.Scanning as scanning;
@@ -19,7 +20,7 @@ mod state;
 mod store;
 
 // The number of vertices and whether the path is closed; or a refusal and its place.
-#[derive(Drop)]
+#[derive(Clone, Copy)]
 pub enum Imported {
     Path(usize, bool),
     Refused(Fault),

@@ -18,21 +18,21 @@ const MINUS: u64 = 45;
 const POINT: u64 = 46;
 
 // A whole number and the place after its line. Or there is none.
-#[derive(Drop)]
+#[derive(Clone, Copy)]
 pub enum Whole {
     Nothing,
     Got(u64, usize),
 }
 
 // A number: whether it is negative, its millionths, and the place after its line. Or there is none.
-#[derive(Drop)]
+#[derive(Clone, Copy)]
 pub enum Number {
     Nothing,
     Got(bool, u64, usize),
 }
 
 // The place after a line. Or the line does not end.
-#[derive(Drop)]
+#[derive(Clone, Copy)]
 pub enum Place {
     Cut,
     Over(usize),

@@ -10,7 +10,7 @@ use dxf_form::refusal;
 
 // A group: what its code is for, the sign and the magnitude of its value, and the place after it. Or a refusal's number and which
 // of the two lines is at fault.
-#[derive(Drop)]
+#[derive(Clone, Copy)]
 pub enum Pair {
     Fault(u64, u64),
     Got(Turn, bool, u64, usize),

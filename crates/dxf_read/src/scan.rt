@@ -10,7 +10,7 @@ use dxf_form::refusal;
 
 // A refusal's number and the line at fault. Or the number of vertices, the value of 90 and its line, and whether the path is
 // closed.
-#[derive(Drop)]
+#[derive(Clone, Copy)]
 pub enum Found {
     Fault(u64, u64),
     Body(usize, u64, u64, bool),

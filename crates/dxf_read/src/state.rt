@@ -5,7 +5,7 @@ ghost use Rattle.dxf_read.specs.Workings.Scanning.{stepped};
 use dxf_form::order::Turn;
 
 // How many vertices there are; the value of 90 and its line; whether the value of 70 is odd.
-#[derive(Drop)]
+#[derive(Clone, Copy)]
 pub struct State {
     pub vertices: usize,
     pub count: u64,

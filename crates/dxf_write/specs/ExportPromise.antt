@@ -3,7 +3,7 @@
 -- nothing; what is written stands at the front, and what follows stays. Every number of the path is an f64: the kit's `fits`.
 use Rattle.std.specs.Prelude.{◌≡◌, ℕ, ◌<◌, Bool, T, ◌↔◌, List, ◌++◌, length, drop, Float}
 use Rattle.std.proofs.Common.{sym, ◌∙◌}
-use Rattle.std.proofs.Math.Logic.{Iff·trans}
+use Rattle.std.proofs.Math.Logic.Iff
 use Rattle.std.specs.Float.{binary64}
 use Rattle.std.specs.Float.Ieee.{fits, of_bits, of_fields, le, lt, eq}
 use Rattle.float_laws.specs.Chains.{le_trans}
@@ -67,27 +67,27 @@ module _ (path : List Float) (closed : Bool) (old : List ℕ) where
     pub own-when : (f : Fault) → f.number < 20
         → ((export_dxf path closed old).answer ≡ Exported·.Refused f) ↔ FirstFault f (checks_of path closed)
     own-when f few =
-        Iff·trans (refused-when f) (when.own-after (checks_of path closed) path closed old (judged path closed) f64 f few)
+        Iff.trans (refused-when f) (when.own-after (checks_of path closed) path closed old (judged path closed) f64 f few)
 
     -- 23 at a number of vertex i: all before is fine, and no number text has that number's value
     pub no-text-when : (i : ℕ) (item : Item)
         → ((export_dxf path closed old).answer ≡ Exported·.Refused (record { number = Refusal.no_text; place = at 0 i item }))
         ↔ NoText (checks_of path closed) path i item
     no-text-when i item =
-        Iff·trans (refused-when _) (when.no-text-after (checks_of path closed) path closed old (judged path closed) f64 i item)
+        Iff.trans (refused-when _) (when.no-text-after (checks_of path closed) path closed old (judged path closed) f64 i item)
 
     -- 24: all before is fine, and the text does not fit
     pub no-room-when : ((export_dxf path closed old).answer ≡ Exported·.Refused (whole Refusal.room Room))
         ↔ NoRoom (checks_of path closed) path closed old
     no-room-when =
-        Iff·trans (refused-when _) (when.no-room-after (checks_of path closed) path closed old (judged path closed) f64)
+        Iff.trans (refused-when _) (when.no-room-after (checks_of path closed) path closed old (judged path closed) f64)
 
     -- its bytes are answered exactly if nothing is at fault
     pub exported-when : ((export_dxf path closed old).answer ≡ Exported·.Bytes (length (bytes_of path closed)))
         ↔ Exportable (checks_of path closed) path closed old
     unfolding export_dxf
     exported-when =
-        Iff·trans (when.bytes_after (checks_of path closed) path closed old)
+        Iff.trans (when.bytes_after (checks_of path closed) path closed old)
         (when.fine-after (checks_of path closed) path closed old (judged path closed) f64)
 
   -- ---- what the text holds

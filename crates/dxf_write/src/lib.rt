@@ -1,4 +1,5 @@
 // Exports a path as the body of an LWPOLYLINE entity. specs/Written.antt has the text, specs/Export.antt what an export promises.
+#![tactic(auto)]
 ghost use Rattle.std.specs.Prelude.{◌≡◌, ◌≤◌, []};
 ghost use Rattle.paths.specs.Path.{vertex_count, most_vertices};
 ghost use Rattle.dxf_write.specs.Written;
@@ -20,7 +21,7 @@ mod sizes;
 mod vertices;
 
 // How many bytes were written; or a refusal and its place.
-#[derive(Drop)]
+#[derive(Clone, Copy)]
 pub enum Exported {
     Bytes(usize),
     Refused(Fault),

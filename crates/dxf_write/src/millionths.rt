@@ -11,7 +11,7 @@ use floats::abs;
 const TOP: f64 = 18446744073709551616.0;
 
 // That no text has the value; or the sign and the millionths of the one that has.
-#[derive(Drop)]
+#[derive(Clone, Copy)]
 pub enum Number {
     NoText,
     Text(bool, u64),

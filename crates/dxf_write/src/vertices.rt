@@ -13,14 +13,14 @@ use dxf_form::refusal::NO_TEXT;
 use paths::path;
 
 // The signs and the millionths of a vertex's x, y and bulge; or the refusal of the first that has no text.
-#[derive(Drop)]
+#[derive(Clone, Copy)]
 pub enum Vertex {
     Refused(Fault),
     Numbers(bool, u64, bool, u64, bool, u64),
 }
 
 // How many bytes the vertices have; or the first refusal.
-#[derive(Drop)]
+#[derive(Clone, Copy)]
 pub enum Measured {
     Refused(Fault),
     Bytes(usize),

@@ -12,7 +12,7 @@ use plane::vector2::Vector2;
 // straight line a * x + b * y + c = 0: a, which is its slope, or 1 if it is vertical; then a number that is not below the root of
 // a * a + b * b, or 2^101 if there is no sound guess or the segment is a point; and 0 twice. The bulge of the segment says which
 // of the two it is.
-#[derive(Drop)]
+#[derive(Clone, Copy)]
 pub struct Kept {
     pub radius_or_slope: f64,
     pub center_x_or_root: f64,

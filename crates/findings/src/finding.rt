@@ -6,7 +6,7 @@ use arcs::sweep_finding::SweepFinding;
 use plane::vector2::Vector2;
 
 // What the test of the sweep found, or why there is nothing to tell.
-#[derive(Drop)]
+#[derive(Clone, Copy)]
 pub enum Finding {
     // No rule of the sweep said yes.
     Outside,
@@ -25,7 +25,7 @@ pub enum Finding {
 }
 
 // What is told of the first and of the second computed point, for each segment.
-#[derive(Drop)]
+#[derive(Clone, Copy)]
 pub struct Findings {
     pub first_v: Finding,
     pub first_u: Finding,
@@ -34,21 +34,21 @@ pub struct Findings {
 }
 
 // A computed point of a line and an arc, and what is told of it for the arc.
-#[derive(Drop)]
+#[derive(Clone, Copy)]
 pub struct Tested {
     pub point: Vector2,
     pub finding: Finding,
 }
 
 // The two computed points of a line and an arc.
-#[derive(Drop)]
+#[derive(Clone, Copy)]
 pub struct TwoTested {
     pub first: Tested,
     pub second: Tested,
 }
 
 // A computed point of two segments, and what is told of it for each.
-#[derive(Drop)]
+#[derive(Clone, Copy)]
 pub struct Computed {
     pub point: Vector2,
     pub v: Finding,
@@ -56,7 +56,7 @@ pub struct Computed {
 }
 
 // The two computed points of two arcs.
-#[derive(Drop)]
+#[derive(Clone, Copy)]
 pub struct TwoComputed {
     pub first: Computed,
     pub second: Computed,

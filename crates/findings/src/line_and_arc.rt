@@ -18,7 +18,7 @@ use plane::vector2::Vector2;
 use ranges::range::on_segment;
 
 // How a line and an arc meet, and what is told of the first and of the second computed point, for the arc.
-#[derive(Drop)]
+#[derive(Clone, Copy)]
 pub struct LineArcReport {
     pub answer: PlineSegIntr,
     pub first: Finding,
@@ -71,7 +71,7 @@ fn unless_end(tested: Tested, p0: Vector2, p1: Vector2, arc_geometry: ArcGeometr
 }
 
 // Two computed points that count, what is told of each, and the points that stand in the answer in their places.
-#[derive(Drop)]
+#[derive(Clone, Copy)]
 pub struct Sticky {
     pub entries: TwoTested,
     pub points: TwoPoints,

@@ -4,14 +4,14 @@ use arcs::pline_seg_intr::PlineSegIntr;
 use checks::fault::Fault;
 
 // How two segments meet, and what is told of their computed points.
-#[derive(Drop)]
+#[derive(Clone, Copy)]
 pub struct Reported {
     pub answer: PlineSegIntr,
     pub findings: Findings,
 }
 
 // Both, or the first fault.
-#[derive(Drop)]
+#[derive(Clone, Copy)]
 pub enum FindingsAnswer {
     Refused(Fault),
     Met(Reported),

@@ -6,7 +6,7 @@ ghost use Rattle.floats.specs.Workings.Root;
 ghost use Rattle.floats.specs.Laws.Turns.{Room, Going};
 
 // A number above zero in parts: it is m * 2 ^ (e - 2098), and m has 53 digits.
-#[derive(Drop)]
+#[derive(Clone, Copy)]
 pub struct Scaled {
     pub m: u64,
     pub e: u64,
@@ -14,7 +14,7 @@ pub struct Scaled {
 
 // A root under way. `unit` is what the next digit stands for, and what is left of the number is `rest` such units. `step` is how
 // many of them the next digit takes: with r for the digits so far, (r + unit)^2 is r^2 and 2 * r + unit units more.
-#[derive(Drop)]
+#[derive(Clone, Copy)]
 pub struct Turning {
     pub rest: u64,
     pub step: u64,

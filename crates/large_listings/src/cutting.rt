@@ -17,7 +17,7 @@ pub const KEPT_BOXED: usize = KEPT
     + index::FLOATS * (path::SEGMENTS + tracks::GROUPS + tracks::GROUPS / index::GROUP);
 
 // How many floats the cut path has, and how many segments.
-#[derive(Drop)]
+#[derive(Clone, Copy)]
 pub struct Sizes {
     pub floats: usize,
     pub segments: usize,

@@ -17,7 +17,7 @@ use plane::pline_seg::ArcRadiusCenter;
 use plane::pline_vertex::PlineVertex;
 
 // A part of a segment: which half it is (0 the whole, 1, 2), its ends, and its circle if it is an arc, for all its pairs.
-#[derive(Drop)]
+#[derive(Clone, Copy)]
 pub struct Piece {
     pub half: u64,
     pub start: PlineVertex,

@@ -1,5 +1,6 @@
 // Moves a layout between its two forms: from its text to its packed form, and back. specs/Moves.antt has what the two functions
 // promise. They look at the form only: a layout whose listing would be refused is moved too.
+#![tactic(auto)]
 ghost use Rattle.layout_moves.specs.Moves.{PackLayout, UnpackLayout};
 
 use layout_packed::limits::LONGEST as PACKED_ROOM;
@@ -13,7 +14,7 @@ mod vertices;
 
 // How many bytes were written; or a refusal's number; or a refusal's number and the offset of the fault; or that there is too
 // little room for the longest layout.
-#[derive(Drop)]
+#[derive(Clone, Copy)]
 pub enum Moved {
     Length(usize),
     Refused(u64),

@@ -1,5 +1,6 @@
 // Layouts in the packed form: the reader, and the writer of packed numbers. specs/Packed.antt has the form, and specs/Read.antt
 // what the reader promises.
+#![tactic(auto)]
 ghost use Rattle.layout_packed.specs.Read.{ReadPacked};
 
 use layouts::limits::ROOM;
@@ -17,7 +18,7 @@ pub const PACKED: u64 = 18;
 
 // How many vertices each path has; or a refusal's number and the offset of the fault; or that a buffer is too small for a path
 // with the most vertices.
-#[derive(Drop)]
+#[derive(Clone, Copy)]
 pub enum Unpacking {
     Counts(usize, usize),
     Refused(u64, usize),

@@ -6,7 +6,7 @@ ghost use Rattle.layout_packed.specs.Workings.Reader.{number_from, more_from};
 ghost use Rattle.layout_packed.specs.Workings.Shown.{shown_number};
 
 // A number and the place after it. Or there is none within its range in the shortest form: a fault at the place where it starts.
-#[derive(Drop)]
+#[derive(Clone, Copy)]
 pub enum Number {
     Fault,
     Whole(u64, usize),

@@ -7,7 +7,7 @@ use super::vertex::Place;
 use layouts::limits;
 
 // The two counts and where each path's vertices start. Or the place of the fault.
-#[derive(Drop)]
+#[derive(Clone, Copy)]
 pub enum Shape {
     Fault(usize),
     Fits(u64, u64, usize, usize),

@@ -11,14 +11,14 @@ use layouts::value;
 
 // A vertex: for x, y and the bulge whether it is negative and its magnitude, then the place after it. Or the place of the number
 // at fault.
-#[derive(Drop)]
+#[derive(Clone, Copy)]
 pub enum Corner {
     Fault(usize),
     At(bool, u64, bool, u64, bool, u64, usize),
 }
 
 // A place in the file. Or the place of the number at fault before it.
-#[derive(Drop)]
+#[derive(Clone, Copy)]
 pub enum Place {
     Fault(usize),
     At(usize),

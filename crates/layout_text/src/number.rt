@@ -7,7 +7,7 @@ ghost use Rattle.layout_text.specs.Workings.Shown.{shown_number};
 use super::bytes;
 
 // A whole number: whether it is negative, its magnitude, and the place after it. Or there is none.
-#[derive(Drop)]
+#[derive(Clone, Copy)]
 pub enum Number {
     Broken,
     Whole(bool, u64, usize),

@@ -7,7 +7,7 @@ use super::{BYTES, bytes, number, vertex};
 use layouts::limits;
 
 // The two counts and where each path's vertices start. Or the text breaks its form.
-#[derive(Drop)]
+#[derive(Clone, Copy)]
 pub enum Shape {
     Broken,
     Fits(u64, u64, usize, usize),

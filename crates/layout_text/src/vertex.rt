@@ -8,14 +8,14 @@ use super::{bytes, number};
 use layouts::limits;
 
 // A vertex: the sign (whether it is negative) and the magnitude of x, y and the bulge, and the place after it. Or there is none.
-#[derive(Drop)]
+#[derive(Clone, Copy)]
 pub enum Corner {
     Broken,
     At(bool, u64, bool, u64, bool, u64, usize),
 }
 
 // A place in the text. Or the text breaks its form before it.
-#[derive(Drop)]
+#[derive(Clone, Copy)]
 pub enum Place {
     Broken,
     At(usize),

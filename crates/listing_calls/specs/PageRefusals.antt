@@ -2,7 +2,7 @@
 -- last, has that number. It is answered if and only if every check passes. A refusal leaves both slices unchanged.
 use Rattle.std.specs.Prelude.{◌≡◌, refl, Bool, true, false, ◌↔◌, ◌≢◌, List, [], ◌∷◌, ◌++◌, ℕ, ◌+◌, ◌<◌, ◌≤◌, ltb, eqb, Float, length, drop}
 use Rattle.std.proofs.Common.{sym, inl, inr}
-use Rattle.std.proofs.Math.Logic.{Iff·trans}
+use Rattle.std.proofs.Math.Logic.Iff
 use borrow.Author.Tests.{ltb-true, ltb-false, lt-ltb, le-ltb, eqb-true, eqb-false, eq-eqb, ne_eqb}
 use Rattle.checks.specs.declared.fault.Item.TheVariants.{Rows, Position, Budget}
 use Rattle.checks.specs.declared.fault.Fault.{Fault}
@@ -34,11 +34,11 @@ module _ (n : ℕ) (p : Place) (says : Bool) where
 
   pub refused-iff : {C : Type 0} → (says ≡ true) ↔ C → (refuse says n p ≡ bad n p) ↔ C
   refused-iff c =
-      Iff·trans (one.refused n)
-      (Iff·trans (λ h. elim h [ inl here ↦ here.0 | inr after ↦ absurd after.1 ], λ e. inl (e, refl)) c)
+      Iff.trans (one.refused n)
+      (Iff.trans (λ h. elim h [ inl here ↦ here.0 | inr after ↦ absurd after.1 ], λ e. inl (e, refl)) c)
 
   pub fine-iff : {C : Type 0} → (says ≡ false) ↔ C → (refuse says n p ≡ Fine) ↔ C
-  fine-iff c = Iff·trans one.fine (Iff·trans (λ h. h.0, λ e. (e, tt)) c)
+  fine-iff c = Iff.trans one.fine (Iff.trans (λ h. h.0, λ e. (e, tt)) c)
 
 -- ---- 13: exactly if the position is beyond the end
 module _ (position all : ℕ) where

@@ -20,7 +20,7 @@ use sieves::marks::grain_of;
 
 // A part of a listing: the pair (i, j) from which on it goes, the rows that stand before it, how many rows there is room for in
 // all, and how many pairs it may pass. It writes its rows if `write`, else it only counts them.
-#[derive(Drop)]
+#[derive(Clone, Copy)]
 pub struct Part {
     pub i: usize,
     pub j: usize,
@@ -32,7 +32,7 @@ pub struct Part {
 
 // How a part is walked: by the sieve of lines if `sieved`; the pairs that make a row are marked if `noting`; and only marked pairs
 // are looked at if `recalling`. None of these changes an answer.
-#[derive(Drop)]
+#[derive(Clone, Copy)]
 pub struct How {
     pub sieved: bool,
     pub noting: bool,
@@ -41,7 +41,7 @@ pub struct How {
 
 // How far the loop came: the rows in all, the pairs that it passed, how many of these it looked at, and the pair before which it
 // stopped, or that it reached the end.
-#[derive(Drop)]
+#[derive(Clone, Copy)]
 pub struct Filling {
     pub rows: usize,
     pub passed: usize,

@@ -19,7 +19,7 @@ use paths::path;
 use paths::path::Segment;
 
 // The indices from `from` up to, but not including, `to`.
-#[derive(Drop)]
+#[derive(Clone, Copy)]
 pub struct Run {
     pub from: usize,
     pub to: usize,

@@ -16,7 +16,7 @@ use sieves::marks::{Grain, mark_of};
 
 // How far a walk came: the rows and the pairs looked at in all, and the index before which it stopped. It is full if it stopped
 // before a pair whose row has no room.
-#[derive(Drop)]
+#[derive(Clone, Copy)]
 pub struct Walk {
     pub rows: usize,
     pub looked: usize,

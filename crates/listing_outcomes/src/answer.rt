@@ -1,7 +1,7 @@
 // What a listing answers, and what a page of one does.
 use checks::fault::Fault;
 
-#[derive(Drop)]
+#[derive(Clone, Copy)]
 pub enum ListingAnswer {
     // The first fault. Both slices are unchanged.
     Refused(Fault),
@@ -9,7 +9,7 @@ pub enum ListingAnswer {
     Listed { rows: usize, pairs: usize },
 }
 
-#[derive(Drop)]
+#[derive(Clone, Copy)]
 pub enum PageAnswer {
     // The first fault. Both slices are unchanged.
     Refused(Fault),

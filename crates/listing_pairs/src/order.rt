@@ -8,7 +8,7 @@ use super::sizes::less;
 
 // What a listing works on: n segments of the first path, m of the second, and epsilon. In a self listing (`own`) both are the
 // same path. A boxed listing looks at a pair only if the boxes of its segments meet.
-#[derive(Drop)]
+#[derive(Clone, Copy)]
 pub struct Job {
     pub n: usize,
     pub m: usize,
@@ -19,7 +19,7 @@ pub struct Job {
 }
 
 // A place in the walk: before the pair (i, j).
-#[derive(Drop)]
+#[derive(Clone, Copy)]
 pub struct Spot {
     pub i: usize,
     pub j: usize,

@@ -12,7 +12,7 @@ pub const POINTS: usize = 4;
 
 // Segment i of the first path and segment j of the second meet: the class's number and its points. A point that the class lacks
 // is +0.
-#[derive(Drop)]
+#[derive(Clone, Copy)]
 pub struct Row {
     pub i: u64,
     pub j: u64,
@@ -24,7 +24,7 @@ pub struct Row {
 }
 
 // What a pair gives: it is skipped and does not count; or it is looked at and makes no row; or it makes one.
-#[derive(Drop)]
+#[derive(Clone, Copy)]
 pub enum Look {
     Skipped,
     Nothing,

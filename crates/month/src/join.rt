@@ -8,7 +8,7 @@ use super::report::{LARGEST, LAYOUTS, MOST_LAYOUTS, WORDS};
 use checks::fault::{Fault, Item, whole};
 use checks::refusal;
 
-#[derive(Drop)]
+#[derive(Clone, Copy)]
 pub enum JoinAnswer {
     // One of the slices has fewer words than a report. Nothing is changed.
     NoRoom,

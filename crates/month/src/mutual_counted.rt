@@ -8,7 +8,7 @@ use checks::refusal;
 use listing_calls::mutual_listing::mutual_listing;
 use listing_outcomes::answer::ListingAnswer;
 
-#[derive(Drop)]
+#[derive(Clone, Copy)]
 pub enum CountedAnswer {
     // The report has fewer words than a report has. Nothing is changed, and nothing was looked at.
     NoRoom,

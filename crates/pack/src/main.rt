@@ -1,6 +1,7 @@
 // Packs a layout: it reads the layout's text from standard input and writes its packed form to standard output. If the text
 // breaks its form, it writes the refusal to standard error and nothing else. If a read or a write fails, it says so in one text
 // line on standard error.
+#![tactic(auto)]
 use answer_lines::{LINE, Written};
 use layout_moves::Moved;
 use layout_packed::limits::LONGEST;

@@ -1,6 +1,6 @@
 -- The chord of every segment of a path is a number when it is checked: the checks of all vertices come before those of the arcs.
 -- Chord.antt of the crate `checks` says what `Length` and `LongIfArc` mean.
-use Rattle.std.proofs.Math.Logic.{Iff·rfl}
+use Rattle.std.proofs.Math.Logic.Iff
 use Rattle.std.specs.Prelude.{Bool, List, ◌++◌, ℕ, ◌<◌, Float}
 use Rattle.std.proofs.Common.{arith}
 use Rattle.checks.specs.Arc.{chord_length}
@@ -32,8 +32,8 @@ module _ (path : List Float) (closed : Bool) (owner : ℕ) where
   path-long h i l =
       let vertices = vertex_checks path owner in
       let arcs = arc_checks path closed owner in
-      let both = (append-fine vertices arcs Iff·rfl Iff·rfl).0 ((first_fine (vertices ++ arcs)).1 h) in
-      let each = (along-fine (of_segment path owner) (segment_count path closed) (λ j. Iff·rfl)).0 both.1 i l in
+      let both = (append-fine vertices arcs Iff.rfl Iff.rfl).0 ((first_fine (vertices ++ arcs)).1 h) in
+      let each = (along-fine (of_segment path owner) (segment_count path closed) (λ j. Iff.rfl)).0 both.1 i l in
       let s = segment_from path i in
       let chord = path-chords ((first_fine vertices).0 both.0) i l in
       (alone-fine (segment-passes-when s.v1 s.v2 owner i chord)).0 each

@@ -15,7 +15,7 @@ pub const VERTICES: usize = 4096;
 pub const SEGMENTS: usize = 2 * VERTICES;
 
 // A segment of a path: it runs from v1 to v2, with the bulge of v1 and the trace that stands with v1.
-#[derive(Drop)]
+#[derive(Clone, Copy)]
 pub struct Segment {
     pub v1: PlineVertex,
     pub v2: PlineVertex,
@@ -23,7 +23,7 @@ pub struct Segment {
 }
 
 // A segment, or that there is none.
-#[derive(Drop)]
+#[derive(Clone, Copy)]
 pub enum SegmentAt {
     Nothing,
     At(Segment),

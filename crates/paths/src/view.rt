@@ -5,7 +5,7 @@ ghost use Rattle.paths.specs.View;
 use super::path::SegmentAt;
 use super::segments;
 
-#[derive(Drop)]
+#[derive(Clone, Copy)]
 pub struct PathView<'a> {
     pub vertices: &'a [f64],
     pub closed: bool,

@@ -5,7 +5,7 @@ ghost use Rattle.plane.specs.BaseMath;
 use super::vector2::Vector2;
 
 // Two numbers, in order.
-#[derive(Drop)]
+#[derive(Clone, Copy)]
 pub struct MinMax {
     pub min: f64,
     pub max: f64,

@@ -6,7 +6,7 @@ use super::pline_vertex::PlineVertex;
 use super::vector2::Vector2;
 
 // A circle: its radius and its centre.
-#[derive(Drop)]
+#[derive(Clone, Copy)]
 pub struct ArcRadiusCenter {
     pub radius: f64,
     pub center: Vector2,

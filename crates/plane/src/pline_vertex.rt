@@ -5,7 +5,7 @@ ghost use Rattle.plane.specs.PlineVertex as vertex;
 use super::fuzzy;
 use super::vector2::Vector2;
 
-#[derive(Drop)]
+#[derive(Clone, Copy)]
 pub struct PlineVertex {
     pub x: f64,
     pub y: f64,

@@ -4,7 +4,7 @@ ghost use Rattle.plane.specs.Vector2 as vector2;
 
 use super::fuzzy;
 
-#[derive(Drop)]
+#[derive(Clone, Copy)]
 pub struct Vector2 {
     pub x: f64,
     pub y: f64,

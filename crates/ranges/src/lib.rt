@@ -1,2 +1,3 @@
 // Whether a parameter lies on a segment: the range test of two lines, and of a line and an arc.
+#![tactic(auto)]
 pub mod range;

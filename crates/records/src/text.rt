@@ -9,7 +9,7 @@ ghost use Rattle.records.specs.Text.{value_at, number_at};
 use super::{DIGITS, FIELD};
 
 // The value of a field of hex digits. Or a byte of it is no digit.
-#[derive(Drop)]
+#[derive(Clone, Copy)]
 pub enum Field {
     Number(u64),
     Broken,

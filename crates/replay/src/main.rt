@@ -1,9 +1,10 @@
 // Replays a recorded list of answers from standard input. It prints how many records the list has, and for how many our answer
 // differs. A text line that is no record counts as a difference, and so does a record that is cut short. If a read or a write
 // fails, it says so in one text line on standard error.
+#![tactic(auto)]
 
 // What reading one record showed.
-#[derive(Drop)]
+#[derive(Clone, Copy)]
 enum Seen {
     End,
     Right,
@@ -11,7 +12,7 @@ enum Seen {
     Unread,
 }
 
-#[derive(Drop)]
+#[derive(Clone, Copy)]
 struct Tally {
     records: u64,
     differences: u64,

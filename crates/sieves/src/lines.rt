@@ -17,7 +17,7 @@ pub const NUMBERS: usize = 4;
 
 // What the sieve keeps of a segment: where it starts, and its vector. If the segment is no line of usual length, its vector is
 // NaN twice. Then no comparison says yes, and the sieve leaves it.
-#[derive(Drop)]
+#[derive(Clone, Copy)]
 pub struct Side {
     pub x: f64,
     pub y: f64,

@@ -14,7 +14,7 @@ const A_WORD: usize = 64;
 const MOST_SHIFT: usize = 13;
 
 // Where the mark of a pair stands: `stride` marks for each segment of the first path, and one for 2^shift segments of the second.
-#[derive(Drop)]
+#[derive(Clone, Copy)]
 pub struct Grain {
     pub stride: usize,
     pub shift: usize,

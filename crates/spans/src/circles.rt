@@ -10,7 +10,7 @@ use plane::vector2::Vector2;
 
 // Where the straight line through the two points crosses that of the centres: `a` from the first centre, `along` as a part of the
 // distance. `diff` is the square of how far the points are from there.
-#[derive(Drop)]
+#[derive(Clone, Copy)]
 pub struct Middle {
     pub a: Span,
     pub along: Span,

@@ -54,7 +54,7 @@ fn both_miss(
 }
 
 // The two points by the coordinate that changes more along the segment, which starts at `from` and goes `way` far in it.
-#[derive(Drop)]
+#[derive(Clone, Copy)]
 pub struct Axis {
     pub first: Span,
     pub second: Span,

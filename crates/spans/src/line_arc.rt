@@ -28,7 +28,7 @@ const ABOVE: f64 = 133.0 / 128.0;
 
 // The point of a straight line a * x - y + c = 0 that is nearest to a circle's centre, and the square of how far the circle's two
 // points on the line are from it, in units of (-1, -a).
-#[derive(Drop)]
+#[derive(Clone, Copy)]
 pub struct Foot {
     pub c: f64,
     pub q: f64,

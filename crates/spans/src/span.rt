@@ -4,7 +4,7 @@ ghost use Rattle.std.specs.Prelude.{◌≡◌};
 ghost use Rattle.spans.specs.Workings.Span as span;
 
 // From the least to the most.
-#[derive(Drop)]
+#[derive(Clone, Copy)]
 pub struct Span {
     pub least: f64,
     pub most: f64,

@@ -1,12 +1,13 @@
 // Standard input and output of the programs: a slice is read until it is full or the input ends, and written to its end. A read
 // or write that a signal interrupts before it moved a byte is made again. A failed one is not the same as the end of the input.
+#![tactic(auto)]
 ghost use Rattle.std.specs.Prelude.{◌≤◌, length};
 
 // how often a read or write is tried at most: nothing says that signals end, but a proved loop must
 const TRIES: u64 = u64::MAX;
 
 // How many bytes were read, and whether a read failed.
-#[derive(Drop)]
+#[derive(Clone, Copy)]
 pub struct Input {
     pub bytes: usize,
     pub failed: bool,

@@ -1,6 +1,7 @@
 // Unpacks a layout: it reads a packed file from standard input and writes the layout's text to standard output. If the file
 // breaks its form, it writes the refusal and the offset of the fault to standard error and nothing else. If a read or a write
 // fails, it says so in one text line on standard error.
+#![tactic(auto)]
 use answer_lines::{LINE, Written};
 use layout_moves::Moved;
 use layout_text::LONGEST;

@@ -1,7 +1,7 @@
 -- Lists of checks, one after another; and which numbers pass the checks of a point, a vertex and a circle.
 use Rattle.std.specs.Prelude.{◌≡◌, false, ◌↔◌, List, [], ◌∷◌, ◌++◌, ℕ, Float}
 use Rattle.std.proofs.Common.{sym, ap, ◌∙◌}
-use Rattle.std.proofs.Math.Logic.{Iff·trans}
+use Rattle.std.proofs.Math.Logic.Iff
 use Rattle.checks.specs.declared.fault.Item.TheVariants.{X, Y, Bulge, Radius, CenterX, CenterY, Trace}
 use Rattle.checks.specs.declared.fault.Checked.{Checked}
 use Rattle.checks.specs.declared.fault.Checked.TheVariants.{Fine}
@@ -49,7 +49,7 @@ pub record CircleFine (r x y : Float) : Type 0 where
 module _ (x y : Float) (owner : ℕ) where
   pub point-listed : (index : ℕ) → (first (point_checks x y owner index) ≡ Fine) ↔ PointFine x y
   point-listed index =
-      Iff·trans
+      Iff.trans
       (then-fine (coordinate-fine x (at owner index X)) (alone-fine (coordinate-fine y (at owner index Y))))
       (λ h. record { at_x = h.0; at_y = h.1 }, λ p. (p.at_x, p.at_y))
 
@@ -57,7 +57,7 @@ module _ (x y : Float) (owner : ℕ) where
   vertex-listed b index =
       let last : List Checked = Each.bulge b (at owner index Bulge) ∷ [] in
       let last-fine = alone-fine (bulge-fine b (at owner index Bulge)) in
-      Iff·trans
+      Iff.trans
       (append-fine (point_checks x y owner index) last (point-listed index) last-fine)
       (λ h. record { point = h.0; bulge = h.1 }, λ v. (v.point, v.bulge))
 
@@ -65,13 +65,13 @@ module _ (x y : Float) (owner : ℕ) where
   traced-listed b t index =
       let last : List Checked = Each.trace t (at owner index Trace) ∷ [] in
       let last-fine = alone-fine (trace-fine t (at owner index Trace)) in
-      Iff·trans
+      Iff.trans
       (append-fine (vertex_checks x y b owner index) last (vertex-listed b index) last-fine)
       (λ h. record { vertex = h.0; trace = h.1 }, λ v. (v.vertex, v.trace))
 
   pub circle-listed : (r : Float) → (first (circle_checks r x y owner) ≡ Fine) ↔ CircleFine r x y
   circle-listed r =
       let center = then-fine (center-fine x (at owner 0 CenterX)) (alone-fine (center-fine y (at owner 0 CenterY))) in
-      Iff·trans
+      Iff.trans
       (then-fine (radius-fine r (at owner 0 Radius)) center)
       (λ h. record { radius = h.0; at_x = h.1.0; at_y = h.1.1 }, λ c. (c.radius, (c.at_x, c.at_y)))

@@ -2,7 +2,7 @@
 -- facts.
 use Rattle.std.specs.Prelude.{◌≡◌, ◌↔◌, Bool, true, false, not, ◌||◌, [], ◌∷◌, ℕ, T, Float}
 use Rattle.std.proofs.Math.Path.{refl}
-use Rattle.std.proofs.Math.Logic.{Iff·trans}
+use Rattle.std.proofs.Math.Logic.Iff
 use Rattle.std.proofs.Common.{true≢false}
 use Rattle.std.specs.Float.{nan, inf, fin}
 use Rattle.std.specs.Float.Ieee.{of_bits, is_nan, lt}
@@ -116,38 +116,38 @@ one-no a n = (λ h. h.0, λ h. (h, tt))
 pub epsilon-fine : (x : Float) → (Each.epsilon x ≡ Fine) ↔ Between Limit.epsilon_least Limit.epsilon_most x
 unfolding of_bits is_nan
 epsilon-fine x =
-    Iff·trans (RefusalTable.epsilon x).fine
-    (Iff·trans (one-no _ 4) (Iff·trans (neither _ _) (between Limit.epsilon_least Limit.epsilon_most x refl refl)))
+    Iff.trans (RefusalTable.epsilon x).fine
+    (Iff.trans (one-no _ 4) (Iff.trans (neither _ _) (between Limit.epsilon_least Limit.epsilon_most x refl refl)))
 
 module _ (x : Float) (p : Place) where
   pub coordinate-fine : (Each.coordinate x p ≡ Fine) ↔ Within Limit.coordinate x
   unfolding of_bits is_nan
   coordinate-fine =
-      Iff·trans (RefusalTable.coordinate x p).fine (Iff·trans (three-no _ _ _ 11 12 2) (within Limit.coordinate x refl))
+      Iff.trans (RefusalTable.coordinate x p).fine (Iff.trans (three-no _ _ _ 11 12 2) (within Limit.coordinate x refl))
 
   pub bulge-fine : (Each.bulge x p ≡ Fine) ↔ Within Limit.bulge x
   unfolding of_bits is_nan
-  bulge-fine = Iff·trans (RefusalTable.bulge x p).fine (Iff·trans (three-no _ _ _ 11 12 3) (within Limit.bulge x refl))
+  bulge-fine = Iff.trans (RefusalTable.bulge x p).fine (Iff.trans (three-no _ _ _ 11 12 3) (within Limit.bulge x refl))
 
   pub large-bulge-fine : (Each.large_bulge x p ≡ Fine) ↔ Within Limit.large_bulge x
   unfolding of_bits is_nan
   large-bulge-fine =
-      Iff·trans (RefusalTable.large-bulge x p).fine (Iff·trans (three-no _ _ _ 11 12 3) (within Limit.large_bulge x refl))
+      Iff.trans (RefusalTable.large-bulge x p).fine (Iff.trans (three-no _ _ _ 11 12 3) (within Limit.large_bulge x refl))
 
   pub radius-fine : (Each.radius x p ≡ Fine) ↔ Between Limit.radius_least Limit.radius_most x
   unfolding of_bits is_nan
-  radius-fine = Iff·trans (RefusalTable.radius x p).fine
-      (Iff·trans (three-no _ _ _ 11 12 9) (between Limit.radius_least Limit.radius_most x refl refl))
+  radius-fine = Iff.trans (RefusalTable.radius x p).fine
+      (Iff.trans (three-no _ _ _ 11 12 9) (between Limit.radius_least Limit.radius_most x refl refl))
 
   pub center-fine : (Each.center x p ≡ Fine) ↔ Within Limit.center x
   unfolding of_bits is_nan
-  center-fine = Iff·trans (RefusalTable.center x p).fine (Iff·trans (three-no _ _ _ 11 12 9) (within Limit.center x refl))
+  center-fine = Iff.trans (RefusalTable.center x p).fine (Iff.trans (three-no _ _ _ 11 12 9) (within Limit.center x refl))
 
   pub trace-fine : (Each.trace x p ≡ Fine) ↔ (no_trace x ≡ false)
   unfolding no_trace
-  trace-fine = Iff·trans (RefusalTable.trace x p).fine
-      (Iff·trans (three-no _ _ _ 11 12 15) (λ h. h.1, λ h. (trace-number x h, h)))
+  trace-fine = Iff.trans (RefusalTable.trace x p).fine
+      (Iff.trans (three-no _ _ _ 11 12 15) (λ h. h.1, λ h. (trace-number x h, h)))
 
   pub chord-fine : (Each.chord x p ≡ Fine) ↔ (is_nan x ≡ false → T (Limit.chord_least ≼ x))
   unfolding of_bits is_nan
-  chord-fine = Iff·trans (RefusalTable.chord x p).fine (Iff·trans (one-no _ 5) (not_short Limit.chord_least x refl))
+  chord-fine = Iff.trans (RefusalTable.chord x p).fine (Iff.trans (one-no _ 5) (not_short Limit.chord_least x refl))

@@ -2,7 +2,7 @@
 -- the first that is not fine.
 use Rattle.std.specs.Prelude.{◌≡◌, refl, ◌↔◌, ◌⊎◌, Bool, true, false, cond}
 use Rattle.std.proofs.Common.{sym, ◌∙◌, inl, inr, true≢false}
-use Rattle.std.proofs.Math.Logic.{Iff·trans, Iff·and}
+use Rattle.std.proofs.Math.Logic.Iff
 use Rattle.checks.specs.declared.fault.Fault.{Fault}
 use Rattle.checks.specs.declared.fault.Checked.{Checked}
 use Rattle.checks.specs.declared.fault.Checked.TheVariants.{Fine, Bad}
@@ -29,10 +29,10 @@ later-fine (Bad f) g = (λ e. (e, cc), λ e. e.0)
 
 -- when a check passes, from another check: it is the same as the other; it stands after the other; it stands alone
 pub same-fine : {c d : Checked} {F : Type 0} → c ≡ d → ((d ≡ Fine) ↔ F) → ((c ≡ Fine) ↔ F)
-same-fine e = Iff·trans (λ h. sym e ∙ h, λ h. e ∙ h)
+same-fine e = Iff.trans (λ h. sym e ∙ h, λ h. e ∙ h)
 
 pub then-fine : {f g : Checked} {F G : Type 0} → ((f ≡ Fine) ↔ F) → ((g ≡ Fine) ↔ G) → ((later f g ≡ Fine) ↔ (F × G))
-then-fine {f} {g} p q = Iff·trans (later-fine f g) (Iff·and p q)
+then-fine {f} {g} p q = Iff.trans (later-fine f g) (Iff.and p q)
 
 pub alone-fine : {c : Checked} {F : Type 0} → ((c ≡ Fine) ↔ F) → ((later c Fine ≡ Fine) ↔ F)
 alone-fine {c} = same-fine (fine-right c)

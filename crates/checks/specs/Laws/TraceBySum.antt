@@ -3,7 +3,7 @@
 -- both steps are exact.
 use Rattle.std.specs.Prelude.{◌≡◌, refl, ◌↔◌, Bool, true, false, not, ◌&&◌, ◌||◌, ℕ, zero, suc, ◌+◌, ◌-◌, ◌*◌, ◌%◌, ◌^◌, ◌≤◌, ◌<◌, T, eqb, ltb, leb, ℤ, pos, negsuc, Float}
 use Rattle.std.proofs.Common.{sym, ap, subst, true≢false, zero-lt-suc, le_of_mul-le-mul_right, arith, ltb→lt, pow_pos}
-use Rattle.std.proofs.Math.Logic.{Iff·symm, Iff·trans}
+use Rattle.std.proofs.Math.Logic.Iff
 use Rattle.std.proofs.Math.Nat.{pow-succ'}
 use Rattle.std.specs.Float.{nan, inf, fin, binary64}
 use Rattle.std.specs.Float.Ieee.{prec, emax, low, up, down, of_bits, fits, sub, lt, eq, ne}
@@ -168,7 +168,7 @@ by-sum x = (
 
 -- the code's test is the definition's
 pub by-sum-is : (x : Float) → by_sum x ≡ no_trace x
-by-sum-is x = alike (by_sum x) (no_trace x) (Iff·trans (by-sum x) (Iff·symm (by_value x)))
+by-sum-is x = alike (by_sum x) (no_trace x) (Iff.trans (by-sum x) (Iff.symm (by_value x)))
   where
     alike : (a b : Bool) → (a ≡ false) ↔ (b ≡ false) → a ≡ b
     alike true true e = refl

@@ -1,6 +1,6 @@
 -- What the check of a path in the mode of large arcs says if it finds no fault, and that it finds no fault only in such paths.
 use Rattle.std.specs.Prelude.{◌≡◌, refl, ◌↔◌, Bool, true, false, cond, List, [], ◌∷◌, ℕ, ◌<◌, Float}
-use Rattle.std.proofs.Math.Logic.{Iff·rfl, Iff·trans}
+use Rattle.std.proofs.Math.Logic.Iff
 use Rattle.std.proofs.Common.{true≢false}
 use Rattle.std.proofs.lemmas.Bool.{false≢true}
 use Rattle.plane.specs.declared.pline_vertex.PlineVertex.{PlineVertex}
@@ -52,7 +52,7 @@ pub traced-listed : (x y : Float) (owner : ℕ) (b t : Float) (index : ℕ)
     → (first (traced_checks x y b t owner index) ≡ Fine) ↔ TracedFine x y b t
 traced-listed x y owner b t index =
     let last : List Checked = Each.trace t (at owner index Trace) ∷ [] in
-    Iff·trans
+    Iff.trans
     (append-fine (vertex_checks x y b owner index) last (vertex-passed x y owner b index)
     (alone-fine (trace-fine t (at owner index Trace))))
     (λ h. record { point = h.0.0; bulge = h.0.1; trace = h.1 }, λ v. ((v.point, v.bulge), v.trace))
@@ -74,7 +74,7 @@ halves-listed v1 v2 owner index =
     let c = cut_vertex v1 v2 in
     let arcs = then-fine (arc-fine (bent v1) c owner index) (alone-fine (arc-fine c v2 owner index)) in
     let rest = then-fine (coordinate-fine c.y (at owner index CutY)) arcs in
-    Iff·trans
+    Iff.trans
     (then-fine (coordinate-fine c.x (at owner index CutX)) rest) (
       λ h. record { point = record { at_x = h.0; at_y = h.1.0 }; first = h.1.1.0; second = h.1.1.1 },
       λ f. (f.point.at_x, (f.point.at_y, (f.first, f.second))),
@@ -87,7 +87,7 @@ segment-listed v1 v2 owner index =
     let chosen =
     go (is_large v1.bulge) (halves_checks v1 v2 owner index) (arc_chord v1 v2 owner index ∷ [])
     (halves-listed v1 v2 owner index) (alone-fine (arc-fine v1 v2 owner index)) in
-    Iff·trans chosen (λ h. record { cut = h.0; whole = h.1 }, λ f. (f.cut, f.whole))
+    Iff.trans chosen (λ h. record { cut = h.0; whole = h.1 }, λ f. (f.cut, f.whole))
   where
     go : (b : Bool) (cs ds : List Checked) {F G : Type 0} → ((first cs ≡ Fine) ↔ F) → ((first ds ≡ Fine) ↔ G)
         → (first (cond b cs ds) ≡ Fine) ↔ ((b ≡ true → F) × (b ≡ false → G))
@@ -115,10 +115,10 @@ pub path-listed : (path : List Float) (closed : Bool) (owner : ℕ)
 path-listed path closed owner =
     let vertices = along-fine (of_vertex path owner) (vertex_count path) (vertex-fine path owner) in
     let segments = along-fine (of_segment path owner) (segment_count path closed) (segment-fine path owner) in
-    Iff·trans (append-fine (all_vertices path owner) (all_segments path closed owner) vertices segments)
+    Iff.trans (append-fine (all_vertices path owner) (all_segments path closed owner) vertices segments)
     (λ h. record { vertices = h.0; segments = h.1 }, λ f. (f.vertices, f.segments))
 
 pub path-fine : (f : Checked) (path : List Float) (closed : Bool) (owner : ℕ)
     → (check_large_path f path closed owner ≡ Fine) ↔ ((f ≡ Fine) × LargePathFine path closed)
 unfolding check_large_path
-path-fine f path closed owner = then-fine Iff·rfl (path-listed path closed owner)
+path-fine f path closed owner = then-fine Iff.rfl (path-listed path closed owner)

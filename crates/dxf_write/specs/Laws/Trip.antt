@@ -2,7 +2,7 @@
 use Rattle.std.specs.Prelude.{◌≡◌, ℕ, ◌+◌, ◌≤◌, Bool, true, false, not, T, List, [], ◌∷◌, ◌++◌, length, take, drop, ◌==◌, nat_lt, Float}
 use Rattle.std.proofs.Math.Path.{refl, ap}
 use Rattle.std.proofs.Common.{sym, ◌∙◌, arith, le-ltb, ltb-false, eq-eqb}
-use Rattle.std.proofs.Math.Logic.{Iff·rfl}
+use Rattle.std.proofs.Math.Logic.Iff
 use Rattle.std.proofs.lemmas.List.Edits.{sets, sets-eq}
 use Rattle.std.proofs.Math.Seq.{take-append_seam}
 use Rattle.std.specs.Float.{binary64}
@@ -130,7 +130,7 @@ module _ (own : PathChecks) (path : List Float) (closed : Bool) (old : List ℕ)
   read-path : path_of (corners_of path) ≡ untraced path
   read-path =
       path-back path
-      (λ i l. vertex-back path f64 i ((along-fine (of_texts path) (vertex_count path) (λ j. Iff·rfl)).0 texts.0 i l))
+      (λ i l. vertex-back path f64 i ((along-fine (of_texts path) (vertex_count path) (λ j. Iff.rfl)).0 texts.0 i l))
 
   -- the same path is imported, if it has room and passes without its traces
   pub back : (Shape.shape path 0 ≡ Fine → first (own path closed 0) ≡ Fine → first (own (untraced path) closed 0) ≡ Fine)

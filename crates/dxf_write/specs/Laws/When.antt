@@ -3,7 +3,7 @@
 use Rattle.std.specs.Prelude.{◌≡◌, ℕ, zero, suc, ◌+◌, ◌*◌, ◌<◌, ◌≤◌, Bool, true, false, T, ◌↔◌, List, [], ◌∷◌, ◌++◌, length, drop, nat_lt, Float}
 use Rattle.std.proofs.Math.Path.{refl, subst}
 use Rattle.std.proofs.Common.{sym, ap, ◌∙◌, inl, inr, eq-or-lt_of_le, arith, lt-ltb, le-ltb, ltb-true, ltb-false}
-use Rattle.std.proofs.Math.Logic.{Iff·rfl, Iff·trans}
+use Rattle.std.proofs.Math.Logic.Iff
 use Rattle.std.proofs.Math.Bool.{true≢false}
 use Rattle.std.proofs.lemmas.List.Edits.{sets, sets-eq}
 use Rattle.std.specs.Float.{binary64}
@@ -264,7 +264,7 @@ module _ (own : List Checked) (path : List Float) (closed : Bool) (old : List �
   -- the answer is that of the first fault
   pub refused-after : (f : Fault) → ((export_after own path closed old).answer ≡ Exported·.Refused f) ↔ FirstFault f all_checks
   unfolding export_after
-  refused-after f = Iff·trans (by (first all_checks)) (first-bad all_checks f)
+  refused-after f = Iff.trans (by (first all_checks)) (first-bad all_checks f)
     where
       fault-of : Fault → Exported → Fault
       fault-of f (Exported·.Bytes n) = f
@@ -289,7 +289,7 @@ module _ (own : List Checked) (path : List Float) (closed : Bool) (old : List �
     -- the texts
     all-texts : first own ≡ Fine → (first (text_checks path) ≡ Fine) ↔ TextsBelow path (vertex_count path)
     all-texts fine =
-        let along = along-fine (of_texts path) (vertex_count path) (λ j. Iff·rfl) in (
+        let along = along-fine (of_texts path) (vertex_count path) (λ j. Iff.rfl) in (
           λ e i l. (vertex-texts path i f64 (judged.small fine i l)).0 (along.0 e i l),
           λ h. along.1 (λ i l. (vertex-texts path i f64 (judged.small fine i l)).1 (h i l)),
         )

@@ -22,28 +22,28 @@ abs-number (inf s) h = refl
 abs-number (fin s m e) h = refl
 
 held : (c : tie.Start) → T (fits binary64 c.args.x)
-held c = subst T (sym c.well-formed.0.1) tt
+held c = subst T (sym c.well_formed.0.1) tt
 
-returns : tie.Need-returns
+returns : tie.Need-returns-then-x
 returns c =
-    let is-nan-lem = differs_from_itself _ (subst T (sym c.if1.true) tt) in
+    let is-nan-lem = differs_from_itself _ (subst T (sym c.if-x.true) tt) in
     subst (λ (v : Float). v ≡ F64.abs v) (sym is-nan-lem) nan-abs
 
-float-to-bits-abs : tie.Need-float-to-bits-abs
-float-to-bits-abs c = off (number _ c.if1.false)
+float-to-bits-abs : tie.Need-float_to_bits-x
+float-to-bits-abs c = off (number _ c.if-x.false)
 
-float-from-bits-result : tie.Need-float-from-bits-result
+float-from-bits-result : tie.Need-float_from_bits-result
 float-from-bits-result c =
     let x = c.before.before.args.x in
     let fit = held c.before.before in
     number_of F64.abs Bits.abs x _ fit c.abs.ensures (abs-agrees (to_bits binary64 x) (to_bits-lt binary64 x fit))
-    (abs-number x (number x c.before.if1.false))
+    (abs-number x (number x c.before.if-x.false))
 
-returns-2 : tie.Need-returns-2
+returns-2 : tie.Need-returns
 returns-2 c =
     let x = c.before.before.args.x in
     let fit = held c.before.before in
     value_of F64.abs Bits.abs x _ fit c.abs.ensures (abs-agrees (to_bits binary64 x) (to_bits-lt binary64 x fit))
 
-pub abs-spec : {M : Type 1} → statement M
-abs-spec = tie.close (tie.spec returns float-to-bits-abs (λ c. search rules) float-from-bits-result returns-2)
+pub abs_spec : {M : Type 1} → statement M
+abs_spec = tie.close (tie.spec returns float-to-bits-abs (λ c. search rules) float-from-bits-result returns-2)

@@ -5,11 +5,11 @@ use Rattle.floats.proofs.Choice.{second-nan, first-picked, second-picked, nan-no
 use Rattle.floats.proofs.min.Statement.{statement}
 use Rattle.floats.proofs.min.Tie as tie
 
-pub min-spec : {M : Type 1} → statement M
+pub min_spec : {M : Type 1} → statement M
 unfolding F64.min
-min-spec =
+min_spec =
     tie.close
     (tie.spec
-    (λ c. let a = c.before.args in second-nan (lt a.x a.y) _ _ c.if1.true)
-    (λ c. first-picked _ _ _ c.before.if1.false (nan-not-below _ _) c.if2.true)
-    (λ c. second-picked _ _ _ c.before.if1.false c.if2.false))
+    (λ c. let a = c.before.args in second-nan (lt a.x a.y) _ _ c.if-y.true)
+    (λ c. first-picked _ _ _ c.before.if-y.false (nan-not-below _ _) c.if-x-y.true)
+    (λ c. second-picked _ _ _ c.before.if-y.false c.if-x-y.false))

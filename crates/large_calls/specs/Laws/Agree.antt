@@ -2,7 +2,7 @@
 -- is in the mode of large arcs. If there is none, no bulge is above 1 in magnitude.
 use Rattle.std.specs.Prelude.{◌≡◌, refl, Bool, true, false, not, List, [], ◌∷◌, ◌++◌, ℕ, zero, suc, ◌+◌, ◌*◌, ◌%◌, ◌≤◌, ◌<◌, eqb, Float, length}
 use Rattle.std.proofs.Common.{sym, ap, ◌∙◌, subst, true≢false, arith, eqb-true}
-use Rattle.std.proofs.Math.Logic.{Iff·rfl}
+use Rattle.std.proofs.Math.Logic.Iff
 use Rattle.std.specs.Float.Ieee.{lt}
 use Rattle.floats.specs.Ops.{f1}
 use Rattle.floats.specs.F64
@@ -122,7 +122,7 @@ module _ (path : List Float) (owner : ℕ) where
   fine-vertices : first_fault (old.vertex_checks path owner) ≡ Fine
       → (i : ℕ) → i < vertex_count path → is_large (vertex path i).bulge ≡ false
   fine-vertices e i h =
-      fine-vertex i ((along-fine (old.of_vertex path owner) (vertex_count path) (λ j. Iff·rfl)).0 e i h)
+      fine-vertex i ((along-fine (old.of_vertex path owner) (vertex_count path) (λ j. Iff.rfl)).0 e i h)
 
   agree-path : (closed : Bool) → AgreeAll (path_checks path closed owner) (large_path_checks path closed owner)
   agree-path closed = go (first_fault (old.vertex_checks path owner)) refl

@@ -3,7 +3,7 @@
 use Rattle.std.specs.Prelude.{◌≡◌, ◌↔◌, Bool, ◌&&◌, List, [], ◌∷◌, ◌++◌, ℕ, Float}
 use Rattle.std.proofs.Math.Path.{refl}
 use Rattle.std.proofs.Common.{sym, ◌∙◌, subst, true≢false}
-use Rattle.std.proofs.Math.Logic.{Iff·trans}
+use Rattle.std.proofs.Math.Logic.Iff
 use Rattle.std.proofs.Math.Bool.{true, false, cond}
 use Rattle.std.proofs.lemmas.Bool.{false≢true}
 use denote.Floats.{passes}
@@ -67,7 +67,7 @@ pair-listed v1 v2 u1 u2 pos_equal_eps =
     let f4 = append-fine (c0 ++ c1 ++ c2 ++ c3) c4 f3 (point-listed u2.x u2.y 1 1) in
     let f5 = append-fine (c0 ++ c1 ++ c2 ++ c3 ++ c4) c5 f4 (segment-listed v1 v2 0 0) in
     let f6 = append-fine (c0 ++ c1 ++ c2 ++ c3 ++ c4 ++ c5) c6 f5 (segment-listed u1 u2 1 0) in
-    Iff·trans f6 (
+    Iff.trans f6 (
       λ h.
           let b = h.0.0.0.0 in
           record {

@@ -1,7 +1,7 @@
 -- What a caller knows of a listing that was not refused: it has no more rows than both slices have room for, and the lengths of
 -- the slices are unchanged.
 use Rattle.std.specs.Prelude.{◌≡◌, refl, Bool, true, false, cond, List, [], ◌∷◌, ◌++◌, ℕ, ◌≤◌, ltb, Float, length, drop}
-use Rattle.std.proofs.Math.Logic.{Iff·rfl}
+use Rattle.std.proofs.Math.Logic.Iff
 use Rattle.std.proofs.Common.{arith, ltb-false, length-append, length-drop}
 use Rattle.checks.specs.declared.fault.Item.TheVariants.{Rows}
 use Rattle.checks.specs.declared.fault.Fault.{Fault}
@@ -68,7 +68,7 @@ unfolding outcome
 outcome_fits checks f ps i₀ p₀ =
     let last : List Checked = room_check (rows_of f ps) i₀ p₀ ∷ [] in
     of-checked (rows_of f ps) (looked_at f ps) i₀ p₀ (first_fault (checks ++ last))
-    (λ e. ((append-fine checks last Iff·rfl (alone-fine Iff·rfl)).0 e).1)
+    (λ e. ((append-fine checks last Iff.rfl (alone-fine Iff.rfl)).0 e).1)
 
 pub mutual-fits : (first : List Float) (first_closed : Bool) (second : List Float) (second_closed : Bool) (epsilon : Float)
     (i₀ : List ℕ) (p₀ : List Float) → Fits (mutual_listing first first_closed second second_closed epsilon i₀ p₀) (room i₀ p₀) i₀ p₀

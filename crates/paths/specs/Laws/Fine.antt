@@ -1,7 +1,7 @@
 -- What the check of a path says if it finds no fault, and that it finds no fault only in such paths. The proofs of callers use
 -- these facts.
 use Rattle.std.specs.Prelude.{◌≡◌, ◌↔◌, Bool, false, List, ℕ, ◌<◌, T, Float}
-use Rattle.std.proofs.Math.Logic.{Iff·rfl, Iff·trans}
+use Rattle.std.proofs.Math.Logic.Iff
 use Rattle.std.proofs.Common.{arith}
 use Rattle.std.specs.Float.Ieee.{is_nan}
 use Rattle.floats.specs.Ops.{◌≼◌}
@@ -73,7 +73,7 @@ path-fine f path closed owner =
     let vertices = along-fine (of_vertex path owner) (vertex_count path) (vertex-fine path owner) in
     let arcs = along-fine (of_segment path owner) (segment_count path closed) (segment-arc-fine path owner) in
     let all = chains.append-fine (vertex_checks path owner) (arc_checks path closed owner) vertices arcs in
-    Iff·trans (then-fine Iff·rfl all) (
+    Iff.trans (then-fine Iff.rfl all) (
       λ h. (h.0, record { vertices = λ i l. (h.1.0 i l).vertex; traces = λ i l. (h.1.0 i l).trace; arcs = h.1.1 }),
       λ h. (h.0, (λ i l. record { vertex = h.1.vertices i l; trace = h.1.traces i l }, h.1.arcs)),
     )

@@ -1,6 +1,6 @@
 -- What the checks of the calls say if they find no fault.
 use Rattle.std.specs.Prelude.{◌≡◌, List, [], ◌∷◌, ◌++◌, Float}
-use Rattle.std.proofs.Math.Logic.{Iff·rfl}
+use Rattle.std.proofs.Math.Logic.Iff
 use Rattle.plane.specs.declared.vector2.Vector2.{Vector2}
 use Rattle.plane.specs.declared.pline_vertex.PlineVertex.{PlineVertex}
 use Rattle.checks.specs.declared.fault.Checked.{Checked}
@@ -94,6 +94,6 @@ pair-fine v1 v2 u1 u2 eps h =
     let f2 = append-fine (c0 ++ c1) c2 f1 (point-listed v2.x v2.y 0 1) in
     let f3 = append-fine (c0 ++ c1 ++ c2) c3 f2 (vertex-listed u1.x u1.y 1 u1.bulge 0) in
     let f4 = append-fine (c0 ++ c1 ++ c2 ++ c3) c4 f3 (point-listed u2.x u2.y 1 1) in
-    let f5 = append-fine (c0 ++ c1 ++ c2 ++ c3 ++ c4) chords f4 Iff·rfl in
+    let f5 = append-fine (c0 ++ c1 ++ c2 ++ c3 ++ c4) chords f4 Iff.rfl in
     let g = (f5.0 h).0 in
     record { epsilon = g.0.0.0.0; at-v1 = g.0.0.0.1; at-v2 = g.0.0.1; at-u1 = g.0.1; at-u2 = g.1 }

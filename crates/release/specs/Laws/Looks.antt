@@ -1,7 +1,7 @@
 -- What a pair of segments of accepted paths gives in a listing: a good row, if it makes one. A path is given with the count of
 -- its segments, so that this serves both modes: the cut path has a count of its own.
 use Rattle.std.specs.Prelude.{◌≡◌, Bool, true, false, cond, List, [], ◌∷◌, ◌++◌, ℕ, zero, suc, ◌<◌, Float}
-use Rattle.std.proofs.Math.Logic.{Iff·rfl}
+use Rattle.std.proofs.Math.Logic.Iff
 use Rattle.checks.specs.declared.fault.Checked.{Checked}
 use Rattle.checks.specs.declared.fault.Checked.TheVariants.{Fine}
 use Rattle.checks.specs.Each as each
@@ -118,9 +118,9 @@ pub two-fine : (eps : Float) (s t : Checked) (cs ds : List Checked)
     → first_fault ((each.epsilon eps ∷ s ∷ t ∷ []) ++ cs ++ ds) ≡ Fine → TwoFine cs ds eps
 two-fine eps s t cs ds e =
     let c0 : List Checked = each.epsilon eps ∷ s ∷ t ∷ [] in
-    let f0 = then-fine (epsilon-fine eps) (then-fine Iff·rfl (alone-fine Iff·rfl)) in
-    let f1 = append-fine c0 cs f0 Iff·rfl in
-    let g = (append-fine (c0 ++ cs) ds f1 Iff·rfl).0 e in
+    let f0 = then-fine (epsilon-fine eps) (then-fine Iff.rfl (alone-fine Iff.rfl)) in
+    let f1 = append-fine c0 cs f0 Iff.rfl in
+    let g = (append-fine (c0 ++ cs) ds f1 Iff.rfl).0 e in
     record { epsilon = g.0.0.0; one = g.0.1; two = g.1 }
 
 pub record OneFine (path : List Checked) (eps : Float) : Type 0 where
@@ -131,6 +131,6 @@ pub one-fine : (eps : Float) (s : Checked) (cs : List Checked) → first_fault (
     → OneFine cs eps
 one-fine eps s cs e =
     let c0 : List Checked = each.epsilon eps ∷ s ∷ [] in
-    let f0 = then-fine (epsilon-fine eps) (alone-fine Iff·rfl) in
-    let g = (append-fine c0 cs f0 Iff·rfl).0 e in
+    let f0 = then-fine (epsilon-fine eps) (alone-fine Iff.rfl) in
+    let g = (append-fine c0 cs f0 Iff.rfl).0 e in
     record { epsilon = g.0.0; one = g.1 }

@@ -1,7 +1,7 @@
 -- What holds of each row that a pair makes holds of each row that a listing or a page writes.
 use Rattle.std.specs.Prelude.{◌≡◌, refl, Bool, true, false, cond, Float, length, drop}
 use Rattle.std.proofs.Common.{sym, subst, arith, take_at}
-use Rattle.std.proofs.Math.Logic.{Iff·rfl}
+use Rattle.std.proofs.Math.Logic.Iff
 use mathlib.Core.List.{List, [], ◌∷◌, ◌++◌}
 use Prim.Native.Nat.{ℕ, zero, suc, ◌+◌, ◌-◌, ◌≤◌, ◌<◌}
 use Rattle.float_laws.specs.Flat.{flat}
@@ -134,4 +134,4 @@ module _ {A : Type 0} (P : Row → Type 0) (rows_in : A → ℕ) (refused : Faul
 
 -- the first of two lists of checks
 pub earlier : (cs ds : List Checked) → first_fault (cs ++ ds) ≡ Fine → first_fault cs ≡ Fine
-earlier cs ds e = ((append-fine cs ds Iff·rfl Iff·rfl).0 e).0
+earlier cs ds e = ((append-fine cs ds Iff.rfl Iff.rfl).0 e).0

@@ -5,6 +5,6 @@ use Rattle.float_laws.specs.Branches.{branches}
 use Rattle.arcs.proofs.arc_sweep.exactly_within_sweep.Statement.{statement}
 use Rattle.arcs.proofs.arc_sweep.exactly_within_sweep.Tie as tie
 
-pub exactly-within-sweep-spec : {M : Type 1} → statement M
+pub exactly_within_sweep_spec : {M : Type 1} → statement M
 unfolding exactly_within_sweep
-exactly-within-sweep-spec = tie.close (tie.spec (λ c. search branches) (λ c. search branches))
+exactly_within_sweep_spec = tie.close (tie.spec (λ c. search branches) (λ c. search branches))

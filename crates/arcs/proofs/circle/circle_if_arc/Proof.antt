@@ -4,12 +4,12 @@ use Rattle.arcs.specs.Workings.Circles.{circle_if_arc}
 use Rattle.arcs.proofs.circle.circle_if_arc.Statement.{statement}
 use Rattle.arcs.proofs.circle.circle_if_arc.Tie as tie
 
-pub circle-if-arc-spec : {M : Type 1} → statement M
+pub circle_if_arc_spec : {M : Type 1} → statement M
 unfolding circle_if_arc
-circle-if-arc-spec =
+circle_if_arc_spec =
     tie.close
     (tie.spec
     (search rules) (search rules)
-    (λ c. simp (← c.before.before.bulge-is-zero.ensures, c.before.if1.true, ← c.new.ensures))
+    (λ c. simp (← c.bulge_is_zero.ensures, c.if-bulge_is_zero.true, ← c.new.ensures))
     (search rules)
-    (λ c. simp (← c.before.before.bulge-is-zero.ensures, c.before.if1.false, ← c.seg-arc-radius-and-center.ensures)))
+    (λ c. simp (← c.bulge_is_zero.ensures, c.if-bulge_is_zero.false, ← c.seg_arc_radius_and_center.ensures)))

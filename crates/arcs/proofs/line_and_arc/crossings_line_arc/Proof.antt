@@ -4,23 +4,23 @@ use borrow.Author.Rules.{rules}
 use Rattle.arcs.proofs.line_and_arc.crossings_line_arc.Statement.{statement}
 use Rattle.arcs.proofs.line_and_arc.crossings_line_arc.Tie as tie
 
-pub crossings-line-arc-spec : {M : Type 1} → statement M
-crossings-line-arc-spec =
+pub crossings_line_arc_spec : {M : Type 1} → statement M
+crossings_line_arc_spec =
     tie.close
     (tie.spec
     (λ c. search rules) (λ c. search rules) (λ c. search rules) (λ c. search rules)
-    (λ c. simp (c.before.before.enum_told.given.1, c.enum-told2.given.1))
+    (λ c. simp (c.in_default.is, c.in_default-t1_point.is))
     (search rules)
     (λ c. let p = c.before.before in
-    simp (p.before.before.enum_told.given.1, p.t1-point.given.1, ← c.one-line-arc.ensures))
+    simp (p.in_default.is, p.in-At-t1_point.is, ← c.one_line_arc.ensures))
     (λ c. search rules) (λ c. search rules) (search rules)
     (λ c. let p = c.before in
-    simp (p.before.before.before.t0-point.given.1, p.enum-told3.given.1, ← c.one-line-arc2.ensures))
+    simp (p.in-At.is, p.in_default-t1_point-2.is, ← c.one_line_arc-in_default-t1_point-2.ensures))
     (search rules) (search rules)
     (λ c. let p = c.before in let q = p.before.before in
     simp (
-      q.before.before.before.t0-point.given.1,
-      q.t1-point2.given.1,
-      ← p.with-sticky-ends.ensures,
+      q.in-At.is,
+      q.in-At-t1_point-2.is,
+      ← p.with_sticky_ends.ensures,
       ← c.in_order.ensures,
     )))

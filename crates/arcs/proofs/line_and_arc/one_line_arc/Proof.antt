@@ -6,9 +6,9 @@ use Rattle.float_laws.specs.Branches.{branches}
 use Rattle.arcs.proofs.line_and_arc.one_line_arc.Statement.{statement}
 use Rattle.arcs.proofs.line_and_arc.one_line_arc.Tie as tie
 
-pub one-line-arc-spec : {M : Type 1} → statement M
+pub one_line_arc_spec : {M : Type 1} → statement M
 unfolding one_line_arc
-one-line-arc-spec =
+one_line_arc_spec =
     tie.close
     (tie.spec
     (search rules) (λ c. search branches depth 8) (search rules) (λ c. search branches depth 8) (λ c. search branches depth 8))

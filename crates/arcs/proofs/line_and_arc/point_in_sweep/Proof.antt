@@ -7,29 +7,29 @@ use Rattle.arcs.specs.Laws.Sweep.{yes_of}
 use Rattle.arcs.proofs.line_and_arc.point_in_sweep.Statement.{statement}
 use Rattle.arcs.proofs.line_and_arc.point_in_sweep.Tie as tie
 
-pub point-in-sweep-spec : {M : Type 1} → statement M
+pub point_in_sweep_spec : {M : Type 1} → statement M
 unfolding point_in_sweep on_segment
-point-in-sweep-spec =
+point_in_sweep_spec =
     tie.close
     (tie.spec
     (search rules) (search rules)
-    (λ c. simp (← c.before.before.sub.ensures, ← c.before.on-segment.ensures, c.if1.taken))
+    (λ c. simp (← c.sub.ensures, ← c.on_segment.ensures, c.if-not-on_segment.true))
     (search rules) (search rules) (search rules)
     (λ c. let f = c.before.before in let p = f.before in let e = p.before in let w = e.before in
     simp (
-      ← w.before.sub.ensures,
-      ← w.on-segment.ensures,
-      e.if1.left,
-      ← p.point-from-parametric.ensures,
-      ← yes_of _ _ _ _ f.finding.ensures c.before.is-yes.ensures,
-      c.if2.taken,
+      ← w.sub.ensures,
+      ← w.on_segment.ensures,
+      e.if-not-on_segment.false,
+      ← p.point_from_parametric-p.ensures,
+      ← yes_of _ _ _ _ f.finding.ensures c.is_yes.ensures,
+      c.if-is_yes.true,
     ))
     (λ c. let f = c.before.before in let p = f.before in let e = p.before in let w = e.before in
     simp (
-      ← w.before.sub.ensures,
-      ← w.on-segment.ensures,
-      e.if1.left,
-      ← p.point-from-parametric.ensures,
-      ← yes_of _ _ _ _ f.finding.ensures c.before.is-yes.ensures,
-      c.if2.left,
+      ← w.sub.ensures,
+      ← w.on_segment.ensures,
+      e.if-not-on_segment.false,
+      ← p.point_from_parametric-p.ensures,
+      ← yes_of _ _ _ _ f.finding.ensures c.is_yes.ensures,
+      c.if-is_yes.false,
     )))

@@ -6,13 +6,13 @@ use Rattle.float_laws.specs.Branches.{branches}
 use Rattle.arcs.proofs.line_and_arc.tangent_line_arc.Statement.{statement}
 use Rattle.arcs.proofs.line_and_arc.tangent_line_arc.Tie as tie
 
-pub tangent-line-arc-spec : {M : Type 1} → statement M
+pub tangent_line_arc_spec : {M : Type 1} → statement M
 unfolding tangent_line_arc
-tangent-line-arc-spec =
+tangent_line_arc_spec =
     tie.close
     (tie.spec
     (search rules) (λ c. search branches) (search rules) (λ c. search branches depth 8)
     (search rules) (λ c. search rules) (λ c. search rules)
     (λ c. let p = c.before in
-    simp (← p.before.before.point-in-sweep.ensures, p.t0-point.given.1) (search branches depth 8))
-    (λ c. simp (← c.before.before.point-in-sweep.ensures, c.enum_told.given.1) (search branches depth 8)))
+    simp (← p.point_in_sweep-t0_point.ensures, p.in-At.is) (search branches depth 8))
+    (λ c. simp (← c.point_in_sweep-t0_point.ensures, c.in_default.is) (search branches depth 8)))

@@ -6,9 +6,9 @@ use Rattle.float_laws.specs.Branches.{branches}
 use Rattle.arcs.proofs.line_and_arc.with_sticky_ends.Statement.{statement}
 use Rattle.arcs.proofs.line_and_arc.with_sticky_ends.Tie as tie
 
-pub with-sticky-ends-spec : {M : Type 1} → statement M
+pub with_sticky_ends_spec : {M : Type 1} → statement M
 unfolding with_sticky_ends
-with-sticky-ends-spec =
+with_sticky_ends_spec =
     tie.close
     (tie.spec
     (search rules) (search rules) (search rules) (search rules)

@@ -4,6 +4,6 @@ use Rattle.float_laws.specs.Branches.{branches}
 use Rattle.arcs.proofs.one_circle.arc2_ends.Statement.{statement}
 use Rattle.arcs.proofs.one_circle.arc2_ends.Tie as tie
 
-pub arc2-ends-spec : {M : Type 1} → statement M
+pub arc2_ends_spec : {M : Type 1} → statement M
 unfolding arc2_ends
-arc2-ends-spec = tie.close (tie.spec (λ c. search branches) (λ c. search branches))
+arc2_ends_spec = tie.close (tie.spec (λ c. search branches) (λ c. search branches))

@@ -5,6 +5,6 @@ use Rattle.float_laws.specs.Branches.{branches}
 use Rattle.arcs.proofs.one_circle.overlap_by_direction.Statement.{statement}
 use Rattle.arcs.proofs.one_circle.overlap_by_direction.Tie as tie
 
-pub overlap-by-direction-spec : {M : Type 1} → statement M
+pub overlap_by_direction_spec : {M : Type 1} → statement M
 unfolding overlap_by_direction
-overlap-by-direction-spec = tie.close (tie.spec (λ c. search branches) (λ c. search branches))
+overlap_by_direction_spec = tie.close (tie.spec (λ c. search branches) (λ c. search branches))

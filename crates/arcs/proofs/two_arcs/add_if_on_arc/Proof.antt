@@ -6,7 +6,7 @@ use Rattle.float_laws.specs.Branches.{branches}
 use Rattle.arcs.proofs.two_arcs.add_if_on_arc.Statement.{statement}
 use Rattle.arcs.proofs.two_arcs.add_if_on_arc.Tie as tie
 
-pub add-if-on-arc-spec : {M : Type 1} → statement M
+pub add_if_on_arc_spec : {M : Type 1} → statement M
 unfolding add_if_on_arc
-add-if-on-arc-spec =
+add_if_on_arc_spec =
     tie.close (tie.spec (search rules) (search rules) (λ c. search branches) (λ c. search branches))

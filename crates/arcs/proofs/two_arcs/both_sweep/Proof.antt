@@ -5,16 +5,16 @@ use Rattle.arcs.specs.Laws.Sweep.{yes_of}
 use Rattle.arcs.proofs.two_arcs.both_sweep.Statement.{statement}
 use Rattle.arcs.proofs.two_arcs.both_sweep.Tie as tie
 
-pub both-sweep-spec : {M : Type 1} → statement M
+pub both_sweep_spec : {M : Type 1} → statement M
 unfolding both_sweep
-both-sweep-spec =
+both_sweep_spec =
     tie.close
     (tie.spec
     (search rules) (search rules) (search rules) (search rules)
     (λ c. let t = c.before.before in
     simp (
-      ← yes_of _ _ _ _ t.before.before.finding.ensures t.before.is-yes.ensures,
-      t.if1.true,
-      ← yes_of _ _ _ _ c.before.finding2.ensures c.is-yes2.ensures,
+      ← yes_of _ _ _ _ t.finding.ensures t.is_yes.ensures,
+      t.if-is_yes.true,
+      ← yes_of _ _ _ _ c.finding-then-is_yes.ensures c.is_yes-then-is_yes.ensures,
     ))
-    (λ c. simp (← yes_of _ _ _ _ c.before.before.finding.ensures c.before.is-yes.ensures, c.if1.false)))
+    (λ c. simp (← yes_of _ _ _ _ c.finding.ensures c.is_yes.ensures, c.if-is_yes.false)))

@@ -5,17 +5,17 @@ use Rattle.arcs.specs.Workings.Ends.{without-ends}
 use Rattle.arcs.proofs.two_arcs.crossing_arcs.Statement.{statement}
 use Rattle.arcs.proofs.two_arcs.crossing_arcs.Tie as tie
 
-returns : tie.Need-returns
+returns : tie.Need-returns-then-ends_clear
 returns c =
     let p1 = c.before in
     let p2 = p1.before in
-    without-ends _ _ _ _ _ _ _ _ _ _ _ p2.ends-clear.ensures p1.if1.true c.two-arc-arc.ensures
+    without-ends _ _ _ _ _ _ _ _ _ _ _ p2.ends_clear.ensures p1.if-ends_clear.true c.two_arc_arc.ensures
 
-pub crossing-arcs-spec : {M : Type 1} → statement M
+pub crossing_arcs_spec : {M : Type 1} → statement M
 unfolding TwoArcs.crossing_arcs
-crossing-arcs-spec =
+crossing_arcs_spec =
     tie.close
     (tie.spec
     (λ c κs. search rules) (λ c κs. search rules) returns
     (λ c κs. search rules) (λ c κs. search rules)
-    (λ c. simp (← c.before.collect-end-points.ensures, ← c.two-arc-arc2.ensures)))
+    (λ c. simp (← c.collect_end_points-end_point_intrs.ensures, ← c.two_arc_arc-2.ensures)))

@@ -6,6 +6,6 @@ use Rattle.float_laws.specs.Branches.{branches}
 use Rattle.arcs.proofs.two_arcs.end_for_nearer.Statement.{statement}
 use Rattle.arcs.proofs.two_arcs.end_for_nearer.Tie as tie
 
-pub end-for-nearer-spec : {M : Type 1} → statement M
+pub end_for_nearer_spec : {M : Type 1} → statement M
 unfolding end_for_nearer
-end-for-nearer-spec = tie.close (tie.spec (search rules) (search rules) (λ c. search branches) (λ c. search branches))
+end_for_nearer_spec = tie.close (tie.spec (search rules) (search rules) (λ c. search branches) (λ c. search branches))

@@ -6,6 +6,6 @@ use Rattle.float_laws.specs.Branches.{branches}
 use Rattle.arcs.proofs.two_arcs.ends_for_both.Statement.{statement}
 use Rattle.arcs.proofs.two_arcs.ends_for_both.Tie as tie
 
-pub ends-for-both-spec : {M : Type 1} → statement M
+pub ends_for_both_spec : {M : Type 1} → statement M
 unfolding ends_for_both
-ends-for-both-spec = tie.close (tie.spec (search rules) (search rules) (λ c. search branches) (λ c. search branches))
+ends_for_both_spec = tie.close (tie.spec (search rules) (search rules) (λ c. search branches) (λ c. search branches))

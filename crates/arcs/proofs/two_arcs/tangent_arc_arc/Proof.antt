@@ -6,9 +6,9 @@ use Rattle.float_laws.specs.Branches.{branches}
 use Rattle.arcs.proofs.two_arcs.tangent_arc_arc.Statement.{statement}
 use Rattle.arcs.proofs.two_arcs.tangent_arc_arc.Tie as tie
 
-pub tangent-arc-arc-spec : {M : Type 1} → statement M
+pub tangent_arc_arc_spec : {M : Type 1} → statement M
 unfolding tangent_arc_arc
-tangent-arc-arc-spec =
+tangent_arc_arc_spec =
     tie.close
     (tie.spec
     (search rules) (λ c. search branches) (search rules) (λ c. search branches)

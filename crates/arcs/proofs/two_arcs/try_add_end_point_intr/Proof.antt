@@ -5,27 +5,27 @@ use Rattle.arcs.specs.TwoArcs.{try_add_end_point_intr}
 use Rattle.arcs.proofs.two_arcs.try_add_end_point_intr.Statement.{statement}
 use Rattle.arcs.proofs.two_arcs.try_add_end_point_intr.Tie as tie
 
-returns-4 : tie.Need-returns-4
+returns-4 : tie.Need-returns-in-Taken-second
 unfolding try_add_end_point_intr
 returns-4 c =
     let t = c.before.before.before in
     let f = t.before in
     simp (
-      f.before.before.first2.given.1,
-      ← f.fuzzy-eq-eps.ensures,
-      t.if1.false,
-      c.enum-told3.given.1,
+      f.in-Taken.is,
+      ← f.fuzzy_eq_eps.ensures,
+      t.if-fuzzy_eq_eps.false,
+      c.in-Taken-second.is,
     )
 
-pub try-add-end-point-intr-spec : {M : Type 1} → statement M
+pub try_add_end_point_intr_spec : {M : Type 1} → statement M
 unfolding try_add_end_point_intr
-try-add-end-point-intr-spec =
+try_add_end_point_intr_spec =
     tie.close
     (tie.spec
     (search rules) (search rules) (search rules) (search rules) (search rules)
-    (λ c. simp (c.before.before.before.first2.given.1, ← c.before.fuzzy-eq-eps.ensures, c.if1.true))
+    (λ c. simp (c.in-Taken.is, ← c.fuzzy_eq_eps.ensures, c.if-fuzzy_eq_eps.true))
     (search rules) (search rules) (search rules) (search rules)
-    (λ c. simp c.enum_told.given.1)
+    (λ c. simp c.in-Empty.is)
     (λ c. let t = c.before.before.before in let f = t.before in
-    simp (f.before.before.first2.given.1, ← f.fuzzy-eq-eps.ensures, t.if1.false, c.enum-told2.given.1))
+    simp (f.in-Taken.is, ← f.fuzzy_eq_eps.ensures, t.if-fuzzy_eq_eps.false, c.in-Empty-second.is))
     returns-4)

@@ -5,9 +5,9 @@ use Rattle.float_laws.specs.Branches.{pairs}
 use Rattle.arcs.proofs.two_arcs.two_arc_arc.Statement.{statement}
 use Rattle.arcs.proofs.two_arcs.two_arc_arc.Tie as tie
 
-pub two-arc-arc-spec : {M : Type 1} → statement M
+pub two_arc_arc_spec : {M : Type 1} → statement M
 unfolding two_arc_arc
-two-arc-arc-spec =
+two_arc_arc_spec =
     tie.close
     (tie.spec
     (λ c. search rules) (λ c. search rules) (search rules) (search rules)

@@ -3,16 +3,16 @@ use borrow.Author.Rules.{rules}
 use Rattle.arcs.proofs.two_arcs.two_in_sweep.Statement.{statement}
 use Rattle.arcs.proofs.two_arcs.two_in_sweep.Tie as tie
 
-pub two-in-sweep-spec : {M : Type 1} → statement M
-two-in-sweep-spec =
+pub two_in_sweep_spec : {M : Type 1} → statement M
+two_in_sweep_spec =
     tie.close
     (tie.spec
     (search rules) (search rules) (search rules) (search rules) (search rules) (search rules)
     (search rules) (search rules) (search rules)
-    (λ c. simp (c.before.before.enum_told.given.1, c.enum-told2.given.1))
+    (λ c. simp (c.in-Empty.is, c.in-Empty-second.is))
     (λ c. let s = c.before.before in
-    simp (s.before.before.enum_told.given.1, s.second.given.1, ← c.end-for-nearer.ensures))
+    simp (s.in-Empty.is, s.in-Taken-second.is, ← c.end_for_nearer.ensures))
     (λ c. let s = c.before in
-    simp (s.before.before.before.first.given.1, s.enum-told3.given.1, ← c.end-for-nearer2.ensures))
+    simp (s.in-Taken.is, s.in-Empty-second-2.is, ← c.end_for_nearer-in-Empty-second-2.ensures))
     (λ c. let s = c.before.before in
-    simp (s.before.before.before.first.given.1, s.second2.given.1, ← c.ends-for-both.ensures)))
+    simp (s.in-Taken.is, s.in-Taken-second-2.is, ← c.ends_for_both.ensures)))

@@ -12,33 +12,33 @@ use Rattle.checks.specs.Laws.Chord.{long-fine}
 use Rattle.checks.proofs.arc.arc_chord.Statement.{statement}
 use Rattle.checks.proofs.arc.arc_chord.Tie as tie
 
-of-arc : (c : tie.After-sub)
+of-arc : (c : tie.After-sub-chord)
     → (let a = c.before.before.before.before.before.args in
     Arc.arc_chord a.a a.b a.owner a.index
-    ≡ Each.chord (vector2.length c.sub.result) (at a.owner a.index Chord))
+    ≡ Each.chord (vector2.length c.sub-chord.result) (at a.owner a.index Chord))
 unfolding Arc.arc_chord
 of-arc c =
     let ends = c.before.before in
     let test = ends.before in
     simp (
-      ← test.before.bulge-is-zero.ensures,
-      test.if1.false,
+      ← test.bulge_is_zero.ensures,
+      test.if-bulge_is_zero.false,
       ← ends.pos.ensures,
-      ← c.before.pos2.ensures,
-      ← c.sub.ensures,
+      ← c.pos-2.ensures,
+      ← c.sub-chord.ensures,
     )
 
-returns : tie.Need-returns
+returns : tie.Need-returns-then-bulge_is_zero
 unfolding Arc.arc_chord
-returns c = said-so _ _ _ _ _ c.before.bulge-is-zero.ensures c.if1.true refl
+returns c = said-so _ _ _ _ _ c.bulge_is_zero.ensures c.if-bulge_is_zero.true refl
 
-pub arc-chord-spec : {M : Type 1} → statement M
-arc-chord-spec =
+pub arc_chord_spec : {M : Type 1} → statement M
+arc_chord_spec =
     tie.close
     (tie.spec
     (λ c. search rules) returns (λ c. search rules) (λ c. search rules) (λ c. search rules) (λ c. search rules)
     (λ c. let s = c.before in
-    simp (of-arc s.before, long-fine _ _ s.length-squared.ensures c.if2.true))
+    simp (of-arc s.before, long-fine _ _ s.length_squared.ensures c.if-length_squared.true))
     (λ c. search rules) (λ c. search rules) (λ c. search rules)
     (λ c. let l = c.before.before in
-    simp (of-arc l.before.before.before, l.length.ensures, c.before.at.ensures, c.chord.ensures)))
+    simp (of-arc l.before.before.before, l.length.ensures, c.at.ensures, c.chord.ensures)))

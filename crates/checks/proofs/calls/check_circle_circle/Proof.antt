@@ -9,10 +9,10 @@ use Rattle.checks.proofs.calls.check_circle_circle.Tie as tie
 returns : tie.Need-returns
 unfolding Calls.check_circle_circle
 returns c =
-    let a0 = alone c.before.before.epsilon.ensures in
-    let a1 = with-checks a0 (circle_checks _ _ _ _) c.before.circle-after.ensures in
-    (with-checks a1 (circle_checks _ _ _ _) c.circle-after2.ensures).is
+    let a0 = alone c.epsilon-a0.ensures in
+    let a1 = with-checks a0 (circle_checks _ _ _ _) c.circle_after-a1.ensures in
+    (with-checks a1 (circle_checks _ _ _ _) c.circle_after.ensures).is
 
-pub check-circle-circle-spec : {M : Type 1} → statement M
-check-circle-circle-spec =
+pub check_circle_circle_spec : {M : Type 1} → statement M
+check_circle_circle_spec =
     tie.close (tie.spec (search rules) (search rules) (search rules) returns)

@@ -10,11 +10,11 @@ returns : tie.Need-returns
 unfolding Calls.check_line_circle
 returns c =
     let p1 = c.before in
-    let a0 = alone p1.before.before.epsilon.ensures in
-    let a1 = with-checks a0 (point_checks _ _ _ _) p1.before.point-after.ensures in
-    let a2 = with-checks a1 (point_checks _ _ _ _) p1.point-after2.ensures in
-    (with-checks a2 (circle_checks _ _ _ _) c.circle-after.ensures).is
+    let a0 = alone p1.epsilon-a0.ensures in
+    let a1 = with-checks a0 (point_checks _ _ _ _) p1.point_after-a1.ensures in
+    let a2 = with-checks a1 (point_checks _ _ _ _) p1.point_after-a2.ensures in
+    (with-checks a2 (circle_checks _ _ _ _) c.circle_after.ensures).is
 
-pub check-line-circle-spec : {M : Type 1} → statement M
-check-line-circle-spec =
+pub check_line_circle_spec : {M : Type 1} → statement M
+check_line_circle_spec =
     tie.close (tie.spec (search rules) (search rules) (search rules) (search rules) returns)

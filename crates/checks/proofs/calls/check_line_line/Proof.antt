@@ -10,12 +10,12 @@ returns : tie.Need-returns
 unfolding Calls.check_line_line
 returns c =
     let p2 = c.before.before in
-    let a0 = alone p2.before.before.epsilon.ensures in
-    let a1 = with-checks a0 (point_checks _ _ _ _) p2.before.point-after.ensures in
-    let a2 = with-checks a1 (point_checks _ _ _ _) p2.point-after2.ensures in
-    let a3 = with-checks a2 (point_checks _ _ _ _) c.before.point-after3.ensures in
-    (with-checks a3 (point_checks _ _ _ _) c.point-after4.ensures).is
+    let a0 = alone p2.epsilon-a0.ensures in
+    let a1 = with-checks a0 (point_checks _ _ _ _) p2.point_after-a1.ensures in
+    let a2 = with-checks a1 (point_checks _ _ _ _) p2.point_after-a2.ensures in
+    let a3 = with-checks a2 (point_checks _ _ _ _) c.point_after-a3.ensures in
+    (with-checks a3 (point_checks _ _ _ _) c.point_after.ensures).is
 
-pub check-line-line-spec : {M : Type 1} → statement M
-check-line-line-spec =
+pub check_line_line_spec : {M : Type 1} → statement M
+check_line_line_spec =
     tie.close (tie.spec (search rules) (search rules) (search rules) (search rules) (search rules) returns)

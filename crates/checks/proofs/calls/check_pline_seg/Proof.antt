@@ -11,16 +11,16 @@ unfolding Calls.check_pline_seg
 returns c =
     let p4 = c.before.before.before.before in
     let p6 = p4.before.before in
-    let a0 = alone p6.before.before.epsilon.ensures in
-    let a1 = with-checks a0 (vertex_checks _ _ _ _ _) p6.before.vertex-after.ensures in
-    let a2 = with-checks a1 (point_checks _ _ _ _) p6.point-after.ensures in
-    let a3 = with-checks a2 (vertex_checks _ _ _ _ _) p4.before.vertex-after2.ensures in
-    let a4 = with-checks a3 (point_checks _ _ _ _) p4.point-after2.ensures in
-    let a5 = with-check a4 _ c.before.before.before.arc-chord.ensures c.before.before.later.ensures in
-    (with-check a5 _ c.before.arc-chord2.ensures c.later2.ensures).is
+    let a0 = alone p6.epsilon-a0.ensures in
+    let a1 = with-checks a0 (vertex_checks _ _ _ _ _) p6.vertex_after-a1.ensures in
+    let a2 = with-checks a1 (point_checks _ _ _ _) p6.point_after-a2.ensures in
+    let a3 = with-checks a2 (vertex_checks _ _ _ _ _) p4.vertex_after-a3.ensures in
+    let a4 = with-checks a3 (point_checks _ _ _ _) p4.point_after-a4.ensures in
+    let a5 = with-check a4 _ c.arc_chord.ensures c.later-a5.ensures in
+    (with-check a5 _ c.arc_chord-2.ensures c.later.ensures).is
 
-pub check-pline-seg-spec : {M : Type 1} → statement M
-check-pline-seg-spec =
+pub check_pline_seg_spec : {M : Type 1} → statement M
+check_pline_seg_spec =
     tie.close
     (tie.spec
     (search rules) (search rules) (search rules) (search rules) (search rules) (search rules)

@@ -4,8 +4,8 @@ use Rattle.checks.specs.Workings.Inside.{circle-passed}
 use Rattle.checks.proofs.chain.circle_after.Statement.{statement}
 use Rattle.checks.proofs.chain.circle_after.Tie as tie
 
-returns : tie.Need-returns
-returns c = circle-passed _ _ _ _ _ (simp (← c.before.circle-inside.ensures, c.if1.true) tt)
+returns : tie.Need-returns-then-circle_inside
+returns c = circle-passed _ _ _ _ _ (simp (← c.circle_inside.ensures, c.if-circle_inside.true) tt)
 
-pub circle-after-spec : {M : Type 1} → statement M
-circle-after-spec = tie.close (tie.spec (search rules) returns (search rules) (λ c. c.circle-by-numbers.ensures))
+pub circle_after_spec : {M : Type 1} → statement M
+circle_after_spec = tie.close (tie.spec (search rules) returns (search rules) (λ c. c.circle_by_numbers.ensures))

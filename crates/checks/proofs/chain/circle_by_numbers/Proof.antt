@@ -7,21 +7,21 @@ use Rattle.checks.proofs.chain.circle_by_numbers.Tie as tie
 returns : tie.Need-returns
 returns c =
     simp (
-      c.later3.ensures,
-      c.before.center2.ensures,
-      c.before.before.at3.ensures,
-      c.before.before.before.later2.ensures,
-      c.before.before.before.before.center.ensures,
-      c.before.before.before.before.before.at2.ensures,
-      c.before.before.before.before.before.before.later.ensures,
-      c.before.before.before.before.before.before.before.radius.ensures,
-      c.before.before.before.before.before.before.before.before.at.ensures,
+      c.later.ensures,
+      c.center-2.ensures,
+      c.at-3.ensures,
+      c.later-b.ensures,
+      c.center.ensures,
+      c.at-2.ensures,
+      c.later-a.ensures,
+      c.radius.ensures,
+      c.at.ensures,
       later-assoc,
       fine-right,
     )
 
-pub circle-by-numbers-spec : {M : Type 1} → statement M
-circle-by-numbers-spec =
+pub circle_by_numbers_spec : {M : Type 1} → statement M
+circle_by_numbers_spec =
     tie.close
     (tie.spec
     (λ c. search rules) (λ c. search rules) (λ c. search rules) (λ c. search rules) (λ c. search rules) (λ c. search rules)

@@ -7,18 +7,18 @@ use Rattle.checks.proofs.chain.point_by_numbers.Tie as tie
 returns : tie.Need-returns
 returns c =
     simp (
-      c.later2.ensures,
-      c.before.coordinate2.ensures,
-      c.before.before.at2.ensures,
-      c.before.before.before.later.ensures,
-      c.before.before.before.before.coordinate.ensures,
-      c.before.before.before.before.before.at.ensures,
+      c.later.ensures,
+      c.coordinate-2.ensures,
+      c.at-2.ensures,
+      c.later-a.ensures,
+      c.coordinate.ensures,
+      c.at.ensures,
       later-assoc,
       fine-right,
     )
 
-pub point-by-numbers-spec : {M : Type 1} → statement M
-point-by-numbers-spec =
+pub point_by_numbers_spec : {M : Type 1} → statement M
+point_by_numbers_spec =
     tie.close
     (tie.spec
     (λ c. search rules) (λ c. search rules) (λ c. search rules) (λ c. search rules) (λ c. search rules) (λ c. search rules)

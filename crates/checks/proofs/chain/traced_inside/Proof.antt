@@ -4,11 +4,11 @@ use Rattle.float_laws.specs.Branches.{holds, fails}
 use Rattle.checks.proofs.chain.traced_inside.Statement.{statement}
 use Rattle.checks.proofs.chain.traced_inside.Tie as tie
 
-pub traced-inside-spec : {M : Type 1} → statement M
-traced-inside-spec =
+pub traced_inside_spec : {M : Type 1} → statement M
+traced_inside_spec =
     tie.close
     (tie.spec
     (λ c. search rules)
-    (λ c. holds _ _ _ _ c.if1.true c.before.vertex-inside.ensures)
+    (λ c. holds _ _ _ _ c.if-trace.true c.vertex_inside-inside.ensures)
     (λ c. search rules)
-    (λ c. fails _ _ _ _ c.before.if1.false (simp (← c.before.before.vertex-inside.ensures, ← c.no-trace.ensures))))
+    (λ c. fails _ _ _ _ c.if-trace.false (simp (← c.vertex_inside-inside.ensures, ← c.no_trace.ensures))))

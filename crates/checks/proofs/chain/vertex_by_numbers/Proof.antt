@@ -8,15 +8,15 @@ returns : tie.Need-returns
 returns c =
     simp (
       c.later.ensures,
-      c.before.bulge.ensures,
-      c.before.before.at.ensures,
-      c.before.before.before.point-by-numbers.ensures,
+      c.bulge.ensures,
+      c.at.ensures,
+      c.point_by_numbers-a.ensures,
       later-assoc,
       fine-right,
     )
 
-pub vertex-by-numbers-spec : {M : Type 1} → statement M
-vertex-by-numbers-spec =
+pub vertex_by_numbers_spec : {M : Type 1} → statement M
+vertex_by_numbers_spec =
     tie.close
     (tie.spec
     (λ c. search rules) (λ c. search rules) (λ c. search rules) (λ c. search rules)

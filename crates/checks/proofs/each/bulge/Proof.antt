@@ -4,8 +4,8 @@ use Rattle.checks.specs.Each.{bulge}
 use Rattle.checks.proofs.each.bulge.Statement.{statement}
 use Rattle.checks.proofs.each.bulge.Tie as tie
 
-pub bulge-spec : {M : Type 1} → statement M
+pub bulge_spec : {M : Type 1} → statement M
 unfolding bulge
-bulge-spec =
+bulge_spec =
     tie.close
-    (tie.spec (λ c. search rules) (λ c. search rules) (λ c. simp (c.before.beyond.ensures, c.finite-then.ensures)))
+    (tie.spec (λ c. search rules) (λ c. search rules) (λ c. simp (c.beyond.ensures, c.finite_then.ensures)))

@@ -4,8 +4,8 @@ use Rattle.checks.specs.Each.{center}
 use Rattle.checks.proofs.each.center.Statement.{statement}
 use Rattle.checks.proofs.each.center.Tie as tie
 
-pub center-spec : {M : Type 1} → statement M
+pub center_spec : {M : Type 1} → statement M
 unfolding center
-center-spec =
+center_spec =
     tie.close
-    (tie.spec (λ c. search rules) (λ c. search rules) (λ c. simp (c.before.beyond.ensures, c.finite-then.ensures)))
+    (tie.spec (λ c. search rules) (λ c. search rules) (λ c. simp (c.beyond.ensures, c.finite_then.ensures)))

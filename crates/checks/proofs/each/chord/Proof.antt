@@ -4,6 +4,6 @@ use Rattle.checks.specs.Each.{chord}
 use Rattle.checks.proofs.each.chord.Statement.{statement}
 use Rattle.checks.proofs.each.chord.Tie as tie
 
-pub chord-spec : {M : Type 1} → statement M
+pub chord_spec : {M : Type 1} → statement M
 unfolding chord
-chord-spec = tie.close (tie.spec (λ c. search rules) (λ c. simp c.refuse.ensures))
+chord_spec = tie.close (tie.spec (λ c. search rules) (λ c. simp c.refuse.ensures))

@@ -4,8 +4,8 @@ use Rattle.checks.specs.Each.{coordinate}
 use Rattle.checks.proofs.each.coordinate.Statement.{statement}
 use Rattle.checks.proofs.each.coordinate.Tie as tie
 
-pub coordinate-spec : {M : Type 1} → statement M
+pub coordinate_spec : {M : Type 1} → statement M
 unfolding coordinate
-coordinate-spec =
+coordinate_spec =
     tie.close
-    (tie.spec (λ c. search rules) (λ c. search rules) (λ c. simp (c.before.beyond.ensures, c.finite-then.ensures)))
+    (tie.spec (λ c. search rules) (λ c. search rules) (λ c. simp (c.beyond.ensures, c.finite_then.ensures)))

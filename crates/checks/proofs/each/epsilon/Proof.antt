@@ -4,11 +4,11 @@ use Rattle.checks.specs.Each.{epsilon}
 use Rattle.checks.proofs.each.epsilon.Statement.{statement}
 use Rattle.checks.proofs.each.epsilon.Tie as tie
 
-pub epsilon-spec : {M : Type 1} → statement M
+pub epsilon_spec : {M : Type 1} → statement M
 unfolding epsilon
-epsilon-spec =
+epsilon_spec =
     tie.close
     (tie.spec
     (λ c. search rules) (λ c. search rules) (λ c. search rules) (λ c. search rules)
     (λ c. let p = c.before.before in
-    simp (p.before.not-Finite.ensures, p.outside.ensures, c.before.at.ensures, c.refuse.ensures)))
+    simp (p.not_finite.ensures, p.outside.ensures, c.at.ensures, c.refuse.ensures)))

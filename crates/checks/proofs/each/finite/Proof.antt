@@ -10,10 +10,10 @@ returns c =
     let b = c.before in
     let i = b.before in
     let a = i.before in
-    simp (a.before.is_nan.ensures, a.refuse.ensures, i.is-infinite.ensures, b.refuse2.ensures, c.later.ensures)
+    simp (a.is_nan.ensures, a.refuse-a.ensures, i.is_infinite.ensures, b.refuse.ensures, c.later.ensures)
 
-pub finite-spec : {M : Type 1} → statement M
-finite-spec =
+pub finite_spec : {M : Type 1} → statement M
+finite_spec =
     tie.close
     (tie.spec
     (λ c. search rules) (λ c. search rules) (λ c. search rules) (λ c. search rules) (λ c. search rules) returns)

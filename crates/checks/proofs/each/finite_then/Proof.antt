@@ -4,10 +4,10 @@ use Rattle.checks.specs.Each.{finite_then}
 use Rattle.checks.proofs.each.finite_then.Statement.{statement}
 use Rattle.checks.proofs.each.finite_then.Tie as tie
 
-pub finite-then-spec : {M : Type 1} → statement M
+pub finite_then_spec : {M : Type 1} → statement M
 unfolding finite_then
-finite-then-spec =
+finite_then_spec =
     tie.close
     (tie.spec
     (λ c. search rules) (λ c. search rules) (λ c. search rules)
-    (λ c. simp (← c.before.before.finite.ensures, ← c.before.refuse.ensures, ← c.later.ensures)))
+    (λ c. simp (← c.finite-a.ensures, ← c.refuse.ensures, ← c.later.ensures)))

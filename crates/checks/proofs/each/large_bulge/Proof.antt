@@ -4,8 +4,8 @@ use Rattle.checks.specs.Each.{large_bulge}
 use Rattle.checks.proofs.each.large_bulge.Statement.{statement}
 use Rattle.checks.proofs.each.large_bulge.Tie as tie
 
-pub large-bulge-spec : {M : Type 1} → statement M
+pub large_bulge_spec : {M : Type 1} → statement M
 unfolding large_bulge
-large-bulge-spec =
+large_bulge_spec =
     tie.close
-    (tie.spec (λ c. search rules) (λ c. search rules) (λ c. simp (c.before.beyond.ensures, c.finite-then.ensures)))
+    (tie.spec (λ c. search rules) (λ c. search rules) (λ c. simp (c.beyond.ensures, c.finite_then.ensures)))

@@ -4,8 +4,8 @@ use Rattle.checks.specs.Each.{radius}
 use Rattle.checks.proofs.each.radius.Statement.{statement}
 use Rattle.checks.proofs.each.radius.Tie as tie
 
-pub radius-spec : {M : Type 1} → statement M
+pub radius_spec : {M : Type 1} → statement M
 unfolding radius
-radius-spec =
+radius_spec =
     tie.close
-    (tie.spec (λ c. search rules) (λ c. search rules) (λ c. simp (c.before.outside.ensures, c.finite-then.ensures)))
+    (tie.spec (λ c. search rules) (λ c. search rules) (λ c. simp (c.outside.ensures, c.finite_then.ensures)))

@@ -4,8 +4,8 @@ use Rattle.checks.specs.Each.{trace}
 use Rattle.checks.proofs.each.trace.Statement.{statement}
 use Rattle.checks.proofs.each.trace.Tie as tie
 
-pub trace-spec : {M : Type 1} → statement M
+pub trace_spec : {M : Type 1} → statement M
 unfolding trace
-trace-spec =
+trace_spec =
     tie.close
-    (tie.spec (λ c. search rules) (λ c. search rules) (λ c. simp (c.before.no-trace.ensures, c.finite-then.ensures)))
+    (tie.spec (λ c. search rules) (λ c. search rules) (λ c. simp (c.no_trace.ensures, c.finite_then.ensures)))

@@ -4,11 +4,11 @@ use Rattle.checks.specs.Fault.{later}
 use Rattle.checks.proofs.fault.later.Statement.{statement}
 use Rattle.checks.proofs.fault.later.Tie as tie
 
-pub later-spec : {M : Type 1} → statement M
+pub later_spec : {M : Type 1} → statement M
 unfolding later
-later-spec =
+later_spec =
     tie.close
     (tie.spec
     (λ c. search rules) (λ c. search rules)
-    (λ c. simp c.enum_told.given.1)
-    (λ c. simp c.before.earlier.given.1))
+    (λ c. simp c.in-Fine.is)
+    (λ c. simp c.in-Bad.is))

@@ -5,13 +5,13 @@ use Rattle.checks.specs.Fault.{refuse}
 use Rattle.checks.proofs.fault.refuse.Statement.{statement}
 use Rattle.checks.proofs.fault.refuse.Tie as tie
 
-returns : tie.Need-returns
+returns : tie.Need-returns-then-bad
 unfolding refuse
-returns c = holds _ _ _ _ c.if1.true refl
+returns c = holds _ _ _ _ c.if-bad.true refl
 
-returns-2 : tie.Need-returns-2
+returns-2 : tie.Need-returns
 unfolding refuse
-returns-2 c = fails _ _ _ _ c.if1.false refl
+returns-2 c = fails _ _ _ _ c.if-bad.false refl
 
-pub refuse-spec : {M : Type 1} → statement M
-refuse-spec = tie.close (tie.spec returns returns-2)
+pub refuse_spec : {M : Type 1} → statement M
+refuse_spec = tie.close (tie.spec returns returns-2)

@@ -3,5 +3,5 @@ use borrow.Author.Rules.{rules}
 use Rattle.checks.proofs.fault.whole.Statement.{statement}
 use Rattle.checks.proofs.fault.whole.Tie as tie
 
-pub whole-spec : {M : Type 1} → statement M
-whole-spec = tie.close (tie.spec (λ c. search rules) (λ c. simp c.at.ensures))
+pub whole_spec : {M : Type 1} → statement M
+whole_spec = tie.close (tie.spec (λ c. search rules) (λ c. simp c.at.ensures))

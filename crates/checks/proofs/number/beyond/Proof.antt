@@ -4,6 +4,6 @@ use Rattle.checks.specs.Number.{beyond}
 use Rattle.checks.proofs.number.beyond.Statement.{statement}
 use Rattle.checks.proofs.number.beyond.Tie as tie
 
-pub beyond-spec : {M : Type 1} → statement M
+pub beyond_spec : {M : Type 1} → statement M
 unfolding beyond
-beyond-spec = tie.close (tie.spec (λ c. search rules) (λ c. simp (← c.abs.ensures)))
+beyond_spec = tie.close (tie.spec (λ c. search rules) (λ c. simp (← c.abs.ensures)))

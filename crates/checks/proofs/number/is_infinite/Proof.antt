@@ -25,5 +25,5 @@ one_of_two (fin s m e) = refl
 returns : tie.Need-returns
 returns c = simp (plus, minus) (one_of_two c.args.x)
 
-pub is-infinite-spec : {M : Type 1} → statement M
-is-infinite-spec = tie.close (tie.spec returns)
+pub is_infinite_spec : {M : Type 1} → statement M
+is_infinite_spec = tie.close (tie.spec returns)

@@ -25,5 +25,5 @@ differs (fin false m e) = same (m * up e * down e)
 returns : tie.Need-returns
 returns c = differs c.args.x
 
-pub is-nan-spec : {M : Type 1} → statement M
-is-nan-spec = tie.close (tie.spec returns)
+pub is_nan_spec : {M : Type 1} → statement M
+is_nan_spec = tie.close (tie.spec returns)

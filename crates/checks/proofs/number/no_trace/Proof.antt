@@ -4,6 +4,6 @@ use Rattle.checks.specs.Laws.TraceBySum.{by-sum-is}
 use Rattle.checks.proofs.number.no_trace.Statement.{statement}
 use Rattle.checks.proofs.number.no_trace.Tie as tie
 
-pub no-trace-spec : {M : Type 1} → statement M
-no-trace-spec =
+pub no_trace_spec : {M : Type 1} → statement M
+no_trace_spec =
     tie.close (tie.spec (λ c. search rules) (λ c. simp c.outside.ensures (by-sum-is c.before.args.x)))

@@ -4,8 +4,8 @@ use Rattle.checks.specs.Number.{not_finite}
 use Rattle.checks.proofs.number.not_finite.Statement.{statement}
 use Rattle.checks.proofs.number.not_finite.Tie as tie
 
-pub not-finite-spec : {M : Type 1} → statement M
+pub not_finite_spec : {M : Type 1} → statement M
 unfolding not_finite
-not-finite-spec =
+not_finite_spec =
     tie.close
-    (tie.spec (λ c. search rules) (λ c. search rules) (λ c. simp (← c.before.is_nan.ensures, ← c.is-infinite.ensures)))
+    (tie.spec (λ c. search rules) (λ c. search rules) (λ c. simp (← c.is_nan.ensures, ← c.is_infinite.ensures)))

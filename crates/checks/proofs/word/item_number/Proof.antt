@@ -3,19 +3,19 @@ use borrow.Author.Rules.{rules}
 use Rattle.checks.proofs.word.item_number.Statement.{statement}
 use Rattle.checks.proofs.word.item_number.Tie as tie
 
-pub item-number-spec : {M : Type 1} → statement M
-item-number-spec =
+pub item_number_spec : {M : Type 1} → statement M
+item_number_spec =
     tie.close
     (tie.spec
     (λ c. search rules) (λ c. search rules) (λ c. search rules) (λ c. search rules) (λ c. search rules) (λ c. search rules)
     (λ c. search rules) (λ c. search rules) (λ c. search rules) (λ c. search rules) (λ c. search rules) (λ c. search rules)
     (λ c. search rules) (λ c. search rules) (λ c. search rules) (λ c. search rules) (λ c. search rules) (λ c. search rules)
     (λ c. search rules)
-    (λ c. simp c.enum_told.given.1) (λ c. simp c.enum-told2.given.1) (λ c. simp c.enum-told3.given.1)
-    (λ c. simp c.enum-told4.given.1) (λ c. simp c.enum-told5.given.1) (λ c. simp c.enum-told6.given.1)
-    (λ c. simp c.enum-told7.given.1) (λ c. simp c.enum-told8.given.1) (λ c. simp c.enum-told9.given.1)
-    (λ c. simp c.enum-told10.given.1) (λ c. simp c.enum-told11.given.1) (λ c. simp c.enum-told12.given.1)
-    (λ c. simp c.enum-told13.given.1) (λ c. simp c.enum-told14.given.1)
-    (λ c. simp c.enum-told15.given.1) (λ c. simp c.enum-told16.given.1)
-    (λ c. simp c.enum-told17.given.1) (λ c. simp c.enum-told18.given.1)
-    (λ c. simp c.enum-told19.given.1))
+    (λ c. simp c.in-Epsilon.is) (λ c. simp c.in-X.is) (λ c. simp c.in-Y.is)
+    (λ c. simp c.in-Bulge.is) (λ c. simp c.in-Radius.is) (λ c. simp c.in-CenterX.is)
+    (λ c. simp c.in-CenterY.is) (λ c. simp c.in-Chord.is) (λ c. simp c.in-Length.is)
+    (λ c. simp c.in-Rows.is) (λ c. simp c.in-Position.is) (λ c. simp c.in-Budget.is)
+    (λ c. simp c.in-Boxes.is) (λ c. simp c.in-Trace.is)
+    (λ c. simp c.in-Report.is) (λ c. simp c.in-Line.is)
+    (λ c. simp c.in-Room.is) (λ c. simp c.in-CutX.is)
+    (λ c. simp c.in-CutY.is))

@@ -7,17 +7,17 @@ use Rattle.checks.specs.Word.{word}
 use Rattle.checks.proofs.word.word.Statement.{statement}
 use Rattle.checks.proofs.word.word.Tie as tie
 
-few : (c : tie.After-struct-known3) → c.before.before.item-number.result < items
+few : (c : tie.After-struct_known-3-1) → c.item_number-item.result < items
 few c =
     let n = c.before.before in
-    omega (arith, n.item-number.ensures, item-below n.before.before.before.args.fault.place.item)
+    omega (arith, n.item_number-item.ensures, item-below n.before.before.before.args.fault.place.item)
 
 returns : tie.Need-returns
 unfolding word
-returns c = simp c.before.before.item-number.ensures
+returns c = simp c.item_number-item.ensures
 
-pub word-spec : {M : Type 1} → statement M
-word-spec =
+pub word_spec : {M : Type 1} → statement M
+word_spec =
     tie.close
     (tie.spec
     (λ c. search rules) (λ c. omega arith) (λ c. omega (arith, few c)) (λ c. omega (arith, few c)) (λ c. omega (arith, few c))

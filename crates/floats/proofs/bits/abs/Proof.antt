@@ -8,5 +8,5 @@ returns : tie.Need-returns
 unfolding Bits.abs
 returns c = and_mask c.args.b 63
 
-pub abs-spec : {M : Type 1} → statement M
-abs-spec = tie.close (tie.spec returns)
+pub abs_spec : {M : Type 1} → statement M
+abs_spec = tie.close (tie.spec returns)

@@ -9,5 +9,5 @@ use Rattle.floats.proofs.bits.is_nan.Tie as tie
 returns : tie.Need-returns
 returns c = ap (λ (z : ℕ). ltb 0x7ff0_0000_0000_0000 z) (and_mask c.args.b 63) ∙ sym (nan_bits_above binary64 c.args.b)
 
-pub is-nan-spec : {M : Type 1} → statement M
-is-nan-spec = tie.close (tie.spec returns)
+pub is_nan_spec : {M : Type 1} → statement M
+is_nan_spec = tie.close (tie.spec returns)

@@ -4,9 +4,9 @@ use Rattle.floats.specs.Bits
 use Rattle.floats.proofs.bits.max.Statement.{statement}
 use Rattle.floats.proofs.bits.max.Tie as tie
 
-pub max-spec : {M : Type 1} → statement M
+pub max_spec : {M : Type 1} → statement M
 unfolding Bits.max
-max-spec =
+max_spec =
     tie.close
     (tie.spec
     (λ c. search rules) (λ c. search rules)

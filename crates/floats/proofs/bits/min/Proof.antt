@@ -4,9 +4,9 @@ use Rattle.floats.specs.Bits
 use Rattle.floats.proofs.bits.min.Statement.{statement}
 use Rattle.floats.proofs.bits.min.Tie as tie
 
-pub min-spec : {M : Type 1} → statement M
+pub min_spec : {M : Type 1} → statement M
 unfolding Bits.min
-min-spec =
+min_spec =
     tie.close
     (tie.spec
     (λ c. search rules) (λ c. search rules)

@@ -11,13 +11,13 @@ pick_spec =
     (tie.spec
     (λ c. search rules) (λ c. search rules)
     (λ c. let a = c.before.before in
-    simp (← a.before.is_nan.ensures, a.if1.true, ← c.before.is-nan2.ensures, c.if2.true))
+    simp (← a.before.is_nan.ensures, a.if-is_nan.true, ← c.before.is_nan-then-is_nan.ensures, c.if-is_nan-2.true))
     (λ c. let a = c.before.before in
-    simp (← a.before.is_nan.ensures, a.if1.true, ← c.before.is-nan2.ensures, c.if2.false))
+    simp (← a.before.is_nan.ensures, a.if-is_nan.true, ← c.before.is_nan-then-is_nan.ensures, c.if-is_nan-2.false))
     (λ c. search rules)
     (λ c. let a = c.before.before in
-    simp (← a.before.is_nan.ensures, a.if1.false, ← c.before.is-nan3.ensures, c.if3.true))
+    simp (← a.before.is_nan.ensures, a.if-is_nan.false, ← c.before.is_nan-2.ensures, c.if-is_nan-3.true))
     (λ c. let b = c.before in let a = b.before.before in
-    simp (← a.before.is_nan.ensures, a.if1.false, ← b.before.is-nan3.ensures, b.if3.false, c.if4.true))
+    simp (← a.before.is_nan.ensures, a.if-is_nan.false, ← b.before.is_nan-2.ensures, b.if-is_nan-3.false, c.if-first.true))
     (λ c. let b = c.before in let a = b.before.before in
-    simp (← a.before.is_nan.ensures, a.if1.false, ← b.before.is-nan3.ensures, b.if3.false, c.if4.false)))
+    simp (← a.before.is_nan.ensures, a.if-is_nan.false, ← b.before.is_nan-2.ensures, b.if-is_nan-3.false, c.if-first.false)))

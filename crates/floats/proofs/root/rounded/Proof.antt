@@ -33,65 +33,65 @@ at0 c = go (number c) (first c) (number c % 2 ^ 64) (range c) (same c) (is_one c
         → Turn x 52 (record { rest = (z - d) + (z - d); step = d + d + d / 2; unit = d / 2 })
     go x d z r a b = start x _ r.0 r.1 (omega arith) (omega arith) (omega arith)
 
-at1 : (c : tie.After-four-turns) → Turn (number c.before) 48 c.four-turns.result
-at1 c = after-four _ 48 _ _ c.four-turns.ensures (at0 c.before)
+at1 : (c : tie.After-four_turns-s1) → Turn (number c.before) 48 c.four_turns-s1.result
+at1 c = after-four _ 48 _ _ c.four_turns-s1.ensures (at0 c.before)
 
-at2 : (c : tie.After-four-turns2) → Turn (number c.before.before) 44 c.four-turns2.result
-at2 c = after-four _ 44 _ _ c.four-turns2.ensures (at1 c.before)
+at2 : (c : tie.After-four_turns-s2) → Turn (number c.before.before) 44 c.four_turns-s2.result
+at2 c = after-four _ 44 _ _ c.four_turns-s2.ensures (at1 c.before)
 
-at3 : (c : tie.After-four-turns3) → Turn (number c.before.before.before) 40 c.four-turns3.result
-at3 c = after-four _ 40 _ _ c.four-turns3.ensures (at2 c.before)
+at3 : (c : tie.After-four_turns-s3) → Turn (number c.before.before.before) 40 c.four_turns-s3.result
+at3 c = after-four _ 40 _ _ c.four_turns-s3.ensures (at2 c.before)
 
-at4 : (c : tie.After-four-turns4) → Turn (number c.before.before.before.before) 36 c.four-turns4.result
-at4 c = after-four _ 36 _ _ c.four-turns4.ensures (at3 c.before)
+at4 : (c : tie.After-four_turns-s4) → Turn (number c.before.before.before.before) 36 c.four_turns-s4.result
+at4 c = after-four _ 36 _ _ c.four_turns-s4.ensures (at3 c.before)
 
-at5 : (c : tie.After-four-turns5) → Turn (number c.before.before.before.before.before) 32 c.four-turns5.result
-at5 c = after-four _ 32 _ _ c.four-turns5.ensures (at4 c.before)
+at5 : (c : tie.After-four_turns-s5) → Turn (number c.before.before.before.before.before) 32 c.four_turns-s5.result
+at5 c = after-four _ 32 _ _ c.four_turns-s5.ensures (at4 c.before)
 
-at6 : (c : tie.After-four-turns6)
-    → Turn (number c.before.before.before.before.before.before) 28 c.four-turns6.result
-at6 c = after-four _ 28 _ _ c.four-turns6.ensures (at5 c.before)
+at6 : (c : tie.After-four_turns-s6)
+    → Turn (number c.before.before.before.before.before.before) 28 c.four_turns-s6.result
+at6 c = after-four _ 28 _ _ c.four_turns-s6.ensures (at5 c.before)
 
-at7 : (c : tie.After-four-turns7)
-    → Turn (number c.before.before.before.before.before.before.before) 24 c.four-turns7.result
-at7 c = after-four _ 24 _ _ c.four-turns7.ensures (at6 c.before)
+at7 : (c : tie.After-four_turns-s7)
+    → Turn (number c.before.before.before.before.before.before.before) 24 c.four_turns-s7.result
+at7 c = after-four _ 24 _ _ c.four_turns-s7.ensures (at6 c.before)
 
-at8 : (c : tie.After-four-turns8)
-    → Turn (number c.before.before.before.before.before.before.before.before) 20 c.four-turns8.result
-at8 c = after-four _ 20 _ _ c.four-turns8.ensures (at7 c.before)
+at8 : (c : tie.After-four_turns-s8)
+    → Turn (number c.before.before.before.before.before.before.before.before) 20 c.four_turns-s8.result
+at8 c = after-four _ 20 _ _ c.four_turns-s8.ensures (at7 c.before)
 
-at9 : (c : tie.After-four-turns9)
-    → Turn (number c.before.before.before.before.before.before.before.before.before) 16 c.four-turns9.result
-at9 c = after-four _ 16 _ _ c.four-turns9.ensures (at8 c.before)
+at9 : (c : tie.After-four_turns-s9)
+    → Turn (number c.before.before.before.before.before.before.before.before.before) 16 c.four_turns-s9.result
+at9 c = after-four _ 16 _ _ c.four_turns-s9.ensures (at8 c.before)
 
-at10 : (c : tie.After-four-turns10)
+at10 : (c : tie.After-four_turns-s10)
     → Turn (number c.before.before.before.before.before.before.before.before.before.before) 12
-    c.four-turns10.result
-at10 c = after-four _ 12 _ _ c.four-turns10.ensures (at9 c.before)
+    c.four_turns-s10.result
+at10 c = after-four _ 12 _ _ c.four_turns-s10.ensures (at9 c.before)
 
-at11 : (c : tie.After-four-turns11)
+at11 : (c : tie.After-four_turns-s11)
     → Turn (number c.before.before.before.before.before.before.before.before.before.before.before) 8
-    c.four-turns11.result
-at11 c = after-four _ 8 _ _ c.four-turns11.ensures (at10 c.before)
+    c.four_turns-s11.result
+at11 c = after-four _ 8 _ _ c.four_turns-s11.ensures (at10 c.before)
 
-at12 : (c : tie.After-four-turns12)
+at12 : (c : tie.After-four_turns-s12)
     → Turn (number c.before.before.before.before.before.before.before.before.before.before.before.before) 4
-    c.four-turns12.result
-at12 c = after-four _ 4 _ _ c.four-turns12.ensures (at11 c.before)
+    c.four_turns-s12.result
+at12 c = after-four _ 4 _ _ c.four_turns-s12.ensures (at11 c.before)
 
-at13 : (c : tie.After-four-turns13)
+at13 : (c : tie.After-four_turns-s13)
     → Turn (number c.before.before.before.before.before.before.before.before.before.before.before.before.before) 0
-    c.four-turns13.result
-at13 c = after-four _ 0 _ _ c.four-turns13.ensures (at12 c.before)
+    c.four_turns-s13.result
+at13 c = after-four _ 0 _ _ c.four_turns-s13.ensures (at12 c.before)
 
-returns : tie.Need-returns
-returns c = let t = at13 c.before.before.before in down _ _ t (omega (arith, c.if1.true))
+returns : tie.Need-returns-then-s13-doubled
+returns c = let t = at13 c.before.before.before in down _ _ t (omega (arith, c.if-s13-doubled.true))
 
-returns-2 : tie.Need-returns-2
-returns-2 c = let t = at13 c.before.before.before in up _ _ t (omega (arith, c.if1.false))
+returns-2 : tie.Need-returns
+returns-2 c = let t = at13 c.before.before.before in up _ _ t (omega (arith, c.if-s13-doubled.false))
 
-pub rounded-spec : {M : Type 1} → statement M
-rounded-spec =
+pub rounded_spec : {M : Type 1} → statement M
+rounded_spec =
     tie.close
     (tie.spec
     (λ c. search rules)

@@ -23,23 +23,23 @@ module _ (s : Turning) (t : Room s) (left : ℕ) (is : (left + s.step) % 2 ^ 64 
 abbrev one : Turning → ℕ → Turning
 one s left = record { rest = left + left; step = s.step - s.unit / 2 + s.unit + s.unit; unit = s.unit / 2 }
 
-returns : tie.Need-returns
+returns : tie.Need-returns-then-left-ge-BELOW_ZERO
 unfolding Root.turn
 returns c =
     let tested = c.before.before in
     let start = tested.before.before.before in
-    let left = tested.wrapping-sub-u64 in
-    let less = wrapped start.args.s start.requires _ left.ensures left.type-inv c.before.if1.true in
+    let left = tested.wrapping_sub_u64-left in
+    let less = wrapped start.args.s start.requires _ left.ensures left.type_inv c.before.if-left-ge-BELOW_ZERO.true in
     fails _ _ _ _ (lt-leb _ _ less) refl
 
-returns-2 : tie.Need-returns-2
+returns-2 : tie.Need-returns
 unfolding Root.turn
 returns-2 c =
     let tested = c.before.before.before in
     let start = tested.before.before.before in
     let s = start.args.s in
-    let is = tested.wrapping-sub-u64.ensures in
-    let l = c.before.before.if1.false in
+    let is = tested.wrapping_sub_u64-left.ensures in
+    let l = c.before.before.if-left-ge-BELOW_ZERO.false in
     ap (one s) (same s start.requires _ is l) ∙ holds _ _ _ _ (le-leb _ _ (enough s start.requires _ is l)) refl
 
 pub turn_spec : {M : Type 1} → statement M

@@ -4,7 +4,7 @@ use Rattle.plane.specs.BaseMath
 use Rattle.plane.proofs.base_math.dist_squared.Statement.{statement}
 use Rattle.plane.proofs.base_math.dist_squared.Tie as tie
 
-pub dist-squared-spec : {M : Type 1} → statement M
+pub dist_squared_spec : {M : Type 1} → statement M
 unfolding BaseMath.dist_squared
-dist-squared-spec =
-    tie.close (tie.spec (λ c. search rules) (λ c. search rules) (λ c. simp (← c.before.sub.ensures, ← c.dot.ensures)))
+dist_squared_spec =
+    tie.close (tie.spec (λ c. search rules) (λ c. search rules) (λ c. simp (← c.before.sub-d.ensures, ← c.dot.ensures)))

@@ -5,13 +5,13 @@ use Rattle.plane.specs.BaseMath
 use Rattle.plane.proofs.base_math.min_max.Statement.{statement}
 use Rattle.plane.proofs.base_math.min_max.Tie as tie
 
-returns : tie.Need-returns
+returns : tie.Need-returns-then-v1-v2
 unfolding BaseMath.min_max
-returns c = holds _ _ _ _ c.if1.true refl
+returns c = holds _ _ _ _ c.if-v1-v2.true refl
 
-returns-2 : tie.Need-returns-2
+returns-2 : tie.Need-returns
 unfolding BaseMath.min_max
-returns-2 c = fails _ _ _ _ c.if1.false refl
+returns-2 c = fails _ _ _ _ c.if-v1-v2.false refl
 
-pub min-max-spec : {M : Type 1} → statement M
-min-max-spec = tie.close (tie.spec returns returns-2)
+pub min_max_spec : {M : Type 1} → statement M
+min_max_spec = tie.close (tie.spec returns returns-2)

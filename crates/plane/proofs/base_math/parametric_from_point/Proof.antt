@@ -5,18 +5,18 @@ use Rattle.plane.specs.BaseMath
 use Rattle.plane.proofs.base_math.parametric_from_point.Statement.{statement}
 use Rattle.plane.proofs.base_math.parametric_from_point.Tie as tie
 
-returns : tie.Need-returns
+returns : tie.Need-returns-then-abs
 unfolding BaseMath.parametric_from_point
 returns c =
     let t = c.before.before in
-    simp (← t.before.before.abs.ensures, ← t.before.abs2.ensures, t.if1.true)
+    simp (← t.before.before.abs.ensures, ← t.before.abs-2.ensures, t.if-abs.true)
 
-returns-2 : tie.Need-returns-2
+returns-2 : tie.Need-returns
 unfolding BaseMath.parametric_from_point
 returns-2 c =
     let t = c.before.before in
-    simp (← t.before.before.abs.ensures, ← t.before.abs2.ensures, t.if1.false)
+    simp (← t.before.before.abs.ensures, ← t.before.abs-2.ensures, t.if-abs.false)
 
-pub parametric-from-point-spec : {M : Type 1} → statement M
-parametric-from-point-spec =
+pub parametric_from_point_spec : {M : Type 1} → statement M
+parametric_from_point_spec =
     tie.close (tie.spec (λ c. search rules) (λ c. search rules) returns returns-2)

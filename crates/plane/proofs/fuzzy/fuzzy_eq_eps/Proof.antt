@@ -4,6 +4,6 @@ use Rattle.plane.specs.Fuzzy
 use Rattle.plane.proofs.fuzzy.fuzzy_eq_eps.Statement.{statement}
 use Rattle.plane.proofs.fuzzy.fuzzy_eq_eps.Tie as tie
 
-pub fuzzy-eq-eps-spec : {M : Type 1} → statement M
+pub fuzzy_eq_eps_spec : {M : Type 1} → statement M
 unfolding Fuzzy.fuzzy_eq_eps Fuzzy.fuzzy_eq_zero_eps
-fuzzy-eq-eps-spec = tie.close (tie.spec (λ c. search rules) (λ c. c.fuzzy-eq-zero-eps.ensures))
+fuzzy_eq_eps_spec = tie.close (tie.spec (λ c. search rules) (λ c. c.fuzzy_eq_zero_eps.ensures))

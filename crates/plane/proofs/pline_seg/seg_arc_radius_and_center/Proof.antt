@@ -5,9 +5,9 @@ use Rattle.plane.specs.PlineSeg
 use Rattle.plane.proofs.pline_seg.seg_arc_radius_and_center.Statement.{statement}
 use Rattle.plane.proofs.pline_seg.seg_arc_radius_and_center.Tie as tie
 
-pub seg-arc-radius-and-center-spec : {M : Type 1} → statement M
+pub seg_arc_radius_and_center_spec : {M : Type 1} → statement M
 unfolding PlineSeg.seg_arc_radius_and_center
-seg-arc-radius-and-center-spec =
+seg_arc_radius_and_center_spec =
     tie.close
     (tie.spec
     (λ c. search rules) (λ c. search rules) (λ c. search rules) (λ c. search rules) (λ c. search rules) (λ c. search rules)
@@ -17,14 +17,14 @@ seg-arc-radius-and-center-spec =
     let chord = radius.before.before in
     simp (
       chord.before.before.pos.ensures,
-      chord.before.pos2.ensures,
-      chord.sub.ensures,
+      chord.before.pos-2.ensures,
+      chord.sub-chord.ensures,
       radius.before.length.ensures,
       radius.abs.ensures,
-      middle.before.before.pos3.ensures,
+      middle.before.before.pos-3.ensures,
       middle.before.scale.ensures,
-      middle.add.ensures,
+      middle.add-middle.ensures,
       c.before.before.perp.ensures,
-      c.before.scale2.ensures,
-      c.add2.ensures,
+      c.before.scale-2.ensures,
+      c.add-center.ensures,
     )))

@@ -6,7 +6,7 @@ use Rattle.ranges.proofs.range.on_segment_by_length.Tie as tie
 
 returns : tie.Need-returns
 unfolding on_segment
-returns c = simp (← c.before.length.ensures, ← c.fuzzy-in-range-eps.ensures)
+returns c = simp (← c.length-length.ensures, ← c.fuzzy_in_range_eps.ensures)
 
-pub on-segment-by-length-spec : {M : Type 1} → statement M
-on-segment-by-length-spec = tie.close (tie.spec (search rules) (search rules) returns)
+pub on_segment_by_length_spec : {M : Type 1} → statement M
+on_segment_by_length_spec = tie.close (tie.spec (search rules) (search rules) returns)

@@ -4,6 +4,6 @@ use Rattle.arcs.specs.ArcGeometry as geometry
 use Rattle.arcs.proofs.arc_geometry.ArcGeometry.finding.Statement.{statement}
 use Rattle.arcs.proofs.arc_geometry.ArcGeometry.finding.Tie as tie
 
-pub finding-spec : {M : Type 1} → statement M
+pub finding_spec : {M : Type 1} → statement M
 unfolding geometry.finding
-finding-spec = tie.close (tie.spec (search rules) (λ c. simp (← c.finding.ensures)))
+finding_spec = tie.close (tie.spec (search rules) (λ c. simp (← c.finding.ensures)))

@@ -6,4 +6,4 @@ use Rattle.arcs.proofs.arc_geometry.ArcGeometry.new.Tie as tie
 
 pub new_spec : {M : Type 1} → statement M
 unfolding geometry.new
-new_spec = tie.close (tie.spec (search rules) (λ c. simp (← c.new.ensures)))
+new_spec = tie.close (tie.spec (search rules) (λ c. simp (← c.new-sweep.ensures)))

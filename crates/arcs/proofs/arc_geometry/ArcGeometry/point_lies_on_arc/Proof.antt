@@ -6,16 +6,16 @@ use Rattle.arcs.specs.Laws.Sweep.{yes_of}
 use Rattle.arcs.proofs.arc_geometry.ArcGeometry.point_lies_on_arc.Statement.{statement}
 use Rattle.arcs.proofs.arc_geometry.ArcGeometry.point_lies_on_arc.Tie as tie
 
-pub point-lies-on-arc-spec : {M : Type 1} → statement M
+pub point_lies_on_arc_spec : {M : Type 1} → statement M
 unfolding point_lies_on_arc
-point-lies-on-arc-spec =
+point_lies_on_arc_spec =
     tie.close
     (tie.spec
     (search rules) (search rules) (search rules)
     (λ c. let p = c.before.before in
     simp (
-      ← p.before.before.before.before.dist-squared.ensures,
-      p.if1.true,
-      ← yes_of _ _ _ _ c.before.finding.ensures c.is-yes.ensures,
+      ← p.dist_squared-distance_squared.ensures,
+      p.if-distance_squared-self.true,
+      ← yes_of _ _ _ _ c.finding.ensures c.is_yes.ensures,
     ))
-    (λ c. simp (← c.before.before.before.before.dist-squared.ensures, c.if1.false)))
+    (λ c. simp (← c.dist_squared-distance_squared.ensures, c.if-distance_squared-self.false)))

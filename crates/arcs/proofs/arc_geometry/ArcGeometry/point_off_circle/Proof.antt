@@ -6,7 +6,7 @@ use Rattle.arcs.proofs.arc_geometry.ArcGeometry.point_off_circle.Tie as tie
 
 returns : tie.Need-returns
 unfolding Ends.point_off_circle
-returns c = simp (← c.before.before.before.dist-squared.ensures)
+returns c = simp (← c.dist_squared-distance_squared.ensures)
 
-pub point-off-circle-spec : {M : Type 1} → statement M
-point-off-circle-spec = tie.close (tie.spec (λ c κs. search rules) returns)
+pub point_off_circle_spec : {M : Type 1} → statement M
+point_off_circle_spec = tie.close (tie.spec (λ c κs. search rules) returns)

@@ -11,30 +11,30 @@ use Rattle.arcs.proofs.arc_sweep.ArcSweep.finding.Statement.{statement}
 use Rattle.arcs.proofs.arc_sweep.ArcSweep.finding.Tie as tie
 
 -- past the centre: the tests on what is worked out
-past-center : (c : tie.After-perp-dot2) (r : SweepFinding) → let p = c.before.before.before.before.before in
+past-center : (c : tie.After-perp_dot-end_cross) (r : SweepFinding) → let p = c.before.before.before.before.before in
     let s = p.before.args.self in
-    r ≡ cond (exactly_within_sweep s.is_clockwise c.before.perp-dot.result c.perp-dot2.result) Inside
-    (cond (beside s.start_vector p.sub.result c.before.perp-dot.result s.start_fuzzy_limit) NearStart
-    (cond (beside s.end_vector p.sub.result c.perp-dot2.result s.end_fuzzy_limit) NearEnd Outside))
+    r ≡ cond (exactly_within_sweep s.is_clockwise c.perp_dot-start_cross.result c.perp_dot-end_cross.result) Inside
+    (cond (beside s.start_vector p.sub-point_vector.result c.perp_dot-start_cross.result s.start_fuzzy_limit) NearStart
+    (cond (beside s.end_vector p.sub-point_vector.result c.perp_dot-end_cross.result s.end_fuzzy_limit) NearEnd Outside))
     → r ≡ finding s p.before.args.point
 unfolding finding
 past-center c r e =
     let t = c.before.before in
     simp (
-      ← t.before.before.before.sub.ensures,
-      ← t.before.before.length-squared.ensures,
-      t.if1.false,
-      ← c.before.perp-dot.ensures,
-      ← c.perp-dot2.ensures,
+      ← t.sub-point_vector.ensures,
+      ← t.length_squared.ensures,
+      t.if-length_squared-self.false,
+      ← c.perp_dot-start_cross.ensures,
+      ← c.perp_dot-end_cross.ensures,
     ) e
 
-pub finding-spec : {M : Type 1} → statement M
+pub finding_spec : {M : Type 1} → statement M
 unfolding finding
-finding-spec =
+finding_spec =
     tie.close
     (tie.spec
     (search rules) (search rules)
-    (λ c. let l = c.before.before in simp (← l.before.sub.ensures, ← l.length-squared.ensures) (search branches))
+    (λ c. let l = c.before.before in simp (← l.sub-point_vector.ensures, ← l.length_squared.ensures) (search branches))
     (search rules) (search rules) (search rules)
     (λ c. past-center c.before.before _ (search branches))
     (search rules)

@@ -11,4 +11,4 @@ new_spec =
     (tie.spec
     (search rules) (search rules) (search rules) (search rules)
     (λ c. let l = c.before in let s = l.before in
-    simp (← s.before.sub.ensures, ← s.sub2.ensures, ← l.length-squared.ensures, ← c.length-squared2.ensures)))
+    simp (← s.sub-start_vector.ensures, ← s.sub-end_vector.ensures, ← l.length_squared.ensures, ← c.length_squared-2.ensures)))

@@ -4,6 +4,6 @@ use Rattle.plane.specs.PlineVertex as vertex
 use Rattle.plane.proofs.pline_vertex.PlineVertex.pos.Statement.{statement}
 use Rattle.plane.proofs.pline_vertex.PlineVertex.pos.Tie as tie
 
-pub pos-spec : {M : Type 1} → statement M
+pub pos_spec : {M : Type 1} → statement M
 unfolding vertex.pos
-pos-spec = tie.close (tie.spec (λ c. refl))
+pos_spec = tie.close (tie.spec (λ c. refl))

@@ -6,10 +6,10 @@ use Rattle.plane.proofs.vector2.Vector2.fuzzy_eq_eps.Tie as tie
 
 returns : tie.Need-returns
 unfolding vector2.fuzzy_eq_eps
-returns c = simp (← c.before.fuzzy-eq-eps.ensures, ← c.fuzzy-eq-eps2.ensures)
+returns c = simp (← c.before.fuzzy_eq_eps.ensures, ← c.fuzzy_eq_eps-2.ensures)
 
-pub fuzzy-eq-eps-spec : {M : Type 1} → statement M
-fuzzy-eq-eps-spec =
+pub fuzzy_eq_eps_spec : {M : Type 1} → statement M
+fuzzy_eq_eps_spec =
     tie.close
     (tie.spec
     (search rules) (search rules) returns)

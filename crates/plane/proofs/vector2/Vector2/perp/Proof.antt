@@ -4,6 +4,6 @@ use Rattle.plane.specs.Vector2 as vector2
 use Rattle.plane.proofs.vector2.Vector2.perp.Statement.{statement}
 use Rattle.plane.proofs.vector2.Vector2.perp.Tie as tie
 
-pub perp-spec : {M : Type 1} → statement M
+pub perp_spec : {M : Type 1} → statement M
 unfolding vector2.perp
-perp-spec = tie.close (tie.spec (λ c. refl))
+perp_spec = tie.close (tie.spec (λ c. refl))

@@ -4,6 +4,6 @@ use Rattle.plane.specs.Vector2 as vector2
 use Rattle.plane.proofs.vector2.Vector2.scale.Statement.{statement}
 use Rattle.plane.proofs.vector2.Vector2.scale.Tie as tie
 
-pub scale-spec : {M : Type 1} → statement M
+pub scale_spec : {M : Type 1} → statement M
 unfolding vector2.scale
-scale-spec = tie.close (tie.spec (λ c. refl))
+scale_spec = tie.close (tie.spec (λ c. refl))
