@@ -8,12 +8,10 @@ use Rattle.arcs.proofs.two_arcs.try_add_end_point_intr.Tie as tie
 returns-4 : tie.Need-returns-in-Taken-second
 unfolding try_add_end_point_intr
 returns-4 c =
-    let t = c.before.before.before in
-    let f = t.before in
     simp (
-      f.in-Taken.is,
-      ← f.fuzzy_eq_eps.ensures,
-      t.if-fuzzy_eq_eps.false,
+      c.in-Taken.is,
+      ← c.fuzzy_eq_eps.ensures,
+      c.if-fuzzy_eq_eps.false,
       c.in-Taken-second.is,
     )
 
@@ -26,6 +24,5 @@ try_add_end_point_intr_spec =
     (λ c. simp (c.in-Taken.is, ← c.fuzzy_eq_eps.ensures, c.if-fuzzy_eq_eps.true))
     (search rules) (search rules) (search rules) (search rules)
     (λ c. simp c.in-Empty.is)
-    (λ c. let t = c.before.before.before in let f = t.before in
-    simp (f.in-Taken.is, ← f.fuzzy_eq_eps.ensures, t.if-fuzzy_eq_eps.false, c.in-Empty-second.is))
+    (λ c. simp (c.in-Taken.is, ← c.fuzzy_eq_eps.ensures, c.if-fuzzy_eq_eps.false, c.in-Empty-second.is))
     returns-4)

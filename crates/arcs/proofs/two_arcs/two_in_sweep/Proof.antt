@@ -10,9 +10,6 @@ two_in_sweep_spec =
     (search rules) (search rules) (search rules) (search rules) (search rules) (search rules)
     (search rules) (search rules) (search rules)
     (λ c. simp (c.in-Empty.is, c.in-Empty-second.is))
-    (λ c. let s = c.before.before in
-    simp (s.in-Empty.is, s.in-Taken-second.is, ← c.end_for_nearer.ensures))
-    (λ c. let s = c.before in
-    simp (s.in-Taken.is, s.in-Empty-second-2.is, ← c.end_for_nearer-in-Empty-second-2.ensures))
-    (λ c. let s = c.before.before in
-    simp (s.in-Taken.is, s.in-Taken-second-2.is, ← c.ends_for_both.ensures)))
+    (λ c. simp (c.in-Empty.is, c.in-Taken-second.is, ← c.end_for_nearer.ensures))
+    (λ c. simp (c.in-Taken.is, c.in-Empty-second-2.is, ← c.end_for_nearer-in-Empty-second-2.ensures))
+    (λ c. simp (c.in-Taken.is, c.in-Taken-second-2.is, ← c.ends_for_both.ensures)))
