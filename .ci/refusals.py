@@ -96,12 +96,12 @@ def place_of(one, folder):
     """Whose fact an error is about, and which one. It is a function, MODULE::NAME, with the name of the fact in its proof or
     its place among the answers of its walk; or a file of definitions and laws, with the name of the law. `folder` is the
     crate's."""
-    path = one.path[len(str(folder)) + 1 :] if one.path.startswith(f"{folder}/") else one.path
-    proof = re.match(r"proofs/(.*)/Proof\.antt$", path)
+    path = one.path.removeprefix(f"{folder}/").removeprefix("./")
+    proof = re.match(r"proofs/(.*)/(?:Proof|Answers|Invariants)\.antt$", path)
     if not proof:
         return path.removesuffix(".antt"), one.name or "?"
     owner = proof.group(1).replace("/", "::")
-    if not (one.name or "").endswith("-spec"):
+    if not (one.name or "").endswith("_spec"):
         return owner, one.name or "?"
     found = answer_at((folder / path).read_text(), one.line, one.column)
     return owner, f"answer {found[0]} of {found[1]}" if found else "its walk"
