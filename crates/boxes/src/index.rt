@@ -73,7 +73,7 @@ pub fn group_end(g: usize, limit: usize) -> usize
 // The box of group g, if the boxes of n segments stand from box `from` on.
 fn group_box(boxes: &[f64], from: usize, n: usize, g: usize) -> Box
     requires n_bound { (n ≤ Path.most_segments) × (g < groups_of.group_count n) }
-    requires floats_abox_in_bounds { (from + n) * index_of.floats_a_box ≤ length boxes.now }
+    requires boxes_in_bounds { (from + n) * index_of.floats_a_box ≤ length boxes.now }
     ensures { result ≡ groups_of.group_box (Stored.boxes_on boxes.now from) n g }
 {
     let start = g * GROUP;
@@ -90,7 +90,7 @@ fn group_box(boxes: &[f64], from: usize, n: usize, g: usize) -> Box
 // Stores the boxes of the path's first n segments from box `from` on.
 fn store_segments(path: &[f64], n: usize, epsilon: f64, from: usize, boxes: &mut [f64])
     requires n_bound { (n ≤ Path.vertex_count path.now) × (n ≤ Path.most_segments) }
-    requires floats_abox_in_bounds { (from + n) * index_of.floats_a_box ≤ length boxes.old }
+    requires room { (from + n) * index_of.floats_a_box ≤ length boxes.old }
     ensures { boxes.new
         ≡ sets boxes.old (from * index_of.floats_a_box)
         (index_of.floats_of_boxes (index_of.boxes_from (groups_of.segment_box path.now epsilon) 0 n)) }
@@ -133,8 +133,8 @@ pub fn store(path: &[f64], n: usize, epsilon: f64, from: usize, boxes: &mut [f64
 
 // Copies `count` boxes of one slice, from box `from` on, to another, from box `at` on.
 pub fn copy(stored: &[f64], from: usize, count: usize, at: usize, boxes: &mut [f64])
-    requires floats_abox_in_bounds { (from + count) * index_of.floats_a_box ≤ length stored.now }
-    requires floats_abox_in_bounds_2 { (at + count) * index_of.floats_a_box ≤ length boxes.old }
+    requires stored_in_bounds { (from + count) * index_of.floats_a_box ≤ length stored.now }
+    requires room { (at + count) * index_of.floats_a_box ≤ length boxes.old }
     ensures { boxes.new
         ≡ sets boxes.old (at * index_of.floats_a_box)
         (index_of.floats_of_boxes (index_of.boxes_from (Stored.boxes_on stored.now from) 0 count)) }

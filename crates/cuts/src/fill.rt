@@ -25,7 +25,7 @@ fn put_vertex(out: &mut [f64], at: usize, v: PlineVertex, trace: f64)
 // Writes what vertex i of a path with n segments becomes from place `at` on. It answers the place behind it.
 fn put_vertices(path: &[f64], n: usize, i: usize, out: &mut [f64], at: usize) -> usize
     requires i_bound { i < path_of.vertex_count path.now }
-    requires numbers_avertex_in_bounds { at + path_of.numbers_a_vertex * 2 ≤ length out.old }
+    requires room { at + path_of.numbers_a_vertex * 2 ≤ length out.old }
     ensures { Put (CutPath.vertices_of path.now n i) out.old at out.new result }
 {
     let s = segments::segment_from(path, i);

@@ -45,6 +45,13 @@ guess-fits g q = mul-fits binary64 _ _
 together : (k q w z square product less : Bool) → T ((q && w) && square) → T ((k && z) && (product && less))
     → T (((k && q) && (w && z)) && ((square && product) && less))
 together true true true true true true true a b = tt
+together false q w z square product less a b = elim b [ ]
+together true false w z square product less a b = elim a [ ]
+together true true false z square product less a b = elim a [ ]
+together true true true false square product less a b = elim b [ ]
+together true true true true false product less a b = elim a [ ]
+together true true true true true false less a b = elim b [ ]
+together true true true true true true false a b = elim b [ ]
 
 -- the distance of a line with this a and b and the constant c
 module _ (p0 p1 : Vector2) (line : Line) (point : Bool) (circle : ArcRadiusCenter) (eps : Float)

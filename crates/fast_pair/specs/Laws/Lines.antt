@@ -249,6 +249,8 @@ crossed near x y e = rw e
 beside : (near a b : Bool) (x y z : LineLineIntr) → near ≡ true → T (not b) → cond (not near) x (cond (not a || not b) y z) ≡ y
 beside near true false x y z e t = rw e
 beside near false false x y z e t = rw e
+beside near false true x y z e t = elim t [ ]
+beside near true true x y z e t = elim t [ ]
 
 -- near zero or not, with one fact for each case
 by_cases : {A : Type 0} (near a b : Bool) → T (cond near a b) → (near ≡ true → T a → A) → (near ≡ false → T b → A) → A

@@ -4,16 +4,16 @@ use Rattle.answers.specs.ClassAndPoints.{class_and_points}
 use Rattle.answers.proofs.class_and_points.class_and_points.Statement.{statement}
 use Rattle.answers.proofs.class_and_points.class_and_points.Tie as tie
 
-pub class-and-points-spec : {M : Type 1} → statement M
+pub class_and_points_spec : {M : Type 1} → statement M
 unfolding class_and_points
-class-and-points-spec =
+class_and_points_spec =
     tie.close
     (tie.spec
     (λ c. search rules) (λ c. search rules) (λ c. search rules) (λ c. search rules) (λ c. search rules)
     (λ c. search rules)
-    (λ c. simp c.enum_told.given.1)
-    (λ c. simp c.before.met.given.1)
-    (λ c. simp c.before.met2.given.1)
-    (λ c. simp c.before.met3.given.1)
-    (λ c. simp c.before.met4.given.1)
-    (λ c. simp c.before.met5.given.1))
+    (λ c. simp c.in-NoIntersect.is)
+    (λ c. simp c.in-TangentIntersect.is)
+    (λ c. simp c.in-OneIntersect.is)
+    (λ c. simp c.in-TwoIntersects.is)
+    (λ c. simp c.in-OverlappingLines.is)
+    (λ c. simp c.in-OverlappingArcs.is))

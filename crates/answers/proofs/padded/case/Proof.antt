@@ -4,6 +4,6 @@ use Rattle.answers.specs.Padded as padding
 use Rattle.answers.proofs.padded.case.Statement.{statement}
 use Rattle.answers.proofs.padded.case.Tie as tie
 
-pub case-spec : {M : Type 1} → statement M
+pub case_spec : {M : Type 1} → statement M
 unfolding padding.case
-case-spec = tie.close (tie.spec (λ c. refl))
+case_spec = tie.close (tie.spec (λ c. refl))

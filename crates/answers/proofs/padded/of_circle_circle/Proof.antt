@@ -7,9 +7,9 @@ use Rattle.answers.proofs.AsNumbers.{as-refused, as-met}
 use Rattle.answers.proofs.padded.of_circle_circle.Statement.{statement}
 use Rattle.answers.proofs.padded.of_circle_circle.Tie as tie
 
-pub of-circle-circle-spec : {M : Type 1} → statement M
+pub of_circle_circle_spec : {M : Type 1} → statement M
 unfolding of_circle_circle refusal word case
-of-circle-circle-spec =
+of_circle_circle_spec =
     tie.close
     (tie.spec
     (λ c. search rules) (λ c. search rules) (λ c. search rules) (λ c. search rules) (λ c. search rules) (λ c. search rules)

@@ -7,9 +7,9 @@ use Rattle.answers.proofs.AsNumbers.{as-refused, as-met}
 use Rattle.answers.proofs.padded.of_line_circle.Statement.{statement}
 use Rattle.answers.proofs.padded.of_line_circle.Tie as tie
 
-pub of-line-circle-spec : {M : Type 1} → statement M
+pub of_line_circle_spec : {M : Type 1} → statement M
 unfolding of_line_circle refusal word case
-of-line-circle-spec =
+of_line_circle_spec =
     tie.close
     (tie.spec
     (λ c. search rules) (λ c. search rules) (λ c. search rules) (λ c. search rules) (λ c. search rules) (λ c. search rules)

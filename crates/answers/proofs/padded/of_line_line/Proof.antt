@@ -7,16 +7,13 @@ use Rattle.answers.proofs.AsNumbers.{as-refused, as-met}
 use Rattle.answers.proofs.padded.of_line_line.Statement.{statement}
 use Rattle.answers.proofs.padded.of_line_line.Tie as tie
 
-pub of-line-line-spec : {M : Type 1} → statement M
+pub of_line_line_spec : {M : Type 1} → statement M
 unfolding of_line_line refusal word case
-of-line-line-spec =
+of_line_line_spec =
     tie.close
     (tie.spec
     (λ c. search rules) (λ c. search rules) (λ c. search rules) (λ c. search rules) (λ c. search rules) (λ c. search rules)
     (λ c. search rules) (λ c. search rules) (λ c. search rules) (λ c. search rules) (λ c. search rules)
     (λ c. search (as-refused of_line_line)) (λ c. search (as-met of_line_line Met))
-    (λ c.
-    let true-intersect = c.before.before in
-    as-met of_line_line Met _ _ _ _ true-intersect.before.before.before.answer2.given.1 true-intersect.intr.given.1
-    c.case2.ensures)
+    (λ c. as-met of_line_line Met _ _ _ _ c.in-Met.is c.in-TrueIntersect.is c.case-in-TrueIntersect.ensures)
     (λ c. search (as-met of_line_line Met)) (λ c. search (as-met of_line_line Met)))

@@ -19,12 +19,12 @@ unfolding of_pline_seg case class_and_points
 as-class answer found m padded e is same =
     rw e (same ∙ ap (λ (k : ClassAndPoints). case k.class k.x1 k.y1 k.x2 k.y2) is)
 
-pub of-pline-seg-spec : {M : Type 1} → statement M
+pub of_pline_seg_spec : {M : Type 1} → statement M
 unfolding of_pline_seg refusal word
-of-pline-seg-spec =
+of_pline_seg_spec =
     tie.close
     (tie.spec
     (λ c. search rules) (λ c. search rules) (λ c. search rules) (λ c. search rules) (λ c. search rules)
     (λ c. search (as-refused of_pline_seg))
     (λ c.
-    as-class _ _ _ _ c.before.before.before.answer2.given.1 c.before.class-and-points.ensures c.case.ensures))
+    as-class _ _ _ _ c.in-Met.is c.class_and_points-m.ensures c.case.ensures))

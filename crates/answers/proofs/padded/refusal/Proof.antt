@@ -4,6 +4,6 @@ use Rattle.answers.specs.Padded as padding
 use Rattle.answers.proofs.padded.refusal.Statement.{statement}
 use Rattle.answers.proofs.padded.refusal.Tie as tie
 
-pub refusal-spec : {M : Type 1} → statement M
+pub refusal_spec : {M : Type 1} → statement M
 unfolding padding.refusal
-refusal-spec = tie.close (tie.spec (λ c. search rules) (λ c. simp c.word.ensures))
+refusal_spec = tie.close (tie.spec (λ c. search rules) (λ c. simp c.word.ensures))

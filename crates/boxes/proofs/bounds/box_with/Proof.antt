@@ -6,17 +6,16 @@ use Rattle.boxes.specs.Workings.Chord.{margin-by}
 use Rattle.boxes.proofs.bounds.box_with.Statement.{statement}
 use Rattle.boxes.proofs.bounds.box_with.Tie as tie
 
-pub box-with-spec : {M : Type 1} → statement M
+pub box_with_spec : {M : Type 1} → statement M
 unfolding BoxDefs.box_of
-box-with-spec =
+box_with_spec =
     tie.close
     (tie.spec
     (λ c. search rules) (λ c. search rules) (λ c. search rules) (λ c. search rules) (λ c. search rules)
-    (λ c. let m = c.before.before.before.before in
-    simp (
-      m.margin.ensures ∙ margin-by _ _ _ _ m.before.requires,
-      c.before.before.before.min.ensures,
-      c.before.before.min2.ensures,
-      c.before.max.ensures,
-      c.max2.ensures,
+    (λ c. simp (
+      c.margin-m.ensures ∙ margin-by _ _ _ _ c.requires,
+      c.min.ensures,
+      c.min-2.ensures,
+      c.max.ensures,
+      c.max-2.ensures,
     )))

@@ -4,20 +4,19 @@ use Rattle.boxes.specs.Workings.Chord.{chord_if_arc}
 use Rattle.boxes.proofs.bounds.chord_if_arc.Statement.{statement}
 use Rattle.boxes.proofs.bounds.chord_if_arc.Tie as tie
 
-pub chord-if-arc-spec : {M : Type 1} → statement M
+pub chord_if_arc_spec : {M : Type 1} → statement M
 unfolding chord_if_arc
-chord-if-arc-spec =
+chord_if_arc_spec =
     tie.close
     (tie.spec
     (λ c. search rules)
-    (λ c. simp (← c.before.bulge-is-zero.ensures, c.if1.true))
+    (λ c. simp (← c.bulge_is_zero.ensures, c.if-bulge_is_zero.true))
     (λ c. search rules) (λ c. search rules) (λ c. search rules) (λ c. search rules)
-    (λ c. let s = c.before.before.before.before in
-    simp (
-      ← s.before.bulge-is-zero.ensures,
-      s.if1.false,
-      c.before.before.before.pos.ensures,
-      c.before.before.pos2.ensures,
-      c.before.sub.ensures,
+    (λ c. simp (
+      ← c.bulge_is_zero.ensures,
+      c.if-bulge_is_zero.false,
+      c.pos.ensures,
+      c.pos-2.ensures,
+      c.sub.ensures,
       c.length.ensures,
     )))

@@ -4,15 +4,15 @@ use Rattle.boxes.specs.Box as BoxDefs
 use Rattle.boxes.proofs.bounds.join.Statement.{statement}
 use Rattle.boxes.proofs.bounds.join.Tie as tie
 
-pub join-spec : {M : Type 1} → statement M
+pub join_spec : {M : Type 1} → statement M
 unfolding BoxDefs.join
-join-spec =
+join_spec =
     tie.close
     (tie.spec
     (λ c. search rules) (λ c. search rules) (λ c. search rules) (λ c. search rules)
     (λ c. simp (
-      c.before.before.before.min.ensures,
-      c.before.before.min2.ensures,
-      c.before.max.ensures,
-      c.max2.ensures,
+      c.min.ensures,
+      c.min-2.ensures,
+      c.max.ensures,
+      c.max-2.ensures,
     )))

@@ -4,11 +4,11 @@ use Rattle.boxes.specs.Workings.Chord.{margin_by}
 use Rattle.boxes.proofs.bounds.margin.Statement.{statement}
 use Rattle.boxes.proofs.bounds.margin.Tie as tie
 
-pub margin-spec : {M : Type 1} → statement M
+pub margin_spec : {M : Type 1} → statement M
 unfolding margin_by
-margin-spec =
+margin_spec =
     tie.close
     (tie.spec
     (λ c. search rules)
-    (λ c. simp (← c.before.bulge-is-zero.ensures, c.if1.true))
-    (λ c. simp (← c.before.bulge-is-zero.ensures, c.if1.false)))
+    (λ c. simp (← c.bulge_is_zero.ensures, c.if-bulge_is_zero.true))
+    (λ c. simp (← c.bulge_is_zero.ensures, c.if-bulge_is_zero.false)))

@@ -5,9 +5,9 @@ use Rattle.boxes.specs.Workings.Stored.{box_at}
 use Rattle.boxes.proofs.index.box_at.Statement.{statement}
 use Rattle.boxes.proofs.index.box_at.Tie as tie
 
-pub box-at-spec : {M : Type 1} → statement M
+pub box_at_spec : {M : Type 1} → statement M
 unfolding box_at
-box-at-spec =
+box_at_spec =
     tie.close
     (tie.spec
     (λ c. search rules) (λ c. search rules) (λ c. search rules) (λ c. search rules) (λ c. search rules) (λ c. search rules)

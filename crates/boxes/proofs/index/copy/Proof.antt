@@ -12,17 +12,12 @@ copy_spec =
     (λ stored from count at boxes₀ i₀ boxes i. Storing (boxes_on stored from) at count boxes₀ boxes i)
     (λ stored from count at boxes₀ i₀ boxes i. count - i)
     (λ c. storing-starts _)
-    (λ c. omega (arith, c.loop-test.true, c.before.before.before.before.requires))
-    (λ c κs. omega (arith, c.loop-test.true, c.before.before.before.before.requires))
-    (λ c. let l = c.before.before in omega (arith, l.loop-test.true, l.before.before.before.before.requires))
-    (λ c κs. let l = c.before.before in
-    omega (arith, l.loop-test.true, l.before.loop.invariant.long, l.before.before.before.before.requires))
-    (λ c. let l = c.before.before.before.before.before in
-    omega (arith, l.loop-test.true, l.before.before.before.before.requires))
-    (λ c. let l = c.before.before.before.before.before in omega (arith, l.loop-test.true))
-    (λ c. let p = c.before.before in
-    let b = p.before.before in
-    let l = b.before in
-    rw p.put-box.ensures (storing-turn l.before.loop.invariant _ l.loop-test.true b.box-at.ensures))
-    (λ c. c.before.loop.invariant.long)
-    (λ c. storing-ends c.before.loop.invariant c.loop-test.false))
+    (λ c. omega (arith, c.loop-i-test.true, c.requires))
+    (λ c κs. omega (arith, c.loop-i-test.true, c.requires))
+    (λ c. omega (arith, c.loop-i-test.true, c.requires))
+    (λ c κs. omega (arith, c.loop-i-test.true, c.loop-i.invariant.long, c.requires))
+    (λ c. omega (arith, c.loop-i-test.true, c.requires))
+    (λ c. omega (arith, c.loop-i-test.true))
+    (λ c. rw c.put_box.ensures (storing-turn c.loop-i.invariant _ c.loop-i-test.true c.box_at-b.ensures))
+    (λ c. c.loop-i.invariant.long)
+    (λ c. storing-ends c.loop-i.invariant c.loop-i-test.false))

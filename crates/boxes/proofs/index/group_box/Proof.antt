@@ -9,23 +9,20 @@ use Rattle.boxes.specs.Workings.Stored.{boxes_on, Joining, joining-starts, joini
 use Rattle.boxes.proofs.index.group_box.Statement.{statement}
 use Rattle.boxes.proofs.index.group_box.Tie as tie
 
-pub group-box-spec : {M : Type 1} → statement M
-group-box-spec =
+pub group_box_spec : {M : Type 1} → statement M
+group_box_spec =
     tie.close
     (tie.spec
     (λ boxes from n g start end b₀ i₀ b i. Joining (boxes_on boxes from) n g end b i)
     (λ boxes from n g start end b₀ i₀ b i. end - i)
     (λ c. search rules) (λ c κs. search rules) (λ c. search rules) (λ c κs. search rules) (λ c. search rules)
-    (λ c. joining-starts _ c.box-at.ensures c.before.before.before.requires.0.1 c.before.group-end.ensures)
-    (λ c. let e = c.before.before.before in omega (arith, c.loop-test.true, e.group-end.ensures, e.before.before.requires))
+    (λ c. joining-starts _ c.box_at-b.ensures c.requires.0.1 c.group_end-end.ensures)
+    (λ c. omega (arith, c.loop-i-test.true, c.group_end-end.ensures, c.requires))
     (λ c κs.
-    let e = c.before.before.before in omega (arith, c.loop-test.true, e.group-end.ensures, e.before.before.requires))
+    omega (arith, c.loop-i-test.true, c.group_end-end.ensures, c.requires))
     (λ c κs. search rules)
-    (λ c. let l = c.before.before in
-    let e = l.before.before.before in
-    omega (arith, l.loop-test.true, e.group-end.ensures, e.before.before.requires))
+    (λ c. omega (arith, c.loop-i-test.true, c.group_end-end.ensures, c.requires))
     (λ c. search rules)
-    (λ c. let l = c.before.before in
-    joining-turn l.before.loop.invariant _ l.loop-test.true
-    (c.join.ensures ∙ ap (join l.before.loop.b) c.before.box-at2.ensures))
-    (λ c. joining-ends c.before.loop.invariant c.loop-test.false))
+    (λ c. joining-turn c.loop-i.invariant _ c.loop-i-test.true
+    (c.join-b.ensures ∙ ap (join c.loop-i.b) c.box_at.ensures))
+    (λ c. joining-ends c.loop-i.invariant c.loop-i-test.false))

@@ -8,8 +8,8 @@ use Rattle.boxes.specs.Index.{floats_a_box}
 use Rattle.boxes.proofs.index.put_box.Statement.{statement}
 use Rattle.boxes.proofs.index.put_box.Tie as tie
 
-pub put-box-spec : {M : Type 1} → statement M
-put-box-spec =
+pub put_box_spec : {M : Type 1} → statement M
+put_box_spec =
     tie.close
     (tie.spec
     (λ c. search rules) (λ c. search rules) (λ c. search rules) (λ c. search rules) (λ c. search rules)

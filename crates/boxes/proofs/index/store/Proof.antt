@@ -10,11 +10,8 @@ store_spec =
     tie.close
     (tie.spec
     (λ c κs. search rules)
-    (λ c κs. let g = c.before.before.before in
-    let p = g.before.before.before.before.requires in
-    (p.0.1, omega (arith, g.store-segments.auto.1.1.1.1.0, p.1)))
+    (λ c κs. let p = c.requires in
+    (p.0.1, omega (arith, c.store_segments.auto.boxes, p.1)))
     (λ c. search rules)
-    (λ c. let r = c.before.before in
-    let g = r.before.before.before.before in
-    stores-index _ _ _ _ _ _ _ g.before.before.before.before.requires.1 g.store-segments.ensures
-    r.store-groups.ensures))
+    (λ c. stores-index _ _ _ _ _ _ _ c.requires.1 c.store_segments.ensures
+    c.store_groups.ensures))

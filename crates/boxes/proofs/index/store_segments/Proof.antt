@@ -7,26 +7,21 @@ use Rattle.boxes.specs.Workings.Stored.{Storing, storing-starts, storing-turn, s
 use Rattle.boxes.proofs.index.store_segments.Statement.{statement}
 use Rattle.boxes.proofs.index.store_segments.Tie as tie
 
-pub store-segments-spec : {M : Type 1} → statement M
-store-segments-spec =
+pub store_segments_spec : {M : Type 1} → statement M
+store_segments_spec =
     tie.close
     (tie.spec
     (λ path n epsilon from boxes₀ i₀ boxes i. Storing (segment_box path epsilon) from n boxes₀ boxes i)
     (λ path n epsilon from boxes₀ i₀ boxes i. n - i)
     (λ c. storing-starts _)
-    (λ c κs. omega (arith, c.loop-test.true, c.before.before.before.before.requires))
+    (λ c κs. omega (arith, c.loop-i-test.true, c.requires))
     (λ c κs. search rules)
-    (λ c. let l = c.before.before.before in omega (arith, l.loop-test.true, l.before.before.before.before.requires))
-    (λ c κs. let l = c.before.before.before in
-    omega (arith, l.loop-test.true, l.before.loop.invariant.long, l.before.before.before.before.requires))
-    (λ c. let l = c.before.before.before.before.before.before in
-    omega (arith, l.loop-test.true, l.before.before.before.before.requires))
+    (λ c. omega (arith, c.loop-i-test.true, c.requires))
+    (λ c κs. omega (arith, c.loop-i-test.true, c.loop-i.invariant.long, c.requires))
+    (λ c. omega (arith, c.loop-i-test.true, c.requires))
     (λ c. search rules)
-    (λ c. let p = c.before.before in
-    let b = p.before.before in
-    let l = b.before.before in
-    rw p.put-box.ensures
-    (storing-turn l.before.loop.invariant _ l.loop-test.true
-    (box-of-segment _ _ _ _ _ b.before.segment-from.ensures b.box_of.ensures)))
-    (λ c. c.before.loop.invariant.long)
-    (λ c. storing-ends c.before.loop.invariant c.loop-test.false))
+    (λ c. rw c.put_box.ensures
+    (storing-turn c.loop-i.invariant _ c.loop-i-test.true
+    (box-of-segment _ _ _ _ _ c.segment_from-s.ensures c.box_of-b.ensures)))
+    (λ c. c.loop-i.invariant.long)
+    (λ c. storing-ends c.loop-i.invariant c.loop-i-test.false))

@@ -7,11 +7,11 @@ use Rattle.boxes.specs.Workings.Next.{in_group}
 use Rattle.boxes.proofs.next.in_group.Statement.{statement}
 use Rattle.boxes.proofs.next.in_group.Tie as tie
 
-pub in-group-spec : {M : Type 1} → statement M
+pub in_group_spec : {M : Type 1} → statement M
 unfolding in_group
-in-group-spec =
+in_group_spec =
     tie.close
     (tie.spec
     (λ c. search rules)
-    (λ c. holds _ _ _ _ (lt-ltb _ _ c.if1.true) refl)
-    (λ c. fails _ _ _ _ (le-ltb _ _ c.if1.false) refl))
+    (λ c. holds _ _ _ _ (lt-ltb _ _ c.if-k-start.true) refl)
+    (λ c. fails _ _ _ _ (le-ltb _ _ c.if-k-start.false) refl))

@@ -9,24 +9,20 @@ use Rattle.boxes.specs.Workings.Next.{apart, Finding, finding-starts, finding-he
 use Rattle.boxes.proofs.next.next_apart.Statement.{statement}
 use Rattle.boxes.proofs.next.next_apart.Tie as tie
 
-pub next-apart-spec : {M : Type 1} → statement M
-next-apart-spec =
+pub next_apart_spec : {M : Type 1} → statement M
+next_apart_spec =
     tie.close
     (tie.spec
     (λ boxes from b j end k₀ k. Finding (apart boxes from b) j end k)
     (λ boxes from b j end k₀ k. end - k)
-    (λ c. finding-starts _ _ _ c.before.requires.0)
-    (λ c. omega (arith, c.loop-test.true, c.before.before.before.requires))
-    (λ c κs. omega (arith, c.loop-test.true, c.before.before.before.requires))
+    (λ c. finding-starts _ _ _ c.requires.0)
+    (λ c. omega (arith, c.loop-k-test.true, c.requires))
+    (λ c κs. omega (arith, c.loop-k-test.true, c.requires))
     (λ c κs. search rules)
-    (λ c. let m = c.before in
-    let l = m.before.before in
-    finding-here l.before.loop.invariant _ l.loop-test.true
-    (ap not (m.meet.ensures ∙ ap (meet _) m.before.box-at.ensures)) c.if1.true)
-    (λ c. let l = c.before.before.before in omega (arith, l.loop-test.true))
+    (λ c. finding-here c.loop-k.invariant _ c.loop-k-test.true
+    (ap not (c.meet.ensures ∙ ap (meet _) c.box_at.ensures)) (ap not c.if-not-meet.true))
+    (λ c. omega (arith, c.loop-k-test.true))
     (λ c. search rules)
-    (λ c. let m = c.before in
-    let l = m.before.before in
-    finding-on l.before.loop.invariant _ l.loop-test.true
-    (ap not (m.meet.ensures ∙ ap (meet _) m.before.box-at.ensures)) c.if1.false)
-    (λ c. finding-ends c.before.loop.invariant c.loop-test.false))
+    (λ c. finding-on c.loop-k.invariant _ c.loop-k-test.true
+    (ap not (c.meet.ensures ∙ ap (meet _) c.box_at.ensures)) (ap not c.if-not-meet.false))
+    (λ c. finding-ends c.loop-k.invariant c.loop-k-test.false))

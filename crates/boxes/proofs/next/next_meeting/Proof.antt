@@ -10,44 +10,31 @@ use Rattle.boxes.specs.Workings.Next.{Finding, finding-starts, finding-over, fin
 use Rattle.boxes.proofs.next.next_meeting.Statement.{statement}
 use Rattle.boxes.proofs.next.next_meeting.Tie as tie
 
-pub next-meeting-spec : {M : Type 1} → statement M
-next-meeting-spec =
+pub next_meeting_spec : {M : Type 1} → statement M
+next_meeting_spec =
     tie.close
     (tie.spec
     (λ boxes from n b j end groups k₀ k. Finding (meets boxes from b) j end k)
     (λ boxes from n b j end groups k₀ k. end - k)
-    (λ c. omega (arith, c.before.requires.0.room))
-    (λ c. finding-starts _ _ _ c.before.requires.1.0)
-    (λ c κs. omega (arith, c.loop-test.true, c.before.before.before.requires.1))
-    (λ c. let l = c.before in omega (arith, l.loop-test.true, l.before.before.before.requires.1))
-    (λ c κs. let l = c.before in
-    let p = l.before.before.before.requires in
-    omega (arith, l.loop-test.true, p.1, p.0.room))
+    (λ c. omega (arith, c.requires.0.room))
+    (λ c. finding-starts _ _ _ c.requires.1.0)
+    (λ c κs. omega (arith, c.loop-k-test.true, c.requires.1))
+    (λ c. omega (arith, c.loop-k-test.true, c.requires.1))
+    (λ c κs. let p = c.requires in
+    omega (arith, c.loop-k-test.true, p.1, p.0.room))
     (λ c κs. search rules)
-    (λ c κs. let e = c.before.before.before in
-    let l = e.before in
-    let p = l.before.before.before.requires in
-    (omega (arith, l.loop-test.true, e.group-end.ensures), omega (arith, e.group-end.ensures, p.1, p.0.room)))
-    (λ c. let f = c.before in
-    let e = f.before.before.before.before in
-    let l = e.before in
-    finding-found l.before.loop.invariant _ _ (omega (arith, l.loop-test.true, e.group-end.ensures))
-    (omega (arith, e.group-end.ensures)) f.next-of-each.ensures c.if2.true)
-    (λ c. let e = c.before.before.before.before.before in
-    omega (arith, e.before.loop-test.true, e.group-end.ensures))
-    (λ c. let f = c.before in
-    let e = f.before.before.before.before in
-    let l = e.before in
-    finding-past l.before.loop.invariant _ _ (omega (arith, l.loop-test.true, e.group-end.ensures))
-    (omega (arith, e.group-end.ensures)) f.next-of-each.ensures c.if2.false)
-    (λ c. let e = c.before.before.before in omega (arith, e.before.loop-test.true, e.group-end.ensures))
-    (λ c. let m = c.before in
-    let e = m.before.before in
-    let l = e.before in
-    let p = l.before.before.before.requires in
-    let apart = sym (m.meet.ensures ∙ ap (meet _) m.before.box-at.ensures) ∙ c.if1.false in
-    finding-over l.before.loop.invariant _ (omega (arith, l.loop-test.true, e.group-end.ensures))
-    (omega (arith, e.group-end.ensures))
-    (none-in-group _ _ _ _ _ _ p.0 apart (omega (arith, l.loop-test.true, p.1))
-    (omega (arith, e.group-end.ensures, p.1)) (omega (arith, e.group-end.ensures))))
-    (λ c. finding-ends c.before.loop.invariant c.loop-test.false))
+    (λ c κs. let p = c.requires in
+    (omega (arith, c.loop-k-test.true, c.group_end-stop.ensures), omega (arith, c.group_end-stop.ensures, p.1, p.0.room)))
+    (λ c. finding-found c.loop-k.invariant _ _ (omega (arith, c.loop-k-test.true, c.group_end-stop.ensures))
+    (omega (arith, c.group_end-stop.ensures)) c.next_of_each-found.ensures c.if-found-stop.true)
+    (λ c. omega (arith, c.loop-k-test.true, c.group_end-stop.ensures))
+    (λ c. finding-past c.loop-k.invariant _ _ (omega (arith, c.loop-k-test.true, c.group_end-stop.ensures))
+    (omega (arith, c.group_end-stop.ensures)) c.next_of_each-found.ensures c.if-found-stop.false)
+    (λ c. omega (arith, c.loop-k-test.true, c.group_end-stop.ensures))
+    (λ c. let p = c.requires in
+    let apart = sym (c.meet.ensures ∙ ap (meet _) c.box_at.ensures) ∙ c.if-meet.false in
+    finding-over c.loop-k.invariant _ (omega (arith, c.loop-k-test.true, c.group_end-stop.ensures))
+    (omega (arith, c.group_end-stop.ensures))
+    (none-in-group _ _ _ _ _ _ p.0 apart (omega (arith, c.loop-k-test.true, p.1))
+    (omega (arith, c.group_end-stop.ensures, p.1)) (omega (arith, c.group_end-stop.ensures))))
+    (λ c. finding-ends c.loop-k.invariant c.loop-k-test.false))

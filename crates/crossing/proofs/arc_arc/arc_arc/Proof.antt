@@ -15,12 +15,12 @@ use Rattle.crossing.proofs.arc_arc.arc_arc.Statement.{statement}
 use Rattle.crossing.proofs.arc_arc.arc_arc.Tie as tie
 
 -- the definition, by what the circles have in common
-met : (c : tie.After-circle-circle) →
-    let a = c.before.args in
-    arc_arc a.v1 a.v2 a.u1 a.u2 a.pos-equal-eps
-    ≡ arc_arc_of c.circle-circle.result a.v1 a.v2 a.u1 a.u2 a.circle1 a.circle2 a.pos-equal-eps
+met : (c : tie.After-circle_circle-intr_result) →
+    let a = c.args in
+    arc_arc a.v1 a.v2 a.u1 a.u2 a.pos_equal_eps
+    ≡ arc_arc_of c.circle_circle-intr_result.result a.v1 a.v2 a.u1 a.u2 a.circle1 a.circle2 a.pos_equal_eps
 unfolding arc_arc
-met c = simp (← c.before.requires.0, ← c.before.requires.1, ← c.circle-circle.ensures)
+met c = simp (← c.requires.0, ← c.requires.1, ← c.circle_circle-intr_result.ensures)
 
 -- what a function of both arcs and their ends answered, by the vertices
 of-both : {A : Type 0} (f : Vector2 → Vector2 → Vector2 → Vector2 → ArcGeometry → ArcGeometry → A)
@@ -30,8 +30,8 @@ of-both : {A : Type 0} (f : Vector2 → Vector2 → Vector2 → Vector2 → ArcG
     → r ≡ f (pos v1) (pos v2) (pos u1) (pos u2) (of_segment v1 v2 c1 eps) (of_segment u1 u2 c2 eps)
 of-both f v1 v2 u1 u2 c1 c2 eps a b p1 p2 q1 q2 r ea eb e1 e2 e3 e4 is = rw (← ea, ← eb, ← e1, ← e2, ← e3, ← e4) is
 
-pub arc-arc-spec : {M : Type 1} → statement M
-arc-arc-spec =
+pub arc_arc_spec : {M : Type 1} → statement M
+arc_arc_spec =
     tie.close
     (tie.spec
     (λ c. search rules) (λ c. search rules) (λ c. search rules)
@@ -39,13 +39,10 @@ arc-arc-spec =
     (λ c. search rules) (λ c. search rules)
     (λ c. search rules) (λ c. search rules) (λ c. search rules) (λ c. search rules) (λ c. search rules) (λ c. search rules)
     (λ c. search rules) (λ c. search rules) (λ c. search rules)
-    (λ c. simp (met c.before.before, c.enum_told.given.1))
-    (λ c. let m = c.before.before.before.before.before.before.before.before in
-    rw (met m.before.before, m.intr-result.given.1) (search (of-both (tangent_arc_arc m.intr-result.given.0.0))))
-    (λ c. let m = c.before.before.before.before.before.before.before.before in
-    rw (met m.before.before, m.intr-result2.given.1)
-    (search (of-both (λ p1 p2 q1 q2 a b. crossing_arcs p1 p2 q1 q2 m.intr-result2.given.0.0 m.intr-result2.given.0.1.0
+    (λ c. simp (met c.before, c.in-NoIntersect.is))
+    (λ c. rw (met c.before.before.before.before.before.before.before.before, c.in-TangentIntersect.is) (search (of-both (tangent_arc_arc c.in-TangentIntersect.point))))
+    (λ c. rw (met c.before.before.before.before.before.before.before.before, c.in-TwoIntersects.is)
+    (search (of-both (λ p1 p2 q1 q2 a b. crossing_arcs p1 p2 q1 q2 c.in-TwoIntersects.point1 c.in-TwoIntersects.point2
     a b
-    m.before.before.before.args.pos-equal-eps))))
-    (λ c. let m = c.before in
-    simp (met m.before.before, m.enum-told2.given.1, ← c.overlapping-arc-arc.ensures)))
+    c.args.pos_equal_eps))))
+    (λ c. simp (met c.before.before, c.in-Overlapping.is, ← c.overlapping_arc_arc.ensures)))

@@ -8,20 +8,17 @@ use Rattle.crossing.specs.Workings.Nested.{circles-nested}
 use Rattle.crossing.proofs.circle_circle.circle_circle.Statement.{statement}
 use Rattle.crossing.proofs.circle_circle.circle_circle.Tie as tie
 
-returns : tie.Need-returns
+returns : tie.Need-returns-then-apart
 returns c =
-    let p = c.before.before in
     sym (circles-apart _ _ _ _ _
-    (simp (← p.before.sub.ensures, ← p.dot.ensures, ← c.before.apart.ensures, c.if1.true) tt))
+    (simp (← c.sub-cv.ensures, ← c.dot-d2.ensures, ← c.apart.ensures, c.if-apart.true) tt))
 
-returns-2 : tie.Need-returns-2
+returns-2 : tie.Need-returns-then-nested
 returns-2 c =
-    let p = c.before.before in
-    let d = p.before.before.before in
-    sym (circles-nested _ _ _ _ _ (passes _ d.before.before.well-formed.1.1.1.1.0.1)
-    (simp (← d.before.sub.ensures, ← d.dot.ensures, ← p.abs.ensures, ← c.before.nested.ensures, c.if2.true) tt))
+    sym (circles-nested _ _ _ _ _ (passes _ c.well_formed.1.1.1.1.0.1)
+    (simp (← c.sub-cv.ensures, ← c.dot-d2.ensures, ← c.abs.ensures, ← c.nested.ensures, c.if-nested.true) tt))
 
-pub circle-circle-spec : {M : Type 1} → statement M
-circle-circle-spec =
+pub circle_circle_spec : {M : Type 1} → statement M
+circle_circle_spec =
     tie.close (tie.spec (search rules) (search rules) (search rules) returns (search rules) (search rules) returns-2
     (search rules) (λ c. search rules))

@@ -6,13 +6,12 @@ use Rattle.float_laws.specs.Branches.{branches}
 use Rattle.crossing.proofs.circle_circle.meeting.Statement.{statement}
 use Rattle.crossing.proofs.circle_circle.meeting.Tie as tie
 
-pub meeting-spec : {M : Type 1} → statement M
+pub meeting_spec : {M : Type 1} → statement M
 unfolding meeting
-meeting-spec =
+meeting_spec =
     tie.close
     (tie.spec
     (search rules) (search rules)
-    (λ c. simp (← c.before.before.scale.ensures, ← c.before.add.ensures) (search branches))
+    (λ c. simp (← c.scale.ensures, ← c.add-midpoint.ensures) (search branches))
     (search rules) (search rules)
-    (λ c. let p = c.before.before.before in
-    simp (← p.before.scale.ensures, ← p.add.ensures, ← c.before.sqrt.ensures) (search branches)))
+    (λ c. simp (← c.scale.ensures, ← c.add-midpoint.ensures, ← c.sqrt-h.ensures) (search branches)))

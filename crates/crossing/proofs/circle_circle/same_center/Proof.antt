@@ -6,6 +6,6 @@ use Rattle.float_laws.specs.Branches.{branches}
 use Rattle.crossing.proofs.circle_circle.same_center.Statement.{statement}
 use Rattle.crossing.proofs.circle_circle.same_center.Tie as tie
 
-pub same-center-spec : {M : Type 1} → statement M
+pub same_center_spec : {M : Type 1} → statement M
 unfolding same_center
-same-center-spec = tie.close (tie.spec (search rules) (λ c. search branches) (λ c. search branches))
+same_center_spec = tie.close (tie.spec (search rules) (λ c. search branches) (λ c. search branches))

@@ -6,13 +6,11 @@ use Rattle.float_laws.specs.Branches.{branches}
 use Rattle.crossing.proofs.circle_circle.two_sides.Statement.{statement}
 use Rattle.crossing.proofs.circle_circle.two_sides.Tie as tie
 
-pub two-sides-spec : {M : Type 1} → statement M
+pub two_sides_spec : {M : Type 1} → statement M
 unfolding two_sides
-two-sides-spec =
+two_sides_spec =
     tie.close
     (tie.spec
     (search rules) (search rules) (search rules)
-    (λ c. let p = c.before.before in
-    simp (← p.before.before.before.new.ensures, ← p.new2.ensures) (search branches))
-    (λ c. let p = c.before.before in
-    simp (← p.before.before.before.new.ensures, ← p.new2.ensures) (search branches)))
+    (λ c. simp (← c.new-pt1.ensures, ← c.new-pt2.ensures) (search branches))
+    (λ c. simp (← c.new-pt1.ensures, ← c.new-pt2.ensures) (search branches)))

@@ -5,13 +5,11 @@ use Rattle.crossing.specs.CircleCircleIntersect.{circle_circle_intr}
 use Rattle.crossing.proofs.circle_circle_intersect.circle_circle_intr.Statement.{statement}
 use Rattle.crossing.proofs.circle_circle_intersect.circle_circle_intr.Tie as tie
 
-pub circle-circle-intr-spec : {M : Type 1} → statement M
+pub circle_circle_intr_spec : {M : Type 1} → statement M
 unfolding circle_circle_intr
-circle-circle-intr-spec =
+circle_circle_intr_spec =
     tie.close
     (tie.spec
     (search rules) (search rules) (search rules) (search rules)
-    (λ c. let t = c.before in
-    simp (← t.before.before.check-circle-circle.ensures, t.enum_told.given.1, ← c.circle-circle.ensures))
-    (λ c. let t = c.before in
-    simp (← t.before.before.check-circle-circle.ensures, t.checked.given.1)))
+    (λ c. simp (← c.check_circle_circle-checked.ensures, c.in-Fine.is, ← c.circle_circle.ensures))
+    (λ c. simp (← c.check_circle_circle-checked.ensures, c.in-Bad.is)))

@@ -9,30 +9,28 @@ use Rattle.crossing.proofs.line_arc.process_line_arc_intr.Statement.{statement}
 use Rattle.crossing.proofs.line_arc.process_line_arc_intr.Tie as tie
 
 -- the definition, by what the line and the circle have in common
-met : (c : tie.After-line-circle) →
-    let a = c.before.args in
-    process_line_arc_intr a.p0 a.p1 a.a1 a.a2 a.u-is-line a.pos-equal-eps
-    ≡ line_arc_of c.line-circle.result a.p0 a.p1 (pos a.a1) (of_segment a.a1 a.a2 a.arc a.pos-equal-eps)
-    a.u-is-line a.pos-equal-eps
+met : (c : tie.After-line_circle-intr_result) →
+    let a = c.args in
+    process_line_arc_intr a.p0 a.p1 a.a1 a.a2 a.u_is_line a.pos_equal_eps
+    ≡ line_arc_of c.line_circle-intr_result.result a.p0 a.p1 (pos a.a1) (of_segment a.a1 a.a2 a.arc a.pos_equal_eps)
+    a.u_is_line a.pos_equal_eps
 unfolding process_line_arc_intr
-met c = simp (← c.before.requires, ← c.line-circle.ensures)
+met c = simp (← c.requires, ← c.line_circle-intr_result.ensures)
 
-pub process-line-arc-intr-spec : {M : Type 1} → statement M
-process-line-arc-intr-spec =
+pub process_line_arc_intr_spec : {M : Type 1} → statement M
+process_line_arc_intr_spec =
     tie.close
     (tie.spec
     (search rules) (λ c. search rules) (λ c. search rules) (search rules) (search rules)
     (λ c. search rules) (search rules) (search rules) (search rules) (search rules) (search rules)
-    (λ c. simp (met c.before.before, c.enum_told.given.1))
-    (λ c. let m = c.before.before.before in
-    simp (met m.before.before, m.intr-result.given.1, ← c.before.of-segment.ensures, ← c.tangent-line-arc.ensures))
-    (λ c. let s = c.before.before.before in let m = s.before.before.before in
-    simp (
-      met m.before.before,
-      m.intr-result2.given.1,
-      ← s.before.of-segment2.ensures,
-      ← s.point-in-sweep.ensures,
-      ← c.before.before.point-in-sweep2.ensures,
-      ← c.before.pos.ensures,
-      ← c.crossings-line-arc.ensures,
+    (λ c. simp (met c.before, c.in-NoIntersect.is))
+    (λ c. simp (met c.before.before.before, c.in-TangentIntersect.is, ← c.of_segment-arc_geometry.ensures, ← c.tangent_line_arc.ensures))
+    (λ c. simp (
+      met c.before.before.before.before.before.before,
+      c.in-TwoIntersects.is,
+      ← c.of_segment-arc_geometry-in-TwoIntersects.ensures,
+      ← c.point_in_sweep-t0_point.ensures,
+      ← c.point_in_sweep-t1_point.ensures,
+      ← c.pos.ensures,
+      ← c.crossings_line_arc.ensures,
     )))

@@ -22,16 +22,12 @@ tests-hold b1 b2 b3 b4 k q w z s e1 e2 e3 e4 h =
 
 returns : tie.Need-returns
 returns c h =
-    let p1 = c.before in
-    let p2 = p1.before in
-    let p3 = p2.before in
-    let p4 = p3.before in
-    let g = p4.before.well-formed in
+    let g = c.well_formed in
     far-line _ _ _ _ _ _ (passes _ g.0.1) (passes _ g.1.0.1) (passes _ g.1.1.0.1) (passes _ g.1.1.1.0.1)
-    p4.abs.ensures
-    (tests-hold _ _ _ _ _ _ _ _ _ p3.moderate.ensures p2.moderate2.ensures p1.moderate3.ensures
-    c.moderate4.ensures h)
+    c.abs-k.ensures
+    (tests-hold _ _ _ _ _ _ _ _ _ c.moderate.ensures c.moderate-2.ensures c.moderate-3.ensures
+    c.moderate-4.ensures h)
 
-pub far-spec : {M : Type 1} → statement M
-far-spec =
+pub far_spec : {M : Type 1} → statement M
+far_spec =
     tie.close (tie.spec (search rules) (search rules) (search rules) (search rules) (search rules) returns)

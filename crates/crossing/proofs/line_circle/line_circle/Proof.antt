@@ -6,11 +6,10 @@ use Rattle.float_laws.specs.Branches.{branches}
 use Rattle.crossing.proofs.line_circle.line_circle.Statement.{statement}
 use Rattle.crossing.proofs.line_circle.line_circle.Tie as tie
 
-pub line-circle-spec : {M : Type 1} → statement M
+pub line_circle_spec : {M : Type 1} → statement M
 unfolding line_circle
-line-circle-spec =
+line_circle_spec =
     tie.close
     (tie.spec
     (search rules) (search rules) (λ c. search branches) (search rules) (search rules) (search rules) (search rules)
-    (λ c. let l = c.before in
-    simp (← l.before.before.sub.ensures, ← l.before.sub2.ensures, ← l.line-through.ensures) (search branches)))
+    (λ c. simp (← c.sub-p0_shifted.ensures, ← c.sub-p1_shifted.ensures, ← c.line_through-line.ensures) (search branches)))

@@ -7,16 +7,15 @@ use Rattle.crossing.specs.Workings.ThroughLine.{line-through}
 use Rattle.crossing.proofs.line_circle.line_meets.Statement.{statement}
 use Rattle.crossing.proofs.line_circle.line_meets.Tie as tie
 
-returns : tie.Need-returns
-returns c = sym (line-far _ _ _ _ _ _ _ (c.before.far.ensures c.if1.true))
+returns : tie.Need-returns-then-far
+returns c = sym (line-far _ _ _ _ _ _ _ (c.far.ensures c.if-far.true))
 
-returns-2 : tie.Need-returns-2
+returns-2 : tie.Need-returns-then-through
 returns-2 c =
-    let t = c.before in
-    line-through _ _ _ _ _ _ _ _ (t.before.through.ensures t.if2.true) c.line-crosses.ensures
+    line-through _ _ _ _ _ _ _ _ (c.through.ensures c.if-through.true) c.line_crosses.ensures
 
-pub line-meets-spec : {M : Type 1} → statement M
-line-meets-spec =
+pub line_meets_spec : {M : Type 1} → statement M
+line_meets_spec =
     tie.close
     (tie.spec (search rules) (search rules) (search rules) returns (search rules) (search rules) returns-2 (search rules)
     (λ c. search rules))

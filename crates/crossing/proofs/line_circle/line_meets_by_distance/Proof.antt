@@ -6,29 +6,27 @@ use Rattle.crossing.specs.Workings.ThroughLine.{line_crosses}
 use Rattle.crossing.proofs.line_circle.line_meets_by_distance.Statement.{statement}
 use Rattle.crossing.proofs.line_circle.line_meets_by_distance.Tie as tie
 
-pub line-meets-by-distance-spec : {M : Type 1} → statement M
+pub line_meets_by_distance_spec : {M : Type 1} → statement M
 unfolding line_meets line_crosses
-line-meets-by-distance-spec =
+line_meets_by_distance_spec =
     tie.close
     (tie.spec
     (search rules) (search rules)
-    (λ c. simp (← c.before.before.abs.ensures, ← c.before.sqrt.ensures, c.if1.true))
+    (λ c. simp (← c.abs.ensures, ← c.sqrt.ensures, c.if-shortest_dist-radius.true))
     (search rules) (search rules)
-    (λ c. let p = c.before.before.before.before.before.before in let f = p.before in
-    simp (
-      ← f.before.before.abs.ensures,
-      ← f.before.sqrt.ensures,
-      f.if1.false,
-      p.if2.true,
-      ← c.before.new.ensures,
-      ← c.parametric-from-point.ensures,
+    (λ c. simp (
+      ← c.abs.ensures,
+      ← c.sqrt.ensures,
+      c.if-shortest_dist-radius.false,
+      c.if-shortest_dist-radius-2.true,
+      ← c.new.ensures,
+      ← c.parametric_from_point-t.ensures,
     ))
     (search rules)
-    (λ c. let p = c.before in let f = p.before in
-    simp (
-      ← f.before.before.abs.ensures,
-      ← f.before.sqrt.ensures,
-      f.if1.false,
-      p.if2.false,
-      ← c.line-crosses.ensures,
+    (λ c. simp (
+      ← c.abs.ensures,
+      ← c.sqrt.ensures,
+      c.if-shortest_dist-radius.false,
+      c.if-shortest_dist-radius-2.false,
+      ← c.line_crosses.ensures,
     )))

@@ -6,6 +6,6 @@ use Rattle.float_laws.specs.Branches.{branches}
 use Rattle.crossing.proofs.line_circle.line_through.Statement.{statement}
 use Rattle.crossing.proofs.line_circle.line_through.Tie as tie
 
-pub line-through-spec : {M : Type 1} → statement M
+pub line_through_spec : {M : Type 1} → statement M
 unfolding line_through
-line-through-spec = tie.close (tie.spec (search rules) (λ c. search branches) (λ c. search branches))
+line_through_spec = tie.close (tie.spec (search rules) (λ c. search branches) (λ c. search branches))

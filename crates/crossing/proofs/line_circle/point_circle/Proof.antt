@@ -6,11 +6,11 @@ use Rattle.float_laws.specs.Branches.{branches}
 use Rattle.crossing.proofs.line_circle.point_circle.Statement.{statement}
 use Rattle.crossing.proofs.line_circle.point_circle.Tie as tie
 
-pub point-circle-spec : {M : Type 1} → statement M
+pub point_circle_spec : {M : Type 1} → statement M
 unfolding point_circle
-point-circle-spec =
+point_circle_spec =
     tie.close
     (tie.spec
     (search rules) (search rules)
-    (λ c. simp (← c.before.before.sqrt.ensures) (search branches))
-    (λ c. simp (← c.before.before.sqrt.ensures) (search branches)))
+    (λ c. simp (← c.sqrt.ensures) (search branches))
+    (λ c. simp (← c.sqrt.ensures) (search branches)))

@@ -22,15 +22,12 @@ tests-hold b1 b2 b3 k q w z radius s e1 e2 e3 h =
 
 returns : tie.Need-returns
 returns c h =
-    let p1 = c.before in
-    let p2 = p1.before in
-    let p3 = p2.before in
-    let g = p3.before.well-formed in
+    let g = c.well_formed in
     through-line _ _ _ _ _ _ _ (passes _ g.0.1) (passes _ g.1.0.1) (passes _ g.1.1.0.1)
     (passes _ g.1.1.1.0.1)
-    p3.abs.ensures
-    (tests-hold _ _ _ _ _ _ _ _ _ p2.moderate.ensures p1.moderate2.ensures c.moderate3.ensures h)
+    c.abs-k.ensures
+    (tests-hold _ _ _ _ _ _ _ _ _ c.moderate.ensures c.moderate-2.ensures c.moderate-3.ensures h)
 
-pub through-spec : {M : Type 1} → statement M
-through-spec =
+pub through_spec : {M : Type 1} → statement M
+through_spec =
     tie.close (tie.spec (search rules) (search rules) (search rules) (search rules) returns)

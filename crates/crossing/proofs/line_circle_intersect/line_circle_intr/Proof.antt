@@ -5,13 +5,11 @@ use Rattle.crossing.specs.LineCircleIntersect.{line_circle_intr}
 use Rattle.crossing.proofs.line_circle_intersect.line_circle_intr.Statement.{statement}
 use Rattle.crossing.proofs.line_circle_intersect.line_circle_intr.Tie as tie
 
-pub line-circle-intr-spec : {M : Type 1} → statement M
+pub line_circle_intr_spec : {M : Type 1} → statement M
 unfolding line_circle_intr
-line-circle-intr-spec =
+line_circle_intr_spec =
     tie.close
     (tie.spec
     (search rules) (search rules) (search rules) (search rules)
-    (λ c. let t = c.before in
-    simp (← t.before.before.check-line-circle.ensures, t.enum_told.given.1, ← c.line-circle.ensures))
-    (λ c. let t = c.before in
-    simp (← t.before.before.check-line-circle.ensures, t.checked.given.1)))
+    (λ c. simp (← c.check_line_circle-checked.ensures, c.in-Fine.is, ← c.line_circle.ensures))
+    (λ c. simp (← c.check_line_circle-checked.ensures, c.in-Bad.is)))

@@ -7,13 +7,13 @@ use Rattle.crossing.specs.LineLine
 use Rattle.crossing.proofs.line_line.both_points.Statement.{statement}
 use Rattle.crossing.proofs.line_line.both_points.Tie as tie
 
-returns : tie.Need-returns
+returns : tie.Need-returns-then-fuzzy_eq_eps
 unfolding LineLine.both_points
-returns c = said-so _ _ _ _ _ c.before.fuzzy-eq-eps.ensures c.if1.true refl
+returns c = said-so _ _ _ _ _ c.fuzzy_eq_eps.ensures c.if-fuzzy_eq_eps.true refl
 
-returns-2 : tie.Need-returns-2
+returns-2 : tie.Need-returns
 unfolding LineLine.both_points
-returns-2 c = said-not _ _ _ _ _ c.before.fuzzy-eq-eps.ensures c.if1.false refl
+returns-2 c = said-not _ _ _ _ _ c.fuzzy_eq_eps.ensures c.if-fuzzy_eq_eps.false refl
 
-pub both-points-spec : {M : Type 1} → statement M
-both-points-spec = tie.close (tie.spec (search rules) returns returns-2)
+pub both_points_spec : {M : Type 1} → statement M
+both_points_spec = tie.close (tie.spec (search rules) returns returns-2)

@@ -11,39 +11,37 @@ use Rattle.crossing.proofs.line_line.crossing.Statement.{statement}
 use Rattle.crossing.proofs.line_line.crossing.Tie as tie
 
 -- the definition, by the two perp dots
-parameters : (c : tie.After-perp-dot2) →
-    let a = c.before.before.args in
-    let t1 = c.before.perp-dot.result ⊘ a.v-pdot-u in
-    let t2 = c.perp-dot2.result ⊘ a.v-pdot-u in
-    crossing a.v a.u a.w a.v-pdot-u a.eps
+parameters : (c : tie.After-perp_dot-2) →
+    let a = c.args in
+    let t1 = c.perp_dot.result ⊘ a.v_pdot_u in
+    let t2 = c.perp_dot-2.result ⊘ a.v_pdot_u in
+    crossing a.v a.u a.w a.v_pdot_u a.eps
     ≡ cond (not (on_segment t1 a.v a.eps) || not (on_segment t2 a.u a.eps)) (FalseIntersect t1 t2) (TrueIntersect t1 t2)
 unfolding crossing
-parameters c = simp (← c.before.perp-dot.ensures, ← c.perp-dot2.ensures)
+parameters c = simp (← c.perp_dot.ensures, ← c.perp_dot-2.ensures)
 
-returns-3 : tie.Need-returns-3
+returns-3 : tie.Need-returns
 returns-3 c =
-    let w = c.before.before.before in
     simp (
-      parameters w.before,
-      ← w.on-segment.ensures,
-      c.before.before.if1.left,
-      ← c.before.on-segment2.ensures,
-      c.if2.left,
+      parameters c.before.before.before.before,
+      ← c.on_segment.ensures,
+      c.if-not-on_segment.false,
+      ← c.on_segment-2.ensures,
+      c.if-not-on_segment-2.false,
     )
 
-pub crossing-spec : {M : Type 1} → statement M
-crossing-spec =
+pub crossing_spec : {M : Type 1} → statement M
+crossing_spec =
     tie.close
     (tie.spec
     (search rules) (search rules) (search rules)
-    (λ c. simp (parameters c.before.before, ← c.before.on-segment.ensures, c.if1.taken))
+    (λ c. simp (parameters c.before.before, ← c.on_segment.ensures, c.if-not-on_segment.true))
     (search rules)
-    (λ c. let w = c.before.before.before in
-    simp (
-      parameters w.before,
-      ← w.on-segment.ensures,
-      c.before.before.if1.left,
-      ← c.before.on-segment2.ensures,
-      c.if2.taken,
+    (λ c. simp (
+      parameters c.before.before.before.before,
+      ← c.on_segment.ensures,
+      c.if-not-on_segment.false,
+      ← c.on_segment-2.ensures,
+      c.if-not-on_segment-2.true,
     ))
     returns-3)

@@ -6,11 +6,11 @@ use Rattle.float_laws.specs.Branches.{branches}
 use Rattle.crossing.proofs.line_line.first_point.Statement.{statement}
 use Rattle.crossing.proofs.line_line.first_point.Tie as tie
 
-pub first-point-spec : {M : Type 1} → statement M
+pub first_point_spec : {M : Type 1} → statement M
 unfolding first_point
-first-point-spec =
+first_point_spec =
     tie.close
     (tie.spec
     (search rules) (search rules)
-    (λ c. simp (← c.before.before.parametric-from-point.ensures) (search branches))
-    (λ c. simp (← c.before.before.parametric-from-point.ensures) (search branches)))
+    (λ c. simp (← c.parametric_from_point-seg2_t.ensures) (search branches))
+    (λ c. simp (← c.parametric_from_point-seg2_t.ensures) (search branches)))

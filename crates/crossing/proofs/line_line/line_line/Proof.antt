@@ -9,29 +9,27 @@ use Rattle.crossing.proofs.line_line.line_line.Statement.{statement}
 use Rattle.crossing.proofs.line_line.line_line.Tie as tie
 
 -- the definition, by whether the directions are parallel
-by-angle : (c : tie.After-fuzzy-eq-zero-eps) →
-    let p = c.before.before in
-    let v = p.before.before.sub.result in
-    let u = p.before.sub2.result in
-    let w = c.before.sub3.result in
-    let a = p.before.before.before.args in
+by-angle : (c : tie.After-fuzzy_eq_zero_eps) →
+    let v = c.sub-v.result in
+    let u = c.sub-u.result in
+    let w = c.sub-w.result in
+    let a = c.args in
     line_line a.v1 a.v2 a.u1 a.u2 a.epsilon
-    ≡ cond (not c.fuzzy-eq-zero-eps.result)
-    (crossing v u w p.perp-dot.result a.epsilon)
+    ≡ cond (not c.fuzzy_eq_zero_eps.result)
+    (crossing v u w c.perp_dot-v_pdot_u.result a.epsilon)
     (parallel a.v1 a.v2 a.u1 a.u2 v u w a.epsilon)
 unfolding line_line
 by-angle c =
-    let p = c.before.before in
     simp (
-      ← p.before.before.sub.ensures,
-      ← p.before.sub2.ensures,
-      ← p.perp-dot.ensures,
-      ← c.before.sub3.ensures,
-      ← c.fuzzy-eq-zero-eps.ensures,
+      ← c.sub-v.ensures,
+      ← c.sub-u.ensures,
+      ← c.perp_dot-v_pdot_u.ensures,
+      ← c.sub-w.ensures,
+      ← c.fuzzy_eq_zero_eps.ensures,
     )
 
-pub line-line-spec : {M : Type 1} → statement M
-line-line-spec =
+pub line_line_spec : {M : Type 1} → statement M
+line_line_spec =
     tie.close
     (tie.spec
     (search rules) (search rules) (search rules) (search rules) (search rules) (search rules)

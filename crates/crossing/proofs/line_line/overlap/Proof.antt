@@ -11,37 +11,32 @@ use Rattle.crossing.proofs.line_line.overlap.Statement.{statement}
 use Rattle.crossing.proofs.line_line.overlap.Tie as tie
 
 -- past the first test: the definition, by the ends that the segments share and the length
-shared : (c : tie.After-min) →
-    let t = c.before.before in
-    let l = t.before.before.before.before.before in
-    let a = l.before.args in
-    let from = c.before.max.result in
-    let to = c.min.result in
+shared : (c : tie.After-min-seg2_t1) →
+    let a = c.args in
+    let from = c.max-seg2_t0.result in
+    let to = c.min-seg2_t1.result in
     overlap a.v1 a.u1 a.u2 a.u a.s a.eps
-    ≡ cond (fuzzy_eq_zero_eps ((to ⊖ from) ⊗ l.length.result) a.eps)
+    ≡ cond (fuzzy_eq_zero_eps ((to ⊖ from) ⊗ c.length-seg2_length.result) a.eps)
     (TrueIntersect (touching_end a.v1 a.u1 a.u2 a.eps) from)
     (Overlapping from to)
 unfolding overlap
 shared c =
-    let t = c.before.before in
-    let l = t.before.before.before in
     simp (
-      ← l.before.before.length.ensures,
-      ← l.fuzzy-lt-eps.ensures,
-      ← t.before.fuzzy-gt-eps.ensures,
-      t.if1.false,
-      ← c.before.max.ensures,
-      ← c.min.ensures,
+      ← c.length-seg2_length.ensures,
+      ← c.fuzzy_lt_eps.ensures,
+      ← c.fuzzy_gt_eps.ensures,
+      c.if-fuzzy_lt_eps-fuzzy_gt_eps.false,
+      ← c.max-seg2_t0.ensures,
+      ← c.min-seg2_t1.ensures,
     )
 
-pub overlap-spec : {M : Type 1} → statement M
+pub overlap_spec : {M : Type 1} → statement M
 unfolding overlap
-overlap-spec =
+overlap_spec =
     tie.close
     (tie.spec
     (search rules) (search rules) (search rules)
-    (λ c. let l = c.before.before.before in
-    simp (← l.before.before.length.ensures, ← l.fuzzy-lt-eps.ensures, ← c.before.fuzzy-gt-eps.ensures, c.if1.true))
+    (λ c. simp (← c.length-seg2_length.ensures, ← c.fuzzy_lt_eps.ensures, ← c.fuzzy_gt_eps.ensures, c.if-fuzzy_lt_eps-fuzzy_gt_eps.true))
     (search rules) (search rules) (search rules) (search rules)
     (λ c. rw (shared c.before.before.before) (search branches))
     (λ c. rw (shared c.before.before) (search branches)))

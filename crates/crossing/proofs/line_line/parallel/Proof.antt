@@ -13,38 +13,35 @@ use Rattle.crossing.proofs.line_line.parallel.Statement.{statement}
 use Rattle.crossing.proofs.line_line.parallel.Tie as tie
 
 -- past the first test: w leaves neither the line of v nor that of u
-on_line : (c : tie.Else1) (r y : LineLineIntr) → r ≡ y → let a = c.before.before.before.before.before.args in
+on_line : (c : tie.Else-fuzzy_eq_zero_eps) (r y : LineLineIntr) → r ≡ y → let a = c.args in
     r ≡ cond (not (fuzzy_eq_zero_eps (perp_dot a.v a.w) a.eps)
     || not (fuzzy_eq_zero_eps (perp_dot a.u a.w) a.eps)) NoIntersect y
 on_line c r y e =
-    let p = c.before.before.before in
     simp (
-      ← p.before.perp-dot.ensures,
-      ← p.fuzzy-eq-zero-eps.ensures,
-      ← c.before.before.perp-dot2.ensures,
-      ← c.before.fuzzy-eq-zero-eps2.ensures,
-      c.if1.false,
+      ← c.perp_dot.ensures,
+      ← c.fuzzy_eq_zero_eps.ensures,
+      ← c.perp_dot-2.ensures,
+      ← c.fuzzy_eq_zero_eps-2.ensures,
+      c.if-fuzzy_eq_zero_eps.false,
     ) e
 
-pub parallel-spec : {M : Type 1} → statement M
+pub parallel_spec : {M : Type 1} → statement M
 unfolding parallel
-parallel-spec =
+parallel_spec =
     tie.close
     (tie.spec
     (search rules) (search rules) (search rules) (search rules)
-    (λ c. let p = c.before.before.before in
-    simp (
-      ← p.before.perp-dot.ensures,
-      ← p.fuzzy-eq-zero-eps.ensures,
-      ← c.before.before.perp-dot2.ensures,
-      ← c.before.fuzzy-eq-zero-eps2.ensures,
-      c.if1.true,
+    (λ c. simp (
+      ← c.perp_dot.ensures,
+      ← c.fuzzy_eq_zero_eps.ensures,
+      ← c.perp_dot-2.ensures,
+      ← c.fuzzy_eq_zero_eps-2.ensures,
+      c.if-fuzzy_eq_zero_eps.true,
     ))
     (search rules) (search rules) (search rules)
     (λ c. on_line c.before.before.before.before.before _ _ (search pairs)) (search rules)
     (λ c. on_line c.before.before.before.before.before _ _ (search pairs)) (search rules)
     (λ c. on_line c.before.before.before.before.before _ _ (search pairs))
     (search rules) (search rules) (search rules)
-    (λ c. let s = c.before.before in
-    simp (← s.sub.ensures, ← c.before.Span-of.ensures)
-    (on_line s.before.before.before.before.before _ _ (search pairs))))
+    (λ c. simp (← c.sub-w2.ensures, ← c.span_of.ensures)
+    (on_line c.before.before.before.before.before.before.before _ _ (search pairs))))

@@ -4,6 +4,6 @@ use Rattle.float_laws.specs.Branches.{branches}
 use Rattle.crossing.proofs.line_line.rising.Statement.{statement}
 use Rattle.crossing.proofs.line_line.rising.Tie as tie
 
-pub rising-spec : {M : Type 1} → statement M
+pub rising_spec : {M : Type 1} → statement M
 unfolding rising
-rising-spec = tie.close (tie.spec (λ c. search branches) (λ c. search branches))
+rising_spec = tie.close (tie.spec (λ c. search branches) (λ c. search branches))

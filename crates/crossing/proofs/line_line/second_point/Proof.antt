@@ -6,11 +6,11 @@ use Rattle.float_laws.specs.Branches.{branches}
 use Rattle.crossing.proofs.line_line.second_point.Statement.{statement}
 use Rattle.crossing.proofs.line_line.second_point.Tie as tie
 
-pub second-point-spec : {M : Type 1} → statement M
+pub second_point_spec : {M : Type 1} → statement M
 unfolding second_point
-second-point-spec =
+second_point_spec =
     tie.close
     (tie.spec
     (search rules) (search rules)
-    (λ c. simp (← c.before.before.parametric-from-point.ensures) (search branches))
-    (λ c. simp (← c.before.before.parametric-from-point.ensures) (search branches)))
+    (λ c. simp (← c.parametric_from_point-seg1_t.ensures) (search branches))
+    (λ c. simp (← c.parametric_from_point-seg1_t.ensures) (search branches)))

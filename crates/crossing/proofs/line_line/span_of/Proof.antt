@@ -4,17 +4,15 @@ use Rattle.crossing.specs.LineLine
 use Rattle.crossing.proofs.line_line.span_of.Statement.{statement}
 use Rattle.crossing.proofs.line_line.span_of.Tie as tie
 
-returns : tie.Need-returns
+returns : tie.Need-returns-then-fuzzy_eq_zero_eps
 unfolding LineLine.span_of
 returns c =
-    let t = c.before.before.before.before.before in
-    simp (← t.before.fuzzy-eq-zero-eps.ensures, t.if1.true, ← c.rising.ensures)
+    simp (← c.fuzzy_eq_zero_eps.ensures, c.if-fuzzy_eq_zero_eps.true, ← c.rising.ensures)
 
-returns-2 : tie.Need-returns-2
+returns-2 : tie.Need-returns
 unfolding LineLine.span_of
 returns-2 c =
-    let t = c.before.before.before.before.before in
-    simp (← t.before.fuzzy-eq-zero-eps.ensures, t.if1.false, ← c.rising2.ensures)
+    simp (← c.fuzzy_eq_zero_eps.ensures, c.if-fuzzy_eq_zero_eps.false, ← c.rising-2.ensures)
 
-pub span-of-spec : {M : Type 1} → statement M
-span-of-spec = tie.close (tie.spec (search rules) (search rules) returns (search rules) returns-2)
+pub span_of_spec : {M : Type 1} → statement M
+span_of_spec = tie.close (tie.spec (search rules) (search rules) returns (search rules) returns-2)

@@ -5,11 +5,11 @@ use Rattle.crossing.specs.LineLine.{touching_end}
 use Rattle.crossing.proofs.line_line.touching_end.Statement.{statement}
 use Rattle.crossing.proofs.line_line.touching_end.Tie as tie
 
-pub touching-end-spec : {M : Type 1} → statement M
+pub touching_end_spec : {M : Type 1} → statement M
 unfolding touching_end
-touching-end-spec =
+touching_end_spec =
     tie.close
     (tie.spec
     (search rules) (search rules)
-    (λ c. simp (← c.before.before.fuzzy-eq-eps.ensures, ← c.before.fuzzy-eq-eps2.ensures, c.if1.true))
-    (λ c. simp (← c.before.before.fuzzy-eq-eps.ensures, ← c.before.fuzzy-eq-eps2.ensures, c.if1.false)))
+    (λ c. simp (← c.fuzzy_eq_eps.ensures, ← c.fuzzy_eq_eps-2.ensures, c.if-fuzzy_eq_eps.true))
+    (λ c. simp (← c.fuzzy_eq_eps.ensures, ← c.fuzzy_eq_eps-2.ensures, c.if-fuzzy_eq_eps.false)))

@@ -5,13 +5,11 @@ use Rattle.crossing.specs.LineLineIntersect.{line_line_intr}
 use Rattle.crossing.proofs.line_line_intersect.line_line_intr.Statement.{statement}
 use Rattle.crossing.proofs.line_line_intersect.line_line_intr.Tie as tie
 
-pub line-line-intr-spec : {M : Type 1} → statement M
+pub line_line_intr_spec : {M : Type 1} → statement M
 unfolding line_line_intr
-line-line-intr-spec =
+line_line_intr_spec =
     tie.close
     (tie.spec
     (search rules) (search rules) (search rules) (search rules)
-    (λ c. let t = c.before in
-    simp (← t.before.before.check-line-line.ensures, t.enum_told.given.1, ← c.line-line.ensures))
-    (λ c. let t = c.before in
-    simp (← t.before.before.check-line-line.ensures, t.checked.given.1)))
+    (λ c. simp (← c.check_line_line-checked.ensures, c.in-Fine.is, ← c.line_line.ensures))
+    (λ c. simp (← c.check_line_line-checked.ensures, c.in-Bad.is)))

@@ -9,84 +9,72 @@ use Rattle.crossing.proofs.pline_seg.pline_seg_on.Statement.{statement}
 use Rattle.crossing.proofs.pline_seg.pline_seg_on.Tie as tie
 
 -- what the function of each kind said
-lines : (c : tie.After-process-line-line-intr) →
-    let a = c.before.before.before.before.before.before.before.before.before.args in
-    c.process-line-line-intr.result
-    ≡ process_line_line_intr (pos a.v1) (pos a.v2) (pos a.u1) (pos a.u2) a.pos-equal-eps
+lines : (c : tie.After-process_line_line_intr) →
+    let a = c.args in
+    c.process_line_line_intr.result
+    ≡ process_line_line_intr (pos a.v1) (pos a.v2) (pos a.u1) (pos a.u2) a.pos_equal_eps
 lines c =
-    let p = c.before in
-    let q = p.before.before in
     simp (
-      ← q.before.pos.ensures,
-      ← q.pos2.ensures,
-      ← p.before.pos3.ensures,
-      ← p.pos4.ensures,
-      ← c.process-line-line-intr.ensures,
+      ← c.pos.ensures,
+      ← c.pos-then-u_is_line.ensures,
+      ← c.pos-then-u_is_line-2.ensures,
+      ← c.pos-then-u_is_line-3.ensures,
+      ← c.process_line_line_intr.ensures,
     )
 
-line_first : (c : tie.After-process-line-arc-intr) →
-    let a = c.before.before.before.before.before.before.before.args in
-    c.process-line-arc-intr.result
-    ≡ process_line_arc_intr (pos a.v1) (pos a.v2) a.u1 a.u2 false a.pos-equal-eps
+line_first : (c : tie.After-process_line_arc_intr) →
+    let a = c.args in
+    c.process_line_arc_intr.result
+    ≡ process_line_arc_intr (pos a.v1) (pos a.v2) a.u1 a.u2 false a.pos_equal_eps
 line_first c =
-    simp (← c.before.before.pos5.ensures, ← c.before.pos6.ensures, ← c.process-line-arc-intr.ensures)
+    simp (← c.pos-then-v_is_line.ensures, ← c.pos-then-v_is_line-2.ensures, ← c.process_line_arc_intr.ensures)
 
-line_second : (c : tie.After-process-line-arc-intr2) →
-    let a = c.before.before.before.before.before.before.before.args in
-    c.process-line-arc-intr2.result
-    ≡ process_line_arc_intr (pos a.u1) (pos a.u2) a.v1 a.v2 true a.pos-equal-eps
+line_second : (c : tie.After-process_line_arc_intr-then-u_is_line-2) →
+    let a = c.args in
+    c.process_line_arc_intr-then-u_is_line-2.result
+    ≡ process_line_arc_intr (pos a.u1) (pos a.u2) a.v1 a.v2 true a.pos_equal_eps
 line_second c =
-    simp (← c.before.before.pos7.ensures, ← c.before.pos8.ensures, ← c.process-line-arc-intr2.ensures)
+    simp (← c.pos-then-u_is_line-2-2.ensures, ← c.pos-then-u_is_line-2-3.ensures, ← c.process_line_arc_intr-then-u_is_line-2.ensures)
 
 -- the circle of a segment that is no line
-process-line-arc-intr-requires : tie.Need-process-line-arc-intr-requires
+process-line-arc-intr-requires : tie.Need-process_line_arc_intr-requires
 process-line-arc-intr-requires c κs =
-    let e = c.before.before in
-    let z = e.before.before in
-    z.before.before.requires.1 (sym z.bulge-is-zero2.ensures ∙ e.if2.false)
+    c.requires.1 (sym c.bulge_is_zero-u_is_line.ensures ∙ c.if-u_is_line.false)
 
-process-line-arc-intr-requires-2 : tie.Need-process-line-arc-intr-requires-2
+process-line-arc-intr-requires-2 : tie.Need-process_line_arc_intr-requires-then-u_is_line-2
 process-line-arc-intr-requires-2 c κs =
-    let n = c.before.before.before in
-    let z = n.before.before in
-    z.before.requires.0 (sym z.bulge-is-zero.ensures ∙ n.if1.false)
+    c.requires.0 (sym c.bulge_is_zero-v_is_line.ensures ∙ c.if-v_is_line.false)
 
-arc-arc-requires : tie.Need-arc-arc-requires
+arc-arc-requires : tie.Need-arc_arc-requires
 arc-arc-requires c κs =
-    let n = c.before in
-    let y = n.before in
-    let z = y.before in (
-      z.before.requires.0 (sym z.bulge-is-zero.ensures ∙ n.if1.false),
-      z.before.requires.1 (sym y.bulge-is-zero2.ensures ∙ c.if3.false),
+    (
+      c.requires.0 (sym c.bulge_is_zero-v_is_line.ensures ∙ c.if-v_is_line.false),
+      c.requires.1 (sym c.bulge_is_zero-u_is_line.ensures ∙ c.if-u_is_line-2.false),
     )
 
-pub pline-seg-on-spec : {M : Type 1} → statement M
+pub pline_seg_on_spec : {M : Type 1} → statement M
 unfolding pline_seg
-pline-seg-on-spec =
+pline_seg_on_spec =
     tie.close
     (tie.spec
     (λ c. search rules) (λ c. search rules)
     (λ c. search rules) (λ c. search rules) (λ c. search rules) (λ c. search rules) (λ c. search rules)
-    (λ c. let t = c.before.before.before.before.before in let z = t.before.before in
-    simp (← z.before.bulge-is-zero.ensures, ← z.bulge-is-zero2.ensures, t.before.if1.true, t.if2.true, ← lines c))
+    (λ c. simp (← c.bulge_is_zero-v_is_line.ensures, ← c.bulge_is_zero-u_is_line.ensures, c.if-v_is_line.true, c.if-u_is_line.true, ← lines c))
     (λ c. search rules) (λ c. search rules) process-line-arc-intr-requires
-    (λ c. let t = c.before.before.before in let z = t.before.before in
-    simp (← z.before.bulge-is-zero.ensures, ← z.bulge-is-zero2.ensures, t.before.if1.true, t.if2.false, ← line_first c))
+    (λ c. simp (← c.bulge_is_zero-v_is_line.ensures, ← c.bulge_is_zero-u_is_line.ensures, c.if-v_is_line.true, c.if-u_is_line.false, ← line_first c))
     (λ c. search rules) (λ c. search rules) process-line-arc-intr-requires-2
-    (λ c. let t = c.before.before.before in let z = t.before.before in
-    simp (
-      ← z.before.bulge-is-zero.ensures,
-      ← z.bulge-is-zero2.ensures,
-      t.before.if1.false,
-      t.if3.true,
+    (λ c. simp (
+      ← c.bulge_is_zero-v_is_line.ensures,
+      ← c.bulge_is_zero-u_is_line.ensures,
+      c.if-v_is_line.false,
+      c.if-u_is_line-2.true,
       ← line_second c,
     ))
     arc-arc-requires
-    (λ c. let t = c.before in let z = t.before.before in
-    simp (
-      ← z.before.bulge-is-zero.ensures,
-      ← z.bulge-is-zero2.ensures,
-      t.before.if1.false,
-      t.if3.false,
-      ← c.arc-arc.ensures,
+    (λ c. simp (
+      ← c.bulge_is_zero-v_is_line.ensures,
+      ← c.bulge_is_zero-u_is_line.ensures,
+      c.if-v_is_line.false,
+      c.if-u_is_line-2.false,
+      ← c.arc_arc.ensures,
     )))

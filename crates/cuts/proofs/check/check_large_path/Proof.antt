@@ -9,11 +9,11 @@ use Rattle.cuts.proofs.check.check_large_path.Tie as tie
 
 returns : tie.Need-returns
 returns c =
-    let a = c.before.before.before.args in
+    let a = c.args in
     let path = a.path.now in
     let first =
-    ap (λ (f : Checked). check_large_segments f path a.closed a.owner) c.before.check-vertices.ensures in
-    c.check-segments.ensures ∙ first ∙ path-chain a.f a.path.now a.closed a.owner
+    ap (λ (f : Checked). check_large_segments f path a.closed a.owner) c.check_vertices-a.ensures in
+    c.check_segments.ensures ∙ first ∙ path-chain a.f a.path.now a.closed a.owner
 
-pub check-large-path-spec : {M : Type 1} → statement M
-check-large-path-spec = tie.close (tie.spec (λ c. search rules) (λ c. search rules) returns)
+pub check_large_path_spec : {M : Type 1} → statement M
+check_large_path_spec = tie.close (tie.spec (λ c. search rules) (λ c. search rules) returns)

@@ -10,29 +10,28 @@ use Rattle.cuts.specs.Laws.Steps.{vertex-step}
 use Rattle.cuts.proofs.check.find_in_vertices.Statement.{statement}
 use Rattle.cuts.proofs.check.find_in_vertices.Tie as tie
 
-abbrev invariant-loop : tie.invariant-loop
+abbrev invariant-loop : tie.invariant-loop-i
 invariant-loop path owner n g₀ i₀ g i = Looking (of_vertex path owner) (vertex_count path) (check_large_vertices g₀ path owner) g i
 
-abbrev decreases-loop : tie.decreases-loop
+abbrev decreases-loop : tie.decreases-loop-i
 decreases-loop path owner n g₀ i₀ g i = vertex_count path - i
 
-loop-again : tie.Need-loop-preserved invariant-loop decreases-loop
+loop-again : tie.Need-loop-i-preserved invariant-loop decreases-loop
 loop-again c =
-    let t = c.before in
-    let l = t.before.before.before.before.before.loop in
+    let l = c.loop-i in
     turned l.invariant (search rules)
-    (vertex-step _ _ _ _ _ _ _ t.before.vertex.ensures t.trace.ensures c.traced-after.ensures)
+    (vertex-step _ _ _ _ _ _ _ c.vertex-v.ensures c.trace-trace.ensures c.traced_after-g.ensures)
 
-returns-2 : tie.Need-returns-2 invariant-loop decreases-loop
+returns-2 : tie.Need-returns invariant-loop decreases-loop
 returns-2 c =
-    let past : vertex_count c.before.before.before.before.args.path.now ≤ c.before.loop.i = search rules in
-    ended c.before.loop.invariant past
+    let past : vertex_count c.args.path.now ≤ c.loop-i.i = search rules in
+    ended c.loop-i.invariant past
 
-pub find-in-vertices-spec : {M : Type 1} → statement M
+pub find_in_vertices_spec : {M : Type 1} → statement M
 unfolding check_large_vertices
-find-in-vertices-spec =
+find_in_vertices_spec =
     tie.close
     (tie.spec
     invariant-loop decreases-loop (λ c. search rules) (λ c. looking _ _ _) (λ c. search rules) (λ c. search rules)
-    (λ c. found c.before.before.before.before.loop.invariant _ c.before.g.given.1) (λ c. search rules)
+    (λ c. found c.loop-i.invariant _ c.in-Bad.is) (λ c. search rules)
     (λ c. search rules) (λ c. search rules) (λ c. search rules) (λ c. search rules) loop-again returns-2)

@@ -8,40 +8,33 @@ use Rattle.cuts.specs.Laws.Steps.{not-cut, cut}
 use Rattle.cuts.proofs.check.segment_after.Statement.{statement}
 use Rattle.cuts.proofs.check.segment_after.Tie as tie
 
-returns : tie.Need-returns
+returns : tie.Need-returns-then-is_large
 unfolding halve
 returns c =
-    let d = c.before.before in
-    let b = d.before.before in
-    let y = b.before.before in
-    let x = y.before.before in
-    let h = x.before.before.before in
-    let t = h.before in
-    cut _ _ _ _ _ t.before.is-large.ensures _ t.if1.true
+    cut _ _ _ _ _ c.is_large.ensures _ c.if-is_large.true
     (simp (
-      c.later4.ensures,
-      c.before.arc-chord2.ensures,
-      d.later3.ensures,
-      d.before.arc-chord.ensures,
-      b.later2.ensures,
-      b.before.coordinate2.ensures,
-      y.at2.ensures,
-      y.before.later.ensures,
-      x.coordinate.ensures,
-      x.before.at.ensures,
-      h.halve.ensures,
+      c.later.ensures,
+      c.arc_chord-then-is_large.ensures,
+      c.later-d.ensures,
+      c.arc_chord.ensures,
+      c.later-b.ensures,
+      c.coordinate-then-is_large.ensures,
+      c.at-then-is_large.ensures,
+      c.later-a.ensures,
+      c.coordinate.ensures,
+      c.at.ensures,
+      c.halve-h.ensures,
       later-assoc,
       fine-right,
     ))
 
-pub segment-after-spec : {M : Type 1} → statement M
-segment-after-spec =
+pub segment_after_spec : {M : Type 1} → statement M
+segment_after_spec =
     tie.close
     (tie.spec
     (λ c. search rules) (λ c. search rules) (λ c. search rules) (λ c. search rules) (λ c. search rules) (λ c. search rules)
     (λ c. search rules) (λ c. search rules) (λ c. search rules) (λ c. search rules) (λ c. search rules) (λ c. search rules)
     returns (λ c. search rules) (λ c. search rules)
     (λ c.
-    let t = c.before.before in
-    not-cut _ _ _ _ _ t.before.is-large.ensures _ t.if1.false
-    (c.later5.ensures ∙ ap (later _) c.before.arc-chord3.ensures)))
+    not-cut _ _ _ _ _ c.is_large.ensures _ c.if-is_large.false
+    (c.later-2.ensures ∙ ap (later _) c.arc_chord-2.ensures)))

@@ -4,17 +4,17 @@ use Rattle.checks.specs.Laws.Later.{later-assoc, fine-right}
 use Rattle.cuts.proofs.check.traced_after.Statement.{statement}
 use Rattle.cuts.proofs.check.traced_after.Tie as tie
 
-pub traced-after-spec : {M : Type 1} → statement M
-traced-after-spec =
+pub traced_after_spec : {M : Type 1} → statement M
+traced_after_spec =
     tie.close
     (tie.spec
     (λ c. search rules) (λ c. search rules) (λ c. search rules) (λ c. search rules)
     (λ c.
     simp (
       c.later.ensures,
-      c.before.trace.ensures,
-      c.before.before.at.ensures,
-      c.before.before.before.vertex-after.ensures,
+      c.trace.ensures,
+      c.at.ensures,
+      c.vertex_after-a.ensures,
       later-assoc,
       fine-right,
     )))

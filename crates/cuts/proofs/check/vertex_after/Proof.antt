@@ -4,17 +4,17 @@ use Rattle.checks.specs.Laws.Later.{later-assoc, fine-right}
 use Rattle.cuts.proofs.check.vertex_after.Statement.{statement}
 use Rattle.cuts.proofs.check.vertex_after.Tie as tie
 
-pub vertex-after-spec : {M : Type 1} → statement M
-vertex-after-spec =
+pub vertex_after_spec : {M : Type 1} → statement M
+vertex_after_spec =
     tie.close
     (tie.spec
     (λ c. search rules) (λ c. search rules) (λ c. search rules) (λ c. search rules)
     (λ c.
     simp (
       c.later.ensures,
-      c.before.large-bulge.ensures,
-      c.before.before.at.ensures,
-      c.before.before.before.point-after.ensures,
+      c.large_bulge.ensures,
+      c.at.ensures,
+      c.point_after-a.ensures,
       later-assoc,
       fine-right,
     )))

@@ -4,20 +4,18 @@ use Rattle.float_laws.specs.Branches.{holds, fails}
 use Rattle.cuts.proofs.check.vertex_inside.Statement.{statement}
 use Rattle.cuts.proofs.check.vertex_inside.Tie as tie
 
-pub vertex-inside-spec : {M : Type 1} → statement M
-vertex-inside-spec =
+pub vertex_inside_spec : {M : Type 1} → statement M
+vertex_inside_spec =
     tie.close
     (tie.spec
     (λ c. search rules) (λ c. search rules) (λ c. search rules)
-    (λ c. let p = c.before in
-    holds _ _ _ _ c.if1.true
-    (simp (← p.before.before.inside.ensures, ← p.before.inside2.ensures, ← p.inside3.ensures)))
+    (λ c. holds _ _ _ _ c.if-trace.true
+    (simp (← c.inside.ensures, ← c.inside-2.ensures, ← c.inside-3.ensures)))
     (λ c. search rules)
-    (λ c. let p = c.before.before in
-    fails _ _ _ _ c.before.if1.false
+    (λ c. fails _ _ _ _ c.if-trace.false
     (simp (
-      ← p.before.before.inside.ensures,
-      ← p.before.inside2.ensures,
-      ← p.inside3.ensures,
-      ← c.no-trace.ensures,
+      ← c.inside.ensures,
+      ← c.inside-2.ensures,
+      ← c.inside-3.ensures,
+      ← c.no_trace.ensures,
     ))))

@@ -4,6 +4,6 @@ use Rattle.cuts.specs.Cut.{cut_point}
 use Rattle.cuts.proofs.cut.cut_point.Statement.{statement}
 use Rattle.cuts.proofs.cut.cut_point.Tie as tie
 
-pub cut-point-spec : {M : Type 1} → statement M
+pub cut_point_spec : {M : Type 1} → statement M
 unfolding cut_point
-cut-point-spec = tie.close (tie.spec (λ c. search rules) (λ c. simp c.new.ensures))
+cut_point_spec = tie.close (tie.spec (λ c. search rules) (λ c. simp c.new.ensures))

@@ -4,6 +4,6 @@ use Rattle.cuts.specs.Cut.{half_bulge}
 use Rattle.cuts.proofs.cut.half_bulge.Statement.{statement}
 use Rattle.cuts.proofs.cut.half_bulge.Tie as tie
 
-pub half-bulge-spec : {M : Type 1} → statement M
+pub half_bulge_spec : {M : Type 1} → statement M
 unfolding half_bulge
-half-bulge-spec = tie.close (tie.spec (λ c. search rules) (λ c. simp c.sqrt.ensures))
+half_bulge_spec = tie.close (tie.spec (λ c. search rules) (λ c. simp c.sqrt.ensures))

@@ -4,11 +4,10 @@ use Rattle.cuts.specs.Cut.{halve, bent, cut_vertex}
 use Rattle.cuts.proofs.cut.halve.Statement.{statement}
 use Rattle.cuts.proofs.cut.halve.Tie as tie
 
-pub halve-spec : {M : Type 1} → statement M
+pub halve_spec : {M : Type 1} → statement M
 unfolding halve bent cut_vertex
-halve-spec =
+halve_spec =
     tie.close
     (tie.spec
     (λ c. search rules) (λ c. search rules) (λ c. search rules) (λ c. search rules)
-    (λ c. let p = c.before.before in
-    simp (c.new2.ensures, c.before.new.ensures, p.cut-point.ensures, p.before.half-bulge.ensures)))
+    (λ c. simp (c.new-2.ensures, c.new.ensures, c.cut_point-p.ensures, c.half_bulge-half.ensures)))

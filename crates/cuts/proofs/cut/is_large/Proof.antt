@@ -4,6 +4,6 @@ use Rattle.cuts.specs.Cut.{is_large}
 use Rattle.cuts.proofs.cut.is_large.Statement.{statement}
 use Rattle.cuts.proofs.cut.is_large.Tie as tie
 
-pub is-large-spec : {M : Type 1} → statement M
+pub is_large_spec : {M : Type 1} → statement M
 unfolding is_large
-is-large-spec = tie.close (tie.spec (λ c. search rules) (λ c. simp (← c.abs.ensures)))
+is_large_spec = tie.close (tie.spec (λ c. search rules) (λ c. simp (← c.abs.ensures)))

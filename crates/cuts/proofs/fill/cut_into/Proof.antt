@@ -8,38 +8,32 @@ use Rattle.cuts.specs.Workings.Writing.{Writing, writing-starts, writing-turn, w
 use Rattle.cuts.proofs.fill.cut_into.Statement.{statement}
 use Rattle.cuts.proofs.fill.cut_into.Tie as tie
 
-abbrev invariant-loop : tie.invariant-loop
+abbrev invariant-loop : tie.invariant-loop-i
 invariant-loop path closed out₀ n count at₀ i₀ out at i = Writing (vertices_of path n) count 8 out₀ out at i
 
-abbrev decreases-loop : tie.decreases-loop
+abbrev decreases-loop : tie.decreases-loop-i
 decreases-loop path closed out₀ n count at₀ i₀ out at i = count - i
 
-put-vertices-requires : tie.Need-put-vertices-requires invariant-loop decreases-loop
+put-vertices-requires : tie.Need-put_vertices-at-requires invariant-loop decreases-loop
 put-vertices-requires c κs =
-    let l = c.before in
-    let counted = l.before.before in
-    let start = counted.before.before.before.before in
-    let w = l.before.loop.invariant in (
-      omega (arith, l.loop-test.true, counted.vertex-count.ensures),
-      omega (arith, l.loop-test.true, counted.vertex-count.ensures, w.within, w.long, start.requires),
+    let w = c.loop-i.invariant in (
+      omega (arith, c.loop-i-test.true, c.vertex_count-count.ensures),
+      omega (arith, c.loop-i-test.true, c.vertex_count-count.ensures, w.within, w.long, c.requires),
     )
 
-loop-again : tie.Need-loop-preserved invariant-loop decreases-loop
+loop-again : tie.Need-loop-i-preserved invariant-loop decreases-loop
 loop-again c =
-    let put = c.before.before in
-    let l = put.before.before in
-    writing-turn l.before.loop.invariant l.loop-test.true (vertices-short _ _ _) put.put-vertices.ensures
+    writing-turn c.loop-i.invariant c.loop-i-test.true (vertices-short _ _ _) c.put_vertices-at.ensures
 
 returns : tie.Need-returns invariant-loop decreases-loop
 unfolding cut_path
 returns c =
-    let counted = c.before.before in
-    rw (← counted.before.segment-count.ensures, ← counted.vertex-count.ensures)
-    (writing-ends c.before.loop.invariant c.loop-test.false)
+    rw (← c.segment_count-n.ensures, ← c.vertex_count-count.ensures)
+    (writing-ends c.loop-i.invariant c.loop-i-test.false)
 
-pub cut-into-spec : {M : Type 1} → statement M
-cut-into-spec =
+pub cut_into_spec : {M : Type 1} → statement M
+cut_into_spec =
     tie.close
     (tie.spec
     invariant-loop decreases-loop (λ c. search rules) (λ c. search rules) (λ c. writing-starts _ _ _ _) put-vertices-requires
-    (λ c. search rules) (λ c. search rules) loop-again (λ c. c.before.loop.invariant.long) returns)
+    (λ c. search rules) (λ c. search rules) loop-again (λ c. c.loop-i.invariant.long) returns)

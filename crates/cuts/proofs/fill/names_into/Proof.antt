@@ -8,42 +8,36 @@ use Rattle.cuts.specs.Workings.Writing.{Writing, writing-starts, writing-turn, w
 use Rattle.cuts.proofs.fill.names_into.Statement.{statement}
 use Rattle.cuts.proofs.fill.names_into.Tie as tie
 
-abbrev invariant-loop : tie.invariant-loop
+abbrev invariant-loop : tie.invariant-loop-i
 invariant-loop path closed names₀ n at₀ i₀ names at i = Writing (words_of path) n 2 names₀ names at i
 
-abbrev decreases-loop : tie.decreases-loop
+abbrev decreases-loop : tie.decreases-loop-i
 decreases-loop path closed names₀ n at₀ i₀ names at i = n - i
 
-put-names-requires : tie.Need-put-names-requires invariant-loop decreases-loop
+put-names-requires : tie.Need-put_names-at-requires invariant-loop decreases-loop
 put-names-requires c κs =
-    let l = c.before in
-    let counted = l.before.before in
-    let start = counted.before.before.before in
-    let a = start.args in
+    let a = c.args in
     let within = count-within a.path.now a.closed in
     let few = few-segments a.path.now a.closed in
-    let w = l.before.loop.invariant in (
+    let w = c.loop-i.invariant in (
       (
-        omega (arith, l.loop-test.true, counted.segment-count.ensures, within),
-        omega (arith, l.loop-test.true, counted.segment-count.ensures, few),
+        omega (arith, c.loop-i-test.true, c.segment_count-n.ensures, within),
+        omega (arith, c.loop-i-test.true, c.segment_count-n.ensures, few),
       ),
-      omega (arith, l.loop-test.true, counted.segment-count.ensures, within, w.within, w.long, start.requires),
+      omega (arith, c.loop-i-test.true, c.segment_count-n.ensures, within, w.within, w.long, c.requires),
     )
 
-loop-again : tie.Need-loop-preserved invariant-loop decreases-loop
+loop-again : tie.Need-loop-i-preserved invariant-loop decreases-loop
 loop-again c =
-    let put = c.before.before in
-    let l = put.before.before in
-    writing-turn l.before.loop.invariant l.loop-test.true (words-short _ _) put.put-names.ensures
+    writing-turn c.loop-i.invariant c.loop-i-test.true (words-short _ _) c.put_names-at.ensures
 
 returns : tie.Need-returns invariant-loop decreases-loop
 returns c =
-    let counted = c.before.before in
-    all_named _ _ _ _ _ _ counted.segment-count.ensures (writing-ends c.before.loop.invariant c.loop-test.false)
+    all_named _ _ _ _ _ _ c.segment_count-n.ensures (writing-ends c.loop-i.invariant c.loop-i-test.false)
 
-pub names-into-spec : {M : Type 1} → statement M
-names-into-spec =
+pub names_into_spec : {M : Type 1} → statement M
+names_into_spec =
     tie.close
     (tie.spec
     invariant-loop decreases-loop (λ c. search rules) (λ c. writing-starts _ _ _ _) put-names-requires
-    (λ c. search rules) (λ c. search rules) loop-again (λ c. c.before.loop.invariant.long) returns)
+    (λ c. search rules) (λ c. search rules) loop-again (λ c. c.loop-i.invariant.long) returns)

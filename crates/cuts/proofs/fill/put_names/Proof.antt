@@ -6,18 +6,16 @@ use Rattle.cuts.specs.Laws.Pieces.{name-whole, name-halves}
 use Rattle.cuts.proofs.fill.put_names.Statement.{statement}
 use Rattle.cuts.proofs.fill.put_names.Tie as tie
 
-returns : tie.Need-returns
+returns : tie.Need-returns-then-is_large
 returns c =
-    let t = c.before in
-    name-halves _ _ _ _ t.before.vertex.ensures t.is-large.ensures _ _ c.if1.true
+    name-halves _ _ _ _ c.vertex-v.ensures c.is_large.ensures _ _ c.if-is_large.true
 
-returns-2 : tie.Need-returns-2
+returns-2 : tie.Need-returns
 returns-2 c =
-    let t = c.before in
-    name-whole _ _ _ _ t.before.vertex.ensures t.is-large.ensures _ _ c.if1.false
+    name-whole _ _ _ _ c.vertex-v.ensures c.is_large.ensures _ _ c.if-is_large.false
 
-pub put-names-spec : {M : Type 1} → statement M
-put-names-spec =
+pub put_names_spec : {M : Type 1} → statement M
+put_names_spec =
     tie.close
     (tie.spec
     (λ c. search rules) (λ c. search rules) (λ c. search rules) (λ c. search rules) (λ c. search rules) (λ c. search rules)

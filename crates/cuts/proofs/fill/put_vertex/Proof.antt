@@ -6,8 +6,8 @@ use Rattle.float_laws.specs.Stores.{four-set}
 use Rattle.cuts.proofs.fill.put_vertex.Statement.{statement}
 use Rattle.cuts.proofs.fill.put_vertex.Tie as tie
 
-pub put-vertex-spec : {M : Type 1} → statement M
-put-vertex-spec =
+pub put_vertex_spec : {M : Type 1} → statement M
+put_vertex_spec =
     tie.close
     (tie.spec
     (λ c. search rules) (λ c. search rules)

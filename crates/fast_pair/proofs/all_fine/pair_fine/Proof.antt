@@ -4,6 +4,6 @@ use Rattle.fast_pair.specs.Workings.AllFine
 use Rattle.fast_pair.proofs.all_fine.pair_fine.Statement.{statement}
 use Rattle.fast_pair.proofs.all_fine.pair_fine.Tie as tie
 
-pub pair-fine-spec : {M : Type 1} → statement M
+pub pair_fine_spec : {M : Type 1} → statement M
 unfolding AllFine.pair_fine
-pair-fine-spec = tie.close (tie.spec (λ c. search rules) (λ c. search rules) (λ c. search rules) (λ c. cc))
+pair_fine_spec = tie.close (tie.spec (λ c. search rules) (λ c. search rules) (λ c. search rules) (λ c. cc))

@@ -4,9 +4,9 @@ use Rattle.fast_pair.specs.Workings.AllFine
 use Rattle.fast_pair.proofs.all_fine.segment_fine.Statement.{statement}
 use Rattle.fast_pair.proofs.all_fine.segment_fine.Tie as tie
 
-pub segment-fine-spec : {M : Type 1} → statement M
+pub segment_fine_spec : {M : Type 1} → statement M
 unfolding AllFine.segment_fine
-segment-fine-spec =
+segment_fine_spec =
     tie.close
     (tie.spec
     (λ c. search rules) (λ c. search rules) (λ c. search rules) (λ c. search rules) (λ c. search rules)

@@ -4,12 +4,10 @@ use Rattle.fast_pair.specs.Workings.ClearlyApart
 use Rattle.fast_pair.proofs.circles.circles_apart.Statement.{statement}
 use Rattle.fast_pair.proofs.circles.circles_apart.Tie as tie
 
-pub circles-apart-spec : {M : Type 1} → statement M
+pub circles_apart_spec : {M : Type 1} → statement M
 unfolding ClearlyApart.circles_apart
-circles-apart-spec =
+circles_apart_spec =
     tie.close
     (tie.spec
     (λ c. search rules) (λ c. search rules) (λ c. search rules) (λ c. search rules) (λ c. search rules)
-    (λ c. let p = c.before.before in
-    let d = p.before in
-    simp (← d.before.sub.ensures, ← d.dot.ensures, ← p.apart.ensures, ← c.before.abs.ensures, ← c.nested.ensures)))
+    (λ c. simp (← c.sub-cv.ensures, ← c.dot-d2.ensures, ← c.apart.ensures, ← c.abs.ensures, ← c.nested.ensures)))

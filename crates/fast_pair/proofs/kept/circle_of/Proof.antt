@@ -4,6 +4,6 @@ use Rattle.fast_pair.specs.Workings.Kept as workings
 use Rattle.fast_pair.proofs.kept.circle_of.Statement.{statement}
 use Rattle.fast_pair.proofs.kept.circle_of.Tie as tie
 
-pub circle-of-spec : {M : Type 1} → statement M
+pub circle_of_spec : {M : Type 1} → statement M
 unfolding workings.circle_of
-circle-of-spec = tie.close (tie.spec (λ c. search rules) (λ c. simp c.new.ensures))
+circle_of_spec = tie.close (tie.spec (λ c. search rules) (λ c. simp c.new.ensures))

@@ -4,6 +4,6 @@ use Rattle.fast_pair.specs.Workings.Kept as workings
 use Rattle.fast_pair.proofs.kept.guess.Statement.{statement}
 use Rattle.fast_pair.proofs.kept.guess.Tie as tie
 
-pub guess-spec : {M : Type 1} → statement M
+pub guess_spec : {M : Type 1} → statement M
 unfolding workings.guess
-guess-spec = tie.close (tie.spec (λ c. refl))
+guess_spec = tie.close (tie.spec (λ c. refl))

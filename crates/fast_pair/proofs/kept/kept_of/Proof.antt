@@ -5,12 +5,12 @@ use Rattle.fast_pair.specs.Workings.Kept as workings
 use Rattle.fast_pair.proofs.kept.kept_of.Statement.{statement}
 use Rattle.fast_pair.proofs.kept.kept_of.Tie as tie
 
-pub kept-of-spec : {M : Type 1} → statement M
+pub kept_of_spec : {M : Type 1} → statement M
 unfolding workings.kept_of
-kept-of-spec =
+kept_of_spec =
     tie.close
     (tie.spec
     (λ c. search rules) (λ c. search rules) (λ c. search rules) (λ c. search rules)
-    (λ c. simp (← c.before.before.pos.ensures, ← c.before.pos2.ensures) (search branches))
+    (λ c. simp (← c.pos.ensures, ← c.pos-then-bulge_is_zero.ensures) (search branches))
     (λ c. search rules)
     (λ c. search branches))

@@ -5,12 +5,12 @@ use Rattle.fast_pair.specs.Workings.Kept as workings
 use Rattle.fast_pair.proofs.kept.of_line.Statement.{statement}
 use Rattle.fast_pair.proofs.kept.of_line.Tie as tie
 
-pub of-line-spec : {M : Type 1} → statement M
+pub of_line_spec : {M : Type 1} → statement M
 unfolding workings.of_line
-of-line-spec =
+of_line_spec =
     tie.close
     (tie.spec
     (λ c. search rules) (λ c. search rules) (λ c. search rules)
-    (λ c. simp (← c.before.before.before.fuzzy-eq-eps.ensures) (search branches))
+    (λ c. simp (← c.fuzzy_eq_eps-point.ensures) (search branches))
     (λ c. search rules)
-    (λ c. simp (← c.before.before.before.fuzzy-eq-eps.ensures) (search branches)))
+    (λ c. simp (← c.fuzzy_eq_eps-point.ensures) (search branches)))

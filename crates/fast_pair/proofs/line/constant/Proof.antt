@@ -5,6 +5,6 @@ use Rattle.fast_pair.specs.Workings.ClearlyApart
 use Rattle.fast_pair.proofs.line.constant.Statement.{statement}
 use Rattle.fast_pair.proofs.line.constant.Tie as tie
 
-pub constant-spec : {M : Type 1} → statement M
+pub constant_spec : {M : Type 1} → statement M
 unfolding ClearlyApart.constant
-constant-spec = tie.close (tie.spec (λ c. search rules) (λ c. search branches) (λ c. search branches))
+constant_spec = tie.close (tie.spec (λ c. search rules) (λ c. search branches) (λ c. search branches))

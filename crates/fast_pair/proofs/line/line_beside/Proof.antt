@@ -4,9 +4,9 @@ use Rattle.fast_pair.specs.Workings.ClearlyApart
 use Rattle.fast_pair.proofs.line.line_beside.Statement.{statement}
 use Rattle.fast_pair.proofs.line.line_beside.Tie as tie
 
-pub line-beside-spec : {M : Type 1} → statement M
+pub line_beside_spec : {M : Type 1} → statement M
 unfolding ClearlyApart.line_beside
-line-beside-spec =
+line_beside_spec =
     tie.close
     (tie.spec
     (λ c. search rules) (λ c. search rules) (λ c. search rules) (λ c. search rules) (λ c. search rules)

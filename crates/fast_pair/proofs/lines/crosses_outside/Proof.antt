@@ -4,6 +4,6 @@ use Rattle.fast_pair.specs.Workings.ClearlyApart
 use Rattle.fast_pair.proofs.lines.crosses_outside.Statement.{statement}
 use Rattle.fast_pair.proofs.lines.crosses_outside.Tie as tie
 
-pub crosses-outside-spec : {M : Type 1} → statement M
+pub crosses_outside_spec : {M : Type 1} → statement M
 unfolding ClearlyApart.crosses_outside
-crosses-outside-spec = tie.close (tie.spec (λ c. search rules) (λ c. search rules) (λ c. search rules) (λ c. cc))
+crosses_outside_spec = tie.close (tie.spec (λ c. search rules) (λ c. search rules) (λ c. search rules) (λ c. cc))

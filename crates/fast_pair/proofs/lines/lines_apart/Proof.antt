@@ -10,41 +10,34 @@ use Rattle.fast_pair.proofs.lines.lines_apart.Statement.{statement}
 use Rattle.fast_pair.proofs.lines.lines_apart.Tie as tie
 
 -- the definition, by the directions and the products that were worked out
-worked-out : (c : tie.After-perp-dot2) →
-    let w = c.before in
-    let p = w.before in
-    let a = p.before.before.before.args in
-    let d = p.perp-dot.result in
-    let n = c.perp-dot2.result in
-    let v = p.before.before.sub.result in
+worked-out : (c : tie.After-perp_dot-n) →
+    let a = c.args in
+    let d = c.perp_dot-d.result in
+    let n = c.perp_dot-n.result in
+    let v = c.sub-v.result in
     lines_apart a.v1 a.v2 a.u1 a.u2 a.eps
     ≡ cond (fuzzy_eq_zero_eps d a.eps)
     (not (fuzzy_eq_zero_eps n a.eps))
-    (crosses_outside n d v a.eps || crosses_outside (perp_dot v w.sub3.result) d p.before.sub2.result a.eps)
+    (crosses_outside n d v a.eps || crosses_outside (perp_dot v c.sub-w.result) d c.sub-u.result a.eps)
 unfolding lines_apart
 worked-out c =
-    let w = c.before in
-    let p = w.before in
     simp (
-      ← p.before.before.sub.ensures,
-      ← p.before.sub2.ensures,
-      ← p.perp-dot.ensures,
-      ← w.sub3.ensures,
-      ← c.perp-dot2.ensures,
+      ← c.sub-v.ensures,
+      ← c.sub-u.ensures,
+      ← c.perp_dot-d.ensures,
+      ← c.sub-w.ensures,
+      ← c.perp_dot-n.ensures,
     )
 
-pub lines-apart-spec : {M : Type 1} → statement M
-lines-apart-spec =
+pub lines_apart_spec : {M : Type 1} → statement M
+lines_apart_spec =
     tie.close
     (tie.spec
     (λ c. search rules) (λ c. search rules) (λ c. search rules) (λ c. search rules) (λ c. search rules) (λ c. search rules)
     (λ c. search rules)
-    (λ c. rw (worked-out c.before.before.before, ← c.fuzzy-eq-zero-eps2.ensures) (search branches))
+    (λ c. rw (worked-out c.before.before.before, ← c.fuzzy_eq_zero_eps-then-fuzzy_eq_zero_eps.ensures) (search branches))
     (λ c. search rules)
-    (λ c. let o = c.before in
-    rw (worked-out o.before.before.before, ← o.crosses-outside.ensures, c.if2.true) (search branches))
+    (λ c. rw (worked-out c.before.before.before.before, ← c.crosses_outside.ensures, c.if-crosses_outside.true) (search branches))
     (λ c. search rules) (λ c. search rules)
-    (λ c. let s = c.before.before in
-    let o = s.before in
-    rw (worked-out o.before.before.before, ← o.crosses-outside.ensures, s.if2.false, ← c.before.perp-dot3.ensures)
+    (λ c. rw (worked-out c.before.before.before.before.before.before, ← c.crosses_outside.ensures, c.if-crosses_outside.false, ← c.perp_dot.ensures)
     (search branches)))

@@ -4,6 +4,6 @@ use Rattle.fast_pair.specs.Workings.ClearlyApart
 use Rattle.fast_pair.proofs.lines.quotient_outside.Statement.{statement}
 use Rattle.fast_pair.proofs.lines.quotient_outside.Tie as tie
 
-pub quotient-outside-spec : {M : Type 1} → statement M
+pub quotient_outside_spec : {M : Type 1} → statement M
 unfolding ClearlyApart.quotient_outside
-quotient-outside-spec = tie.close (tie.spec (λ c. refl))
+quotient_outside_spec = tie.close (tie.spec (λ c. refl))

@@ -5,8 +5,8 @@ use borrow.Author.Rules.{rules}
 use Rattle.fast_pair.proofs.misses.left_misses.Statement.{statement}
 use Rattle.fast_pair.proofs.misses.left_misses.Tie as tie
 
-pub left-misses-spec : {M : Type 1} → statement M
-left-misses-spec =
+pub left_misses_spec : {M : Type 1} → statement M
+left_misses_spec =
     tie.close
     (tie.spec
     (λ c. search rules) (λ c y. absurd (true≢false (sym y))) (λ c. search rules) (λ c y. absurd (true≢false (sym y)))

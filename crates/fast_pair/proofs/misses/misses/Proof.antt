@@ -7,53 +7,44 @@ use Rattle.fast_pair.specs.Laws.Misses.{slope-kept, circle-at, line_first, line_
 use Rattle.fast_pair.proofs.misses.misses.Statement.{statement}
 use Rattle.fast_pair.proofs.misses.misses.Tie as tie
 
-line-misses-requires : tie.Need-line-misses-requires
+line-misses-requires : tie.Need-line_misses-requires
 line-misses-requires c κs =
-    let then1 = c.before.before in
-    let start = then1.before.before in (
-      slope-kept _ _ _ _ start.requires.0 (sym then1.before.bulge-is-zero.ensures ∙ then1.if1.true),
-      circle-at _ _ _ _ start.requires.1 (sym c.before.bulge-is-zero2.ensures ∙ c.if2.false),
+    (
+      slope-kept _ _ _ _ c.requires.0 (sym c.bulge_is_zero.ensures ∙ c.if-bulge_is_zero.true),
+      circle-at _ _ _ _ c.requires.1 (sym c.bulge_is_zero-then-bulge_is_zero.ensures ∙ c.if-bulge_is_zero-2.false),
     )
 
-returns-2 : tie.Need-returns-2
+returns-2 : tie.Need-returns-then-bulge_is_zero
 returns-2 c =
-    let else2 = c.before in
-    let then1 = else2.before.before in
-    line_first _ _ _ _ _ _ (sym then1.before.bulge-is-zero.ensures ∙ then1.if1.true)
-    (sym else2.before.bulge-is-zero2.ensures ∙ else2.if2.false) c.line-misses.ensures.1
+    line_first _ _ _ _ _ _ (sym c.bulge_is_zero.ensures ∙ c.if-bulge_is_zero.true)
+    (sym c.bulge_is_zero-then-bulge_is_zero.ensures ∙ c.if-bulge_is_zero-2.false) c.line_misses.ensures.1
 
-line-misses-requires-2 : tie.Need-line-misses-requires-2
+line-misses-requires-2 : tie.Need-line_misses-requires-then-bulge_is_zero-3
 line-misses-requires-2 c κs =
-    let else1 = c.before.before in
-    let start = else1.before.before in (
-      slope-kept _ _ _ _ start.requires.1 (sym c.before.bulge-is-zero3.ensures ∙ c.if3.true),
-      circle-at _ _ _ _ start.requires.0 (sym else1.before.bulge-is-zero.ensures ∙ else1.if1.false),
+    (
+      slope-kept _ _ _ _ c.requires.1 (sym c.bulge_is_zero-2.ensures ∙ c.if-bulge_is_zero-3.true),
+      circle-at _ _ _ _ c.requires.0 (sym c.bulge_is_zero.ensures ∙ c.if-bulge_is_zero.false),
     )
 
-returns-3 : tie.Need-returns-3
+returns-3 : tie.Need-returns-then-bulge_is_zero-3
 returns-3 c =
-    let then3 = c.before in
-    let else1 = then3.before.before in
-    line_second _ _ _ _ _ _ (sym else1.before.bulge-is-zero.ensures ∙ else1.if1.false)
-    (sym then3.before.bulge-is-zero3.ensures ∙ then3.if3.true) c.line-misses2.ensures.1
+    line_second _ _ _ _ _ _ (sym c.bulge_is_zero.ensures ∙ c.if-bulge_is_zero.false)
+    (sym c.bulge_is_zero-2.ensures ∙ c.if-bulge_is_zero-3.true) c.line_misses-then-bulge_is_zero-3.ensures.1
 
-arcs-miss-requires : tie.Need-arcs-miss-requires
+arcs-miss-requires : tie.Need-arcs_miss-requires
 arcs-miss-requires c κs =
-    let else1 = c.before.before in
-    let start = else1.before.before in (
-      circle-at _ _ _ _ start.requires.0 (sym else1.before.bulge-is-zero.ensures ∙ else1.if1.false),
-      circle-at _ _ _ _ start.requires.1 (sym c.before.bulge-is-zero3.ensures ∙ c.if3.false),
+    (
+      circle-at _ _ _ _ c.requires.0 (sym c.bulge_is_zero.ensures ∙ c.if-bulge_is_zero.false),
+      circle-at _ _ _ _ c.requires.1 (sym c.bulge_is_zero-2.ensures ∙ c.if-bulge_is_zero-3.false),
     )
 
-returns-4 : tie.Need-returns-4
+returns-4 : tie.Need-returns
 returns-4 c =
-    let else3 = c.before in
-    let else1 = else3.before.before in
-    two-arcs _ _ _ _ _ _ (sym else1.before.bulge-is-zero.ensures ∙ else1.if1.false)
-    (sym else3.before.bulge-is-zero3.ensures ∙ else3.if3.false) c.arcs-miss.ensures
+    two-arcs _ _ _ _ _ _ (sym c.bulge_is_zero.ensures ∙ c.if-bulge_is_zero.false)
+    (sym c.bulge_is_zero-2.ensures ∙ c.if-bulge_is_zero-3.false) c.arcs_miss.ensures
 
-pub misses-spec : {M : Type 1} → statement M
-misses-spec =
+pub misses_spec : {M : Type 1} → statement M
+misses_spec =
     tie.close
     (tie.spec
     (λ c. search rules) (λ c. search rules)

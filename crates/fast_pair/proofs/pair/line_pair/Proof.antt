@@ -9,24 +9,18 @@ use Rattle.fast_pair.specs.Laws.Pair.{apart-two-lines}
 use Rattle.fast_pair.proofs.pair.line_pair.Statement.{statement}
 use Rattle.fast_pair.proofs.pair.line_pair.Tie as tie
 
-returns : tie.Need-returns
+returns : tie.Need-returns-then-lines_apart
 returns c =
-    let l = c.before in
-    let p = l.before in
-    let q = p.before.before in
-    let s = q.before.before in
-    sym (apart-two-lines _ _ _ _ _ _ _ _ _ (passes _ s.well-formed.1.1.1.1.0.1) s.requires.1.0 s.requires.1.1
-    q.before.pos.ensures q.pos2.ensures p.before.pos3.ensures p.pos4.ensures
-    (passes _ (sym l.lines-apart.ensures ∙ c.if1.true)))
+    sym (apart-two-lines _ _ _ _ _ _ _ _ _ (passes _ c.well_formed.1.1.1.1.0.1) c.requires.1.0 c.requires.1.1
+    c.pos.ensures c.pos-2.ensures c.pos-3.ensures c.pos-4.ensures
+    (passes _ (sym c.lines_apart.ensures ∙ c.if-lines_apart.true)))
 
-pline-seg-after-checks-requires : tie.Need-pline-seg-after-checks-requires
+pline-seg-after-checks-requires : tie.Need-pline_seg_after_checks-requires
 pline-seg-after-checks-requires c κs =
-    let k = c.before in
-    let s = k.before.before.before.before.before.before.before in
-    (s.requires.0, (circle-if-arc _ _ _ k.circle-if-arc.ensures, circle-if-arc _ _ _ c.circle-if-arc2.ensures))
+    (c.requires.0, (circle-if-arc _ _ _ c.circle_if_arc-circle1.ensures, circle-if-arc _ _ _ c.circle_if_arc-circle2.ensures))
 
-pub line-pair-spec : {M : Type 1} → statement M
-line-pair-spec =
+pub line_pair_spec : {M : Type 1} → statement M
+line_pair_spec =
     tie.close
     (tie.spec
     (search rules) (search rules) (search rules) (search rules) (search rules) returns (search rules) (search rules)

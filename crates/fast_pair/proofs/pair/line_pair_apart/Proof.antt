@@ -5,25 +5,21 @@ use Rattle.fast_pair.specs.Workings.ClearlyApart.{line_pair_apart}
 use Rattle.fast_pair.proofs.pair.line_pair_apart.Statement.{statement}
 use Rattle.fast_pair.proofs.pair.line_pair_apart.Tie as tie
 
-pub line-pair-apart-spec : {M : Type 1} → statement M
+pub line_pair_apart_spec : {M : Type 1} → statement M
 unfolding line_pair_apart
-line-pair-apart-spec =
+line_pair_apart_spec =
     tie.close
     (tie.spec
     (λ c. search rules)
-    (λ c. simp (← c.before.bulge-is-zero.ensures, c.if1.true))
+    (λ c. simp (← c.bulge_is_zero.ensures, c.if-not-bulge_is_zero.true))
     (λ c. search rules)
-    (λ c. let p = c.before.before in
-    simp (← p.before.bulge-is-zero.ensures, ← c.before.bulge-is-zero2.ensures) (search branches))
+    (λ c. simp (← c.bulge_is_zero.ensures, ← c.bulge_is_zero-2.ensures) (search branches))
     (λ c. search rules) (λ c. search rules) (λ c. search rules) (λ c. search rules) (λ c. search rules)
-    (λ c. let p = c.before in
-    let q = p.before.before in
-    let t = q.before.before.before in
-    simp (
-      ← t.before.before.bulge-is-zero.ensures,
-      ← t.bulge-is-zero2.ensures,
-      ← q.before.pos.ensures,
-      ← q.pos2.ensures,
-      ← p.before.pos3.ensures,
-      ← p.pos4.ensures,
+    (λ c. simp (
+      ← c.bulge_is_zero.ensures,
+      ← c.bulge_is_zero-2.ensures,
+      ← c.pos.ensures,
+      ← c.pos-2.ensures,
+      ← c.pos-3.ensures,
+      ← c.pos-4.ensures,
     ) (search branches)))

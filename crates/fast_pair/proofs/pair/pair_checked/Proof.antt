@@ -10,24 +10,22 @@ use Rattle.fast_pair.specs.Laws.AllFine.{fine-by-tests}
 use Rattle.fast_pair.proofs.pair.pair_checked.Statement.{statement}
 use Rattle.fast_pair.proofs.pair.pair_checked.Tie as tie
 
-returns : tie.Need-returns
-returns c = sym (fine-by-tests _ _ _ _ _ (passes _ (sym c.before.pair-fine.ensures ∙ c.if1.true)))
+returns : tie.Need-returns-then-pair_fine
+returns c = sym (fine-by-tests _ _ _ _ _ (passes _ (sym c.pair_fine.ensures ∙ c.if-pair_fine.true)))
 
-returns-2 : tie.Need-returns-2
+returns-2 : tie.Need-returns
 unfolding Calls.check_pline_seg
 returns-2 c =
-    let p4 = c.before.before.before.before in
-    let p6 = p4.before.before in
-    let a0 = alone p6.before.before.epsilon.ensures in
-    let a1 = with-checks a0 (vertex_checks _ _ _ _ _) p6.before.vertex-after.ensures in
-    let a2 = with-checks a1 (point_checks _ _ _ _) p6.point-after.ensures in
-    let a3 = with-checks a2 (vertex_checks _ _ _ _ _) p4.before.vertex-after2.ensures in
-    let a4 = with-checks a3 (point_checks _ _ _ _) p4.point-after2.ensures in
-    let a5 = with-check a4 _ c.before.before.before.arc-chord.ensures c.before.before.later.ensures in
-    (with-check a5 _ c.before.arc-chord2.ensures c.later2.ensures).is
+    let a0 = alone c.epsilon-a0.ensures in
+    let a1 = with-checks a0 (vertex_checks _ _ _ _ _) c.vertex_after-a1.ensures in
+    let a2 = with-checks a1 (point_checks _ _ _ _) c.point_after-a2.ensures in
+    let a3 = with-checks a2 (vertex_checks _ _ _ _ _) c.vertex_after-a3.ensures in
+    let a4 = with-checks a3 (point_checks _ _ _ _) c.point_after-a4.ensures in
+    let a5 = with-check a4 _ c.arc_chord.ensures c.later-a5.ensures in
+    (with-check a5 _ c.arc_chord-2.ensures c.later.ensures).is
 
-pub pair-checked-spec : {M : Type 1} → statement M
-pair-checked-spec =
+pub pair_checked_spec : {M : Type 1} → statement M
+pair_checked_spec =
     tie.close
     (tie.spec
     (search rules) returns (search rules) (search rules) (search rules) (search rules) (search rules) (search rules)

@@ -19,26 +19,24 @@ met : (v1 v2 u1 u2 : PlineVertex) (eps : Float) (r : PlineSegIntr) → check_pli
 unfolding pline_seg_intr
 met v1 v2 u1 u2 eps r h e = rw h (ap Met e)
 
-pline-seg-after-checks-requires : tie.Need-pline-seg-after-checks-requires
+pline-seg-after-checks-requires : tie.Need-pline_seg_after_checks-requires
 pline-seg-after-checks-requires c κs =
-    let k = c.before in
-    let t = k.before in (
-      sym t.before.before.check-pline-seg.ensures ∙ t.enum_told.given.1,
-      (circle-if-arc _ _ _ k.circle-if-arc.ensures, circle-if-arc _ _ _ c.circle-if-arc2.ensures),
+    (
+      sym c.check_pline_seg-checked.ensures ∙ c.in-Fine.is,
+      (circle-if-arc _ _ _ c.circle_if_arc-circle1.ensures, circle-if-arc _ _ _ c.circle_if_arc-circle2.ensures),
     )
 
-returns : tie.Need-returns
+returns : tie.Need-returns-in-Fine
 returns c =
-    let t = c.before.before.before in
-    met _ _ _ _ _ _ (sym t.before.before.check-pline-seg.ensures ∙ t.enum_told.given.1)
-    c.pline-seg-after-checks.ensures
+    met _ _ _ _ _ _ (sym c.check_pline_seg-checked.ensures ∙ c.in-Fine.is)
+    c.pline_seg_after_checks.ensures
 
-returns-2 : tie.Need-returns-2
+returns-2 : tie.Need-returns-in-Bad
 unfolding pline_seg_intr
-returns-2 c = let t = c.before in simp (← t.before.before.check-pline-seg.ensures, t.checked.given.1)
+returns-2 c = simp (← c.check_pline_seg-checked.ensures, c.in-Bad.is)
 
-pub pline-seg-by-numbers-spec : {M : Type 1} → statement M
-pline-seg-by-numbers-spec =
+pub pline_seg_by_numbers_spec : {M : Type 1} → statement M
+pline_seg_by_numbers_spec =
     tie.close
     (tie.spec
     (search rules) (search rules) (search rules) (search rules) pline-seg-after-checks-requires (search rules) returns returns-2)

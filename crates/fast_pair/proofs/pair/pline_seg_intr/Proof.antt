@@ -20,17 +20,17 @@ met : (v1 v2 u1 u2 : PlineVertex) (eps : Float) (r : PlineSegIntr) → check_pli
 unfolding pline_seg_intr
 met v1 v2 u1 u2 eps r h e = rw h (ap Met e)
 
-all-fine : (c : tie.Then1)
-    → let a = c.before.before.args in
-    check_pline_seg a.v1 a.v2 a.u1 a.u2 a.pos-equal-eps ≡ Fine
-all-fine c = fine-by-tests _ _ _ _ _ (passes _ (sym c.before.pair-fine.ensures ∙ c.if1.true))
+all-fine : (c : tie.Then-pair_fine)
+    → let a = c.args in
+    check_pline_seg a.v1 a.v2 a.u1 a.u2 a.pos_equal_eps ≡ Fine
+all-fine c = fine-by-tests _ _ _ _ _ (passes _ (sym c.pair_fine.ensures ∙ c.if-pair_fine.true))
 
-pline-seg-once-requires : tie.Need-pline-seg-once-requires
+pline-seg-once-requires : tie.Need-pline_seg_once-requires
 pline-seg-once-requires c κs = all-fine c
 
-returns : tie.Need-returns
-returns c = met _ _ _ _ _ _ (all-fine c.before) c.pline-seg-once.ensures
+returns : tie.Need-returns-then-pair_fine
+returns c = met _ _ _ _ _ _ (all-fine c.before) c.pline_seg_once.ensures
 
-pub pline-seg-intr-spec : {M : Type 1} → statement M
-pline-seg-intr-spec =
+pub pline_seg_intr_spec : {M : Type 1} → statement M
+pline_seg_intr_spec =
     tie.close (tie.spec (search rules) pline-seg-once-requires returns (search rules) (λ c. search rules))

@@ -7,21 +7,18 @@ use Rattle.fast_pair.specs.Laws.Pair.{answer-known, circle-given}
 use Rattle.fast_pair.proofs.pair.pline_seg_kept.Statement.{statement}
 use Rattle.fast_pair.proofs.pair.pline_seg_kept.Tie as tie
 
-returns : tie.Need-returns
+returns : tie.Need-returns-then-clearly_apart
 returns c =
-    let p1 = c.before in
-    let s = p1.before in
-    sym (answer-known _ _ _ _ _ _ _ _ (passes _ s.well-formed.1.1.1.1.1.1.0.1) s.requires.1.0 s.requires.1.1
-    p1.clearly-apart.ensures c.if1.true)
+    sym (answer-known _ _ _ _ _ _ _ _ (passes _ c.well_formed.1.1.1.1.1.1.0.1) c.requires.1.0 c.requires.1.1
+    c.clearly_apart.ensures c.if-clearly_apart.true)
 
-pline-seg-after-checks-requires : tie.Need-pline-seg-after-checks-requires
+pline-seg-after-checks-requires : tie.Need-pline_seg_after_checks-requires
 pline-seg-after-checks-requires c κs =
-    let k = c.before in
-    let h = k.before.before.before.before.before.requires in
-    (h.0, (circle-given _ _ _ _ _ h.1.0 k.circle-of.ensures, circle-given _ _ _ _ _ h.1.1 c.circle-of2.ensures))
+    let h = c.requires in
+    (h.0, (circle-given _ _ _ _ _ h.1.0 c.circle_of.ensures, circle-given _ _ _ _ _ h.1.1 c.circle_of-2.ensures))
 
-pub pline-seg-kept-spec : {M : Type 1} → statement M
-pline-seg-kept-spec =
+pub pline_seg_kept_spec : {M : Type 1} → statement M
+pline_seg_kept_spec =
     tie.close
-    (tie.spec (search rules) returns (λ c. search rules) (λ c. sym (c.before.misses.ensures c.if2.true)) (search rules)
+    (tie.spec (search rules) returns (λ c. search rules) (λ c. sym (c.misses.ensures c.if-misses.true)) (search rules)
     (search rules) pline-seg-after-checks-requires (λ c. search rules))

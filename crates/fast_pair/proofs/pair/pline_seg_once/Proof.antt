@@ -8,19 +8,15 @@ use Rattle.fast_pair.specs.Laws.Pair.{apart-line-pair}
 use Rattle.fast_pair.proofs.pair.pline_seg_once.Statement.{statement}
 use Rattle.fast_pair.proofs.pair.pline_seg_once.Tie as tie
 
-returns : tie.Need-returns
+returns : tie.Need-returns-then-line_pair_apart
 returns c =
-    let p = c.before in
-    let s = p.before in
-    sym (apart-line-pair _ _ _ _ _ (passes _ s.well-formed.1.1.1.1.0.1)
-    (passes _ (sym p.line-pair-apart.ensures ∙ c.if1.true)))
+    sym (apart-line-pair _ _ _ _ _ (passes _ c.well_formed.1.1.1.1.0.1)
+    (passes _ (sym c.line_pair_apart.ensures ∙ c.if-line_pair_apart.true)))
 
-pline-seg-after-checks-requires : tie.Need-pline-seg-after-checks-requires
+pline-seg-after-checks-requires : tie.Need-pline_seg_after_checks-requires
 pline-seg-after-checks-requires c κs =
-    let k = c.before in
-    let s = k.before.before.before in
-    (s.requires, (circle-if-arc _ _ _ k.circle-if-arc.ensures, circle-if-arc _ _ _ c.circle-if-arc2.ensures))
+    (c.requires, (circle-if-arc _ _ _ c.circle_if_arc-circle1.ensures, circle-if-arc _ _ _ c.circle_if_arc-circle2.ensures))
 
-pub pline-seg-once-spec : {M : Type 1} → statement M
-pline-seg-once-spec =
+pub pline_seg_once_spec : {M : Type 1} → statement M
+pline_seg_once_spec =
     tie.close (tie.spec (search rules) returns (search rules) (search rules) pline-seg-after-checks-requires (λ c. search rules))

@@ -13,31 +13,31 @@ use Rattle.paths.specs.Laws.Steps.{segment-step}
 use Rattle.paths.proofs.check.check_arcs.Statement.{statement}
 use Rattle.paths.proofs.check.check_arcs.Tie as tie
 
-abbrev invariant-loop : tie.invariant-loop
+abbrev invariant-loop : tie.invariant-loop-i
 invariant-loop path closed owner n g₀ i₀ g i =
     Looking (of_segment path owner) (segment_count path closed) (check_arcs g₀ path closed owner) g i
 
-abbrev decreases-loop : tie.decreases-loop
+abbrev decreases-loop : tie.decreases-loop-i
 decreases-loop path closed owner n g₀ i₀ g i = segment_count path closed - i
 
-segment-from-requires : tie.Need-segment-from-requires invariant-loop decreases-loop
+segment-from-requires : tie.Need-segment_from-s-requires invariant-loop decreases-loop
 segment-from-requires c κs =
-    let a = c.before.before.before.before.before.before.args in
+    let a = c.before.before.before.before.before.args in
     omega (arith, count-within a.path.now a.closed)
 
-loop-again : tie.Need-loop-preserved invariant-loop decreases-loop
+loop-again : tie.Need-loop-i-preserved invariant-loop decreases-loop
 loop-again c =
     let s = c.before.before in
-    let l = s.before.before.before.before.loop in
+    let l = s.loop-i in
     turned l.invariant (search rules)
-    (segment-step _ _ _ _ _ _ s.segment-from.ensures (c.later.ensures ∙ ap (later l.g) c.before.arc-chord.ensures))
+    (segment-step _ _ _ _ _ _ s.segment_from-s.ensures (c.later-g.ensures ∙ ap (later l.g) c.arc_chord.ensures))
 
-pub check-arcs-spec : {M : Type 1} → statement M
+pub check_arcs_spec : {M : Type 1} → statement M
 unfolding check_arcs
-check-arcs-spec =
+check_arcs_spec =
     tie.close
     (tie.spec
     invariant-loop decreases-loop (λ c. search rules) (λ c. looking _ _ _) (λ c. search rules) (λ c. search rules)
-    (λ c. found c.before.before.before.before.loop.invariant _ c.before.g.given.1) segment-from-requires
+    (λ c. found c.loop-i.invariant _ c.in-Bad.is) segment-from-requires
     (λ c. search rules) (λ c. search rules) (λ c. search rules) (λ c. search rules) loop-again
-    (λ c. ended c.before.loop.invariant (search rules)))
+    (λ c. ended c.loop-i.invariant (search rules)))

@@ -10,8 +10,8 @@ use Rattle.paths.proofs.check.check_path.Tie as tie
 returns : tie.Need-returns
 returns c =
     let a = c.before.before.before.args in
-    let first = ap (λ (f : Checked). check_arcs f a.path.now a.closed a.owner) c.before.check-vertices.ensures in
-    c.check-arcs.ensures ∙ first ∙ path-chain a.f a.path.now a.closed a.owner
+    let first = ap (λ (f : Checked). check_arcs f a.path.now a.closed a.owner) c.check_vertices-a.ensures in
+    c.check_arcs.ensures ∙ first ∙ path-chain a.f a.path.now a.closed a.owner
 
-pub check-path-spec : {M : Type 1} → statement M
-check-path-spec = tie.close (tie.spec (λ c. search rules) (λ c. search rules) returns)
+pub check_path_spec : {M : Type 1} → statement M
+check_path_spec = tie.close (tie.spec (λ c. search rules) (λ c. search rules) returns)

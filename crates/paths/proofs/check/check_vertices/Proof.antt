@@ -5,8 +5,8 @@ use Rattle.paths.specs.Workings.Inside.{inside-fine}
 use Rattle.paths.proofs.check.check_vertices.Statement.{statement}
 use Rattle.paths.proofs.check.check_vertices.Tie as tie
 
-returns : tie.Need-returns
-returns c = inside-fine _ _ _ (c.before.vertices-inside.ensures.all (simp c.if1.true tt))
+returns : tie.Need-returns-then-vertices_inside
+returns c = inside-fine _ _ _ (c.vertices_inside.ensures.all (simp c.if-vertices_inside.true tt))
 
-pub check-vertices-spec : {M : Type 1} → statement M
-check-vertices-spec = tie.close (tie.spec (search rules) returns (search rules) (λ c. search rules))
+pub check_vertices_spec : {M : Type 1} → statement M
+check_vertices_spec = tie.close (tie.spec (search rules) returns (search rules) (λ c. search rules))

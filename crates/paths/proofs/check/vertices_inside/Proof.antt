@@ -1,4 +1,6 @@
 -- `paths::check::vertices_inside` meets its contract. The loop's invariant: the vertices below i are inside.
+use mathlib.Core.Path.{ap}
+use mathlib.Core.Bool.{not}
 use borrow.Author.Rules.{rules}
 use Prim.Native.Nat.{◌-◌}
 use Rattle.paths.specs.Path.{vertex_count}
@@ -6,29 +8,29 @@ use Rattle.paths.specs.Workings.Inside.{InsideBelow, none_yet, one_more}
 use Rattle.paths.proofs.check.vertices_inside.Statement.{statement}
 use Rattle.paths.proofs.check.vertices_inside.Tie as tie
 
-abbrev invariant-loop : tie.invariant-loop
+abbrev invariant-loop : tie.invariant-loop-i
 invariant-loop path n i₀ i = InsideBelow path i
 
-abbrev decreases-loop : tie.decreases-loop
+abbrev decreases-loop : tie.decreases-loop-i
 decreases-loop path n i₀ i = vertex_count path - i
 
-loop-holds : tie.Need-loop-init invariant-loop decreases-loop
+loop-holds : tie.Need-loop-i-init invariant-loop decreases-loop
 loop-holds c = none_yet _
 
-returns : tie.Need-returns invariant-loop decreases-loop
+returns : tie.Need-returns-then-not-traced_inside invariant-loop decreases-loop
 returns c = record { all = λ t. absurd t }
 
-loop-again : tie.Need-loop-preserved invariant-loop decreases-loop
+loop-again : tie.Need-loop-i-preserved invariant-loop decreases-loop
 loop-again c =
     let v = c.before in
-    one_more _ _ _ _ _ v.traced-inside.ensures v.before.before.vertex.ensures v.before.trace.ensures c.if1.false
-    v.before.before.before.before.loop.invariant
+    one_more _ _ _ _ _ v.traced_inside.ensures v.vertex-v.ensures v.trace-trace.ensures (ap not c.if-not-traced_inside.false)
+    v.loop-i.invariant
 
-returns-2 : tie.Need-returns-2 invariant-loop decreases-loop
-returns-2 c = record { all = λ t j l. c.before.loop.invariant j (search rules) }
+returns-2 : tie.Need-returns invariant-loop decreases-loop
+returns-2 c = record { all = λ t j l. c.loop-i.invariant j (search rules) }
 
-pub vertices-inside-spec : {M : Type 1} → statement M
-vertices-inside-spec =
+pub vertices_inside_spec : {M : Type 1} → statement M
+vertices_inside_spec =
     tie.close
     (tie.spec
     invariant-loop decreases-loop (search rules) loop-holds (search rules) (search rules) (search rules) returns (search rules) (search rules)

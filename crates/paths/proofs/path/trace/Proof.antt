@@ -4,8 +4,8 @@ use Rattle.paths.specs.Path
 use Rattle.paths.proofs.path.trace.Statement.{statement}
 use Rattle.paths.proofs.path.trace.Tie as tie
 
-pub trace-spec : {M : Type 1} → statement M
+pub trace_spec : {M : Type 1} → statement M
 unfolding Path.trace
-trace-spec =
+trace_spec =
     tie.close
     (tie.spec (λ c. search rules) (λ c. search rules) (λ c. search rules) (λ c. search rules) (λ c. search rules))

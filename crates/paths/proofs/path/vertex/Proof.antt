@@ -4,9 +4,9 @@ use Rattle.paths.specs.Path
 use Rattle.paths.proofs.path.vertex.Statement.{statement}
 use Rattle.paths.proofs.path.vertex.Tie as tie
 
-pub vertex-spec : {M : Type 1} → statement M
+pub vertex_spec : {M : Type 1} → statement M
 unfolding Path.vertex
-vertex-spec =
+vertex_spec =
     tie.close
     (tie.spec
     (λ c. search rules) (λ c. search rules) (λ c. search rules) (λ c. search rules) (λ c. search rules) (λ c. search rules)

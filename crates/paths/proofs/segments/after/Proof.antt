@@ -5,11 +5,11 @@ use Rattle.paths.specs.Segments
 use Rattle.paths.proofs.segments.after.Statement.{statement}
 use Rattle.paths.proofs.segments.after.Tie as tie
 
-pub after-spec : {M : Type 1} → statement M
+pub after_spec : {M : Type 1} → statement M
 unfolding Segments.after
-after-spec =
+after_spec =
     tie.close
     (tie.spec
     (λ c. search rules) (λ c. search rules) (λ c. search rules)
-    (λ c. simp (← c.before.vertex-count.ensures, lt-ltb _ _ c.if1.true))
-    (λ c. simp (← c.before.vertex-count.ensures, le-ltb _ _ c.if1.false)))
+    (λ c. simp (← c.vertex_count.ensures, lt-ltb _ _ c.if-i-vertex_count.true))
+    (λ c. simp (← c.vertex_count.ensures, le-ltb _ _ c.if-i-vertex_count.false)))

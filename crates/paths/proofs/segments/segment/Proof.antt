@@ -7,17 +7,17 @@ use Rattle.paths.specs.Laws.Segments.{count-within}
 use Rattle.paths.proofs.segments.segment.Statement.{statement}
 use Rattle.paths.proofs.segments.segment.Tie as tie
 
-segment-from-requires : tie.Need-segment-from-requires
+segment-from-requires : tie.Need-segment_from-requires
 segment-from-requires c κs =
     let a = c.before.before.before.args in
-    omega (arith, count-within a.path.now a.closed, c.before.segment-count.ensures)
+    omega (arith, count-within a.path.now a.closed, c.segment_count.ensures)
 
-pub segment-spec : {M : Type 1} → statement M
+pub segment_spec : {M : Type 1} → statement M
 unfolding Segments.segment
-segment-spec =
+segment_spec =
     tie.close
     (tie.spec
     (λ c. search rules) segment-from-requires
     (λ c. let p = c.before in
-    simp (← p.before.segment-count.ensures, lt-ltb _ _ p.if1.true, ← c.segment-from.ensures))
-    (λ c. simp (← c.before.segment-count.ensures, le-ltb _ _ c.if1.false)))
+    simp (← p.segment_count.ensures, lt-ltb _ _ p.if-i-segment_count.true, ← c.segment_from.ensures))
+    (λ c. simp (← c.segment_count.ensures, le-ltb _ _ c.if-i-segment_count.false)))

@@ -12,22 +12,22 @@ use Rattle.paths.proofs.segments.segment_count.Statement.{statement}
 use Rattle.paths.proofs.segments.segment_count.Tie as tie
 
 -- past the first test, by the number of vertices
-counted : (c : tie.After-vertex-count)
-    → (let a = c.before.before.before.before.args in let n = c.vertex-count.result in
+counted : (c : tie.After-vertex_count-n)
+    → (let a = c.before.before.before.before.args in let n = c.vertex_count-n.result in
     segment_count a.path.now a.closed ≡ cond (ltb n 2) 0 (cond a.closed n (n - 1)))
 unfolding segment_count
-counted c = simp (← c.before.before.refused.ensures, c.before.if1.false, ← c.vertex-count.ensures)
+counted c = simp (← c.refused.ensures, c.if-refused.false, ← c.vertex_count-n.ensures)
 
-returns : tie.Need-returns
+returns : tie.Need-returns-then-refused
 unfolding segment_count
-returns c = simp (← c.before.refused.ensures, c.if1.true)
+returns c = simp (← c.refused.ensures, c.if-refused.true)
 
-pub segment-count-spec : {M : Type 1} → statement M
-segment-count-spec =
+pub segment_count_spec : {M : Type 1} → statement M
+segment_count_spec =
     tie.close
     (tie.spec
     (λ c. search rules) returns (λ c. search rules)
-    (λ c. rw (counted c.before) (below _ _ _ _ _ c.if2.true refl))
-    (λ c. let p = c.before in rw (counted p.before) (simp (le-ltb _ _ p.if2.false, c.if3.true)))
+    (λ c. rw (counted c.before) (below _ _ _ _ _ c.if-n-lt2.true refl))
+    (λ c. let p = c.before in rw (counted p.before) (simp (le-ltb _ _ p.if-n-lt2.false, c.if-closed.true)))
     (λ c. search rules)
-    (λ c. let p = c.before in rw (counted p.before) (simp (le-ltb _ _ p.if2.false, c.if3.false))))
+    (λ c. let p = c.before in rw (counted p.before) (simp (le-ltb _ _ p.if-n-lt2.false, c.if-closed.false))))

@@ -4,8 +4,8 @@ use Rattle.paths.specs.Shape
 use Rattle.paths.proofs.shape.refused.Statement.{statement}
 use Rattle.paths.proofs.shape.refused.Tie as tie
 
-pub refused-spec : {M : Type 1} → statement M
+pub refused_spec : {M : Type 1} → statement M
 unfolding Shape.refused
-refused-spec =
+refused_spec =
     tie.close
-    (tie.spec (λ c. search rules) (λ c. search rules) (λ c. simp (← c.before.broken.ensures, ← c.too_long.ensures)))
+    (tie.spec (λ c. search rules) (λ c. search rules) (λ c. simp (← c.broken.ensures, ← c.too_long.ensures)))

@@ -4,17 +4,17 @@ use Rattle.paths.specs.Shape
 use Rattle.paths.proofs.shape.shape.Statement.{statement}
 use Rattle.paths.proofs.shape.shape.Tie as tie
 
-pub shape-spec : {M : Type 1} → statement M
+pub shape_spec : {M : Type 1} → statement M
 unfolding Shape.shape
-shape-spec =
+shape_spec =
     tie.close
     (tie.spec
     (λ c. search rules) (λ c. search rules) (λ c. search rules) (λ c. search rules) (λ c. search rules)
     (λ c. let p = c.before.before in
     simp (
-      ← p.before.before.broken.ensures,
-      ← p.before.refuse.ensures,
+      ← p.broken.ensures,
+      ← p.refuse.ensures,
       ← p.too_long.ensures,
-      ← c.before.refuse2.ensures,
+      ← c.refuse-2.ensures,
       ← c.later.ensures,
     )))

@@ -6,5 +6,5 @@ use Rattle.paths.proofs.shape.too_long.Tie as tie
 returns : tie.Need-returns
 returns c = refl
 
-pub too-long-spec : {M : Type 1} → statement M
-too-long-spec = tie.close (tie.spec returns)
+pub too_long_spec : {M : Type 1} → statement M
+too_long_spec = tie.close (tie.spec returns)

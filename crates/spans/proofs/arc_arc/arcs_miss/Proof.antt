@@ -8,17 +8,13 @@ use Rattle.spans.proofs.arc_arc.arcs_miss.Tie as tie
 
 returns : tie.Need-returns
 returns c =
-    let m = c.before.before.before.before in
-    let k = m.before in
-    let n = k.before.before.before in
-    let s = n.before.before in
-    arcs-missed-at _ _ _ _ _ _ _ _ _ _ _ _ _ _ _ _ _ _ (mul-fits binary64 _ _) (mul-fits binary64 _ _) n.before.new.ensures
-    n.new2.ensures s.requires.0 s.requires.1
-    (same-middle _ _ _ _ _ _ k.before.before.sub.ensures k.before.dot.ensures m.middle_of.ensures)
-    c.misses-by.ensures
+    arcs-missed-at _ _ _ _ _ _ _ _ _ _ _ _ _ _ _ _ _ _ (mul-fits binary64 _ _) (mul-fits binary64 _ _) c.new-center1.ensures
+    c.new-center2.ensures c.requires.0 c.requires.1
+    (same-middle _ _ _ _ _ _ c.sub-cv.ensures c.dot-d2.ensures c.middle_of-middle.ensures)
+    c.misses_by.ensures
 
-pub arcs-miss-spec : {M : Type 1} → statement M
-arcs-miss-spec =
+pub arcs_miss_spec : {M : Type 1} → statement M
+arcs_miss_spec =
     tie.close
     (tie.spec (λ c. search rules) (λ c. search rules) (λ c. search rules) (λ c. search rules) (λ c. search rules) (λ c. search rules)
     (λ c. search rules) (λ c. search rules) (λ c. search rules) returns)

@@ -8,23 +8,16 @@ use Rattle.spans.proofs.arc_arc.ends_clear.Tie as tie
 returns : tie.Need-returns
 unfolding ends.ends_clear
 returns c =
-    let p1 = c.before in
-    let p2 = p1.before in
-    let p3 = p2.before in
-    let p4 = p3.before in
-    let p5 = p4.before in
-    let p6 = p5.before in
-    let p7 = p6.before in
     simp (
-      ← p7.pos.ensures,
-      ← p6.point-off-circle.ensures,
-      ← p5.pos2.ensures,
-      ← p4.point-off-circle2.ensures,
-      ← p3.pos3.ensures,
-      ← p2.point-off-circle3.ensures,
-      ← p1.pos4.ensures,
-      ← c.point-off-circle4.ensures,
+      ← c.pos.ensures,
+      ← c.point_off_circle.ensures,
+      ← c.pos-2.ensures,
+      ← c.point_off_circle-2.ensures,
+      ← c.pos-3.ensures,
+      ← c.point_off_circle-3.ensures,
+      ← c.pos-4.ensures,
+      ← c.point_off_circle-4.ensures,
     )
 
-pub ends-clear-spec : {M : Type 1} → statement M
-ends-clear-spec = tie.close (tie.spec (λ c. search rules) (λ c. search rules) (λ c. search rules) (λ c. search rules) (λ c. search rules) (λ c. search rules) (λ c. search rules) (λ c. search rules) returns)
+pub ends_clear_spec : {M : Type 1} → statement M
+ends_clear_spec = tie.close (tie.spec (λ c. search rules) (λ c. search rules) (λ c. search rules) (λ c. search rules) (λ c. search rules) (λ c. search rules) (λ c. search rules) (λ c. search rules) returns)

@@ -4,82 +4,48 @@ use Rattle.spans.specs.Workings.ArcArc as arc-arc
 use Rattle.spans.proofs.arc_arc.misses_by.Statement.{statement}
 use Rattle.spans.proofs.arc_arc.misses_by.Tie as tie
 
-returns : tie.Need-returns
+returns : tie.Need-returns-then-not-d-eps
 unfolding arc-arc.misses_by
 returns c =
-    let p1 = c.before in
-    let p2 = p1.before in
-    let p3 = p2.before in
-    let p4 = p3.before in
-    let p5 = p4.before in
-    let p6 = p5.before in
-    let p7 = p6.before in
-    let p8 = p7.before in
     simp (
-      ← p8.sub.ensures,
-      ← p7.dot.ensures,
-      ← p2.holds-root.ensures,
-      ← p1.holds-root2.ensures,
-      c.if1.true,
+      ← c.sub-cv.ensures,
+      ← c.dot-square.ensures,
+      ← c.holds_root.ensures,
+      ← c.holds_root-2.ensures,
+      c.if-not-d-eps.true,
     )
 
-returns-2 : tie.Need-returns-2
+returns-2 : tie.Need-returns-then-not-ends_clear
 unfolding arc-arc.misses_by
 returns-2 c =
-    let p1 = c.before in
-    let p2 = p1.before in
-    let p3 = p2.before in
-    let p4 = p3.before in
-    let p5 = p4.before in
-    let p6 = p5.before in
-    let p7 = p6.before in
-    let p8 = p7.before in
-    let p9 = p8.before in
-    let p10 = p9.before in
-    let p11 = p10.before in
-    let p12 = p11.before in
     simp (
-      ← p12.sub.ensures,
-      ← p11.dot.ensures,
-      ← p6.holds-root.ensures,
-      ← p5.holds-root2.ensures,
-      p4.if1.false,
-      ← p3.of-segment.ensures,
-      ← p2.of-segment2.ensures,
-      ← p1.ends-clear.ensures,
-      c.if2.true,
+      ← c.sub-cv.ensures,
+      ← c.dot-square.ensures,
+      ← c.holds_root.ensures,
+      ← c.holds_root-2.ensures,
+      c.if-not-d-eps.false,
+      ← c.of_segment-arc1.ensures,
+      ← c.of_segment-arc2.ensures,
+      ← c.ends_clear.ensures,
+      c.if-not-ends_clear.true,
     )
 
-returns-3 : tie.Need-returns-3
+returns-3 : tie.Need-returns
 unfolding arc-arc.misses_by
 returns-3 c =
-    let p1 = c.before in
-    let p2 = p1.before in
-    let p3 = p2.before in
-    let p4 = p3.before in
-    let p5 = p4.before in
-    let p6 = p5.before in
-    let p7 = p6.before in
-    let p8 = p7.before in
-    let p9 = p8.before in
-    let p10 = p9.before in
-    let p11 = p10.before in
-    let p12 = p11.before in
-    let p13 = p12.before in
-    let p14 = p13.before in
     simp (
-      ← p14.sub.ensures,
-      ← p13.dot.ensures,
-      ← p8.holds-root.ensures,
-      ← p7.holds-root2.ensures,
-      p6.if1.false,
-      ← p5.of-segment.ensures,
-      ← p4.of-segment2.ensures,
-      ← p3.ends-clear.ensures,
-      p2.if2.false,
-      ← p1.ratio.ensures,
-      ← c.sides-miss.ensures,
+      ← c.sub-cv.ensures,
+      ← c.dot-square.ensures,
+      ← c.holds_root.ensures,
+      ← c.holds_root-2.ensures,
+      c.if-not-d-eps.false,
+      ← c.of_segment-arc1.ensures,
+      ← c.of_segment-arc2.ensures,
+      ← c.ends_clear.ensures,
+      c.if-not-ends_clear.false,
+      ← c.ratio.ensures,
+      ← c.sides_miss.ensures,
     )
 
-pub misses-by-spec : {M : Type 1} → statement M
-misses-by-spec = tie.close (tie.spec (λ c. search rules) (λ c. search rules) (λ c. search rules) (λ c. search rules) returns (λ c. search rules) (λ c. search rules) (λ c. search rules) returns-2 (λ c. search rules) (λ c. search rules) returns-3)
+pub misses_by_spec : {M : Type 1} → statement M
+misses_by_spec = tie.close (tie.spec (λ c. search rules) (λ c. search rules) (λ c. search rules) (λ c. search rules) returns (λ c. search rules) (λ c. search rules) (λ c. search rules) returns-2 (λ c. search rules) (λ c. search rules) returns-3)

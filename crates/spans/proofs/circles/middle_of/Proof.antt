@@ -7,17 +7,13 @@ use Rattle.spans.proofs.circles.middle_of.Tie as tie
 returns : tie.Need-returns
 unfolding circles.middle_of
 returns c =
-    let p1 = c.before in
-    let p2 = p1.before in
-    let p3 = p2.before in
-    let p4 = p3.before in
     simp (
-      ← p4.doubled.ensures,
-      ← p3.under.ensures,
-      ← p2.ratio.ensures,
-      ← p1.square.ensures,
-      ← c.less.ensures,
+      ← c.doubled.ensures,
+      ← c.under-a.ensures,
+      ← c.ratio-along.ensures,
+      ← c.square.ensures,
+      ← c.less-diff.ensures,
     )
 
-pub middle-of-spec : {M : Type 1} → statement M
-middle-of-spec = tie.close (tie.spec (λ c. search rules) (λ c. search rules) (λ c. search rules) (λ c. search rules) (λ c. search rules) returns)
+pub middle_of_spec : {M : Type 1} → statement M
+middle_of_spec = tie.close (tie.spec (λ c. search rules) (λ c. search rules) (λ c. search rules) (λ c. search rules) (λ c. search rules) returns)

@@ -4,29 +4,23 @@ use Rattle.spans.specs.Workings.Line as line
 use Rattle.spans.proofs.line.point_misses.Statement.{statement}
 use Rattle.spans.proofs.line.point_misses.Tie as tie
 
-returns : tie.Need-returns
+returns : tie.Need-returns-then-t
 unfolding line.point_misses
 returns c =
-    simp c.if1.true
+    simp c.if-t.true
 
-returns-2 : tie.Need-returns-2
+returns-2 : tie.Need-returns
 unfolding line.point_misses
 returns-2 c =
-    let p1 = c.before in
-    let p2 = p1.before in
-    let p3 = p2.before in
-    let p4 = p3.before in
-    let p5 = p4.before in
-    let p6 = p5.before in
     simp (
-      p6.if1.false,
-      ← p5.sub.ensures,
-      ← p4.times.ensures,
-      ← p3.plus.ensures,
-      ← p2.times2.ensures,
-      ← p1.plus2.ensures,
-      ← c.off-sweep.ensures,
+      c.if-t.false,
+      ← c.sub-way.ensures,
+      ← c.times.ensures,
+      ← c.plus-x.ensures,
+      ← c.times-2.ensures,
+      ← c.plus-y.ensures,
+      ← c.off_sweep.ensures,
     )
 
-pub point-misses-spec : {M : Type 1} → statement M
-point-misses-spec = tie.close (tie.spec returns (λ c. search rules) (λ c. search rules) (λ c. search rules) (λ c. search rules) (λ c. search rules) (λ c. search rules) returns-2)
+pub point_misses_spec : {M : Type 1} → statement M
+point_misses_spec = tie.close (tie.spec returns (λ c. search rules) (λ c. search rules) (λ c. search rules) (λ c. search rules) (λ c. search rules) (λ c. search rules) returns-2)

@@ -7,11 +7,10 @@ use Rattle.spans.proofs.line.points_miss.Tie as tie
 returns : tie.Need-returns
 unfolding line.points_miss
 returns c =
-    let p1 = c.before in
     simp (
-      ← p1.axis-of.ensures,
-      ← c.both-miss.ensures,
+      ← c.axis_of-axis.ensures,
+      ← c.both_miss.ensures,
     )
 
-pub points-miss-spec : {M : Type 1} → statement M
-points-miss-spec = tie.close (tie.spec (λ c. search rules) (λ c. search rules) returns)
+pub points_miss_spec : {M : Type 1} → statement M
+points_miss_spec = tie.close (tie.spec (λ c. search rules) (λ c. search rules) returns)

@@ -7,15 +7,12 @@ use Rattle.spans.proofs.line_arc.goes_through.Tie as tie
 returns : tie.Need-returns
 unfolding line-arc.goes_through
 returns c =
-    let p1 = c.before in
-    let p2 = p1.before in
-    let p3 = p2.before in
     simp (
-      ← p3.abs.ensures,
-      ← p2.moderate.ensures,
-      ← p1.moderate2.ensures,
-      ← c.moderate3.ensures,
+      ← c.abs-k.ensures,
+      ← c.moderate.ensures,
+      ← c.moderate-2.ensures,
+      ← c.moderate-3.ensures,
     )
 
-pub goes-through-spec : {M : Type 1} → statement M
-goes-through-spec = tie.close (tie.spec (λ c. search rules) (λ c. search rules) (λ c. search rules) (λ c. search rules) returns)
+pub goes_through_spec : {M : Type 1} → statement M
+goes_through_spec = tie.close (tie.spec (λ c. search rules) (λ c. search rules) (λ c. search rules) (λ c. search rules) returns)

@@ -8,18 +8,16 @@ use Rattle.spans.proofs.line_arc.line_misses.Tie as tie
 
 returns : tie.Need-returns
 returns c =
-    let f = c.before.before in
-    let n = f.before in
-    let s = n.before.before.before in (
-      by-guess _ _ _ _ _ _ _ _ _ _ _ _ _ _ _ _ n.before.before.new.ensures n.before.new2.ensures n.new3.ensures
-          f.foot-on.ensures c.misses-by.ensures,
-      line-missed-at _ _ _ _ _ _ _ _ _ _ _ _ _ _ _ _ (passes _ s.well-formed.1.1.1.1.1.1.1.1.1.1.1.0.1)
-          n.before.before.new.ensures n.before.new2.ensures n.new3.ensures s.requires.0 s.requires.1 f.foot-on.ensures
-          c.misses-by.ensures,
+    (
+      by-guess _ _ _ _ _ _ _ _ _ _ _ _ _ _ _ _ c.new-p0.ensures c.new-p1.ensures c.new-center.ensures
+          c.foot_on-foot.ensures c.misses_by.ensures,
+      line-missed-at _ _ _ _ _ _ _ _ _ _ _ _ _ _ _ _ (passes _ c.well_formed.1.1.1.1.1.1.1.1.1.1.1.0.1)
+          c.new-p0.ensures c.new-p1.ensures c.new-center.ensures c.requires.0 c.requires.1 c.foot_on-foot.ensures
+          c.misses_by.ensures,
     )
 
-pub line-misses-spec : {M : Type 1} → statement M
-line-misses-spec =
+pub line_misses_spec : {M : Type 1} → statement M
+line_misses_spec =
     tie.close
     (tie.spec (λ c. search rules) (λ c. search rules) (λ c. search rules) (λ c. search rules) (λ c. search rules)
     (λ c. search rules) returns)

@@ -26,10 +26,10 @@ number n h =
     never : 0x7ff0_0000_0000_0000 < n % top binary64 → ⊥
     never g = let m : n % top binary64 ≤ n = mod-le n (top binary64) in omega arith
 
-float-to-bits-b : tie.Need-float-to-bits-b
-float-to-bits-b c = off (le-numbers _ _ (passes _ c.if1.true)).1
+float-to-bits-b : tie.Need-float_to_bits-b
+float-to-bits-b c = off (le-numbers _ _ (passes _ c.if-q.true)).1
 
-pub rough-root-spec : {M : Type 1} → statement M
-rough-root-spec =
-    tie.close (tie.spec float-to-bits-b (λ c. search rules) (λ c. number _ (omega (arith, c.if2.true)))
+pub rough_root_spec : {M : Type 1} → statement M
+rough_root_spec =
+    tie.close (tie.spec float-to-bits-b (λ c. search rules) (λ c. number _ (omega (arith, c.if-b-lt-INFINITY.true)))
     (λ c. search rules) (λ c. search rules) (λ c. search rules))

@@ -4,6 +4,6 @@ use Rattle.spans.specs.Workings.Span as span
 use Rattle.spans.proofs.span.apart.Statement.{statement}
 use Rattle.spans.proofs.span.apart.Tie as tie
 
-pub apart-spec : {M : Type 1} → statement M
+pub apart_spec : {M : Type 1} → statement M
 unfolding span.apart
-apart-spec = tie.close (tie.spec (λ c. refl))
+apart_spec = tie.close (tie.spec (λ c. refl))

@@ -7,11 +7,10 @@ use Rattle.spans.proofs.span.between.Tie as tie
 returns : tie.Need-returns
 unfolding span.between
 returns c =
-    let p1 = c.before in
     simp (
-      ← p1.lower.ensures,
-      ← c.upper.ensures,
+      ← c.lower-least.ensures,
+      ← c.upper-most.ensures,
     )
 
-pub between-spec : {M : Type 1} → statement M
-between-spec = tie.close (tie.spec (λ c. search rules) (λ c. search rules) returns)
+pub between_spec : {M : Type 1} → statement M
+between_spec = tie.close (tie.spec (λ c. search rules) (λ c. search rules) returns)

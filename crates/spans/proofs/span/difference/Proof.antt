@@ -4,6 +4,6 @@ use Rattle.spans.specs.Workings.Span as span
 use Rattle.spans.proofs.span.difference.Statement.{statement}
 use Rattle.spans.proofs.span.difference.Tie as tie
 
-pub difference-spec : {M : Type 1} → statement M
+pub difference_spec : {M : Type 1} → statement M
 unfolding span.difference
-difference-spec = tie.close (tie.spec (λ c. refl))
+difference_spec = tie.close (tie.spec (λ c. refl))

@@ -4,6 +4,6 @@ use Rattle.spans.specs.Workings.Span as span
 use Rattle.spans.proofs.span.doubled.Statement.{statement}
 use Rattle.spans.proofs.span.doubled.Tie as tie
 
-pub doubled-spec : {M : Type 1} → statement M
+pub doubled_spec : {M : Type 1} → statement M
 unfolding span.doubled
-doubled-spec = tie.close (tie.spec (λ c. refl))
+doubled_spec = tie.close (tie.spec (λ c. refl))

@@ -4,6 +4,6 @@ use Rattle.spans.specs.Workings.Span as span
 use Rattle.spans.proofs.span.less.Statement.{statement}
 use Rattle.spans.proofs.span.less.Tie as tie
 
-pub less-spec : {M : Type 1} → statement M
+pub less_spec : {M : Type 1} → statement M
 unfolding span.less
-less-spec = tie.close (tie.spec (λ c. refl))
+less_spec = tie.close (tie.spec (λ c. refl))

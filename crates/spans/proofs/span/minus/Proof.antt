@@ -4,6 +4,6 @@ use Rattle.spans.specs.Workings.Span as span
 use Rattle.spans.proofs.span.minus.Statement.{statement}
 use Rattle.spans.proofs.span.minus.Tie as tie
 
-pub minus-spec : {M : Type 1} → statement M
+pub minus_spec : {M : Type 1} → statement M
 unfolding span.minus
-minus-spec = tie.close (tie.spec (λ c. refl))
+minus_spec = tie.close (tie.spec (λ c. refl))

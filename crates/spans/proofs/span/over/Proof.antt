@@ -4,6 +4,6 @@ use Rattle.spans.specs.Workings.Span as span
 use Rattle.spans.proofs.span.over.Statement.{statement}
 use Rattle.spans.proofs.span.over.Tie as tie
 
-pub over-spec : {M : Type 1} → statement M
+pub over_spec : {M : Type 1} → statement M
 unfolding span.over
-over-spec = tie.close (tie.spec (λ c. search rules) (λ c. c.between.ensures))
+over_spec = tie.close (tie.spec (λ c. search rules) (λ c. c.between.ensures))

@@ -4,6 +4,6 @@ use Rattle.spans.specs.Workings.Span as span
 use Rattle.spans.proofs.span.plus.Statement.{statement}
 use Rattle.spans.proofs.span.plus.Tie as tie
 
-pub plus-spec : {M : Type 1} → statement M
+pub plus_spec : {M : Type 1} → statement M
 unfolding span.plus
-plus-spec = tie.close (tie.spec (λ c. refl))
+plus_spec = tie.close (tie.spec (λ c. refl))

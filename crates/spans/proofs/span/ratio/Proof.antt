@@ -4,6 +4,6 @@ use Rattle.spans.specs.Workings.Span as span
 use Rattle.spans.proofs.span.ratio.Statement.{statement}
 use Rattle.spans.proofs.span.ratio.Tie as tie
 
-pub ratio-spec : {M : Type 1} → statement M
+pub ratio_spec : {M : Type 1} → statement M
 unfolding span.ratio
-ratio-spec = tie.close (tie.spec (λ c. search branches) (λ c. search branches))
+ratio_spec = tie.close (tie.spec (λ c. search branches) (λ c. search branches))

@@ -3,6 +3,6 @@ use Rattle.spans.specs.Workings.Span as span
 use Rattle.spans.proofs.span.square.Statement.{statement}
 use Rattle.spans.proofs.span.square.Tie as tie
 
-pub square-spec : {M : Type 1} → statement M
+pub square_spec : {M : Type 1} → statement M
 unfolding span.square
-square-spec = tie.close (tie.spec (λ c. simp c.if1.true) (λ c. simp c.if1.false))
+square_spec = tie.close (tie.spec (λ c. simp c.if-s.true) (λ c. simp c.if-s.false))

@@ -4,6 +4,6 @@ use Rattle.spans.specs.Workings.Span as span
 use Rattle.spans.proofs.span.sum.Statement.{statement}
 use Rattle.spans.proofs.span.sum.Tie as tie
 
-pub sum-spec : {M : Type 1} → statement M
+pub sum_spec : {M : Type 1} → statement M
 unfolding span.sum
-sum-spec = tie.close (tie.spec (λ c. refl))
+sum_spec = tie.close (tie.spec (λ c. refl))

@@ -4,6 +4,6 @@ use Rattle.spans.specs.Workings.Span as span
 use Rattle.spans.proofs.span.times.Statement.{statement}
 use Rattle.spans.proofs.span.times.Tie as tie
 
-pub times-spec : {M : Type 1} → statement M
+pub times_spec : {M : Type 1} → statement M
 unfolding span.times
-times-spec = tie.close (tie.spec (λ c. search rules) (λ c. c.between.ensures))
+times_spec = tie.close (tie.spec (λ c. search rules) (λ c. c.between.ensures))

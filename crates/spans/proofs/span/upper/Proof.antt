@@ -4,6 +4,6 @@ use Rattle.spans.specs.Workings.Span as span
 use Rattle.spans.proofs.span.upper.Statement.{statement}
 use Rattle.spans.proofs.span.upper.Tie as tie
 
-pub upper-spec : {M : Type 1} → statement M
+pub upper_spec : {M : Type 1} → statement M
 unfolding span.upper
-upper-spec = tie.close (tie.spec (λ c. search branches) (λ c. search branches))
+upper_spec = tie.close (tie.spec (λ c. search branches) (λ c. search branches))

@@ -3,19 +3,15 @@ use Rattle.spans.specs.Workings.Sweep
 use Rattle.spans.proofs.sweep.beside.Statement.{statement}
 use Rattle.spans.proofs.sweep.beside.Tie as tie
 
-returns : tie.Need-returns
+returns : tie.Need-returns-then-is_clockwise
 unfolding Sweep.beside
 returns c =
-    let p1 = c.before in
-    let p2 = p1.before in
-    simp p2.if1.true
+    simp c.if-is_clockwise.true
 
-returns-2 : tie.Need-returns-2
+returns-2 : tie.Need-returns
 unfolding Sweep.beside
 returns-2 c =
-    let p1 = c.before in
-    let p2 = p1.before in
-    simp p2.if1.false
+    simp c.if-is_clockwise.false
 
-pub beside-spec : {M : Type 1} → statement M
-beside-spec = tie.close (tie.spec returns returns-2)
+pub beside_spec : {M : Type 1} → statement M
+beside_spec = tie.close (tie.spec returns returns-2)
