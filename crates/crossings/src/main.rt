@@ -1,48 +1,43 @@
 // Lists where the two paths of a layout meet: it reads the text line "packed" and then a packed file from standard input, and
 // writes the listing's text to standard output. If a read or a write fails, it says so in one text line on standard error.
 #![tactic(auto)]
+
 use answer_lines::Written;
 
-fn main() {
+fn main(rt: HostRuntime) {
     // one byte more than an input may have: no more are read, and those behind would not change the answer (`read-enough` of
     // layout_listing/specs/ReadEnough.antt)
     let mut bytes = [0u8; layout_listing::BYTES + 1];
-    let input = streams::read_full(&mut bytes);
+    let input = streams::read_full(rt.stdin(), &mut bytes);
     if input.failed {
-        io::write_all(
-            libc::STDERR_FILENO,
-            b"crossings: standard input cannot be read\n",
-        );
+        let _ = eprintln!(rt; "crossings: standard input cannot be read");
         return;
     }
     let n = input.bytes;
-    answer(&bytes[..n]);
+    answer(&rt, &bytes[..n]);
 }
 
 // Writes the answer to an input. There is room for the longest answer, so the end of this function is never reached:
 // `answer-whole` of layout_listing/specs/Room.antt proves it for every input.
-fn answer(input: &[u8]) {
+fn answer(rt: &HostRuntime, input: &[u8]) {
     let mut out = [0u8; layout_listing::ROOM];
     let written = layout_listing::list_layout(input, &mut out);
     match written {
         Written::Length(n) => {
             if n <= out.len() {
-                write(&out[..n]);
+                write(rt, &out[..n]);
                 return;
             }
         }
         Written::NoRows => {}
         Written::NoRoom => {}
     }
-    io::write_all(libc::STDERR_FILENO, b"crossings: no room for the answer\n");
+    let _ = eprintln!(rt; "crossings: no room for the answer");
 }
 
 // Writes all of a text. If it cannot be written, it says so on standard error.
-fn write(text: &[u8]) {
-    if streams::write_full(text) < text.len() {
-        io::write_all(
-            libc::STDERR_FILENO,
-            b"crossings: standard output cannot be written\n",
-        );
+fn write(rt: &HostRuntime, text: &[u8]) {
+    if streams::write_full(rt.stdout(), text) < text.len() {
+        let _ = eprintln!(rt; "crossings: standard output cannot be written");
     }
 }

@@ -3,6 +3,8 @@
 // fails, it says so in one text line on standard error.
 #![tactic(auto)]
 
+use std::io::{Stdin, Stdout};
+
 // What reading one record showed.
 #[derive(Clone, Copy)]
 enum Seen {
@@ -19,48 +21,42 @@ struct Tally {
     unread: bool,
 }
 
-fn main() {
-    let t = replay();
+fn main(rt: HostRuntime) {
+    let t = replay(rt.stdin());
     if t.unread {
-        io::write_all(
-            libc::STDERR_FILENO,
-            b"replay: standard input cannot be read\n",
-        );
+        let _ = eprintln!(rt; "replay: standard input cannot be read");
         return;
     }
-    if !say(t.records, t.differences) {
-        io::write_all(
-            libc::STDERR_FILENO,
-            b"replay: standard output cannot be written\n",
-        );
+    if !say(rt.stdout(), t.records, t.differences) {
+        let _ = eprintln!(rt; "replay: standard output cannot be written");
     }
 }
 
 // Writes the counts. The answer is no if they could not be written.
-fn say(records: u64, differences: u64) -> bool {
-    put(b"replayed ")
-        && put_number(records)
-        && put(b" differences ")
-        && put_number(differences)
-        && put(b"\n")
+fn say(stdout: Stdout, records: u64, differences: u64) -> bool {
+    put(stdout, b"replayed ")
+        && put_number(stdout, records)
+        && put(stdout, b" differences ")
+        && put_number(stdout, differences)
+        && put(stdout, b"\n")
 }
 
-fn put(text: &[u8]) -> bool {
-    streams::write_full(text) == text.len()
+fn put(stdout: Stdout, text: &[u8]) -> bool {
+    streams::write_full(stdout, text) == text.len()
 }
 
-fn put_number(n: u64) -> bool {
+fn put_number(stdout: Stdout, n: u64) -> bool {
     let mut digits = [0u8; 20];
     let k = io::decimal(n, &mut digits);
-    put(&digits[..k])
+    put(stdout, &digits[..k])
 }
 
 // Replays the whole list. Nothing says that the input ends, so the loop also ends where the count would not fit.
-fn replay() -> Tally {
+fn replay(stdin: Stdin) -> Tally {
     let mut records: u64 = 0;
     let mut differences: u64 = 0;
     while records < u64::MAX {
-        let seen = next();
+        let seen = next(stdin);
         match seen {
             Seen::End => {
                 break;
@@ -89,9 +85,9 @@ fn replay() -> Tally {
 }
 
 // Reads and judges one record: its name, then as many numbers as belong to that name.
-fn next() -> Seen {
+fn next(stdin: Stdin) -> Seen {
     let mut head = [0u8; 5];
-    let name = streams::read_full(&mut head);
+    let name = streams::read_full(stdin, &mut head);
     if name.failed {
         return Seen::Unread;
     }
@@ -100,12 +96,12 @@ fn next() -> Seen {
     }
     let end = records::numbers(&head) * records::FIELD;
     let mut body = [0u8; records::MOST * records::FIELD];
-    rest(&head, &mut body[..end])
+    rest(stdin, &head, &mut body[..end])
 }
 
 // Reads and judges what follows a name. What the input lacks stays 0, and no record has a 0 byte.
-fn rest(head: &[u8; 5], body: &mut [u8]) -> Seen {
-    let input = streams::read_full(body);
+fn rest(stdin: Stdin, head: &[u8; 5], body: &mut [u8]) -> Seen {
+    let input = streams::read_full(stdin, body);
     if input.failed {
         return Seen::Unread;
     }

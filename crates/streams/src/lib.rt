@@ -1,7 +1,10 @@
 // Standard input and output of the programs: a slice is read until it is full or the input ends, and written to its end. A read
 // or write that a signal interrupts before it moved a byte is made again. A failed one is not the same as the end of the input.
 #![tactic(auto)]
-ghost use Rattle.std.specs.Prelude.{◌≤◌, length};
+
+ghost use Rattle.std.specs.Prelude.{◌≤◌, length, IfSome};
+
+use std::io::{ErrorKind, Read, Stdin, Stdout, Write};
 
 // how often a read or write is tried at most: nothing says that signals end, but a proved loop must
 const TRIES: u64 = u64::MAX;
@@ -14,19 +17,17 @@ pub struct Input {
 }
 
 // Reads until the slice is full, the input ends, or a read fails.
-pub fn read_full(bytes: &mut [u8]) -> Input
+pub fn read_full(stdin: Stdin, bytes: &mut [u8]) -> Input
     ensures { result.bytes ≤ length bytes.new }
 {
     let mut n = 0;
     while n < bytes.len() {
-        let got = read_some(&mut bytes[n..]);
-        if got < 0 {
+        let Some(more) = read_some(stdin, &mut bytes[n..]) else {
             return Input {
                 bytes: n,
                 failed: true,
             };
-        }
-        let more = io::count(got, &bytes[n..]);
+        };
         if more == 0 {
             return Input {
                 bytes: n,
@@ -42,12 +43,12 @@ pub fn read_full(bytes: &mut [u8]) -> Input
 }
 
 // Writes the slice and answers how many of its bytes were taken: fewer than all exactly if a write failed or took nothing.
-pub fn write_full(bytes: &[u8]) -> usize
+pub fn write_full(stdout: Stdout, bytes: &[u8]) -> usize
     ensures { result ≤ length bytes.now }
 {
     let mut n = 0;
     while n < bytes.len() {
-        let put = io::count(write_some(&bytes[n..]), &bytes[n..]);
+        let put = write_some(stdout, &bytes[n..]).unwrap_or(0);
         if put == 0 {
             return n;
         }
@@ -56,34 +57,44 @@ pub fn write_full(bytes: &[u8]) -> usize
     n
 }
 
-// One read, made again if a signal interrupts it.
-fn read_some(bytes: &mut [u8]) -> isize {
+// One read, made again if a signal interrupts it. The answer is none if it failed.
+fn read_some(mut stdin: Stdin, bytes: &mut [u8]) -> Option<usize>
+    ensures { IfSome result (λ n. n ≤ length bytes.new) }
+{
     let mut tries = TRIES;
     while tries > 0 {
-        let got = libc::read(libc::STDIN_FILENO, bytes);
-        if got >= 0 {
-            return got;
-        }
-        if os::errno() != libc::EINTR {
-            return got;
+        match stdin.read(bytes) {
+            Ok(got) => {
+                return Some(got);
+            }
+            Err(e) => {
+                if e.kind() != ErrorKind::Interrupted {
+                    return None;
+                }
+            }
         }
         tries -= 1;
     }
-    -1
+    None
 }
 
-// One write, made again if a signal interrupts it.
-fn write_some(bytes: &[u8]) -> isize {
+// One write, made again if a signal interrupts it. The answer is none if it failed.
+fn write_some(mut stdout: Stdout, bytes: &[u8]) -> Option<usize>
+    ensures { IfSome result (λ n. n ≤ length bytes.now) }
+{
     let mut tries = TRIES;
     while tries > 0 {
-        let put = libc::write(libc::STDOUT_FILENO, bytes);
-        if put >= 0 {
-            return put;
-        }
-        if os::errno() != libc::EINTR {
-            return put;
+        match stdout.write(bytes) {
+            Ok(put) => {
+                return Some(put);
+            }
+            Err(e) => {
+                if e.kind() != ErrorKind::Interrupted {
+                    return None;
+                }
+            }
         }
         tries -= 1;
     }
-    -1
+    None
 }

@@ -2,56 +2,54 @@
 // breaks its form, it writes the refusal and the offset of the fault to standard error and nothing else. If a read or a write
 // fails, it says so in one text line on standard error.
 #![tactic(auto)]
+
 use answer_lines::{LINE, Written};
 use layout_moves::Moved;
 use layout_text::LONGEST;
 
-fn main() {
+fn main(rt: HostRuntime) {
     // one byte more than a packed file may have: the fault of a longer file lies within these (`unpack-enough` of
     // layout_moves/specs/ReadEnough.antt)
     let mut file = [0u8; layout_packed::limits::BYTES + 1];
-    let input = streams::read_full(&mut file);
+    let input = streams::read_full(rt.stdin(), &mut file);
     if input.failed {
-        io::write_all(
-            libc::STDERR_FILENO,
-            b"unpack: standard input cannot be read\n",
-        );
+        let _ = eprintln!(rt; "unpack: standard input cannot be read");
         return;
     }
     let n = input.bytes;
-    answer(&file[..n]);
+    answer(&rt, &file[..n]);
 }
 
 // Writes the text of a packed file, or its refusal. There is room for the longest text, and a refusal has its offset told, so the
 // end of this function is never reached: `unpack-answers` of layout_moves/specs/UnpackPromise.antt proves it for every file.
-fn answer(file: &[u8]) {
+fn answer(rt: &HostRuntime, file: &[u8]) {
     let mut out = [0u8; LONGEST];
     let moved = layout_moves::unpack_layout(file, &mut out);
     match moved {
         Moved::Length(n) => {
             if n <= out.len() {
-                write(&out[..n]);
+                write(rt, &out[..n]);
                 return;
             }
         }
         Moved::RefusedAt(number, place) => {
-            refuse(number, place);
+            refuse(rt, number, place);
             return;
         }
         Moved::Refused(_) => {}
         Moved::NoRoom => {}
     }
-    io::write_all(libc::STDERR_FILENO, b"unpack: no room for the text\n");
+    let _ = eprintln!(rt; "unpack: no room for the text");
 }
 
 // Writes the text line of a refusal to standard error.
-fn refuse(number: u64, place: usize) {
+fn refuse(rt: &HostRuntime, number: u64, place: usize) {
     let mut line = [0u8; LINE];
     let written = answer_lines::write_refusal_at(number, place, &mut line);
     match written {
         Written::Length(n) => {
             if n <= line.len() {
-                io::write_all(libc::STDERR_FILENO, &line[..n]);
+                let _ = rt.stderr().write_all(&line[..n]);
             }
         }
         Written::NoRows => {}
@@ -60,11 +58,8 @@ fn refuse(number: u64, place: usize) {
 }
 
 // Writes all of a text. If it cannot be written, it says so on standard error.
-fn write(bytes: &[u8]) {
-    if streams::write_full(bytes) < bytes.len() {
-        io::write_all(
-            libc::STDERR_FILENO,
-            b"unpack: standard output cannot be written\n",
-        );
+fn write(rt: &HostRuntime, bytes: &[u8]) {
+    if streams::write_full(rt.stdout(), bytes) < bytes.len() {
+        let _ = eprintln!(rt; "unpack: standard output cannot be written");
     }
 }
