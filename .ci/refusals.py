@@ -12,18 +12,24 @@ import re
 ERROR = re.compile(r"^(?P<path>[^\s:]+):(?P<line>\d+):(?P<column>\d+): error: (?:`(?P<name>[^`]+)`: )?", re.M)
 
 # It follows from another error: something that it uses was not accepted.
-FOLLOWS = re.compile(r"was not admitted \(it has holes or undetermined implicits, or was rejected\)")
+FOLLOWS = re.compile(
+    r"was not admitted \(it has holes or undetermined implicits, or was rejected\)"
+    r"|^\d+ declarations? that depends? on .* (?:was|were) not checked",
+    re.S,
+)
 
-# It is about the shape of a proof, not about the program: how many answers a walk needs, and which.
-SHAPE = re.compile(r"\bLts\.Closed\b|\bNeed-")
+# It is about the shape of a proof, not about the program: how many answers a walk needs, and which, and at which place.
+SHAPE = re.compile(r"\bLts\.Closed\b|\bNeed-|differ only where one has `[^`\s]*\.Lts\.(?:Start|After|Then|Else|At|Loop)\b")
 
+# what a proof's equations leave of the goal. It may still hold, so it counts only where the proof fits the code.
+LEFT = "an equation is left"
 SHOWN = {
     "two sides differ": re.compile(
         r"the two (?:types|sides) (?:first differ|differ only|are )|^.*expected type `.*but this has type `"
         r"|does not hold \(this comparison",
         re.S,
     ),
-    "an equation is left": re.compile(r"what it leaves must be a path whose two ends are equal, and .* is none", re.S),
+    LEFT: re.compile(r"what it leaves must be a path whose two ends are equal, and .* is none", re.S),
     "numbers for which it fails": re.compile(r"All of that holds, and the (?:goal|part) fails, at"),
     "every way was tried": re.compile(r"was found\. Every way was tried: a deeper search would find nothing either"),
 }
@@ -92,16 +98,16 @@ def answer_at(text, line, column):
     return None
 
 
-def place_of(one, folder):
+def place_of(one, folder=None):
     """Whose fact an error is about, and which one. It is a function, MODULE::NAME, with the name of the fact in its proof or
     its place among the answers of its walk; or a file of definitions and laws, with the name of the law. `folder` is the
-    crate's."""
+    crate's, for the text of the proof."""
     path = one.path.removeprefix(f"{folder}/").removeprefix("./")
     proof = re.match(r"proofs/(.*)/(?:Proof|Answers|Invariants)\.antt$", path)
     if not proof:
         return path.removesuffix(".antt"), one.name or "?"
     owner = proof.group(1).replace("/", "::")
-    if not (one.name or "").endswith("_spec"):
+    if not (one.name or "").endswith("_spec") or not folder:
         return owner, one.name or "?"
     found = answer_at((folder / path).read_text(), one.line, one.column)
     return owner, f"answer {found[0]} of {found[1]}" if found else "its walk"

@@ -25,6 +25,7 @@ class Trial:
         self.crate, self.kind, self.name, self.how = crate, kind, name, ""
         self.refused = [name] if kind == "fn" else []
         self.changes = []
+        self.fits = True
 
     def __str__(self):
         return f"{self.crate}::{self.name}"
@@ -267,21 +268,34 @@ def write_proof(folder, trial, ending, calls):
 def fit_names(folder, endings, names):
     """A function's proof cites places and facts by names that are made of the code's text, as `if-x-lt-y`. So in the copy of it
     that stands beside a wrong function each name is that of the same place there. `names` is what rt says of them: of each
-    function its places and facts, in the code's order. Where a wrong function has more or fewer, its proof stays as it is."""
+    function its places and facts, in the code's order, each also by a name that has only its call and its number. Where these
+    differ, calls or tests come in another order, and the proof does not fit. A trial that changes the proof too has made it
+    fit."""
     for trial, ending in endings.items():
         if not trial.function:
             continue
         key = f"Rattle-{trial.crate}-proofs.{trial.function.replace('::', '.')}"
         right, wrong = names.get(f"{key}.Lts"), names.get(f"{key}{ending}.Lts")
-        renamed = names_between(right, wrong) if right and wrong else {}
-        if renamed:
+        if not right or not wrong:
+            continue
+        if shape_of(right) == shape_of(wrong):
+            renamed = names_between(right, wrong)
             for path in (folder / folder_of(trial.function + ending)).glob("*.antt"):
                 path.write_text(with_names(path.read_text(), renamed))
+        else:
+            trial.fits = any(file.endswith(".antt") for file in trial.files)
+
+
+def shape_of(names):
+    """The places and facts of a function, in the code's order, whatever its text calls them."""
+    return [fact for fact, _ in names["needs"]], [(place, field[0]) for place, _, field, *_ in names["places"]]
 
 
 def with_names(text, renamed):
     """A proof with other names of places and facts: behind a dot, but for a definition's name behind that of its module; and where
     a fact's name is the answer's too, at the start of a line."""
+    if not renamed:
+        return text
     modules = {named or path.split(".")[-1] for path, named in MODULE.findall(text)} - {"tie", "goal"}
 
     def other(found, line):
@@ -300,17 +314,11 @@ def with_names(text, renamed):
 
 def names_between(right, wrong):
     """For each name that differs, what stands for it in the wrong function."""
-    lists = []
-    for one in (right, wrong):
-        facts = [name for _, name in one["needs"]]
-        fields = [place[2][1] for place in one["places"]]
-        lists.append((facts, fields, one["places_by_name"]))
-    renamed = {}
-    for ours, theirs in zip(*lists):
-        if len(ours) != len(theirs):
-            return {}
-        renamed.update({a: b for a, b in zip(ours, theirs) if a and a != b})
-    return renamed
+
+    def names_of(one):
+        return [name for _, name in one["needs"]] + [place[2][1] for place in one["places"]] + one["places_by_name"]
+
+    return {ours: theirs for ours, theirs in zip(names_of(right), names_of(wrong)) if ours and ours != theirs}
 
 
 # ---- laws beside the right ones
