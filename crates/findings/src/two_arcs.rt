@@ -285,10 +285,10 @@ pub fn arc_arc_report(
     circle2: ArcRadiusCenter,
     pos_equal_eps: f64,
 ) -> Reported
-    requires pos_equal_eps_value { Calls.check_pline_seg v1 v2 u1 u2 pos_equal_eps ≡ Fine }
-    requires of_arc { Circles.OfArc v1 v2 circle1 }
-    requires of_arc_2 { Circles.OfArc u1 u2 circle2 }
-    requires pos_equal_eps_value_2 { PlineSeg.pline_seg v1 v2 u1 u2 pos_equal_eps ≡ ArcArc.arc_arc_of intr_result v1 v2 u1 u2 circle1 circle2 pos_equal_eps }
+    requires fine { Calls.check_pline_seg v1 v2 u1 u2 pos_equal_eps ≡ Fine }
+    requires arc_of_circle1 { Circles.OfArc v1 v2 circle1 }
+    requires arc_of_circle2 { Circles.OfArc u1 u2 circle2 }
+    requires pair_answer { PlineSeg.pline_seg v1 v2 u1 u2 pos_equal_eps ≡ ArcArc.arc_arc_of intr_result v1 v2 u1 u2 circle1 circle2 pos_equal_eps }
     ensures { result ≡ Answers.arc_arc_report intr_result v1 v2 u1 u2 circle1 circle2 pos_equal_eps }
 {
     match intr_result {

@@ -55,8 +55,8 @@ pub fn large_checked(
     u: Halves,
     pos_equal_eps: f64,
 ) -> Checked
-    requires v_value { v ≡ starts.starts v1 v2 }
-    requires u_value { u ≡ starts.starts u1 u2 }
+    requires v_starts { v ≡ starts.starts v1 v2 }
+    requires u_starts { u ≡ starts.starts u1 u2 }
     ensures { result ≡ first (large_pair_checks v1 v2 u1 u2 pos_equal_eps) }
 {
     if epsilon_fine(pos_equal_eps) & (parts_fine(v1, v2, v) & parts_fine(u1, u2, u)) {

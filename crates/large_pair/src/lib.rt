@@ -1,5 +1,6 @@
 // How two segments meet in the mode of large arcs: up to four results. specs/LargePair.antt has the definition.
 #![tactic(auto)]
+
 use checks::fault::Fault;
 
 mod check;

@@ -52,9 +52,9 @@ pub fn put_result(
     results: &mut [u64],
     points: &mut [f64],
 )
-    requires row_lt_most_results { row < large.most_results }
-    requires words_aresult_in_bounds { large.most_results * large.words_a_result ≤ length results.old }
-    requires floats_aresult_in_bounds { large.most_results * large.floats_a_result ≤ length points.old }
+    requires row_in_bounds { row < large.most_results }
+    requires results_room { large.most_results * large.words_a_result ≤ length results.old }
+    requires points_room { large.most_results * large.floats_a_result ≤ length points.old }
     ensures results_after { results.new
         ≡ sets results.old (row * large.words_a_result) (large.words_of (pieces.result_of v_half u_half met)) }
     ensures points_after { points.new
@@ -74,9 +74,9 @@ pub fn put_result(
 
 // Writes how two parts meet to a row. Both are fit for the pair's own check, so that it need not be made.
 fn put_pair(v: Piece, u: Piece, eps: f64, row: usize, results: &mut [u64], points: &mut [f64])
-    requires row_lt_most_results { row < large.most_results }
-    requires words_aresult_in_bounds { large.most_results * large.words_a_result ≤ length results.old }
-    requires floats_aresult_in_bounds { large.most_results * large.floats_a_result ≤ length points.old }
+    requires row_in_bounds { row < large.most_results }
+    requires results_room { large.most_results * large.words_a_result ≤ length results.old }
+    requires points_room { large.most_results * large.floats_a_result ≤ length points.old }
     requires fit_pair { pieces.FitPair v u eps }
     ensures results_after { results.new
         ≡ sets results.old (row * large.words_a_result) (large.words_of (pieces.meeting eps v u)) }
@@ -97,10 +97,10 @@ fn put_beside(
     results: &mut [u64],
     points: &mut [f64],
 )
-    requires row_bound { row + 1 < large.most_results }
-    requires words_aresult_in_bounds { large.most_results * large.words_a_result ≤ length results.old }
-    requires floats_aresult_in_bounds { large.most_results * large.floats_a_result ≤ length points.old }
-    requires fit_pair { pieces.FitPair v u_first eps × pieces.FitPair v u_second eps }
+    requires rows_in_bounds { row + 1 < large.most_results }
+    requires results_room { large.most_results * large.words_a_result ≤ length results.old }
+    requires points_room { large.most_results * large.floats_a_result ≤ length points.old }
+    requires fit_pairs { pieces.FitPair v u_first eps × pieces.FitPair v u_second eps }
     ensures results_after { results.new
         ≡ sets results.old (row * large.words_a_result)
         (large.words_of (pieces.meeting eps v u_first)
@@ -127,11 +127,11 @@ pub fn put_results(
     results: &mut [u64],
     points: &mut [f64],
 ) -> usize
-    requires words_aresult_in_bounds { large.most_results * large.words_a_result ≤ length results.old }
-    requires floats_aresult_in_bounds { large.most_results * large.floats_a_result ≤ length points.old }
-    requires v_value { v ≡ starts.starts v1 v2 }
-    requires u_value { u ≡ starts.starts u1 u2 }
-    requires eps_value { first (large.large_pair_checks v1 v2 u1 u2 eps) ≡ Fine }
+    requires results_room { large.most_results * large.words_a_result ≤ length results.old }
+    requires points_room { large.most_results * large.floats_a_result ≤ length points.old }
+    requires v_starts { v ≡ starts.starts v1 v2 }
+    requires u_starts { u ≡ starts.starts u1 u2 }
+    requires fine { first (large.large_pair_checks v1 v2 u1 u2 eps) ≡ Fine }
     ensures { pieces.Stored (large.results_of v1 v2 u1 u2 eps) result
         results.old results.new points.old points.new }
 {

@@ -180,8 +180,8 @@ module _ (n : ℕ) (path : List Float) (closed : Bool) (epsilon : Float) (i j : 
   OneTrace = one_trace path path (record { i = i; j = j })
 
   split : {P : Type 0} (s r : Look) → (Skipped ≡ r → ⊥) → ((s ≡ r) ↔ P) → (b : Bool) → (cond b Skipped s ≡ r) ↔ (P × (b ≡ false))
-  split s r never when true = (λ e. absurd (never e), λ h. absurd (true≢false h.1))
-  split s r never when false = (λ e. (when.0 e, refl), λ h. when.1 h.0)
+  split s r unlike when true = (λ e. absurd (unlike e), λ h. absurd (true≢false h.1))
+  split s r unlike when false = (λ e. (when.0 e, refl), λ h. when.1 h.0)
 
   pub skipped-when : (in_listing ≡ Skipped) ↔ (OneTrace ≡ true)
   unfolding traced self_look_of look_of

@@ -1,5 +1,6 @@
 // Recorded answers: it reads a text line of a recorded list and judges it. The program `replay` uses it on a whole list.
 #![tactic(auto)]
+
 ghost use Rattle.std.specs.Prelude.{◌≡◌, ◌≤◌};
 ghost use Rattle.records.specs.Text.{most_numbers, name_of};
 ghost use Rattle.records.specs.Calls.{numbers_of, is_right};

@@ -283,7 +283,7 @@ module _ (first : List Float) (first_closed : Bool) (second : List Float) (secon
 
 pub two-paths : (first second : List Float) (n m : ℕ) (boxed : Bool) (epsilon : Float) (j : Job)
     → j ≡ mutual_job n m boxed epsilon → OwnPath first second j
-two-paths first second n m boxed epsilon j is own = absurd (true≢false (sym own ∙ ap (λ (k : Job). k.own) is))
+two-paths first second n m by_boxes epsilon j is owns = absurd (true≢false (sym owns ∙ ap (λ (k : Job). k.own) is))
 
 pub mutual-plain : (n m : ℕ) (epsilon : Float) (j : Job) → j ≡ mutual_job n m false epsilon → j.boxed ≡ false
 mutual-plain n m epsilon j is = ap (λ (k : Job). k.boxed) is
@@ -384,7 +384,7 @@ module _ (path : List Float) (closed : Bool) (epsilon : Float) where
 
 pub one-path : (path : List Float) (n : ℕ) (closed boxed : Bool) (epsilon : Float) (j : Job) → j ≡ self_job n closed boxed epsilon
     → OwnPath path path j
-one-path path n closed boxed epsilon j is own = (refl, ap (λ (k : Job). k.n) is ∙ sym (ap (λ (k : Job). k.m) is))
+one-path path n closed by_boxes epsilon j is owns = (refl, ap (λ (k : Job). k.n) is ∙ sym (ap (λ (k : Job). k.m) is))
 
 pub self-plain : (n : ℕ) (closed : Bool) (epsilon : Float) (j : Job) → j ≡ self_job n closed false epsilon → j.boxed ≡ false
 self-plain n closed epsilon j is = ap (λ (k : Job). k.boxed) is

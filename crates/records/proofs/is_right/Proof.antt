@@ -5,11 +5,11 @@ use Rattle.records.specs.Calls.{is_right}
 use Rattle.records.proofs.is_right.Statement.{statement}
 use Rattle.records.proofs.is_right.Tie as tie
 
-pub is-right-spec : {M : Type 1} → statement M
+pub is_right_spec : {M : Type 1} → statement M
 unfolding is_right
-is-right-spec =
+is_right_spec =
     tie.close
     (tie.spec
     (λ c. search rules) (λ c. search rules) (λ c. search rules) (λ c. search rules)
-    (λ c. let n = c.before.before.before in simp (← n.before.name.ensures, ← n.numbers.ensures.0) (search branches))
-    (λ c. let n = c.before.before in simp (← n.before.name.ensures, ← n.numbers.ensures.0) (search branches)))
+    (λ c. simp (← c.name-call.ensures, ← c.numbers.ensures.0) (search branches))
+    (λ c. simp (← c.name-call.ensures, ← c.numbers.ensures.0) (search branches)))

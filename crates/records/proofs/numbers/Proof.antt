@@ -4,7 +4,7 @@ use Rattle.records.proofs.numbers.Statement.{statement}
 use Rattle.records.proofs.numbers.Tie as tie
 
 returns : tie.Need-returns
-returns c = (simp (← c.before.name.ensures, ← c.numbers.ensures.0), c.numbers.ensures.1)
+returns c = (simp (← c.name.ensures, ← c.numbers.ensures.0), c.numbers.ensures.1)
 
-pub numbers-spec : {M : Type 1} → statement M
-numbers-spec = tie.close (tie.spec (λ c. search rules) (λ c. search rules) returns)
+pub numbers_spec : {M : Type 1} → statement M
+numbers_spec = tie.close (tie.spec (λ c. search rules) (λ c. search rules) returns)

@@ -9,32 +9,30 @@ use Rattle.findings.specs.declared.line_and_arc.Sticky.{Sticky}
 use Rattle.findings.proofs.line_and_arc.both_report.Statement.{statement}
 use Rattle.findings.proofs.line_and_arc.both_report.Tie as tie
 
-points : (c : tie.After-stick) → let a = c.before.args in
-    c.stick.result.points ≡ with_sticky_ends a.e1.point a.e2.point a.p0 a.p1 a.arc-geometry
+points : (c : tie.After-stick-stuck) → let a = c.args in
+    c.stick-stuck.result.points ≡ with_sticky_ends a.e1.point a.e2.point a.p0 a.p1 a.arc_geometry
 unfolding sticky
-points c = ap (λ (s : Sticky). s.points) c.stick.ensures
+points c = ap (λ (s : Sticky). s.points) c.stick-stuck.ensures
 
-entries : (c : tie.After-stick) → let a = c.before.args in
-    c.stick.result.entries ≡ sticky_tested a.e1 a.e2 a.p0 a.p1 a.arc-geometry
+entries : (c : tie.After-stick-stuck) → let a = c.args in
+    c.stick-stuck.result.entries ≡ sticky_tested a.e1 a.e2 a.p0 a.p1 a.arc_geometry
 unfolding sticky
-entries c = ap (λ (s : Sticky). s.entries) c.stick.ensures
+entries c = ap (λ (s : Sticky). s.entries) c.stick-stuck.ensures
 
-returns : tie.Need-returns
+returns : tie.Need-returns-then-u_is_line-dist_squared
 unfolding both_report in_order both_tested
 returns c =
-    let d = c.before in
-    let s = d.before.before.before.before.before.before.before.before in
-    simp (← points s, ← entries s, ← d.before.dist-squared.ensures, ← d.dist-squared2.ensures, c.if1.true)
+    let s = c.before.before.before.before.before.before.before.before.before in
+    simp (← points s, ← entries s, ← c.dist_squared.ensures, ← c.dist_squared-2.ensures, c.if-u_is_line-dist_squared.true)
 
-returns-2 : tie.Need-returns-2
+returns-2 : tie.Need-returns
 unfolding both_report in_order both_tested
 returns-2 c =
-    let d = c.before in
-    let s = d.before.before.before.before.before.before.before.before in
-    simp (← points s, ← entries s, ← d.before.dist-squared.ensures, ← d.dist-squared2.ensures, c.if1.false)
+    let s = c.before.before.before.before.before.before.before.before.before in
+    simp (← points s, ← entries s, ← c.dist_squared.ensures, ← c.dist_squared-2.ensures, c.if-u_is_line-dist_squared.false)
 
-pub both-report-spec : {M : Type 1} → statement M
-both-report-spec =
+pub both_report_spec : {M : Type 1} → statement M
+both_report_spec =
     tie.close
     (tie.spec
     (λ c. search rules) (λ c. search rules) (λ c. search rules) returns returns-2)

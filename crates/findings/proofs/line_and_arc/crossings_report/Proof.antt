@@ -6,49 +6,47 @@ use Rattle.findings.specs.Workings.Answers.{crossings_answer, crossings_report, 
 use Rattle.findings.proofs.line_and_arc.crossings_report.Statement.{statement}
 use Rattle.findings.proofs.line_and_arc.crossings_report.Tie as tie
 
-returns : tie.Need-returns
+returns : tie.Need-returns-then-counts2
 unfolding crossings_report crossings_answer crossings_tested both_report
 returns c =
-    let t = c.before in
-    let k = t.before.before in
-    simp (← k.before.counts.ensures, ← k.counts2.ensures, t.before.if1.true, t.if2.true) c.both-report.ensures
+    simp (← c.counts-counts1.ensures, ← c.counts-counts2.ensures, c.if-counts1.true, c.if-counts2.true) c.both_report.ensures
 
-returns-2 : tie.Need-returns-2
+returns-2 : tie.Need-returns-then-counts1
 unfolding crossings_report crossings_answer crossings_tested
 returns-2 c =
     simp (
-      ← c.before.before.before.before.before.counts.ensures,
-      ← c.before.before.before.before.counts2.ensures,
-      c.before.before.before.if1.true,
-      c.before.before.if2.false,
-      ← c.before.one-line-arc.ensures,
-      ← c.unless-end.ensures,
+      ← c.counts-counts1.ensures,
+      ← c.counts-counts2.ensures,
+      c.if-counts1.true,
+      c.if-counts2.false,
+      ← c.one_line_arc-answer.ensures,
+      ← c.unless_end-told.ensures,
     )
 
-returns-3 : tie.Need-returns-3
+returns-3 : tie.Need-returns-then-counts2-2
 unfolding crossings_report crossings_answer crossings_tested
 returns-3 c =
     simp (
-      ← c.before.before.before.before.before.counts.ensures,
-      ← c.before.before.before.before.counts2.ensures,
-      c.before.before.before.if1.false,
-      c.before.before.if3.true,
-      ← c.before.one-line-arc2.ensures,
-      ← c.unless-end2.ensures,
+      ← c.counts-counts1.ensures,
+      ← c.counts-counts2.ensures,
+      c.if-counts1.false,
+      c.if-counts2-2.true,
+      ← c.one_line_arc-answer-then-counts2-2.ensures,
+      ← c.unless_end-told-then-counts2-2.ensures,
     )
 
-returns-4 : tie.Need-returns-4
+returns-4 : tie.Need-returns
 unfolding crossings_report crossings_answer crossings_tested
 returns-4 c =
     simp (
-      ← c.before.before.before.counts.ensures,
-      ← c.before.before.counts2.ensures,
-      c.before.if1.false,
-      c.if3.false,
+      ← c.counts-counts1.ensures,
+      ← c.counts-counts2.ensures,
+      c.if-counts1.false,
+      c.if-counts2-2.false,
     )
 
-pub crossings-report-spec : {M : Type 1} → statement M
-crossings-report-spec =
+pub crossings_report_spec : {M : Type 1} → statement M
+crossings_report_spec =
     tie.close
     (tie.spec
     (λ c. search rules) (λ c. search rules) (λ c. search rules) returns (λ c. search rules) (λ c. search rules)

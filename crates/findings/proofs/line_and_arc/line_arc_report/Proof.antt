@@ -5,43 +5,37 @@ use Rattle.findings.specs.Workings.Answers.{line_arc_report, crossings_report, t
 use Rattle.findings.proofs.line_and_arc.line_arc_report.Statement.{statement}
 use Rattle.findings.proofs.line_and_arc.line_arc_report.Tie as tie
 
-returns : tie.Need-returns
+returns : tie.Need-returns-in-NoIntersect
 unfolding line_arc_report
-returns c = simp c.enum_told.given.1
+returns c = simp c.in-NoIntersect.is
 
-returns-2 : tie.Need-returns-2
+returns-2 : tie.Need-returns-in-TangentIntersect
 unfolding line_arc_report
 returns-2 c =
-    let a = c.before in
-    let t = a.before in
-    let g = t.before in
     simp (
-      g.before.before.intr-result.given.1,
+      c.in-TangentIntersect.is,
       ← tangent-line,
-      ← g.of-segment.ensures,
-      ← t.point-tested.ensures,
-      ← a.tangent-answer.ensures,
-      ← c.unless-end.ensures,
+      ← c.of_segment-arc_geometry.ensures,
+      ← c.point_tested-t0_tested.ensures,
+      ← c.tangent_answer-answer.ensures,
+      ← c.unless_end-tested.ensures,
     )
 
-returns-3 : tie.Need-returns-3
+returns-3 : tie.Need-returns-in-TwoIntersects
 unfolding line_arc_report crossings_report
 returns-3 c =
-    let p = c.before in
-    let t = p.before in
-    let g = t.before.before in
     simp (
-      g.before.before.intr-result2.given.1,
+      c.in-TwoIntersects.is,
       ← crossing-line,
-      ← g.of-segment2.ensures,
-      ← t.before.point-tested2.ensures,
-      ← t.point-tested3.ensures,
-      ← p.pos.ensures,
+      ← c.of_segment-arc_geometry-in-TwoIntersects.ensures,
+      ← c.point_tested-t0_tested-in-TwoIntersects.ensures,
+      ← c.point_tested-t1_tested.ensures,
+      ← c.pos.ensures,
     )
-    c.crossings-report.ensures
+    c.crossings_report.ensures
 
-pub line-arc-report-spec : {M : Type 1} → statement M
-line-arc-report-spec =
+pub line_arc_report_spec : {M : Type 1} → statement M
+line_arc_report_spec =
     tie.close
     (tie.spec
     (λ c. search rules) (λ c. search rules) (λ c. search rules) (λ c. search rules) (λ c. search rules)

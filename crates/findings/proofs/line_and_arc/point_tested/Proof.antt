@@ -6,30 +6,30 @@ use Rattle.ranges.specs.Range.{on_segment}
 use Rattle.findings.proofs.line_and_arc.point_tested.Statement.{statement}
 use Rattle.findings.proofs.line_and_arc.point_tested.Tie as tie
 
-returns : tie.Need-returns
+returns : tie.Need-returns-then-not-on_segment
 unfolding point_tested on_segment
 returns c =
     simp (
-      ← c.before.before.before.point-from-parametric.ensures,
-      ← c.before.before.sub.ensures,
-      ← c.before.on-segment.ensures,
-      c.if1.taken,
+      ← c.point_from_parametric-point.ensures,
+      ← c.sub.ensures,
+      ← c.on_segment.ensures,
+      c.if-not-on_segment.true,
     )
 
-returns-2 : tie.Need-returns-2
+returns-2 : tie.Need-returns
 unfolding point_tested on_segment
 returns-2 c =
     simp (
-      ← c.before.before.before.before.before.point-from-parametric.ensures,
-      ← c.before.before.before.before.sub.ensures,
-      ← c.before.before.before.on-segment.ensures,
-      c.before.before.if1.left,
-      ← c.before.finding.ensures,
-      ← c.of-sweep.ensures,
+      ← c.point_from_parametric-point.ensures,
+      ← c.sub.ensures,
+      ← c.on_segment.ensures,
+      c.if-not-on_segment.false,
+      ← c.finding.ensures,
+      ← c.of_sweep-finding.ensures,
     )
 
-pub point-tested-spec : {M : Type 1} → statement M
-point-tested-spec =
+pub point_tested_spec : {M : Type 1} → statement M
+point_tested_spec =
     tie.close
     (tie.spec
     (λ c. search rules) (λ c. search rules) (λ c. search rules) returns (λ c. search rules) (λ c. search rules)

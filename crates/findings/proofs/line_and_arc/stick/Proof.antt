@@ -7,110 +7,110 @@ use Rattle.findings.specs.Workings.Answers.{sticky}
 use Rattle.findings.proofs.line_and_arc.stick.Statement.{statement}
 use Rattle.findings.proofs.line_and_arc.stick.Tie as tie
 
-returns : tie.Need-returns
+returns : tie.Need-returns-then-p0_nearer_point1
 unfolding sticky sticky_tested with_sticky_ends
 returns c =
     simp (
-      ← c.before.before.before.before.before.before.before.before.replaced.ensures,
-      ← c.before.before.before.before.before.before.before.replaced2.ensures,
-      ← c.before.before.before.before.before.before.point-lies-on-arc.ensures,
-      ← c.before.before.before.before.before.point-lies-on-arc2.ensures,
-      c.before.before.before.before.if1.true,
-      ← c.before.before.before.dist-squared.ensures,
-      ← c.before.before.dist-squared2.ensures,
-      c.before.if2.true,
-      c.if3.true,
+      ← c.replaced-r1.ensures,
+      ← c.replaced-r2.ensures,
+      ← c.point_lies_on_arc-p0_on_arc.ensures,
+      ← c.point_lies_on_arc-p1_on_arc.ensures,
+      c.if-p0_on_arc.true,
+      ← c.dist_squared.ensures,
+      ← c.dist_squared-then-p0_on_arc.ensures,
+      c.if-p1_on_arc.true,
+      c.if-p0_nearer_point1.true,
     )
 
-returns-2 : tie.Need-returns-2
+returns-2 : tie.Need-returns-then-p1_on_arc
 unfolding sticky sticky_tested with_sticky_ends
 returns-2 c =
     simp (
-      ← c.before.before.before.before.before.before.before.before.replaced.ensures,
-      ← c.before.before.before.before.before.before.before.replaced2.ensures,
-      ← c.before.before.before.before.before.before.point-lies-on-arc.ensures,
-      ← c.before.before.before.before.before.point-lies-on-arc2.ensures,
-      c.before.before.before.before.if1.true,
-      ← c.before.before.before.dist-squared.ensures,
-      ← c.before.before.dist-squared2.ensures,
-      c.before.if2.true,
-      c.if3.false,
+      ← c.replaced-r1.ensures,
+      ← c.replaced-r2.ensures,
+      ← c.point_lies_on_arc-p0_on_arc.ensures,
+      ← c.point_lies_on_arc-p1_on_arc.ensures,
+      c.if-p0_on_arc.true,
+      ← c.dist_squared.ensures,
+      ← c.dist_squared-then-p0_on_arc.ensures,
+      c.if-p1_on_arc.true,
+      c.if-p0_nearer_point1.false,
     )
 
-returns-3 : tie.Need-returns-3
+returns-3 : tie.Need-returns-then-p0_nearer_point1-2
 unfolding sticky sticky_tested with_sticky_ends
 returns-3 c =
     simp (
-      ← c.before.before.before.before.before.before.before.before.replaced.ensures,
-      ← c.before.before.before.before.before.before.before.replaced2.ensures,
-      ← c.before.before.before.before.before.before.point-lies-on-arc.ensures,
-      ← c.before.before.before.before.before.point-lies-on-arc2.ensures,
-      c.before.before.before.before.if1.true,
-      ← c.before.before.before.dist-squared.ensures,
-      ← c.before.before.dist-squared2.ensures,
-      c.before.if2.false,
-      c.if4.true,
+      ← c.replaced-r1.ensures,
+      ← c.replaced-r2.ensures,
+      ← c.point_lies_on_arc-p0_on_arc.ensures,
+      ← c.point_lies_on_arc-p1_on_arc.ensures,
+      c.if-p0_on_arc.true,
+      ← c.dist_squared.ensures,
+      ← c.dist_squared-then-p0_on_arc.ensures,
+      c.if-p1_on_arc.false,
+      c.if-p0_nearer_point1-2.true,
     )
 
-returns-4 : tie.Need-returns-4
+returns-4 : tie.Need-returns-then-p0_on_arc
 unfolding sticky sticky_tested with_sticky_ends
 returns-4 c =
     simp (
-      ← c.before.before.before.before.before.before.before.before.replaced.ensures,
-      ← c.before.before.before.before.before.before.before.replaced2.ensures,
-      ← c.before.before.before.before.before.before.point-lies-on-arc.ensures,
-      ← c.before.before.before.before.before.point-lies-on-arc2.ensures,
-      c.before.before.before.before.if1.true,
-      ← c.before.before.before.dist-squared.ensures,
-      ← c.before.before.dist-squared2.ensures,
-      c.before.if2.false,
-      c.if4.false,
+      ← c.replaced-r1.ensures,
+      ← c.replaced-r2.ensures,
+      ← c.point_lies_on_arc-p0_on_arc.ensures,
+      ← c.point_lies_on_arc-p1_on_arc.ensures,
+      c.if-p0_on_arc.true,
+      ← c.dist_squared.ensures,
+      ← c.dist_squared-then-p0_on_arc.ensures,
+      c.if-p1_on_arc.false,
+      c.if-p0_nearer_point1-2.false,
     )
 
-returns-5 : tie.Need-returns-5
+returns-5 : tie.Need-returns-then-dist_squared
 unfolding sticky sticky_tested with_sticky_ends
 returns-5 c =
     simp (
-      ← c.before.before.before.before.before.before.before.before.replaced.ensures,
-      ← c.before.before.before.before.before.before.before.replaced2.ensures,
-      ← c.before.before.before.before.before.before.point-lies-on-arc.ensures,
-      ← c.before.before.before.before.before.point-lies-on-arc2.ensures,
-      c.before.before.before.before.if1.false,
-      c.before.before.before.if5.true,
-      ← c.before.before.dist-squared3.ensures,
-      ← c.before.dist-squared4.ensures,
-      c.if6.true,
+      ← c.replaced-r1.ensures,
+      ← c.replaced-r2.ensures,
+      ← c.point_lies_on_arc-p0_on_arc.ensures,
+      ← c.point_lies_on_arc-p1_on_arc.ensures,
+      c.if-p0_on_arc.false,
+      c.if-p1_on_arc-2.true,
+      ← c.dist_squared-then-p1_on_arc-2.ensures,
+      ← c.dist_squared-then-p1_on_arc-2-2.ensures,
+      c.if-dist_squared.true,
     )
 
-returns-6 : tie.Need-returns-6
+returns-6 : tie.Need-returns-then-p1_on_arc-2
 unfolding sticky sticky_tested with_sticky_ends
 returns-6 c =
     simp (
-      ← c.before.before.before.before.before.before.before.before.replaced.ensures,
-      ← c.before.before.before.before.before.before.before.replaced2.ensures,
-      ← c.before.before.before.before.before.before.point-lies-on-arc.ensures,
-      ← c.before.before.before.before.before.point-lies-on-arc2.ensures,
-      c.before.before.before.before.if1.false,
-      c.before.before.before.if5.true,
-      ← c.before.before.dist-squared3.ensures,
-      ← c.before.dist-squared4.ensures,
-      c.if6.false,
+      ← c.replaced-r1.ensures,
+      ← c.replaced-r2.ensures,
+      ← c.point_lies_on_arc-p0_on_arc.ensures,
+      ← c.point_lies_on_arc-p1_on_arc.ensures,
+      c.if-p0_on_arc.false,
+      c.if-p1_on_arc-2.true,
+      ← c.dist_squared-then-p1_on_arc-2.ensures,
+      ← c.dist_squared-then-p1_on_arc-2-2.ensures,
+      c.if-dist_squared.false,
     )
 
-returns-7 : tie.Need-returns-7
+returns-7 : tie.Need-returns
 unfolding sticky sticky_tested with_sticky_ends
 returns-7 c =
     simp (
-      ← c.before.before.before.before.before.replaced.ensures,
-      ← c.before.before.before.before.replaced2.ensures,
-      ← c.before.before.before.point-lies-on-arc.ensures,
-      ← c.before.before.point-lies-on-arc2.ensures,
-      c.before.if1.false,
-      c.if5.false,
+      ← c.replaced-r1.ensures,
+      ← c.replaced-r2.ensures,
+      ← c.point_lies_on_arc-p0_on_arc.ensures,
+      ← c.point_lies_on_arc-p1_on_arc.ensures,
+      c.if-p0_on_arc.false,
+      c.if-p1_on_arc-2.false,
     )
 
-pub stick-spec : {M : Type 1} → statement M
-stick-spec =
+pub stick_spec : {M : Type 1} → statement M
+stick_spec =
     tie.close
     (tie.spec
     (λ c. search rules) (λ c. search rules) (λ c. search rules) (λ c. search rules) (λ c. search rules)

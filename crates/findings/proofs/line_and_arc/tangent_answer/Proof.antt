@@ -5,46 +5,46 @@ use Rattle.findings.specs.Workings.Answers.{tangent_answer}
 use Rattle.findings.proofs.line_and_arc.tangent_answer.Statement.{statement}
 use Rattle.findings.proofs.line_and_arc.tangent_answer.Tie as tie
 
-returns : tie.Need-returns
+returns : tie.Need-returns-then-point_lies_on_arc
 unfolding tangent_answer
-returns c = simp (← c.before.point-lies-on-arc.ensures, c.if1.true)
+returns c = simp (← c.point_lies_on_arc.ensures, c.if-point_lies_on_arc.true)
 
-returns-2 : tie.Need-returns-2
+returns-2 : tie.Need-returns-then-point_lies_on_arc-2
 unfolding tangent_answer
 returns-2 c =
     simp (
-      ← c.before.before.before.point-lies-on-arc.ensures,
-      c.before.before.if1.false,
-      ← c.before.point-lies-on-arc2.ensures,
-      c.if2.true,
+      ← c.point_lies_on_arc.ensures,
+      c.if-point_lies_on_arc.false,
+      ← c.point_lies_on_arc-2.ensures,
+      c.if-point_lies_on_arc-2.true,
     )
 
-returns-3 : tie.Need-returns-3
+returns-3 : tie.Need-returns-then-counts
 unfolding tangent_answer
 returns-3 c =
     simp (
-      ← c.before.before.before.before.before.before.point-lies-on-arc.ensures,
-      c.before.before.before.before.before.if1.false,
-      ← c.before.before.before.before.point-lies-on-arc2.ensures,
-      c.before.before.before.if2.false,
-      ← c.before.before.counts.ensures,
-      c.before.if3.true,
+      ← c.point_lies_on_arc.ensures,
+      c.if-point_lies_on_arc.false,
+      ← c.point_lies_on_arc-2.ensures,
+      c.if-point_lies_on_arc-2.false,
+      ← c.counts.ensures,
+      c.if-counts.true,
     )
 
-returns-4 : tie.Need-returns-4
+returns-4 : tie.Need-returns
 unfolding tangent_answer
 returns-4 c =
     simp (
-      ← c.before.before.before.before.before.point-lies-on-arc.ensures,
-      c.before.before.before.before.if1.false,
-      ← c.before.before.before.point-lies-on-arc2.ensures,
-      c.before.before.if2.false,
-      ← c.before.counts.ensures,
-      c.if3.false,
+      ← c.point_lies_on_arc.ensures,
+      c.if-point_lies_on_arc.false,
+      ← c.point_lies_on_arc-2.ensures,
+      c.if-point_lies_on_arc-2.false,
+      ← c.counts.ensures,
+      c.if-counts.false,
     )
 
-pub tangent-answer-spec : {M : Type 1} → statement M
-tangent-answer-spec =
+pub tangent_answer_spec : {M : Type 1} → statement M
+tangent_answer_spec =
     tie.close
     (tie.spec
     (λ c. search rules) returns (λ c. search rules) returns-2 (λ c. search rules) returns-3 returns-4)

@@ -5,33 +5,33 @@ use Rattle.findings.specs.LineAndArc.{unless_end}
 use Rattle.findings.proofs.line_and_arc.unless_end.Statement.{statement}
 use Rattle.findings.proofs.line_and_arc.unless_end.Tie as tie
 
-returns : tie.Need-returns
+returns : tie.Need-returns-then-point_lies_on_arc
 unfolding unless_end
-returns c = simp (← c.before.before.point-lies-on-arc.ensures, c.before.if1.true, ← c.replaced.ensures)
+returns c = simp (← c.point_lies_on_arc.ensures, c.if-point_lies_on_arc.true, ← c.replaced.ensures)
 
-returns-2 : tie.Need-returns-2
+returns-2 : tie.Need-returns-then-point_lies_on_arc-2
 unfolding unless_end
 returns-2 c =
     simp (
-      ← c.before.before.before.before.point-lies-on-arc.ensures,
-      c.before.before.before.if1.false,
-      ← c.before.before.point-lies-on-arc2.ensures,
-      c.before.if2.true,
-      ← c.replaced2.ensures,
+      ← c.point_lies_on_arc.ensures,
+      c.if-point_lies_on_arc.false,
+      ← c.point_lies_on_arc-2.ensures,
+      c.if-point_lies_on_arc-2.true,
+      ← c.replaced-then-point_lies_on_arc-2.ensures,
     )
 
-returns-3 : tie.Need-returns-3
+returns-3 : tie.Need-returns
 unfolding unless_end
 returns-3 c =
     simp (
-      ← c.before.before.before.point-lies-on-arc.ensures,
-      c.before.before.if1.false,
-      ← c.before.point-lies-on-arc2.ensures,
-      c.if2.false,
+      ← c.point_lies_on_arc.ensures,
+      c.if-point_lies_on_arc.false,
+      ← c.point_lies_on_arc-2.ensures,
+      c.if-point_lies_on_arc-2.false,
     )
 
-pub unless-end-spec : {M : Type 1} → statement M
-unless-end-spec =
+pub unless_end_spec : {M : Type 1} → statement M
+unless_end_spec =
     tie.close
     (tie.spec
     (λ c. search rules) (λ c. search rules) returns (λ c. search rules) (λ c. search rules) returns-2 returns-3)

@@ -6,20 +6,19 @@ use Rattle.findings.proofs.report.pline_seg_findings.Statement.{statement}
 use Rattle.findings.proofs.report.pline_seg_findings.Tie as tie
 
 report-requires : tie.Need-report-requires
-report-requires c κs = sym c.before.before.pair-checked.ensures ∙ c.enum_told.given.1
+report-requires c κs = sym c.pair_checked-checked.ensures ∙ c.in-Fine.is
 
-returns : tie.Need-returns
+returns : tie.Need-returns-in-Fine
 unfolding pline_seg_findings
 returns c =
-    let t = c.before in
-    simp (← t.before.before.pair-checked.ensures, t.enum_told.given.1, ← c.report.ensures)
+    simp (← c.pair_checked-checked.ensures, c.in-Fine.is, ← c.report.ensures)
 
-returns-2 : tie.Need-returns-2
+returns-2 : tie.Need-returns-in-Bad
 unfolding pline_seg_findings
-returns-2 c = let t = c.before in simp (← t.before.before.pair-checked.ensures, t.checked.given.1)
+returns-2 c = simp (← c.pair_checked-checked.ensures, c.in-Bad.is)
 
-pub pline-seg-findings-spec : {M : Type 1} → statement M
-pline-seg-findings-spec =
+pub pline_seg_findings_spec : {M : Type 1} → statement M
+pline_seg_findings_spec =
     tie.close
     (tie.spec
     (λ c. search rules) (λ c. search rules) report-requires (λ c. search rules) returns returns-2)

@@ -7,57 +7,50 @@ use Rattle.findings.specs.Workings.Answers.{arc_arc_report, tangent_report, two_
 use Rattle.findings.proofs.two_arcs.arc_arc_report.Statement.{statement}
 use Rattle.findings.proofs.two_arcs.arc_arc_report.Tie as tie
 
-returns : tie.Need-returns
+returns : tie.Need-returns-in-NoIntersect
 unfolding arc_arc_report
-returns c = simp (c.before.enum_told.given.1, ← c.none.ensures)
+returns c = simp (c.in-NoIntersect.is, ← c.none-findings.ensures)
 
-returns-2 : tie.Need-returns-2
+returns-2 : tie.Need-returns-in-TangentIntersect
 unfolding arc_arc_report tangent_report
 returns-2 c =
-    let p = c.before in
-    let q = p.before.before in
-    let g = q.before.before in
     simp (
-      g.before.before.before.intr-result.given.1,
-      ← g.before.of-segment.ensures,
-      ← g.of-segment2.ensures,
-      ← q.before.pos.ensures,
-      ← q.pos2.ensures,
-      ← p.before.pos3.ensures,
-      ← p.pos4.ensures,
+      c.in-TangentIntersect.is,
+      ← c.of_segment-arc1.ensures,
+      ← c.of_segment-arc2.ensures,
+      ← c.pos.ensures,
+      ← c.pos-in-TangentIntersect.ensures,
+      ← c.pos-in-TangentIntersect-2.ensures,
+      ← c.pos-in-TangentIntersect-3.ensures,
     )
-    c.tangent-report.ensures
+    c.tangent_report.ensures
 
-returns-3 : tie.Need-returns-3
+returns-3 : tie.Need-returns-in-TwoIntersects
 unfolding arc_arc_report crossing_arcs two_report
 returns-3 c =
-    let e = c.before in
-    let p = e.before in
-    let q = p.before.before in
-    let g = q.before.before in
     simp (
-      g.before.before.before.intr-result2.given.1,
-      ← g.before.of-segment3.ensures,
-      ← g.of-segment4.ensures,
-      ← q.before.pos5.ensures,
-      ← q.pos6.ensures,
-      ← p.before.pos7.ensures,
-      ← p.pos8.ensures,
-      ← e.collect-end-points.ensures,
+      c.in-TwoIntersects.is,
+      ← c.of_segment-arc1-in-TwoIntersects.ensures,
+      ← c.of_segment-arc2-in-TwoIntersects.ensures,
+      ← c.pos-in-TwoIntersects.ensures,
+      ← c.pos-in-TwoIntersects-2.ensures,
+      ← c.pos-in-TwoIntersects-3.ensures,
+      ← c.pos-in-TwoIntersects-4.ensures,
+      ← c.collect_end_points-end_point_intrs.ensures,
     )
-    c.two-report.ensures
+    c.two_report.ensures
 
-pline-seg-after-checks-requires : tie.Need-pline-seg-after-checks-requires
-pline-seg-after-checks-requires c κs = let s = c.before.before in (s.requires.0, (s.requires.1.0, s.requires.1.1.0))
+pline-seg-after-checks-requires : tie.Need-pline_seg_after_checks-answer-requires
+pline-seg-after-checks-requires c κs = (c.requires.0, (c.requires.1.0, c.requires.1.1.0))
 
-returns-4 : tie.Need-returns-4
+returns-4 : tie.Need-returns-in-Overlapping
 unfolding arc_arc_report
 returns-4 c =
-    let e = c.pline-seg-after-checks.ensures ∙ c.before.before.before.requires.1.1.1 in
-    rw (← e) (simp c.before.enum-told2.given.1)
+    let e = c.pline_seg_after_checks-answer.ensures ∙ c.requires.1.1.1 in
+    rw (← e) (simp c.in-Overlapping.is)
 
-pub arc-arc-report-spec : {M : Type 1} → statement M
-arc-arc-report-spec =
+pub arc_arc_report_spec : {M : Type 1} → statement M
+arc_arc_report_spec =
     tie.close
     (tie.spec
     (λ c. search rules) (λ c. search rules) (λ c. search rules) (λ c. search rules) (λ c. search rules)

@@ -5,30 +5,30 @@ use Rattle.findings.specs.TwoArcs.{both_tested}
 use Rattle.findings.proofs.two_arcs.both_tested.Statement.{statement}
 use Rattle.findings.proofs.two_arcs.both_tested.Tie as tie
 
-returns : tie.Need-returns
+returns : tie.Need-returns-then-counts
 unfolding both_tested
 returns c =
     simp (
-      ← c.before.before.before.before.before.finding.ensures,
-      ← c.before.before.before.before.of-sweep.ensures,
-      ← c.before.before.before.counts.ensures,
-      c.before.before.if1.true,
-      ← c.before.finding2.ensures,
-      ← c.of-sweep2.ensures,
+      ← c.finding.ensures,
+      ← c.of_sweep-v.ensures,
+      ← c.counts.ensures,
+      c.if-counts.true,
+      ← c.finding-then-counts.ensures,
+      ← c.of_sweep-u.ensures,
     )
 
-returns-2 : tie.Need-returns-2
+returns-2 : tie.Need-returns
 unfolding both_tested
 returns-2 c =
     simp (
-      ← c.before.before.before.finding.ensures,
-      ← c.before.before.of-sweep.ensures,
-      ← c.before.counts.ensures,
-      c.if1.false,
+      ← c.finding.ensures,
+      ← c.of_sweep-v.ensures,
+      ← c.counts.ensures,
+      c.if-counts.false,
     )
 
-pub both-tested-spec : {M : Type 1} → statement M
-both-tested-spec =
+pub both_tested_spec : {M : Type 1} → statement M
+both_tested_spec =
     tie.close
     (tie.spec
     (λ c. search rules) (λ c. search rules) (λ c. search rules) (λ c. search rules) (λ c. search rules) returns

@@ -4,7 +4,7 @@ use Rattle.findings.proofs.two_arcs.counted.Statement.{statement}
 use Rattle.findings.proofs.two_arcs.counted.Tie as tie
 
 returns : tie.Need-returns
-returns c = simp (← c.before.counts.ensures, ← c.counts2.ensures)
+returns c = simp (← c.counts.ensures, ← c.counts-2.ensures)
 
 pub counted_spec : {M : Type 1} → statement M
 counted_spec =

@@ -5,28 +5,28 @@ use Rattle.findings.specs.TwoArcs.{nearer_replaced}
 use Rattle.findings.proofs.two_arcs.nearer_replaced.Statement.{statement}
 use Rattle.findings.proofs.two_arcs.nearer_replaced.Tie as tie
 
-returns : tie.Need-returns
+returns : tie.Need-returns-then-dist_squared
 unfolding nearer_replaced
 returns c =
     simp (
-      ← c.before.before.before.dist-squared.ensures,
-      ← c.before.before.dist-squared2.ensures,
-      c.before.if1.true,
+      ← c.dist_squared.ensures,
+      ← c.dist_squared-2.ensures,
+      c.if-dist_squared.true,
       ← c.replaced.ensures,
     )
 
-returns-2 : tie.Need-returns-2
+returns-2 : tie.Need-returns
 unfolding nearer_replaced
 returns-2 c =
     simp (
-      ← c.before.before.before.dist-squared.ensures,
-      ← c.before.before.dist-squared2.ensures,
-      c.before.if1.false,
-      ← c.replaced2.ensures,
+      ← c.dist_squared.ensures,
+      ← c.dist_squared-2.ensures,
+      c.if-dist_squared.false,
+      ← c.replaced-2.ensures,
     )
 
-pub nearer-replaced-spec : {M : Type 1} → statement M
-nearer-replaced-spec =
+pub nearer_replaced_spec : {M : Type 1} → statement M
+nearer_replaced_spec =
     tie.close
     (tie.spec
     (λ c. search rules) (λ c. search rules) (λ c. search rules) returns (λ c. search rules) returns-2)

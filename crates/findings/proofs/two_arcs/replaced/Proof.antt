@@ -4,5 +4,5 @@ use borrow.Author.Rules.{rules}
 use Rattle.findings.proofs.two_arcs.replaced.Statement.{statement}
 use Rattle.findings.proofs.two_arcs.replaced.Tie as tie
 
-pub replaced-spec : {M : Type 1} → statement M
-replaced-spec = tie.close (tie.spec (λ c. refl))
+pub replaced_spec : {M : Type 1} → statement M
+replaced_spec = tie.close (tie.spec (λ c. refl))

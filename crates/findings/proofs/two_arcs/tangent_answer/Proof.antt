@@ -5,80 +5,80 @@ use Rattle.findings.specs.Workings.Answers.{tangent_of}
 use Rattle.findings.proofs.two_arcs.tangent_answer.Statement.{statement}
 use Rattle.findings.proofs.two_arcs.tangent_answer.Tie as tie
 
-returns : tie.Need-returns
+returns : tie.Need-returns-then-point_lies_on_arc
 unfolding tangent_of
-returns c = simp (← c.before.point-lies-on-arc.ensures, c.if1.true)
+returns c = simp (← c.point_lies_on_arc.ensures, c.if-point_lies_on_arc.true)
 
-returns-2 : tie.Need-returns-2
+returns-2 : tie.Need-returns-then-point_lies_on_arc-2
 unfolding tangent_of
 returns-2 c =
     simp (
-      ← c.before.before.before.point-lies-on-arc.ensures,
-      c.before.before.if1.false,
-      ← c.before.point-lies-on-arc2.ensures,
-      c.if2.true,
+      ← c.point_lies_on_arc.ensures,
+      c.if-point_lies_on_arc.false,
+      ← c.point_lies_on_arc-2.ensures,
+      c.if-point_lies_on_arc-2.true,
     )
 
-returns-3 : tie.Need-returns-3
+returns-3 : tie.Need-returns-then-point_lies_on_arc-3
 unfolding tangent_of
 returns-3 c =
     simp (
-      ← c.before.before.before.before.before.point-lies-on-arc.ensures,
-      c.before.before.before.before.if1.false,
-      ← c.before.before.before.point-lies-on-arc2.ensures,
-      c.before.before.if2.false,
-      ← c.before.point-lies-on-arc3.ensures,
-      c.if3.true,
+      ← c.point_lies_on_arc.ensures,
+      c.if-point_lies_on_arc.false,
+      ← c.point_lies_on_arc-2.ensures,
+      c.if-point_lies_on_arc-2.false,
+      ← c.point_lies_on_arc-3.ensures,
+      c.if-point_lies_on_arc-3.true,
     )
 
-returns-4 : tie.Need-returns-4
+returns-4 : tie.Need-returns-then-point_lies_on_arc-4
 unfolding tangent_of
 returns-4 c =
     simp (
-      ← c.before.before.before.before.before.before.before.point-lies-on-arc.ensures,
-      c.before.before.before.before.before.before.if1.false,
-      ← c.before.before.before.before.before.point-lies-on-arc2.ensures,
-      c.before.before.before.before.if2.false,
-      ← c.before.before.before.point-lies-on-arc3.ensures,
-      c.before.before.if3.false,
-      ← c.before.point-lies-on-arc4.ensures,
-      c.if4.true,
+      ← c.point_lies_on_arc.ensures,
+      c.if-point_lies_on_arc.false,
+      ← c.point_lies_on_arc-2.ensures,
+      c.if-point_lies_on_arc-2.false,
+      ← c.point_lies_on_arc-3.ensures,
+      c.if-point_lies_on_arc-3.false,
+      ← c.point_lies_on_arc-4.ensures,
+      c.if-point_lies_on_arc-4.true,
     )
 
-returns-5 : tie.Need-returns-5
+returns-5 : tie.Need-returns-then-counted
 unfolding tangent_of
 returns-5 c =
     simp (
-      ← c.before.before.before.before.before.before.before.before.before.before.point-lies-on-arc.ensures,
-      c.before.before.before.before.before.before.before.before.before.if1.false,
-      ← c.before.before.before.before.before.before.before.before.point-lies-on-arc2.ensures,
-      c.before.before.before.before.before.before.before.if2.false,
-      ← c.before.before.before.before.before.before.point-lies-on-arc3.ensures,
-      c.before.before.before.before.before.if3.false,
-      ← c.before.before.before.before.point-lies-on-arc4.ensures,
-      c.before.before.before.if4.false,
-      ← c.before.before.counted.ensures,
-      c.before.if5.true,
+      ← c.point_lies_on_arc.ensures,
+      c.if-point_lies_on_arc.false,
+      ← c.point_lies_on_arc-2.ensures,
+      c.if-point_lies_on_arc-2.false,
+      ← c.point_lies_on_arc-3.ensures,
+      c.if-point_lies_on_arc-3.false,
+      ← c.point_lies_on_arc-4.ensures,
+      c.if-point_lies_on_arc-4.false,
+      ← c.counted.ensures,
+      c.if-counted.true,
     )
 
-returns-6 : tie.Need-returns-6
+returns-6 : tie.Need-returns
 unfolding tangent_of
 returns-6 c =
     simp (
-      ← c.before.before.before.before.before.before.before.before.before.point-lies-on-arc.ensures,
-      c.before.before.before.before.before.before.before.before.if1.false,
-      ← c.before.before.before.before.before.before.before.point-lies-on-arc2.ensures,
-      c.before.before.before.before.before.before.if2.false,
-      ← c.before.before.before.before.before.point-lies-on-arc3.ensures,
-      c.before.before.before.before.if3.false,
-      ← c.before.before.before.point-lies-on-arc4.ensures,
-      c.before.before.if4.false,
-      ← c.before.counted.ensures,
-      c.if5.false,
+      ← c.point_lies_on_arc.ensures,
+      c.if-point_lies_on_arc.false,
+      ← c.point_lies_on_arc-2.ensures,
+      c.if-point_lies_on_arc-2.false,
+      ← c.point_lies_on_arc-3.ensures,
+      c.if-point_lies_on_arc-3.false,
+      ← c.point_lies_on_arc-4.ensures,
+      c.if-point_lies_on_arc-4.false,
+      ← c.counted.ensures,
+      c.if-counted.false,
     )
 
-pub tangent-answer-spec : {M : Type 1} → statement M
-tangent-answer-spec =
+pub tangent_answer_spec : {M : Type 1} → statement M
+tangent_answer_spec =
     tie.close
     (tie.spec
     (λ c. search rules) returns (λ c. search rules) returns-2 (λ c. search rules) returns-3 (λ c. search rules)

@@ -8,14 +8,13 @@ use Rattle.findings.proofs.two_arcs.tangent_report.Tie as tie
 returns : tie.Need-returns
 unfolding tangent_report
 returns c =
-    let a = c.before in
     simp (
       ← tangent-arcs,
       ← tangent-told,
-      ← a.before.both-tested.ensures,
-      ← a.tangent-answer.ensures,
-      ← c.tangent-computed.ensures,
+      ← c.both_tested-tested.ensures,
+      ← c.tangent_answer-answer.ensures,
+      ← c.tangent_computed-computed.ensures,
     )
 
-pub tangent-report-spec : {M : Type 1} → statement M
-tangent-report-spec = tie.close (tie.spec (λ c. search rules) (λ c. search rules) (λ c. search rules) returns)
+pub tangent_report_spec : {M : Type 1} → statement M
+tangent_report_spec = tie.close (tie.spec (λ c. search rules) (λ c. search rules) (λ c. search rules) returns)

@@ -5,52 +5,52 @@ use Rattle.findings.specs.Workings.Answers.{two_answer}
 use Rattle.findings.proofs.two_arcs.two_answer.Statement.{statement}
 use Rattle.findings.proofs.two_arcs.two_answer.Tie as tie
 
-returns : tie.Need-returns
+returns : tie.Need-returns-then-counted2
 unfolding two_answer
 returns c =
     simp (
-      ← c.before.before.before.before.counted.ensures,
-      ← c.before.before.before.counted2.ensures,
-      c.before.before.if1.true,
-      c.before.if2.true,
-      ← c.two-in-sweep.ensures,
+      ← c.counted-counted1.ensures,
+      ← c.counted-counted2.ensures,
+      c.if-counted1.true,
+      c.if-counted2.true,
+      ← c.two_in_sweep.ensures,
     )
 
-returns-2 : tie.Need-returns-2
+returns-2 : tie.Need-returns-then-counted1
 unfolding two_answer
 returns-2 c =
     simp (
-      ← c.before.before.before.before.counted.ensures,
-      ← c.before.before.before.counted2.ensures,
-      c.before.before.if1.true,
-      c.before.if2.false,
-      ← c.ends-or.ensures,
+      ← c.counted-counted1.ensures,
+      ← c.counted-counted2.ensures,
+      c.if-counted1.true,
+      c.if-counted2.false,
+      ← c.ends_or.ensures,
     )
 
-returns-3 : tie.Need-returns-3
+returns-3 : tie.Need-returns-then-counted2-2
 unfolding two_answer
 returns-3 c =
     simp (
-      ← c.before.before.before.before.counted.ensures,
-      ← c.before.before.before.counted2.ensures,
-      c.before.before.if1.false,
-      c.before.if3.true,
-      ← c.ends-or2.ensures,
+      ← c.counted-counted1.ensures,
+      ← c.counted-counted2.ensures,
+      c.if-counted1.false,
+      c.if-counted2-2.true,
+      ← c.ends_or-then-counted2-2.ensures,
     )
 
-returns-4 : tie.Need-returns-4
+returns-4 : tie.Need-returns
 unfolding two_answer
 returns-4 c =
     simp (
-      ← c.before.before.before.before.counted.ensures,
-      ← c.before.before.before.counted2.ensures,
-      c.before.before.if1.false,
-      c.before.if3.false,
-      ← c.ends-or3.ensures,
+      ← c.counted-counted1.ensures,
+      ← c.counted-counted2.ensures,
+      c.if-counted1.false,
+      c.if-counted2-2.false,
+      ← c.ends_or-2.ensures,
     )
 
-pub two-answer-spec : {M : Type 1} → statement M
-two-answer-spec =
+pub two_answer_spec : {M : Type 1} → statement M
+two_answer_spec =
     tie.close
     (tie.spec
     (λ c. search rules) (λ c. search rules) (λ c. search rules) returns (λ c. search rules) returns-2

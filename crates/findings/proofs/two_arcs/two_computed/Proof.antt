@@ -5,51 +5,51 @@ use Rattle.findings.specs.Workings.Answers.{two_of}
 use Rattle.findings.proofs.two_arcs.two_computed.Statement.{statement}
 use Rattle.findings.proofs.two_arcs.two_computed.Tie as tie
 
-returns : tie.Need-returns
+returns : tie.Need-returns-then-counted2
 unfolding two_of
 returns c =
     simp (
-      ← c.before.before.before.before.counted.ensures,
-      ← c.before.before.before.counted2.ensures,
-      c.before.before.if1.true,
-      c.before.if2.true,
-      ← c.both-counted.ensures,
+      ← c.counted-counted1.ensures,
+      ← c.counted-counted2.ensures,
+      c.if-counted1.true,
+      c.if-counted2.true,
+      ← c.both_counted.ensures,
     )
 
-returns-2 : tie.Need-returns-2
+returns-2 : tie.Need-returns-then-counted1
 unfolding two_of
 returns-2 c =
     simp (
-      ← c.before.before.before.before.counted.ensures,
-      ← c.before.before.before.counted2.ensures,
-      c.before.before.if1.true,
-      c.before.if2.false,
-      ← c.unless-ends.ensures,
+      ← c.counted-counted1.ensures,
+      ← c.counted-counted2.ensures,
+      c.if-counted1.true,
+      c.if-counted2.false,
+      ← c.unless_ends.ensures,
     )
 
-returns-3 : tie.Need-returns-3
+returns-3 : tie.Need-returns-then-counted2-2
 unfolding two_of
 returns-3 c =
     simp (
-      ← c.before.before.before.before.counted.ensures,
-      ← c.before.before.before.counted2.ensures,
-      c.before.before.if1.false,
-      c.before.if3.true,
-      ← c.unless-ends2.ensures,
+      ← c.counted-counted1.ensures,
+      ← c.counted-counted2.ensures,
+      c.if-counted1.false,
+      c.if-counted2-2.true,
+      ← c.unless_ends-then-counted2-2.ensures,
     )
 
-returns-4 : tie.Need-returns-4
+returns-4 : tie.Need-returns
 unfolding two_of
 returns-4 c =
     simp (
-      ← c.before.before.before.counted.ensures,
-      ← c.before.before.counted2.ensures,
-      c.before.if1.false,
-      c.if3.false,
+      ← c.counted-counted1.ensures,
+      ← c.counted-counted2.ensures,
+      c.if-counted1.false,
+      c.if-counted2-2.false,
     )
 
-pub two-computed-spec : {M : Type 1} → statement M
-two-computed-spec =
+pub two_computed_spec : {M : Type 1} → statement M
+two_computed_spec =
     tie.close
     (tie.spec
     (λ c. search rules) (λ c. search rules) (λ c. search rules) returns (λ c. search rules) returns-2

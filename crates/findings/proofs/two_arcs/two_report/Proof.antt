@@ -8,20 +8,17 @@ use Rattle.findings.proofs.two_arcs.two_report.Tie as tie
 returns : tie.Need-returns
 unfolding two_report
 returns c =
-    let k = c.before.before in
-    let a = k.before in
-    let b = a.before in
     simp (
       ← two-arcs,
       ← two-told,
-      ← b.before.both-tested.ensures,
-      ← b.both-tested2.ensures,
-      ← a.two-answer.ensures,
-      ← k.two-computed.ensures,
+      ← c.both_tested-c1.ensures,
+      ← c.both_tested-c2.ensures,
+      ← c.two_answer-answer.ensures,
+      ← c.two_computed-both.ensures,
     )
 
-pub two-report-spec : {M : Type 1} → statement M
-two-report-spec =
+pub two_report_spec : {M : Type 1} → statement M
+two_report_spec =
     tie.close
     (tie.spec
     (λ c. search rules) (λ c. search rules) (λ c. search rules) (λ c. search rules) (λ c. search rules)

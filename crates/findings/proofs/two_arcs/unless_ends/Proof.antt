@@ -4,30 +4,30 @@ use borrow.Author.Rules.{rules}
 use Rattle.findings.proofs.two_arcs.unless_ends.Statement.{statement}
 use Rattle.findings.proofs.two_arcs.unless_ends.Tie as tie
 
-returns : tie.Need-returns
-returns c = simp (c.before.before.enum_told.given.1, c.enum-told2.given.1)
+returns : tie.Need-returns-in-Empty-second
+returns c = simp (c.in-Empty.is, c.in-Empty-second.is)
 
-returns-2 : tie.Need-returns-2
-returns-2 c = simp (c.before.before.before.enum_told.given.1, c.before.enum-told3.given.1, ← c.replaced.ensures)
+returns-2 : tie.Need-returns-in-Taken-second
+returns-2 c = simp (c.in-Empty.is, c.in-Taken-second.is, ← c.replaced.ensures)
 
-returns-3 : tie.Need-returns-3
+returns-3 : tie.Need-returns-in-Empty-second-2
 returns-3 c =
     simp (
-      c.before.before.before.enum-told4.given.1,
-      c.before.enum-told5.given.1,
-      ← c.replaced2.ensures,
+      c.in-Taken.is,
+      c.in-Empty-second-2.is,
+      ← c.replaced-in-Empty-second-2.ensures,
     )
 
-returns-4 : tie.Need-returns-4
+returns-4 : tie.Need-returns-in-Taken-second-2
 returns-4 c =
     simp (
-      c.before.before.before.enum-told4.given.1,
-      c.before.enum-told6.given.1,
-      ← c.replaced3.ensures,
+      c.in-Taken.is,
+      c.in-Taken-second-2.is,
+      ← c.replaced-in-Taken-second-2.ensures,
     )
 
-pub unless-ends-spec : {M : Type 1} → statement M
-unless-ends-spec =
+pub unless_ends_spec : {M : Type 1} → statement M
+unless_ends_spec =
     tie.close
     (tie.spec
     (λ c. search rules) (λ c. search rules) (λ c. search rules) (λ c. search rules) (λ c. search rules)

@@ -12,55 +12,49 @@ use Rattle.large_listings.specs.Laws.Buffers.{floats-long, names-long, boxed-lon
 use Rattle.large_boxed.proofs.self_boxed_cut.boxed_self.Statement.{statement}
 use Rattle.large_boxed.proofs.self_boxed_cut.boxed_self.Tie as tie
 
-abbrev start : tie.After-cut → tie.Start
+abbrev start : tie.After-cut-sizes → tie.Start
 start c = c.before.before.before.before.before.before.before
 
-cut-requires : tie.Need-cut-requires
+cut-requires : tie.Need-cut-sizes-requires
 cut-requires c κs =
-    let s = c.before.before.before.before.before.before in
-    roomy _ 0 _ _ (self-fine _ _ _ s.requires).shape-fine (omega (arith, floats-long)) (omega (arith, names-long))
+    roomy _ 0 _ _ (self-fine _ _ _ c.requires).shape-fine (omega (arith, floats-long)) (omega (arith, names-long))
 
 -- the lent parts
-long : tie.Need-slice-aggregate-own
+long : tie.Need-slice_bounds-own-end
 long c =
-    let k = c.before.before.before.before in
-    sym (length-take-le _ _ k.cut.ensures.inside)
+    sym (length-take-le _ _ c.cut-sizes.ensures.inside)
 
-names-fit : tie.Need-slice-aggregate-own-names
+names-fit : tie.Need-slice_bounds-own_names-end
 names-fit c =
-    let k = c.before.before.before.before.before in
-    sym (length-take-le _ _ k.cut.ensures.names-inside)
+    sym (length-take-le _ _ c.cut-sizes.ensures.names-inside)
 
-list-boxed-large-requires : tie.Need-list-boxed-large-requires
+list-boxed-large-requires : tie.Need-list_boxed_large-requires
 list-boxed-large-requires c κs =
-    let j = c.before.before.before.before.before.before in
-    let a = j.before.before.before in
+    let a = c.before.before.before.before.before.before.before.before.before in
     let f = self-fine _ _ _ (start a).requires in
-    let few = few-cut _ _ _ _ _ a.cut.ensures in (
-      self-ready _ _ true _ _ _ _ f.eps f.path-fine a.cut.ensures _ j.self-job.ensures,
+    let few = few-cut _ _ _ _ _ a.cut-sizes.ensures in (
+      self-ready _ _ true _ _ _ _ f.eps f.path-fine a.cut-sizes.ensures _ c.self_job-job.ensures,
       (
-        one-path _ _ _ true _ _ j.self-job.ensures,
+        one-path _ _ _ true _ _ c.self_job-job.ensures,
         omega (
           arith,
           boxed-long,
           boxed-enough _ few,
           ap (λ (k : Job). k.m)
-              j.self-job.ensures,
+              c.self_job-job.ensures,
         ),
       ),
     )
 
 returns : tie.Need-returns
 returns c =
-    let l = c.before.before.before.before.before.before.before in
-    let j = l.before.before.before.before.before.before.before in
-    let a = j.before.before.before in
-    let x = a.cut.ensures in
+    let a = c.before.before.before.before.before.before.before.before.before.before.before.before.before.before.before.before.before in
+    let x = a.cut-sizes.ensures in
     self-boxed _ _ _ _ _ _ x.path-is x.names-are x.count-is (start a).requires
-    _ _ _ _ _ _ _ _ j.self-job.ensures l.list-boxed-large.ensures.0
+    _ _ _ _ _ _ _ _ c.self_job-job.ensures c.list_boxed_large.ensures.0
 
-pub boxed-self-spec : {M : Type 1} → statement M
-boxed-self-spec =
+pub boxed_self_spec : {M : Type 1} → statement M
+boxed_self_spec =
     tie.close
     (tie.spec
     (λ c. search rules) (λ c. search rules) cut-requires

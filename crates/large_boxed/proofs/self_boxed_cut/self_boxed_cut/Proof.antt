@@ -8,22 +8,22 @@ use Rattle.large_listings.specs.Laws.LargeEntry.{self-boxed-refused}
 use Rattle.large_boxed.proofs.self_boxed_cut.self_boxed_cut.Statement.{statement}
 use Rattle.large_boxed.proofs.self_boxed_cut.self_boxed_cut.Tie as tie
 
-abbrev start : tie.After-check-self-large → tie.Start
+abbrev start : tie.After-check_self_large-checked → tie.Start
 start c = c.before.before.before.before.before
 
 -- no fault was found
-fine : (c : tie.After-enum-told)
-    → let a = (start c.before.before).args in
+fine : (c : tie.In-Fine)
+    → let a = (start c.before).args in
     check_self_large a.path.now a.closed a.epsilon ≡ Fine
-fine c = sym c.before.before.check-self-large.ensures ∙ c.enum_told.given.1
+fine c = sym c.check_self_large-checked.ensures ∙ c.in-Fine.is
 
-returns-2 : tie.Need-returns-2
+returns-2 : tie.Need-returns-in-Bad
 returns-2 c =
     self-boxed-refused _ _ _ _ _ _
-    (sym c.before.before.before.check-self-large.ensures ∙ c.before.checked.given.1) _
+    (sym c.check_self_large-checked.ensures ∙ c.in-Bad.is) _
 
-pub self-boxed-cut-spec : {M : Type 1} → statement M
-self-boxed-cut-spec =
+pub self_boxed_cut_spec : {M : Type 1} → statement M
+self_boxed_cut_spec =
     tie.close
     (tie.spec
     (λ c. search rules) (λ c. search rules) (λ c κs. fine c.before.before.before) (λ c. search rules)

@@ -12,70 +12,66 @@ use Rattle.large_calls.specs.Laws.OldFirst.{mutual-boxed-first, then-boxed-cut}
 use Rattle.large_calls.proofs.mutual_boxed_large.mutual_boxed_large.Statement.{statement}
 use Rattle.large_calls.proofs.mutual_boxed_large.mutual_boxed_large.Tie as tie
 
-abbrev start : tie.After-large-row-room → tie.Start
+abbrev start : tie.After-large_row_room-room → tie.Start
 start c = c.before.before.before.before.before.before.before.before
 
 -- from the place after the test to that after the old mode's call, and from there to the room
-abbrev listed : tie.After-listed-bulge → tie.After-mutual-boxed
+abbrev listed : tie.After-listed_bulge → tie.After-mutual_boxed-answer
 listed c = c.before.before.before.before.before.before.before
 
-abbrev roomed : tie.After-mutual-boxed → tie.After-large-row-room
+abbrev roomed : tie.After-mutual_boxed-answer → tie.After-large_row_room-room
 roomed c = c.before.before.before.before
 
-indices-long : tie.Need-slice-aggregate-mutual-boxed
+indices-long : tie.Need-slice_bounds-mutual_boxed-end-2
 indices-long c =
     let r = c.before.before in
     let a = (start r).args in
-    sym (length-take-le _ _ (indices-inside a.indices.now a.points.now _ r.large-row-room.ensures))
+    sym (length-take-le _ _ (indices-inside a.indices.now a.points.now _ r.large_row_room-room.ensures))
 
-points-long : tie.Need-slice-aggregate-mutual-boxed-2
+points-long : tie.Need-slice_bounds-mutual_boxed-end-4
 points-long c =
     let r = c.before.before.before in
     let a = (start r).args in
-    sym (length-take-le _ _ (points-inside a.indices.now a.points.now _ r.large-row-room.ensures))
+    sym (length-take-le _ _ (points-inside a.indices.now a.points.now _ r.large_row_room-room.ensures))
 
-returns-2 : tie.Need-returns-2
+returns-2 : tie.Need-returns-then-listed_bulge
 unfolding mutual_boxed
 returns-2 c =
-    let k = c.before.before.before.before.before.before in
-    let t = k.before.before.before.before in
-    let h = t.before in
+    let h = c.before.before.before.before.before.before.before.before.before.before.before in
     let l = listed h in
     let r = roomed l in
     let a = (start r).args in
-    then-boxed-cut (mutual_boxed_large a.first.now a.first-closed a.second.now a.second-closed a.epsilon)
+    then-boxed-cut (mutual_boxed_large a.first.now a.first_closed a.second.now a.second_closed a.epsilon)
     a.boxes.now _ a.indices.now _ a.points.now _
-    (boxed-refusal-kept _ _ _ a.indices.now a.points.now _ r.large-row-room.ensures _ a.boxes.now _ _ _ _
-    (sym h.listed-bulge.ensures ∙ t.if2.true) l.mutual-boxed.ensures)
-    _ _ _ _ k.mutual-boxed-cut2.ensures
+    (boxed-refusal-kept _ _ _ a.indices.now a.points.now _ r.large_row_room-room.ensures _ a.boxes.now _ _ _ _
+    (sym h.listed_bulge.ensures ∙ c.if-listed_bulge.true) l.mutual_boxed-answer.ensures)
+    _ _ _ _ c.mutual_boxed_cut-then-listed_bulge.ensures
 
-spread-listed-requires : tie.Need-spread-listed-requires
+spread-listed-requires : tie.Need-spread_listed-requires
 unfolding mutual_boxed
 spread-listed-requires c κs =
     let l = listed c.before.before in
     let r = roomed l in
     let a = (start r).args in
-    let few = boxed-answered-few _ _ _ a.indices.now a.points.now _ r.large-row-room.ensures _ a.boxes.now
+    let few = boxed-answered-few _ _ _ a.indices.now a.points.now _ r.large_row_room-room.ensures _ a.boxes.now
     _ _ _ _
-    l.mutual-boxed.ensures in
+    l.mutual_boxed-answer.ensures in
     omega (arith, few)
 
-returns-3 : tie.Need-returns-3
+returns-3 : tie.Need-returns
 unfolding mutual_boxed
 returns-3 c =
-    let s = c.before.before in
-    let t = s.before.before in
-    let h = t.before in
+    let h = c.before.before.before.before.before in
     let l = listed h in
     let r = roomed l in
     let a = (start r).args in
-    mutual-boxed-first a.first.now a.first-closed a.second.now a.second-closed a.epsilon
-    a.indices.now a.points.now _ _ a.boxes.now _ _ (sym h.listed-bulge.ensures ∙ t.if2.false)
-    (boxed-answered _ _ _ a.indices.now a.points.now _ r.large-row-room.ensures _ a.boxes.now _ _ _ _ _
-    l.mutual-boxed.ensures s.spread-listed.ensures)
+    mutual-boxed-first a.first.now a.first_closed a.second.now a.second_closed a.epsilon
+    a.indices.now a.points.now _ _ a.boxes.now _ _ (sym h.listed_bulge.ensures ∙ c.if-listed_bulge.false)
+    (boxed-answered _ _ _ a.indices.now a.points.now _ r.large_row_room-room.ensures _ a.boxes.now _ _ _ _ _
+    l.mutual_boxed-answer.ensures c.spread_listed.ensures)
 
-pub mutual-boxed-large-spec : {M : Type 1} → statement M
-mutual-boxed-large-spec =
+pub mutual_boxed_large_spec : {M : Type 1} → statement M
+mutual_boxed_large_spec =
     tie.close
     (tie.spec
     (λ c. search rules) (λ c. search rules) (λ c. search rules) (λ c. search rules) (λ c. search rules) (λ c. search rules)

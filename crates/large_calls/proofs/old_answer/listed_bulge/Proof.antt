@@ -3,9 +3,9 @@ use borrow.Author.Rules.{rules}
 use Rattle.large_calls.proofs.old_answer.listed_bulge.Statement.{statement}
 use Rattle.large_calls.proofs.old_answer.listed_bulge.Tie as tie
 
-pub listed-bulge-spec : {M : Type 1} → statement M
-listed-bulge-spec =
+pub listed_bulge_spec : {M : Type 1} → statement M
+listed_bulge_spec =
     tie.close
     (tie.spec
     (λ c. search rules) (λ c. search rules)
-    (λ c. simp c.before.before.answer.given.1) (λ c. simp c.before.answer2.given.1))
+    (λ c. simp c.in-Refused.is) (λ c. simp c.in-Listed.is))

@@ -3,9 +3,9 @@ use borrow.Author.Rules.{rules}
 use Rattle.large_calls.proofs.old_answer.paged_bulge.Statement.{statement}
 use Rattle.large_calls.proofs.old_answer.paged_bulge.Tie as tie
 
-pub paged-bulge-spec : {M : Type 1} → statement M
-paged-bulge-spec =
+pub paged_bulge_spec : {M : Type 1} → statement M
+paged_bulge_spec =
     tie.close
     (tie.spec
     (λ c. search rules) (λ c. search rules)
-    (λ c. simp c.before.before.answer.given.1) (λ c. simp c.before.answer2.given.1))
+    (λ c. simp c.in-Refused.is) (λ c. simp c.in-Paged.is))

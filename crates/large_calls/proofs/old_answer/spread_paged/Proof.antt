@@ -6,21 +6,17 @@ use Rattle.large_calls.specs.Workings.Answers.{paged_rows}
 use Rattle.large_calls.proofs.old_answer.spread_paged.Statement.{statement}
 use Rattle.large_calls.proofs.old_answer.spread_paged.Tie as tie
 
-spread-zeros-requires : tie.Need-spread-zeros-requires
+spread-zeros-requires : tie.Need-spread_zeros-requires
 spread-zeros-requires c κs =
-    let k = c.before.before in
-    let s = k.before.before.before in
-    omega (arith, ap paged_rows k.answer2.given.1, s.requires)
+    omega (arith, ap paged_rows c.in-Paged.is, c.requires)
 
-returns-2 : tie.Need-returns-2
+returns-2 : tie.Need-returns-in-Paged
 returns-2 c =
-    let z = c.before.before in
-    let k = z.before.before.before in
-    rw k.answer2.given.1 z.spread-zeros.ensures
+    rw c.in-Paged.is c.spread_zeros.ensures
 
-pub spread-paged-spec : {M : Type 1} → statement M
-spread-paged-spec =
+pub spread_paged_spec : {M : Type 1} → statement M
+spread_paged_spec =
     tie.close
     (tie.spec
     (λ c. search rules) (λ c. search rules) spread-zeros-requires
-    (λ c. simp c.before.answer.given.1) (λ c. search rules) returns-2)
+    (λ c. simp c.in-Refused.is) (λ c. search rules) returns-2)

@@ -12,69 +12,65 @@ use Rattle.large_calls.specs.Laws.OldFirst.{self-first, then-cut}
 use Rattle.large_calls.proofs.self_large.self_large.Statement.{statement}
 use Rattle.large_calls.proofs.self_large.self_large.Tie as tie
 
-abbrev start : tie.After-large-row-room → tie.Start
+abbrev start : tie.After-large_row_room-room → tie.Start
 start c = c.before.before.before.before.before.before
 
 -- from the place after the test to that after the old mode's call, and from there to the room
-abbrev listed : tie.After-listed-bulge → tie.After-self-listing
+abbrev listed : tie.After-listed_bulge → tie.After-self_listing-answer
 listed c = c.before.before.before.before.before
 
-abbrev roomed : tie.After-self-listing → tie.After-large-row-room
+abbrev roomed : tie.After-self_listing-answer → tie.After-large_row_room-room
 roomed c = c.before.before.before
 
-indices-long : tie.Need-slice-aggregate-self-listing
+indices-long : tie.Need-slice_bounds-self_listing-end-2
 indices-long c =
     let r = c.before in
     let a = (start r).args in
-    sym (length-take-le _ _ (indices-inside a.indices.now a.points.now _ r.large-row-room.ensures))
+    sym (length-take-le _ _ (indices-inside a.indices.now a.points.now _ r.large_row_room-room.ensures))
 
-points-long : tie.Need-slice-aggregate-self-listing-2
+points-long : tie.Need-slice_bounds-self_listing-end-4
 points-long c =
     let r = c.before.before in
     let a = (start r).args in
-    sym (length-take-le _ _ (points-inside a.indices.now a.points.now _ r.large-row-room.ensures))
+    sym (length-take-le _ _ (points-inside a.indices.now a.points.now _ r.large_row_room-room.ensures))
 
-returns-2 : tie.Need-returns-2
+returns-2 : tie.Need-returns-then-listed_bulge
 unfolding self_listing
 returns-2 c =
-    let k = c.before.before.before.before in
-    let t = k.before.before.before in
-    let h = t.before in
+    let h = c.before.before.before.before.before.before.before.before in
     let l = listed h in
     let r = roomed l in
     let a = (start r).args in
     then-cut (self_large a.path.now a.closed a.epsilon)
     a.indices.now _ a.points.now _
-    (refusal-kept _ _ _ a.indices.now a.points.now _ r.large-row-room.ensures _ _ _
-    (sym h.listed-bulge.ensures ∙ t.if2.true) l.self-listing.ensures)
-    _ _ _ k.self-cut2.ensures
+    (refusal-kept _ _ _ a.indices.now a.points.now _ r.large_row_room-room.ensures _ _ _
+    (sym h.listed_bulge.ensures ∙ c.if-listed_bulge.true) l.self_listing-answer.ensures)
+    _ _ _ c.self_cut-then-listed_bulge.ensures
 
-spread-listed-requires : tie.Need-spread-listed-requires
+spread-listed-requires : tie.Need-spread_listed-requires
 unfolding self_listing
 spread-listed-requires c κs =
     let l = listed c.before.before in
     let r = roomed l in
     let a = (start r).args in
-    let few = answered-few _ _ _ a.indices.now a.points.now _ r.large-row-room.ensures _ _ _
-    l.self-listing.ensures in
+    let few = answered-few _ _ _ a.indices.now a.points.now _ r.large_row_room-room.ensures _ _ _
+    l.self_listing-answer.ensures in
     omega (arith, few)
 
-returns-3 : tie.Need-returns-3
+returns-3 : tie.Need-returns
 unfolding self_listing
 returns-3 c =
-    let s = c.before.before in
-    let t = s.before.before in
-    let h = t.before in
+    let h = c.before.before.before.before.before in
     let l = listed h in
     let r = roomed l in
     let a = (start r).args in
     self-first a.path.now a.closed a.epsilon
-    a.indices.now a.points.now _ _ _ (sym h.listed-bulge.ensures ∙ t.if2.false)
-    (answered _ _ _ a.indices.now a.points.now _ r.large-row-room.ensures _ _ _ _
-    l.self-listing.ensures s.spread-listed.ensures)
+    a.indices.now a.points.now _ _ _ (sym h.listed_bulge.ensures ∙ c.if-listed_bulge.false)
+    (answered _ _ _ a.indices.now a.points.now _ r.large_row_room-room.ensures _ _ _ _
+    l.self_listing-answer.ensures c.spread_listed.ensures)
 
-pub self-large-spec : {M : Type 1} → statement M
-self-large-spec =
+pub self_large_spec : {M : Type 1} → statement M
+self_large_spec =
     tie.close
     (tie.spec
     (λ c. search rules) (λ c. search rules) (λ c. search rules) (λ c. search rules) (λ c. search rules)

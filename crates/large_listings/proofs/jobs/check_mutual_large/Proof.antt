@@ -4,21 +4,19 @@ use Rattle.large_listings.specs.Laws.LargeEntry.{mutual-chain}
 use Rattle.large_listings.proofs.jobs.check_mutual_large.Statement.{statement}
 use Rattle.large_listings.proofs.jobs.check_mutual_large.Tie as tie
 
-pub check-mutual-large-spec : {M : Type 1} → statement M
-check-mutual-large-spec =
+pub check_mutual_large_spec : {M : Type 1} → statement M
+check_mutual_large_spec =
     tie.close
     (tie.spec
     (λ c. search rules) (λ c. search rules) (λ c. search rules) (λ c. search rules) (λ c. search rules)
     (λ c. search rules) (λ c. search rules)
-    (λ c. let p = c.before.before in
-    let s = p.before.before.before in
-    simp (
-      c.check-large-path2.ensures,
-      c.before.check-large-path.ensures,
-      p.later2.ensures,
-      p.before.shape2.ensures,
-      p.before.before.later.ensures,
-      s.shape.ensures,
-      s.before.epsilon.ensures,
+    (λ c. simp (
+      c.check_large_path.ensures,
+      c.check_large_path-a3.ensures,
+      c.later-a2.ensures,
+      c.shape-2.ensures,
+      c.later-a1.ensures,
+      c.shape.ensures,
+      c.epsilon-a0.ensures,
       mutual-chain,
     )))

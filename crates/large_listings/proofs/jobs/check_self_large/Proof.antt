@@ -4,11 +4,9 @@ use Rattle.large_listings.specs.Laws.LargeEntry.{self-chain}
 use Rattle.large_listings.proofs.jobs.check_self_large.Statement.{statement}
 use Rattle.large_listings.proofs.jobs.check_self_large.Tie as tie
 
-pub check-self-large-spec : {M : Type 1} → statement M
-check-self-large-spec =
+pub check_self_large_spec : {M : Type 1} → statement M
+check_self_large_spec =
     tie.close
     (tie.spec
     (λ c. search rules) (λ c. search rules) (λ c. search rules) (λ c. search rules)
-    (λ c. let p = c.before in
-    let s = p.before in
-    simp (c.check-large-path.ensures, p.later.ensures, s.shape.ensures, s.before.epsilon.ensures, self-chain)))
+    (λ c. simp (c.check_large_path.ensures, c.later-a1.ensures, c.shape.ensures, c.epsilon-a0.ensures, self-chain)))

@@ -8,22 +8,22 @@ use Rattle.large_listings.specs.Laws.LargeEntry.{mutual-page-refused}
 use Rattle.large_listings.proofs.mutual_page_cut.mutual_page_cut.Statement.{statement}
 use Rattle.large_listings.proofs.mutual_page_cut.mutual_page_cut.Tie as tie
 
-abbrev start : tie.After-check-mutual-large → tie.Start
+abbrev start : tie.After-check_mutual_large-checked → tie.Start
 start c = c.before.before.before.before.before
 
 -- no fault was found
-fine : (c : tie.After-enum-told)
-    → let a = (start c.before.before).args in
-    check_mutual_large a.first.now a.first-closed a.second.now a.second-closed a.epsilon ≡ Fine
-fine c = sym c.before.before.check-mutual-large.ensures ∙ c.enum_told.given.1
+fine : (c : tie.In-Fine)
+    → let a = (start c.before).args in
+    check_mutual_large a.first.now a.first_closed a.second.now a.second_closed a.epsilon ≡ Fine
+fine c = sym c.check_mutual_large-checked.ensures ∙ c.in-Fine.is
 
-returns-2 : tie.Need-returns-2
+returns-2 : tie.Need-returns-in-Bad
 returns-2 c =
     mutual-page-refused _ _ _ _ _ _ _ _
-    (sym c.before.before.before.check-mutual-large.ensures ∙ c.before.checked.given.1) _ _
+    (sym c.check_mutual_large-checked.ensures ∙ c.in-Bad.is) _ _
 
-pub mutual-page-cut-spec : {M : Type 1} → statement M
-mutual-page-cut-spec =
+pub mutual_page_cut_spec : {M : Type 1} → statement M
+mutual_page_cut_spec =
     tie.close
     (tie.spec
     (λ c. search rules) (λ c. search rules) (λ c κs. fine c.before.before) (λ c. search rules)

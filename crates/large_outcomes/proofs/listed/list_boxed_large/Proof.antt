@@ -14,85 +14,81 @@ use Rattle.large_outcomes.specs.Laws.Large.{boxed-refused, boxed-spread, boxed-f
 use Rattle.large_outcomes.proofs.listed.list_boxed_large.Statement.{statement}
 use Rattle.large_outcomes.proofs.listed.list_boxed_large.Tie as tie
 
-abbrev start : tie.After-large-row-room → tie.Start
+abbrev start : tie.After-large_row_room-room → tie.Start
 start c = c.before.before.before.before.before.before.before.before.before
 
 -- from the place after the boxed listing
-abbrev roomed : tie.After-boxed-in → tie.After-large-row-room
+abbrev roomed : tie.After-boxed_in-answer → tie.After-large_row_room-room
 roomed c = c.before.before.before.before.before
 
-indices-fit : tie.Need-slice-relend-prefix-boxed-in
+indices-fit : tie.Need-slice_bounds-boxed_in-end
 indices-fit c =
     let r = c.before.before in
     let a = (start r).args in
-    indices-inside a.indices.now a.points.now _ r.large-row-room.ensures
+    indices-inside a.indices.now a.points.now _ r.large_row_room-room.ensures
 
-indices-long : tie.Need-slice-aggregate-boxed-in
+indices-long : tie.Need-slice_bounds-boxed_in-end-2
 indices-long c =
     let r = c.before.before.before in
     let a = (start r).args in
-    sym (length-take-le _ _ (indices-inside a.indices.now a.points.now _ r.large-row-room.ensures))
+    sym (length-take-le _ _ (indices-inside a.indices.now a.points.now _ r.large_row_room-room.ensures))
 
-points-fit : tie.Need-slice-relend-prefix-boxed-in-2
+points-fit : tie.Need-slice_bounds-boxed_in-end-3
 points-fit c =
     let r = c.before.before.before in
     let a = (start r).args in
-    points-inside a.indices.now a.points.now _ r.large-row-room.ensures
+    points-inside a.indices.now a.points.now _ r.large_row_room-room.ensures
 
-points-long : tie.Need-slice-aggregate-boxed-in-2
+points-long : tie.Need-slice_bounds-boxed_in-end-4
 points-long c =
     let r = c.before.before.before.before in
     let a = (start r).args in
-    sym (length-take-le _ _ (points-inside a.indices.now a.points.now _ r.large-row-room.ensures))
+    sym (length-take-le _ _ (points-inside a.indices.now a.points.now _ r.large_row_room-room.ensures))
 
 -- to that place
-abbrev done : tie.After-slice-known8 → tie.After-boxed-in
+abbrev done : tie.After-slice_known-8-1 → tie.After-boxed_in-answer
 done c = c.before.before.before.before.before.before.before.before
 
 spread-requires : tie.Need-spread-requires
 spread-requires c κs =
-    let k = c.before.before in
-    let l = done k.before.before in
+    let l = done c.before.before in
     let r = roomed l in
     let a = (start r).args in
-    let few = boxed-few a.indices.now a.points.now _ r.large-row-room.ensures
-    (by_names a.first-names.now a.second-names.now) (λ i j class. refl)
+    let few = boxed-few a.indices.now a.points.now _ r.large_row_room-room.ensures
+    (by_names a.first_names.now a.second_names.now) (λ i j class. refl)
     (look_by a.first.now a.second.now a.job) (every a.job) []
     (index_for a.first.now a.second.now a.job) a.boxes.now
-    _ _ _ _ _ _ k.answer2.given.1 l.boxed-in.ensures.0 in
+    _ _ _ _ _ _ c.in-Listed.is l.boxed_in-answer.ensures.0 in
     omega (arith, few)
 
-returns : tie.Need-returns
+returns : tie.Need-returns-in-Refused
 returns c =
-    let k = c.before in
-    let l = done k.before.before in
+    let l = done c.before in
     let r = roomed l in
     let a = (start r).args in (
-      boxed-refused a.indices.now a.points.now _ r.large-row-room.ensures
-          (by_names a.first-names.now a.second-names.now) (λ i j class. refl)
+      boxed-refused a.indices.now a.points.now _ r.large_row_room-room.ensures
+          (by_names a.first_names.now a.second_names.now) (λ i j class. refl)
           (look_by a.first.now a.second.now a.job) (every a.job) []
           (index_for a.first.now a.second.now a.job) a.boxes.now
-          _ _ _ _ _ k.answer.given.1 l.boxed-in.ensures.0,
-      l.boxed-in.ensures.1,
+          _ _ _ _ _ c.in-Refused.is l.boxed_in-answer.ensures.0,
+      l.boxed_in-answer.ensures.1,
     )
 
-returns-2 : tie.Need-returns-2
+returns-2 : tie.Need-returns-in-Listed
 returns-2 c =
-    let s = c.before.before in
-    let k = s.before.before.before in
-    let l = done k.before.before in
+    let l = done c.before.before.before.before.before in
     let r = roomed l in
     let a = (start r).args in (
-      boxed-spread a.indices.now a.points.now _ r.large-row-room.ensures
-          (by_names a.first-names.now a.second-names.now) (λ i j class. refl)
+      boxed-spread a.indices.now a.points.now _ r.large_row_room-room.ensures
+          (by_names a.first_names.now a.second_names.now) (λ i j class. refl)
           (look_by a.first.now a.second.now a.job) (every a.job) []
           (index_for a.first.now a.second.now a.job) a.boxes.now
-          _ _ _ _ _ _ _ k.answer2.given.1 l.boxed-in.ensures.0 s.spread.ensures,
-      l.boxed-in.ensures.1,
+          _ _ _ _ _ _ _ c.in-Listed.is l.boxed_in-answer.ensures.0 c.spread.ensures,
+      l.boxed_in-answer.ensures.1,
     )
 
-pub list-boxed-large-spec : {M : Type 1} → statement M
-list-boxed-large-spec =
+pub list_boxed_large_spec : {M : Type 1} → statement M
+list_boxed_large_spec =
     tie.close
     (tie.spec
     (λ c. search rules) (λ c. search rules) (λ c. search rules)

@@ -13,82 +13,78 @@ use Rattle.large_outcomes.specs.Laws.Large.{paged-refused, paged-spread, paged-f
 use Rattle.large_outcomes.proofs.listed.page_large.Statement.{statement}
 use Rattle.large_outcomes.proofs.listed.page_large.Tie as tie
 
-abbrev start : tie.After-large-row-room → tie.Start
+abbrev start : tie.After-large_row_room-room → tie.Start
 start c = c.before.before.before.before.before.before.before.before
 
 -- from the place after the page
-abbrev roomed : tie.After-page-in → tie.After-large-row-room
+abbrev roomed : tie.After-page_in-answer → tie.After-large_row_room-room
 roomed c = c.before.before.before.before
 
-indices-fit : tie.Need-slice-relend-prefix-page-in
+indices-fit : tie.Need-slice_bounds-page_in-end
 indices-fit c =
     let r = c.before in
     let a = (start r).args in
-    indices-inside a.indices.now a.points.now _ r.large-row-room.ensures
+    indices-inside a.indices.now a.points.now _ r.large_row_room-room.ensures
 
-indices-long : tie.Need-slice-aggregate-page-in
+indices-long : tie.Need-slice_bounds-page_in-end-2
 indices-long c =
     let r = c.before.before in
     let a = (start r).args in
-    sym (length-take-le _ _ (indices-inside a.indices.now a.points.now _ r.large-row-room.ensures))
+    sym (length-take-le _ _ (indices-inside a.indices.now a.points.now _ r.large_row_room-room.ensures))
 
-points-fit : tie.Need-slice-relend-prefix-page-in-2
+points-fit : tie.Need-slice_bounds-page_in-end-3
 points-fit c =
     let r = c.before.before in
     let a = (start r).args in
-    points-inside a.indices.now a.points.now _ r.large-row-room.ensures
+    points-inside a.indices.now a.points.now _ r.large_row_room-room.ensures
 
-points-long : tie.Need-slice-aggregate-page-in-2
+points-long : tie.Need-slice_bounds-page_in-end-4
 points-long c =
     let r = c.before.before.before in
     let a = (start r).args in
-    sym (length-take-le _ _ (points-inside a.indices.now a.points.now _ r.large-row-room.ensures))
+    sym (length-take-le _ _ (points-inside a.indices.now a.points.now _ r.large_row_room-room.ensures))
 
 -- to that place
-abbrev done : tie.After-slice-known6 → tie.After-page-in
+abbrev done : tie.After-slice_known-6-1 → tie.After-page_in-answer
 done c = c.before.before.before.before.before.before
 
 spread-requires : tie.Need-spread-requires
 spread-requires c κs =
-    let k = c.before.before in
-    let l = done k.before.before in
+    let l = done c.before.before in
     let r = roomed l in
     let a = (start r).args in
-    let few = paged-few a.indices.now a.points.now _ r.large-row-room.ensures
-    (by_names a.first-names.now a.second-names.now) (λ i j class. refl)
+    let few = paged-few a.indices.now a.points.now _ r.large_row_room-room.ensures
+    (by_names a.first_names.now a.second_names.now) (λ i j class. refl)
     (look_by a.first.now a.second.now a.job) (every a.job) [] a.position a.budget
-    _ _ _ _ _ _ _ k.answer2.given.1 l.page-in.ensures.0 in
+    _ _ _ _ _ _ _ c.in-Paged.is l.page_in-answer.ensures.0 in
     omega (arith, few)
 
-returns : tie.Need-returns
+returns : tie.Need-returns-in-Refused
 returns c =
-    let k = c.before in
-    let l = done k.before.before in
+    let l = done c.before in
     let r = roomed l in
     let a = (start r).args in (
-      paged-refused a.indices.now a.points.now _ r.large-row-room.ensures
-          (by_names a.first-names.now a.second-names.now) (λ i j class. refl)
+      paged-refused a.indices.now a.points.now _ r.large_row_room-room.ensures
+          (by_names a.first_names.now a.second_names.now) (λ i j class. refl)
           (look_by a.first.now a.second.now a.job) (every a.job) [] a.position a.budget
-          _ _ _ _ k.answer.given.1 l.page-in.ensures.0,
-      l.page-in.ensures.1,
+          _ _ _ _ c.in-Refused.is l.page_in-answer.ensures.0,
+      l.page_in-answer.ensures.1,
     )
 
-returns-2 : tie.Need-returns-2
+returns-2 : tie.Need-returns-in-Paged
 returns-2 c =
-    let s = c.before.before in
-    let k = s.before.before.before in
-    let l = done k.before.before in
+    let l = done c.before.before.before.before.before in
     let r = roomed l in
     let a = (start r).args in (
-      paged-spread a.indices.now a.points.now _ r.large-row-room.ensures
-          (by_names a.first-names.now a.second-names.now) (λ i j class. refl)
+      paged-spread a.indices.now a.points.now _ r.large_row_room-room.ensures
+          (by_names a.first_names.now a.second_names.now) (λ i j class. refl)
           (look_by a.first.now a.second.now a.job) (every a.job) [] a.position a.budget
-          _ _ _ _ _ _ _ _ k.answer2.given.1 l.page-in.ensures.0 s.spread.ensures,
-      l.page-in.ensures.1,
+          _ _ _ _ _ _ _ _ c.in-Paged.is l.page_in-answer.ensures.0 c.spread.ensures,
+      l.page_in-answer.ensures.1,
     )
 
-pub page-large-spec : {M : Type 1} → statement M
-page-large-spec =
+pub page_large_spec : {M : Type 1} → statement M
+page_large_spec =
     tie.close
     (tie.spec
     (λ c. search rules) (λ c. search rules) (λ c. search rules)

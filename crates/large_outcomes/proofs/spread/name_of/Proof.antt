@@ -5,9 +5,9 @@ use lib.ListN.{get_or-eq_default}
 use Rattle.large_outcomes.proofs.spread.name_of.Statement.{statement}
 use Rattle.large_outcomes.proofs.spread.name_of.Tie as tie
 
-pub name-of-spec : {M : Type 1} → statement M
-name-of-spec =
+pub name_of_spec : {M : Type 1} → statement M
+name_of_spec =
     tie.close
     (tie.spec
     (λ c. search rules) (λ c. search rules) (λ c. search rules)
-    (λ c. sym (get_or-eq_default c.before.args.names.now 0 c.if1.false)))
+    (λ c. sym (get_or-eq_default c.args.names.now 0 c.if-at-names.false)))

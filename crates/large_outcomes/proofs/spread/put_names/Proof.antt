@@ -10,8 +10,8 @@ use Rattle.large_outcomes.specs.Laws.Spreading.{five-set}
 use Rattle.large_outcomes.proofs.spread.put_names.Statement.{statement}
 use Rattle.large_outcomes.proofs.spread.put_names.Tie as tie
 
-pub put-names-spec : {M : Type 1} → statement M
-put-names-spec =
+pub put_names_spec : {M : Type 1} → statement M
+put_names_spec =
     tie.close
     (tie.spec
     (λ c. search rules) (λ c. search rules) (λ c. search rules) (λ c. search rules) (λ c. search rules)

@@ -9,8 +9,8 @@ use Rattle.large_outcomes.specs.Laws.Spreading.{five-set}
 use Rattle.large_outcomes.proofs.spread.put_zeros.Statement.{statement}
 use Rattle.large_outcomes.proofs.spread.put_zeros.Tie as tie
 
-pub put-zeros-spec : {M : Type 1} → statement M
-put-zeros-spec =
+pub put_zeros_spec : {M : Type 1} → statement M
+put_zeros_spec =
     tie.close
     (tie.spec
     (λ c. search rules) (λ c. search rules) (λ c. search rules) (λ c. search rules) (λ c. search rules)

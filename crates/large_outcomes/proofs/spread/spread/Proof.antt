@@ -6,8 +6,8 @@ use Rattle.large_outcomes.specs.Laws.Spreading.{Spreading, spreading-starts, nam
 use Rattle.large_outcomes.proofs.spread.spread.Statement.{statement}
 use Rattle.large_outcomes.proofs.spread.spread.Tie as tie
 
-pub spread-spec : {M : Type 1} → statement M
-spread-spec =
+pub spread_spec : {M : Type 1} → statement M
+spread_spec =
     tie.close
     (tie.spec
     (λ first second rows old k₀ now k. Spreading (by_names first second) rows old now k) (λ first second rows old k₀ now k. k)
@@ -15,11 +15,8 @@ spread-spec =
     (λ c. search rules) (λ c. search rules) (λ c. search rules) (λ c. search rules) (λ c. search rules)
     (λ c. search rules) (λ c. search rules) (λ c. search rules) (λ c. search rules) (λ c. search rules)
     (λ c. search rules) (λ c. search rules) (λ c. search rules) (λ c. search rules)
-    (λ c. let p = c.before.before in
-    let n = p.before.before.before in
-    let l = n.before.before.before.before in
-    let a = l.before.before.before.before.before.args in
-    names-turn (now a.first) (now a.second) l.before.loop.invariant (search rules) _ _ _
-    n.before.before.name_of.ensures n.name-of2.ensures
-    p.put-names.ensures)
-    (λ c. search rules) (λ c. spreading-ends c.before.loop.invariant (search rules)))
+    (λ c. let a = c.args in
+    names-turn a.first.now a.second.now c.loop-k.invariant (search rules) _ _ _
+    c.name_of-i.ensures c.name_of-j.ensures
+    c.put_names.ensures)
+    (λ c. search rules) (λ c. spreading-ends c.loop-k.invariant (search rules)))

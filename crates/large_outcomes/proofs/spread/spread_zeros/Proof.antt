@@ -6,15 +6,13 @@ use Rattle.large_outcomes.specs.Laws.Spreading.{Spreading, spreading-starts, spr
 use Rattle.large_outcomes.proofs.spread.spread_zeros.Statement.{statement}
 use Rattle.large_outcomes.proofs.spread.spread_zeros.Tie as tie
 
-pub spread-zeros-spec : {M : Type 1} → statement M
-spread-zeros-spec =
+pub spread_zeros_spec : {M : Type 1} → statement M
+spread_zeros_spec =
     tie.close
     (tie.spec
     (λ rows old k₀ now k. Spreading zero_halves rows old now k) (λ rows old k₀ now k. k)
     (λ c. spreading-starts _ _ _)
     (λ c. search rules) (λ c. search rules) (λ c. search rules) (λ c. search rules) (λ c. search rules) (λ c. search rules)
     (λ c. search rules) (λ c. search rules) (λ c. search rules) (λ c. search rules) (λ c. search rules) (λ c. search rules)
-    (λ c. let p = c.before.before in
-    let l = p.before.before.before.before.before in
-    spreading-turn l.before.loop.invariant (search rules) _ p.put-zeros.ensures)
-    (λ c. search rules) (λ c. spreading-ends c.before.loop.invariant (search rules)))
+    (λ c. spreading-turn c.loop-k.invariant (search rules) _ c.put_zeros.ensures)
+    (λ c. search rules) (λ c. spreading-ends c.loop-k.invariant (search rules)))

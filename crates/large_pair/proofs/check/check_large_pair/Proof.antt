@@ -8,21 +8,16 @@ use Rattle.large_pair.proofs.check.check_large_pair.Tie as tie
 
 returns : tie.Need-returns
 returns c =
-    let p5 = c.before in
-    let p4 = p5.before in
-    let p3 = p4.before in
-    let p2 = p3.before in
-    let p1 = p2.before in
-    let a0 = alone p1.before.epsilon.ensures in
-    let a1 = with-checks a0 (vertex_checks _ _ _ _ _) p1.vertex-after.ensures in
-    let a2 = with-checks a1 (point_checks _ _ _ _) p2.point-after.ensures in
-    let a3 = with-checks a2 (vertex_checks _ _ _ _ _) p3.vertex-after2.ensures in
-    let a4 = with-checks a3 (point_checks _ _ _ _) p4.point-after2.ensures in
-    let a5 = with-checks a4 (segment_checks _ _ _ _) p5.segment-after.ensures in
-    (with-checks a5 (segment_checks _ _ _ _) c.segment-after2.ensures).is
+    let a0 = alone c.epsilon-a0.ensures in
+    let a1 = with-checks a0 (vertex_checks _ _ _ _ _) c.vertex_after-a1.ensures in
+    let a2 = with-checks a1 (point_checks _ _ _ _) c.point_after-a2.ensures in
+    let a3 = with-checks a2 (vertex_checks _ _ _ _ _) c.vertex_after-a3.ensures in
+    let a4 = with-checks a3 (point_checks _ _ _ _) c.point_after-a4.ensures in
+    let a5 = with-checks a4 (segment_checks _ _ _ _) c.segment_after-a5.ensures in
+    (with-checks a5 (segment_checks _ _ _ _) c.segment_after.ensures).is
 
-pub check-large-pair-spec : {M : Type 1} → statement M
-check-large-pair-spec =
+pub check_large_pair_spec : {M : Type 1} → statement M
+check_large_pair_spec =
     tie.close
     (tie.spec
     (λ c. search rules) (λ c. search rules) (λ c. search rules) (λ c. search rules) (λ c. search rules) (λ c. search rules)

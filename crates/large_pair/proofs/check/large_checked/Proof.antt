@@ -6,17 +6,13 @@ use Rattle.large_pair.specs.Laws.Fine.{by_tests}
 use Rattle.large_pair.proofs.check.large_checked.Statement.{statement}
 use Rattle.large_pair.proofs.check.large_checked.Tie as tie
 
-returns : tie.Need-returns
+returns : tie.Need-returns-then-epsilon_fine-parts_fine
 returns c =
-    let u = c.before in
-    let v = u.before in
-    let e = v.before in
-    let s = e.before in
-    sym (by_tests _ _ _ _ _ _ _ s.requires.0 s.requires.1 e.epsilon-fine.ensures v.parts-fine.ensures
-    u.parts-fine2.ensures c.if1.true)
+    sym (by_tests _ _ _ _ _ _ _ c.requires.0 c.requires.1 c.epsilon_fine.ensures c.parts_fine.ensures
+    c.parts_fine-2.ensures c.if-epsilon_fine-parts_fine.true)
 
-pub large-checked-spec : {M : Type 1} → statement M
-large-checked-spec =
+pub large_checked_spec : {M : Type 1} → statement M
+large_checked_spec =
     tie.close
     (tie.spec
     (λ c. search rules) (λ c. search rules) (λ c. search rules) returns (λ c. search rules) (λ c. search rules))

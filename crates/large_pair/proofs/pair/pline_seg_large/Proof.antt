@@ -7,56 +7,40 @@ use Rattle.large_pair.proofs.Ends.{short-results, short-points, quick, refused, 
 use Rattle.large_pair.proofs.pair.pline_seg_large.Statement.{statement}
 use Rattle.large_pair.proofs.pair.pline_seg_large.Tie as tie
 
-returns : tie.Need-returns
-returns c = short-results _ _ _ _ _ _ _ c.if1.true
+returns : tie.Need-returns-then-results-lt-RESULTS
+returns c = short-results _ _ _ _ _ _ _ c.if-results-lt-RESULTS.true
 
-returns-2 : tie.Need-returns-2
-returns-2 c = short-points _ _ _ _ _ _ _ c.before.if1.false c.if2.true
+returns-2 : tie.Need-returns-then-points-lt-POINTS
+returns-2 c = short-points _ _ _ _ _ _ _ c.if-results-lt-RESULTS.false c.if-points-lt-POINTS.true
 
-pline-seg-once-requires : tie.Need-pline-seg-once-requires
-pline-seg-once-requires c κs = fine-by-tests _ _ _ _ _ (passes _ (sym c.before.pair-fine.ensures ∙ c.if3.true))
+pline-seg-once-requires : tie.Need-pline_seg_once-met-requires
+pline-seg-once-requires c κs = fine-by-tests _ _ _ _ _ (passes _ (sym c.pair_fine.ensures ∙ c.if-pair_fine.true))
 
-returns-3 : tie.Need-returns-3
+returns-3 : tie.Need-returns-then-pair_fine
 returns-3 c =
-    let put = c.before.before.before.before in
-    let once = put.before.before.before in
-    let t = once.before in
-    let e = t.before.before in
-    quick _ _ _ _ _ _ _ e.before.if1.false e.if2.false t.before.pair-fine.ensures t.if3.true
-    once.pline-seg-once.ensures put.put-result.ensures.0 put.put-result.ensures.1
+    quick _ _ _ _ _ _ _ c.if-results-lt-RESULTS.false c.if-points-lt-POINTS.false c.pair_fine.ensures c.if-pair_fine.true
+    c.pline_seg_once-met.ensures c.put_result.ensures.0 c.put_result.ensures.1
 
-large-checked-requires : tie.Need-large-checked-requires
-large-checked-requires c κs = (c.before.starts.ensures, c.starts2.ensures)
+large-checked-requires : tie.Need-large_checked-requires
+large-checked-requires c κs = (c.starts-v.ensures, c.starts-u.ensures)
 
-returns-4 : tie.Need-returns-4
+returns-4 : tie.Need-returns-in-Bad
 returns-4 c =
-    let f = c.before in
-    let l = f.before.before in
-    let e = l.before.before.before.before.before in
-    refused _ _ _ _ _ _ _ e.before.if1.false e.if2.false l.large-checked.ensures f.fault.given.1
+    refused _ _ _ _ _ _ _ c.if-results-lt-RESULTS.false c.if-points-lt-POINTS.false c.large_checked.ensures c.in-Bad.is
 
-put-results-requires : tie.Need-put-results-requires
-put-results-requires c κs =
-    let f = c.before.before in
-    let l = f.before.before in
-    let u = l.before in
-    let v = u.before in
-    let e = v.before.before.before in (
-      e.before.if1.false,
-      (e.if2.false, (v.starts.ensures, (u.starts2.ensures, sym l.large-checked.ensures ∙ f.enum_told.given.1))),
-    )
+put-results-requires : tie.Need-put_results-count-requires
+put-results-requires c κs = (
+  c.if-results-lt-RESULTS.false,
+  (c.if-points-lt-POINTS.false, (c.starts-v.ensures, (c.starts-u.ensures, sym c.large_checked.ensures ∙ c.in-Fine.is))),
+)
 
-returns-5 : tie.Need-returns-5
+returns-5 : tie.Need-returns-in-Fine
 returns-5 c =
-    let put = c.before.before.before.before in
-    let f = put.before.before.before in
-    let l = f.before.before in
-    let e = l.before.before.before.before.before in
-    written _ _ _ _ _ _ _ e.before.if1.false e.if2.false
-    (sym l.large-checked.ensures ∙ f.enum_told.given.1) put.put-results.ensures
+    written _ _ _ _ _ _ _ c.if-results-lt-RESULTS.false c.if-points-lt-POINTS.false
+    (sym c.large_checked.ensures ∙ c.in-Fine.is) c.put_results-count.ensures
 
-pub pline-seg-large-spec : {M : Type 1} → statement M
-pline-seg-large-spec =
+pub pline_seg_large_spec : {M : Type 1} → statement M
+pline_seg_large_spec =
     tie.close
     (tie.spec
     returns returns-2 (λ c. search rules) pline-seg-once-requires (λ c. search rules) (λ c. search rules) (λ c. search rules)

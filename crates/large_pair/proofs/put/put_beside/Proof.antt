@@ -21,31 +21,28 @@ behind {A} old mid now xs ys row width long first second =
     ∙ ap (λ (l : List A). sets l (row * width + length xs) ys) first
     ∙ sets-append old (row * width) xs ys
 
-put-pair-requires : tie.Need-put-pair-requires
+put-pair-requires : tie.Need-put_pair-requires
 put-pair-requires c κs =
-    let h = c.before.before.before.before.requires in
+    let h = c.requires in
     (omega (arith, h.0), (h.1.0, (h.1.1.0, h.1.1.1.0)))
 
-put-pair-requires-2 : tie.Need-put-pair-requires-2
+put-pair-requires-2 : tie.Need-put_pair-requires-2
 put-pair-requires-2 c κs =
-    let first = c.before.before.before.before.before.before in
-    let h = first.before.before.before.before.before.requires in
+    let h = c.requires in
     (h.0, (search rules, (search rules, h.1.1.1.1)))
 
 returns : tie.Need-returns
 returns c =
-    let second = c.before.before.before.before in
-    let first = second.before.before.before.before.before.before.before in
-    let a = first.before.before.before.before.before.args in
-    let p = meeting a.eps a.v a.u-first in
-    let q = meeting a.eps a.v a.u-second in (
-      behind a.results.now _ _ (words_of p) (words_of q) a.row 3 refl first.put-pair.ensures.0
-          second.put-pair2.ensures.0,
-      behind a.points.now _ _ (floats_of p) (floats_of q) a.row 4 refl first.put-pair.ensures.1
-          second.put-pair2.ensures.1,
+    let a = c.args in
+    let p = meeting a.eps a.v a.u_first in
+    let q = meeting a.eps a.v a.u_second in (
+      behind a.results.now _ _ (words_of p) (words_of q) a.row 3 refl c.put_pair.ensures.0
+          c.put_pair-2.ensures.0,
+      behind a.points.now _ _ (floats_of p) (floats_of q) a.row 4 refl c.put_pair.ensures.1
+          c.put_pair-2.ensures.1,
     )
 
-pub put-beside-spec : {M : Type 1} → statement M
-put-beside-spec =
+pub put_beside_spec : {M : Type 1} → statement M
+put_beside_spec =
     tie.close
     (tie.spec put-pair-requires (λ c. search rules) put-pair-requires-2 (λ c. search rules) (λ c. search rules) returns)

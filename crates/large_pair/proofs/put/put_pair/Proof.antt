@@ -6,19 +6,17 @@ use Rattle.large_pair.specs.LargePair.{words_of, floats_of}
 use Rattle.large_pair.proofs.put.put_pair.Statement.{statement}
 use Rattle.large_pair.proofs.put.put_pair.Tie as tie
 
-pline-seg-after-checks-requires : tie.Need-pline-seg-after-checks-requires
+pline-seg-after-checks-requires : tie.Need-pline_seg_after_checks-met-requires
 pline-seg-after-checks-requires c κs =
-    let f = c.before.before.requires.1.1.1 in
+    let f = c.requires.1.1.1 in
     (f.checked, (f.v-circle, f.u-circle))
 
 returns : tie.Need-returns
 returns c =
-    let p = c.before.before.before.before in
-    let m = p.before.before.before in
-    simp (← m.pline-seg-after-checks.ensures) p.put-result.ensures
+    simp (← c.pline_seg_after_checks-met.ensures) c.put_result.ensures
 
-pub put-pair-spec : {M : Type 1} → statement M
-put-pair-spec =
+pub put_pair_spec : {M : Type 1} → statement M
+put_pair_spec =
     tie.close
     (tie.spec
     pline-seg-after-checks-requires (λ c. search rules) (λ c. search rules) (λ c. search rules) returns)

@@ -31,14 +31,14 @@ module _ (m : ClassAndPoints) (met : PlineSegIntr) (is : m ≡ class_and_points 
 
 returns : tie.Need-returns
 returns c =
-    let e = c.class-and-points.ensures in
-    let a = c.before.before.before.args in (
-      words _ _ e a.v-half a.u-half a.results.now (a.row * 3),
-      floats _ _ e a.v-half a.u-half a.points.now (a.row * 4),
+    let e = c.class_and_points-m.ensures in
+    let a = c.args in (
+      words _ _ e a.v_half a.u_half a.results.now (a.row * 3),
+      floats _ _ e a.v_half a.u_half a.points.now (a.row * 4),
     )
 
-pub put-result-spec : {M : Type 1} → statement M
-put-result-spec =
+pub put_result_spec : {M : Type 1} → statement M
+put_result_spec =
     tie.close
     (tie.spec
     (λ c. search rules) (λ c. search rules) (λ c. search rules)

@@ -4,6 +4,6 @@ use Rattle.large_pair.specs.Workings.Pieces.{with_circle}
 use Rattle.large_pair.proofs.put.with_circle.Statement.{statement}
 use Rattle.large_pair.proofs.put.with_circle.Tie as tie
 
-pub with-circle-spec : {M : Type 1} → statement M
+pub with_circle_spec : {M : Type 1} → statement M
 unfolding with_circle
-with-circle-spec = tie.close (tie.spec (λ c. search rules) (λ c. simp (← c.circle-if-arc.ensures)))
+with_circle_spec = tie.close (tie.spec (λ c. search rules) (λ c. simp (← c.circle_if_arc-circle.ensures)))

@@ -4,12 +4,12 @@ use Rattle.large_pair.specs.Workings.Starts as workings
 use Rattle.large_pair.proofs.starts.starts.Statement.{statement}
 use Rattle.large_pair.proofs.starts.starts.Tie as tie
 
-pub starts-spec : {M : Type 1} → statement M
+pub starts_spec : {M : Type 1} → statement M
 unfolding workings.starts
-starts-spec =
+starts_spec =
     tie.close
     (tie.spec
     (λ c. search rules)
     (λ c. search rules)
-    (λ c. let t = c.before in simp (← t.before.is-large.ensures, t.if1.true, c.halve.ensures))
-    (λ c. simp (← c.before.is-large.ensures, c.if1.false)))
+    (λ c. simp (← c.is_large.ensures, c.if-is_large.true, c.halve.ensures))
+    (λ c. simp (← c.is_large.ensures, c.if-is_large.false)))

@@ -9,16 +9,16 @@ use Rattle.listing_calls.specs.Filled.{filled}
 use Rattle.listing_calls.proofs.filled.filled.Statement.{statement}
 use Rattle.listing_calls.proofs.filled.filled.Tie as tie
 
-slice-aggregate-result : tie.Need-slice-aggregate-result
+slice-aggregate-result : tie.Need-slice_bounds-result-end
 slice-aggregate-result c = sym (length-take-le _ _ (omega arith))
 
-returns : tie.Need-returns
+returns : tie.Need-returns-then-rows-points
 unfolding filled
-returns c = holds _ _ _ _ (le-leb _ _ c.before.if1.true) refl
+returns c = holds _ _ _ _ (le-leb _ _ c.if-rows-points.true) refl
 
-returns-2 : tie.Need-returns-2
+returns-2 : tie.Need-returns
 unfolding filled
-returns-2 c = fails _ _ _ _ (lt-leb _ _ c.before.if1.false) refl
+returns-2 c = fails _ _ _ _ (lt-leb _ _ c.if-rows-points.false) refl
 
-pub filled-spec : {M : Type 1} → statement M
-filled-spec = tie.close (tie.spec (λ c. search rules) slice-aggregate-result returns (λ c. search rules) returns-2)
+pub filled_spec : {M : Type 1} → statement M
+filled_spec = tie.close (tie.spec (λ c. search rules) slice-aggregate-result returns (λ c. search rules) returns-2)

@@ -4,21 +4,19 @@ use Rattle.listing_calls.specs.Laws.Entry.{mutual-chain}
 use Rattle.listing_calls.proofs.jobs.check_mutual.Statement.{statement}
 use Rattle.listing_calls.proofs.jobs.check_mutual.Tie as tie
 
-pub check-mutual-spec : {M : Type 1} → statement M
-check-mutual-spec =
+pub check_mutual_spec : {M : Type 1} → statement M
+check_mutual_spec =
     tie.close
     (tie.spec
     (λ c. search rules) (λ c. search rules) (λ c. search rules) (λ c. search rules) (λ c. search rules)
     (λ c. search rules) (λ c. search rules)
-    (λ c. let p = c.before.before in
-    let s = p.before.before.before in
-    simp (
-      c.check-path2.ensures,
-      c.before.check-path.ensures,
-      p.later2.ensures,
-      p.before.shape2.ensures,
-      p.before.before.later.ensures,
-      s.shape.ensures,
-      s.before.epsilon.ensures,
+    (λ c. simp (
+      c.check_path.ensures,
+      c.check_path-a3.ensures,
+      c.later-a2.ensures,
+      c.shape-2.ensures,
+      c.later-a1.ensures,
+      c.shape.ensures,
+      c.epsilon-a0.ensures,
       mutual-chain,
     )))

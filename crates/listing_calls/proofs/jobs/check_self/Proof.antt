@@ -4,11 +4,9 @@ use Rattle.listing_calls.specs.Laws.Entry.{self-chain}
 use Rattle.listing_calls.proofs.jobs.check_self.Statement.{statement}
 use Rattle.listing_calls.proofs.jobs.check_self.Tie as tie
 
-pub check-self-spec : {M : Type 1} → statement M
-check-self-spec =
+pub check_self_spec : {M : Type 1} → statement M
+check_self_spec =
     tie.close
     (tie.spec
     (λ c. search rules) (λ c. search rules) (λ c. search rules) (λ c. search rules)
-    (λ c. let p = c.before in
-    let s = p.before in
-    simp (c.check-path.ensures, p.later.ensures, s.shape.ensures, s.before.epsilon.ensures, self-chain)))
+    (λ c. simp (c.check_path.ensures, c.later-a1.ensures, c.shape.ensures, c.epsilon-a0.ensures, self-chain)))

@@ -3,9 +3,9 @@ use borrow.Author.Rules.{rules}
 use Rattle.listing_calls.proofs.jobs.mutual_job.Statement.{statement}
 use Rattle.listing_calls.proofs.jobs.mutual_job.Tie as tie
 
-pub mutual-job-spec : {M : Type 1} → statement M
-mutual-job-spec =
+pub mutual_job_spec : {M : Type 1} → statement M
+mutual_job_spec =
     tie.close
     (tie.spec
     (λ c. search rules) (λ c. search rules)
-    (λ c. simp (c.segment-count2.ensures, c.before.segment-count.ensures)))
+    (λ c. simp (c.segment_count-m.ensures, c.segment_count-n.ensures)))

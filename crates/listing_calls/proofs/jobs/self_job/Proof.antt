@@ -3,5 +3,5 @@ use borrow.Author.Rules.{rules}
 use Rattle.listing_calls.proofs.jobs.self_job.Statement.{statement}
 use Rattle.listing_calls.proofs.jobs.self_job.Tie as tie
 
-pub self-job-spec : {M : Type 1} → statement M
-self-job-spec = tie.close (tie.spec (λ c. search rules) (λ c. simp c.segment-count.ensures))
+pub self_job_spec : {M : Type 1} → statement M
+self_job_spec = tie.close (tie.spec (λ c. search rules) (λ c. simp c.segment_count-n.ensures))

@@ -9,34 +9,31 @@ use Rattle.listing_calls.specs.Laws.BoxedEntry as entry
 use Rattle.listing_calls.proofs.mutual_boxed.mutual_boxed.Statement.{statement}
 use Rattle.listing_calls.proofs.mutual_boxed.mutual_boxed.Tie as tie
 
-abbrev start : tie.After-check-mutual → tie.Start
+abbrev start : tie.After-check_mutual-checked → tie.Start
 start c = c.before.before.before.before.before.before
 
 -- no fault was found
-fine : (c : tie.After-enum-told)
-    → let a = (start c.before.before).args in
-    check_mutual a.first.now a.first-closed a.second.now a.second-closed a.epsilon ≡ Fine
-fine c = sym c.before.before.check-mutual.ensures ∙ c.enum_told.given.1
+fine : (c : tie.In-Fine)
+    → let a = (start c.before).args in
+    check_mutual a.first.now a.first_closed a.second.now a.second_closed a.epsilon ≡ Fine
+fine c = sym c.check_mutual-checked.ensures ∙ c.in-Fine.is
 
-list-boxed-requires : tie.Need-list-boxed-requires
+list-boxed-requires : tie.Need-list_boxed-requires
 list-boxed-requires c κs =
-    let j = c.before.before.before in
-    let is = j.mutual-job.ensures in
-    (mutual-ready _ _ _ _ _ (fine j.before) _ is, (entry.two-paths _ _ _ _ _ _ _ is, mutual-few _ _ _ _ _ _ is))
+    let is = c.mutual_job-job.ensures in
+    (mutual-ready _ _ _ _ _ (fine c.before.before.before.before) _ is, (entry.two-paths _ _ _ _ _ _ _ is, mutual-few _ _ _ _ _ _ is))
 
-returns : tie.Need-returns
+returns : tie.Need-returns-in-Fine
 returns c =
-    let l = c.before.before.before.before.before.before in
-    let j = l.before.before.before.before in
-    entry.mutual-boxed _ _ _ _ _ _ _ _ _ _ _ _ (fine j.before) _ j.mutual-job.ensures l.list-boxed.ensures
+    entry.mutual-boxed _ _ _ _ _ _ _ _ _ _ _ _ (fine c.before.before.before.before.before.before.before.before.before.before.before) _ c.mutual_job-job.ensures c.list_boxed.ensures
 
-returns-2 : tie.Need-returns-2
+returns-2 : tie.Need-returns-in-Bad
 returns-2 c =
     entry.mutual-boxed-refused _ _ _ _ _ _ _ _ _
-    (sym c.before.before.before.check-mutual.ensures ∙ c.before.checked.given.1)
+    (sym c.check_mutual-checked.ensures ∙ c.in-Bad.is)
 
-pub mutual-boxed-spec : {M : Type 1} → statement M
-mutual-boxed-spec =
+pub mutual_boxed_spec : {M : Type 1} → statement M
+mutual_boxed_spec =
     tie.close
     (tie.spec
     (λ c. search rules) (λ c. search rules) (λ c. search rules) list-boxed-requires

@@ -8,33 +8,30 @@ use Rattle.listing_calls.specs.Laws.Entry.{mutual-ready, mutual-plain, mutual-li
 use Rattle.listing_calls.proofs.mutual_listing.mutual_listing.Statement.{statement}
 use Rattle.listing_calls.proofs.mutual_listing.mutual_listing.Tie as tie
 
-abbrev start : tie.After-check-mutual → tie.Start
+abbrev start : tie.After-check_mutual-checked → tie.Start
 start c = c.before.before.before.before.before
 
 -- no fault was found
-fine : (c : tie.After-enum-told)
-    → let a = (start c.before.before).args in
-    check_mutual a.first.now a.first-closed a.second.now a.second-closed a.epsilon ≡ Fine
-fine c = sym c.before.before.check-mutual.ensures ∙ c.enum_told.given.1
+fine : (c : tie.In-Fine)
+    → let a = (start c.before).args in
+    check_mutual a.first.now a.first_closed a.second.now a.second_closed a.epsilon ≡ Fine
+fine c = sym c.check_mutual-checked.ensures ∙ c.in-Fine.is
 
 list-requires : tie.Need-list-requires
 list-requires c κs =
-    let j = c.before.before in
-    let done = fine j.before in
-    (mutual-ready _ _ _ _ _ done _ j.mutual-job.ensures, mutual-plain _ _ _ _ _ done _ j.mutual-job.ensures)
+    let done = fine c.before.before.before in
+    (mutual-ready _ _ _ _ _ done _ c.mutual_job-job.ensures, mutual-plain _ _ _ _ _ done _ c.mutual_job-job.ensures)
 
-returns : tie.Need-returns
+returns : tie.Need-returns-in-Fine
 returns c =
-    let l = c.before.before.before.before in
-    let j = l.before.before.before in
-    mutual-listed _ _ _ _ _ (fine j.before) _ j.mutual-job.ensures _ _ _ _ _ l.list.ensures
+    mutual-listed _ _ _ _ _ (fine c.before.before.before.before.before.before.before.before) _ c.mutual_job-job.ensures _ _ _ _ _ c.list.ensures
 
-returns-2 : tie.Need-returns-2
+returns-2 : tie.Need-returns-in-Bad
 returns-2 c =
-    mutual-refused _ _ _ _ _ _ _ _ (sym c.before.before.before.check-mutual.ensures ∙ c.before.checked.given.1)
+    mutual-refused _ _ _ _ _ _ _ _ (sym c.check_mutual-checked.ensures ∙ c.in-Bad.is)
 
-pub mutual-listing-spec : {M : Type 1} → statement M
-mutual-listing-spec =
+pub mutual_listing_spec : {M : Type 1} → statement M
+mutual_listing_spec =
     tie.close
     (tie.spec
     (λ c. search rules) (λ c. search rules) (λ c. search rules) list-requires

@@ -9,34 +9,31 @@ use Rattle.listing_calls.specs.Laws.BoxedEntry as entry
 use Rattle.listing_calls.proofs.self_boxed.self_boxed.Statement.{statement}
 use Rattle.listing_calls.proofs.self_boxed.self_boxed.Tie as tie
 
-abbrev start : tie.After-check-self → tie.Start
+abbrev start : tie.After-check_self-checked → tie.Start
 start c = c.before.before.before.before.before
 
 -- no fault was found
-fine : (c : tie.After-enum-told)
-    → let a = (start c.before.before).args in
+fine : (c : tie.In-Fine)
+    → let a = (start c.before).args in
     check_self a.path.now a.closed a.epsilon ≡ Fine
-fine c = sym c.before.before.check-self.ensures ∙ c.enum_told.given.1
+fine c = sym c.check_self-checked.ensures ∙ c.in-Fine.is
 
-list-boxed-requires : tie.Need-list-boxed-requires
+list-boxed-requires : tie.Need-list_boxed-requires
 list-boxed-requires c κs =
-    let j = c.before.before.before in
-    let is = j.self-job.ensures in
-    (self-ready _ _ _ (fine j.before) _ is, (entry.one-path _ _ _ _ _ is, self-few _ _ _ _ is))
+    let is = c.self_job-job.ensures in
+    (self-ready _ _ _ (fine c.before.before.before.before) _ is, (entry.one-path _ _ _ _ _ is, self-few _ _ _ _ is))
 
-returns : tie.Need-returns
+returns : tie.Need-returns-in-Fine
 returns c =
-    let l = c.before.before.before.before.before.before in
-    let j = l.before.before.before.before in
-    entry.self-boxed _ _ _ _ _ _ _ _ _ _ (fine j.before) _ j.self-job.ensures l.list-boxed.ensures
+    entry.self-boxed _ _ _ _ _ _ _ _ _ _ (fine c.before.before.before.before.before.before.before.before.before.before.before) _ c.self_job-job.ensures c.list_boxed.ensures
 
-returns-2 : tie.Need-returns-2
+returns-2 : tie.Need-returns-in-Bad
 returns-2 c =
     entry.self-boxed-refused _ _ _ _ _ _ _
-    (sym c.before.before.before.check-self.ensures ∙ c.before.checked.given.1)
+    (sym c.check_self-checked.ensures ∙ c.in-Bad.is)
 
-pub self-boxed-spec : {M : Type 1} → statement M
-self-boxed-spec =
+pub self_boxed_spec : {M : Type 1} → statement M
+self_boxed_spec =
     tie.close
     (tie.spec
     (λ c. search rules) (λ c. search rules) (λ c. search rules) list-boxed-requires

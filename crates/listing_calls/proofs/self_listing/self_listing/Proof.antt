@@ -8,33 +8,30 @@ use Rattle.listing_calls.specs.Laws.Entry.{self-ready, self-plain, self-listed, 
 use Rattle.listing_calls.proofs.self_listing.self_listing.Statement.{statement}
 use Rattle.listing_calls.proofs.self_listing.self_listing.Tie as tie
 
-abbrev start : tie.After-check-self → tie.Start
+abbrev start : tie.After-check_self-checked → tie.Start
 start c = c.before.before.before.before
 
 -- no fault was found
-fine : (c : tie.After-enum-told)
-    → let a = (start c.before.before).args in
+fine : (c : tie.In-Fine)
+    → let a = (start c.before).args in
     check_self a.path.now a.closed a.epsilon ≡ Fine
-fine c = sym c.before.before.check-self.ensures ∙ c.enum_told.given.1
+fine c = sym c.check_self-checked.ensures ∙ c.in-Fine.is
 
 list-requires : tie.Need-list-requires
 list-requires c κs =
-    let j = c.before.before in
-    let done = fine j.before in
-    (self-ready _ _ _ done _ j.self-job.ensures, self-plain _ _ _ done _ j.self-job.ensures)
+    let done = fine c.before.before.before in
+    (self-ready _ _ _ done _ c.self_job-job.ensures, self-plain _ _ _ done _ c.self_job-job.ensures)
 
-returns : tie.Need-returns
+returns : tie.Need-returns-in-Fine
 returns c =
-    let l = c.before.before.before.before in
-    let j = l.before.before.before in
-    self-listed _ _ _ (fine j.before) _ j.self-job.ensures _ _ _ _ _ l.list.ensures
+    self-listed _ _ _ (fine c.before.before.before.before.before.before.before.before) _ c.self_job-job.ensures _ _ _ _ _ c.list.ensures
 
-returns-2 : tie.Need-returns-2
+returns-2 : tie.Need-returns-in-Bad
 returns-2 c =
-    self-refused _ _ _ _ _ _ (sym c.before.before.before.check-self.ensures ∙ c.before.checked.given.1)
+    self-refused _ _ _ _ _ _ (sym c.check_self-checked.ensures ∙ c.in-Bad.is)
 
-pub self-listing-spec : {M : Type 1} → statement M
-self-listing-spec =
+pub self_listing_spec : {M : Type 1} → statement M
+self_listing_spec =
     tie.close
     (tie.spec
     (λ c. search rules) (λ c. search rules) (λ c. search rules) list-requires

@@ -8,33 +8,30 @@ use Rattle.listing_calls.specs.Laws.Entry.{self-ready, self-plain, self-paged, s
 use Rattle.listing_calls.proofs.self_page.self_page.Statement.{statement}
 use Rattle.listing_calls.proofs.self_page.self_page.Tie as tie
 
-abbrev start : tie.After-check-self → tie.Start
+abbrev start : tie.After-check_self-checked → tie.Start
 start c = c.before.before.before.before
 
 -- no fault was found
-fine : (c : tie.After-enum-told)
-    → let a = (start c.before.before).args in
+fine : (c : tie.In-Fine)
+    → let a = (start c.before).args in
     check_self a.path.now a.closed a.epsilon ≡ Fine
-fine c = sym c.before.before.check-self.ensures ∙ c.enum_told.given.1
+fine c = sym c.check_self-checked.ensures ∙ c.in-Fine.is
 
 page-requires : tie.Need-page-requires
 page-requires c κs =
-    let j = c.before.before in
-    let done = fine j.before in
-    (self-ready _ _ _ done _ j.self-job.ensures, self-plain _ _ _ done _ j.self-job.ensures)
+    let done = fine c.before.before.before in
+    (self-ready _ _ _ done _ c.self_job-job.ensures, self-plain _ _ _ done _ c.self_job-job.ensures)
 
-returns : tie.Need-returns
+returns : tie.Need-returns-in-Fine
 returns c =
-    let l = c.before.before.before.before in
-    let j = l.before.before.before in
-    self-paged _ _ _ (fine j.before) _ j.self-job.ensures _ _ _ _ _ _ _ l.page.ensures
+    self-paged _ _ _ (fine c.before.before.before.before.before.before.before.before) _ c.self_job-job.ensures _ _ _ _ _ _ _ c.page.ensures
 
-returns-2 : tie.Need-returns-2
+returns-2 : tie.Need-returns-in-Bad
 returns-2 c =
-    self-page-refused _ _ _ _ _ _ (sym c.before.before.before.check-self.ensures ∙ c.before.checked.given.1) _ _
+    self-page-refused _ _ _ _ _ _ (sym c.check_self-checked.ensures ∙ c.in-Bad.is) _ _
 
-pub self-page-spec : {M : Type 1} → statement M
-self-page-spec =
+pub self_page_spec : {M : Type 1} → statement M
+self_page_spec =
     tie.close
     (tie.spec
     (λ c. search rules) (λ c. search rules) (λ c. search rules) page-requires

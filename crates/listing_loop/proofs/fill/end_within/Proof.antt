@@ -5,17 +5,17 @@ use Rattle.listing_loop.specs.Workings.Filling.{end_within}
 use Rattle.listing_loop.proofs.fill.end_within.Statement.{statement}
 use Rattle.listing_loop.proofs.fill.end_within.Tie as tie
 
-returns : tie.Need-returns
+returns : tie.Need-returns-then-budget-to
 unfolding end_within
-returns c = simp (lt-ltb _ _ c.before.if1.true, lt-ltb _ _ c.if2.true)
+returns c = simp (lt-ltb _ _ c.if-j-to.true, lt-ltb _ _ c.if-budget-to.true)
 
-returns-2 : tie.Need-returns-2
+returns-2 : tie.Need-returns-else-budget-to
 unfolding end_within
-returns-2 c = simp (lt-ltb _ _ c.before.if1.true, le-ltb _ _ c.if2.false)
+returns-2 c = simp (lt-ltb _ _ c.if-j-to.true, le-ltb _ _ c.if-budget-to.false)
 
-returns-3 : tie.Need-returns-3
+returns-3 : tie.Need-returns-else-j-to
 unfolding end_within
-returns-3 c = simp (le-ltb _ _ c.if1.false)
+returns-3 c = simp (le-ltb _ _ c.if-j-to.false)
 
-pub end-within-spec : {M : Type 1} → statement M
-end-within-spec = tie.close (tie.spec (λ c. search rules) (λ c. search rules) returns returns-2 returns-3)
+pub end_within_spec : {M : Type 1} → statement M
+end_within_spec = tie.close (tie.spec (λ c. search rules) (λ c. search rules) returns returns-2 returns-3)

@@ -7,11 +7,11 @@ use Rattle.listing_loop.specs.Workings.Runs.{box_for}
 use Rattle.listing_loop.proofs.run.box_for.Statement.{statement}
 use Rattle.listing_loop.proofs.run.box_for.Tie as tie
 
-pub box-for-spec : {M : Type 1} → statement M
+pub box_for_spec : {M : Type 1} → statement M
 unfolding box_for
-box-for-spec =
+box_for_spec =
     tie.close
     (tie.spec
-    (λ c κs arc. chord-kept _ _ _ _ c.before.requires arc)
-    (λ c. holds _ _ _ _ c.before.if1.true c.box-with.ensures)
-    (λ c. fails _ _ _ _ c.if1.false refl))
+    (λ c κs arc. chord-kept _ _ _ _ c.requires arc)
+    (λ c. holds _ _ _ _ c.if-job.true c.box_with.ensures)
+    (λ c. fails _ _ _ _ c.if-job.false refl))

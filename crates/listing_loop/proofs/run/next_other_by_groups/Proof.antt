@@ -12,50 +12,44 @@ use Rattle.listing_pairs.specs.Workings.Tracks.{other, past-clear}
 use Rattle.listing_loop.proofs.run.next_other_by_groups.Statement.{statement}
 use Rattle.listing_loop.proofs.run.next_other_by_groups.Tie as tie
 
-abbrev invariant-loop : tie.invariant-loop
+abbrev invariant-loop : tie.invariant-loop-k
 invariant-loop path kept n trace j end k₀ k = Finding (other path trace) j end k
 
-abbrev decreases-loop : tie.decreases-loop
+abbrev decreases-loop : tie.decreases-loop-k
 decreases-loop path kept n trace j end k₀ k = end - k
 
-abbrev start : tie.In-loop invariant-loop decreases-loop → tie.Start invariant-loop decreases-loop
+abbrev start : tie.In-loop-k invariant-loop decreases-loop → tie.Start invariant-loop decreases-loop
 start l = l.before.before.before.before
 
 -- over a whole group, up to the end at most
-passed : tie.Need-loop-preserved invariant-loop decreases-loop
+passed : tie.Need-loop-k-preserved-then-k-past invariant-loop decreases-loop
 passed c =
-    let t = c.before in
-    let g = t.before in
-    let l = g.before in
+    let l = c.before.before.before in
     let p = (start l).requires in
-    finding-over l.before.loop.invariant _
-    (omega (arith, c.lesser.ensures, t.if1.true, l.loop-test.true)) (omega (arith, c.lesser.ensures))
-    (λ h low high. past-clear _ _ _ _ _ p.1.0 p.1.1 (omega (arith, l.loop-test.true, p.0.1)) h low
-    (rw (← g.past-group.ensures) (omega (arith, c.lesser.ensures, high))))
+    finding-over l.loop-k.invariant _
+    (omega (arith, c.lesser-k.ensures, c.if-k-past.true, l.loop-k-test.true)) (omega (arith, c.lesser-k.ensures))
+    (λ h low high. past-clear _ _ _ _ _ p.1.0 p.1.1 (omega (arith, l.loop-k-test.true, p.0.1)) h low
+    (rw (← c.past_group-past.ensures) (omega (arith, c.lesser-k.ensures, high))))
 
-pub next-other-by-groups-spec : {M : Type 1} → statement M
-next-other-by-groups-spec =
+pub next_other_by_groups_spec : {M : Type 1} → statement M
+next_other_by_groups_spec =
     tie.close
     (tie.spec
     invariant-loop decreases-loop
-    (λ c. finding-starts _ _ _ c.before.before.requires.0.0)
+    (λ c. finding-starts _ _ _ c.requires.0.0)
     (λ c κs. let p = (start c).requires in
     let t = p.1.0 in
-    ((t.few, omega (arith, c.loop-test.true, p.0.1)), t.room))
+    ((t.few, omega (arith, c.loop-k-test.true, p.0.1)), t.room))
     (λ c. search rules)
-    (λ c. let t = c.before in
-    let l = t.before.before in
-    omega (arith, c.lesser.ensures, t.if1.true, l.loop-test.true))
+    (λ c. omega (arith, c.lesser-k.ensures, c.if-k-past.true, c.loop-k-test.true))
     passed
-    (λ c κs. let l = c.before.before in omega (arith, l.loop-test.true, (start l).requires.0))
-    (λ c. let t = c.before in
-    let l = t.before.before.before in
-    finding-here l.before.loop.invariant _ l.loop-test.true
-    (ap (λ (u : Float). not ((start l).args.trace ≈ u)) t.trace.ensures) c.if2.true)
-    (λ c. let l = c.before.before.before.before in omega (arith, l.loop-test.true))
-    (λ c. let l = c.before.before.before.before in omega (arith, l.loop-test.true))
-    (λ c. let t = c.before in
-    let l = t.before.before.before in
-    finding-on l.before.loop.invariant _ l.loop-test.true
-    (ap (λ (u : Float). not ((start l).args.trace ≈ u)) t.trace.ensures) c.if2.false)
-    (λ c. finding-ends c.before.loop.invariant c.loop-test.false))
+    (λ c κs. let l = c.before.before in omega (arith, l.loop-k-test.true, (start l).requires.0))
+    (λ c. let l = c.before.before.before.before in
+    finding-here l.loop-k.invariant _ l.loop-k-test.true
+    (ap (λ (u : Float). not ((start l).args.trace ≈ u)) c.trace.ensures) (ap not c.if-not-trace.true))
+    (λ c. omega (arith, c.loop-k-test.true))
+    (λ c. omega (arith, c.loop-k-test.true))
+    (λ c. let l = c.before.before.before.before in
+    finding-on l.loop-k.invariant _ l.loop-k-test.true
+    (ap (λ (u : Float). not ((start l).args.trace ≈ u)) c.trace.ensures) (ap not c.if-not-trace.false))
+    (λ c. finding-ends c.loop-k.invariant c.loop-k-test.false))

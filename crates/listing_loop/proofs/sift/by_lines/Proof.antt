@@ -4,11 +4,11 @@ use Rattle.listing_loop.specs.Workings.Sift.{by_lines}
 use Rattle.listing_loop.proofs.sift.by_lines.Statement.{statement}
 use Rattle.listing_loop.proofs.sift.by_lines.Tie as tie
 
-pub by-lines-spec : {M : Type 1} → statement M
+pub by_lines_spec : {M : Type 1} → statement M
 unfolding by_lines
-by-lines-spec =
+by_lines_spec =
     tie.close
     (tie.spec
     (λ c κs. search rules)
-    (λ c. simp (c.before.if1.true, c.usual-line.ensures))
-    (λ c. simp c.if1.false))
+    (λ c. simp (c.if-sieved.true, c.usual_line.ensures))
+    (λ c. simp c.if-sieved.false))

@@ -5,6 +5,6 @@ use Rattle.listing_loop.specs.Workings.Sift.{by_marks}
 use Rattle.listing_loop.proofs.sift.by_marks.Statement.{statement}
 use Rattle.listing_loop.proofs.sift.by_marks.Tie as tie
 
-pub by-marks-spec : {M : Type 1} → statement M
+pub by_marks_spec : {M : Type 1} → statement M
 unfolding by_marks
-by-marks-spec = tie.close (tie.spec (λ c. refl))
+by_marks_spec = tie.close (tie.spec (λ c. refl))

@@ -8,31 +8,28 @@ use Rattle.listing_outcomes.specs.Workings.BoxedOutcome.{short-index, no_index}
 use Rattle.listing_outcomes.proofs.boxed.boxed_in.Statement.{statement}
 use Rattle.listing_outcomes.proofs.boxed.boxed_in.Tie as tie
 
-abbrev start : tie.After-floats-for → tie.Start
+abbrev start : tie.After-floats_for → tie.Start
 start c = c.before.before.before.before.before.before.before
 
-returns : tie.Need-returns
+returns : tie.Need-returns-then-boxes-floats_for
 returns c =
-    let t = c.before in
-    let a = (start t.before).args in
-    let short = short-index a.first.now a.second.now a.job _ _ t.before.floats-for.ensures t.if1.true in (
+    let a = (start c.before.before).args in
+    let short = short-index a.first.now a.second.now a.job _ _ c.floats_for.ensures c.if-boxes-floats_for.true in (
       no_index (look_by a.first.now a.second.now a.job) (every a.job) _ _ _ _ short _ c.whole.ensures,
       refl,
     )
 
-list-by-boxes-requires : tie.Need-list-by-boxes-requires
+list-by-boxes-requires : tie.Need-list_by_boxes-requires
 list-by-boxes-requires c κs =
-    let e = c.before.before.before.before in
-    let p = (start e.before).requires in
-    (p.0, (p.1.0, (omega (arith, e.if1.false, e.before.floats-for.ensures), p.1.1)))
+    let p = (start c.before.before.before.before.before).requires in
+    (p.0, (p.1.0, (omega (arith, c.if-boxes-floats_for.false, c.floats_for.ensures), p.1.1)))
 
-returns-2 : tie.Need-returns-2
+returns-2 : tie.Need-returns
 returns-2 c =
-    let l = c.before.before.before.before.before.before.before.before in
-    (l.list-by-boxes.ensures, l.list-by-boxes.auto.1.1.1.0)
+    (c.list_by_boxes.ensures, c.list_by_boxes.auto.kept)
 
-pub boxed-in-spec : {M : Type 1} → statement M
-boxed-in-spec =
+pub boxed_in_spec : {M : Type 1} → statement M
+boxed_in_spec =
     tie.close
     (tie.spec
     (λ c κs. search rules) (λ c κs. search rules) returns list-by-boxes-requires

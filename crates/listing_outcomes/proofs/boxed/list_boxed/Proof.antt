@@ -22,13 +22,13 @@ all =
 long : length (let z : Float = of_bits binary64 0 in replicate all z) ≡ all
 long = let z : Float = of_bits binary64 0 in length-replicate all z
 
-boxed-in-requires : tie.Need-boxed-in-requires
+boxed-in-requires : tie.Need-boxed_in-requires
 boxed-in-requires c κs =
-    let p = c.before.before.before.before.before.before.before.before.before.requires in (p.0, (p.1.0, omega (arith, long, p.1.1)))
+    let p = c.requires in (p.0, (p.1.0, omega (arith, long, p.1.1)))
 
-pub list-boxed-spec : {M : Type 1} → statement M
-list-boxed-spec =
+pub list_boxed_spec : {M : Type 1} → statement M
+list_boxed_spec =
     tie.close
     (tie.spec
     (λ c. search rules) boxed-in-requires (λ c. search rules) (λ c. search rules) (λ c. search rules)
-    (λ c. c.before.before.before.before.before.before.before.boxed-in.ensures.0))
+    (λ c. c.boxed_in.ensures.0))

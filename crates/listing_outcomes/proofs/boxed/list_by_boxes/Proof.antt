@@ -17,7 +17,7 @@ use Rattle.listing_outcomes.specs.Workings.BoxedOutcome.{index_for, fits-index, 
 use Rattle.listing_outcomes.proofs.boxed.list_by_boxes.Statement.{statement}
 use Rattle.listing_outcomes.proofs.boxed.list_by_boxes.Tie as tie
 
-abbrev traced : tie.After-keep → tie.After-keep-traces
+abbrev traced : tie.After-keep → tie.After-keep_traces
 traced c = c.before.before.before.before
 
 abbrev start : tie.After-keep → tie.Start
@@ -25,35 +25,34 @@ start c = (traced c).before.before.before.before.before.before.before.before
 
 -- what the traces of groups left is long enough, and says what it should
 abbrev after : tie.After-keep → List Float
-after c = (traced c).keep-traces.new.1.1.0
+after c = (traced c).keep_traces.new.kept
 
 room : (c : tie.After-keep) → floats_boxed (start c).args.job.m ≤ length (after c)
-room c = omega (arith, (start c).requires.1.1.1, call_length _ _ _ _ (traced c).keep-traces.ensures)
+room c = omega (arith, (start c).requires.1.1.1, call_length _ _ _ _ (traced c).keep_traces.ensures)
 
 tracks : (c : tie.After-keep) → Tracked (start c).args.second.now (after c) (start c).args.job.m
 tracks c =
     let p = (start c).requires in
-    call-tracked _ _ _ _ (traced c).keep-traces.ensures p.0.few-second (omega (arith, p.1.1.1))
+    call-tracked _ _ _ _ (traced c).keep_traces.ensures p.0.few-second (omega (arith, p.1.1.1))
 
-keep-traces-requires : tie.Need-keep-traces-requires
+keep-traces-requires : tie.Need-keep_traces-requires
 keep-traces-requires c κs =
-    let p = c.before.before.before.before.before.before.before.requires in
+    let p = c.requires in
     ((p.0.m-within, p.0.few-second), omega (arith, p.1.1.1))
 
-abbrev kept : tie.After-keep-boxes → tie.After-keep
+abbrev kept : tie.After-keep_boxes → tie.After-keep
 kept c = c.before.before.before.before
 
-abbrev listed : tie.After-list-kept → tie.After-keep-boxes
-listed c = c.before.before.before.before.before.before
+abbrev listed : tie.After-list_kept-answer → tie.After-keep_boxes
+listed c = c.before.before.before.before.before
 
 keep-requires : tie.Need-keep-requires
 keep-requires c κs =
-    let t = c.before.before.before in
-    let p = t.before.before.before.before.before.before.before.before.requires in
-    let same = call_length _ _ _ _ t.keep-traces.ensures in
+    let p = c.requires in
+    let same = call_length _ _ _ _ c.keep_traces.ensures in
     (p.0.m-within, (p.0.few-second, omega (arith, same, p.1.1.1)))
 
-keep-boxes-requires : tie.Need-keep-boxes-requires
+keep-boxes-requires : tie.Need-keep_boxes-requires
 keep-boxes-requires c κs =
     let k = c.before.before.before in
     let ready = (start k).requires.0 in (
@@ -64,12 +63,12 @@ keep-boxes-requires c κs =
       ),
     )
 
-list-kept-requires : tie.Need-list-kept-requires
+list-kept-requires : tie.Need-list_kept-answer-requires
 list-kept-requires c κs =
-    let b = c.before.before.before.before.before in
+    let b = c.before.before.before.before in
     let k = kept b in
-    let ready = (start k).pre.0 in
-    boxes-ready _ _ _ _ _ ready (room k) (tracks k) k.keep.ensures _ b.keep-boxes.ensures
+    let ready = (start k).requires.0 in
+    boxes-ready _ _ _ _ _ ready (room k) (tracks k) k.keep.ensures _ b.keep_boxes.ensures
 
 -- what a pair gives
 abbrev looks : tie.After-keep → ℕ → ℕ → Look
@@ -81,35 +80,33 @@ fits : (c : tie.After-keep)
 fits c =
     let s = start c in
     let a = s.args in
-    fits-index a.first.now a.second.now a.job _ _ refl s.pre.1.1.0
+    fits-index a.first.now a.second.now a.job _ _ refl s.requires.1.1.0
 
-when-refused : tie.Need-returns
+when-refused : tie.Need-returns-in-Refused
 when-refused c =
-    let l = c.before.before.before.before.before.before.before in
+    let l = c.before.before.before.before.before in
     let k = kept (listed l) in
     let a = (start k).args in
     boxed-refused (looks k) (every a.job) _ _ a.indices.now a.points.now (fits k) _ _ _ _
-    c.before.answer.given.1 l.list-kept.ensures
+    c.in-Refused.is l.list_kept-answer.ensures
 
-when-listed : tie.Need-returns-2
+when-listed : tie.Need-returns-in-Listed
 when-listed c =
-    let s = c.before.before in
-    let t = s.before.before.before.before in
-    let l = t.before.before.before.before.before.before in
+    let l = c.before.before.before.before.before.before.before.before.before in
     let k = kept (listed l) in
     let a = (start k).args in
     boxed-listed (looks k) (every a.job) _ _ a.indices.now a.points.now (fits k) _ _ _ _ _ _
-    t.answer2.given.1 l.list-kept.ensures s.store-index.ensures
+    c.in-Listed.is l.list_kept-answer.ensures c.store_index.ensures
 
-pub list-by-boxes-spec : {M : Type 1} → statement M
-list-by-boxes-spec =
+pub list_by_boxes_spec : {M : Type 1} → statement M
+list_by_boxes_spec =
     tie.close
     (tie.spec
     keep-traces-requires keep-requires keep-boxes-requires list-kept-requires (λ c. search rules) (λ c. search rules)
-    (λ c κs. let b = listed c.before.before.before.before.before.before.before.before.before in
+    (λ c κs. let b = listed c.before.before.before.before.before.before in
     let k = kept b in
-    let p = (start k).pre in
-    let there = boxes-kept _ _ _ _ _ p.0 (room k) (tracks k) k.keep.ensures _ b.keep-boxes.ensures in
+    let p = (start k).requires in
+    let there = boxes-kept _ _ _ _ _ p.0 (room k) (tracks k) k.keep.ensures _ b.keep_boxes.ensures in
     (p.0, (p.1.0, (there, p.1.1.0))))
     (λ c. search rules) (λ c. search rules) (λ c. search rules) when-refused
     (λ c. search rules) (λ c. search rules) (λ c. search rules) (λ c. search rules) when-listed)

@@ -10,70 +10,60 @@ use Rattle.listing_outcomes.specs.Workings.BoxedOutcome.{first_fits, both-fit, s
 use Rattle.listing_outcomes.proofs.boxed.store_index.Statement.{statement}
 use Rattle.listing_outcomes.proofs.boxed.store_index.Tie as tie
 
-abbrev start : tie.After-group-count → tie.Start
+abbrev start : tie.After-group_count → tie.Start
 start c = c.before.before.before.before.before.before
 
 -- how many boxes are copied
-count : (c : tie.After-group-count) → let m = (start c).args.job.m in m + c.group-count.result ≡ m + group_count m
-count c = let m = (start c).args.job.m in ap (λ (k : ℕ). m + k) c.group-count.ensures
+count : (c : tie.After-group_count) → let m = (start c).args.job.m in m + c.group_count.result ≡ m + group_count m
+count c = let m = (start c).args.job.m in ap (λ (k : ℕ). m + k) c.group_count.ensures
 
 copy-requires : tie.Need-copy-requires
 copy-requires c κs =
-    let t = c.before in
-    let g = t.before.before in
+    let g = c.before.before.before in
     let s = start g in
-    let p = s.pre in
-    let own = p.1.0 t.if1.true in
+    let p = s.requires in
+    let own = p.1.0 c.if-job.true in
     let fits = first_fits s.args.job (length s.args.boxes.now) p.1.1.1 in (
-      omega (arith, g.group-count.ensures, p.1.1.0.grouped.once.room),
-      omega (arith, g.group-count.ensures, own.1, fits),
+      omega (arith, g.group_count.ensures, p.1.1.0.grouped.once.room),
+      omega (arith, g.group_count.ensures, own.1, fits),
     )
 
-returns : tie.Need-returns
+returns : tie.Need-returns-then-job
 returns c =
-    let k = c.before.before in
-    let t = k.before.before in
-    let g = t.before.before in
+    let g = c.before.before.before.before.before.before in
     let s = start g in
-    let p = s.pre in
-    stored-own _ _ _ s.args.job _ p.1.0 p.1.1.0 _ _ t.if1.true p.1.1.1 (count g) k.copy.ensures
+    let p = s.requires in
+    stored-own _ _ _ s.args.job _ p.1.0 p.1.1.0 _ _ c.if-job.true p.1.1.1 (count g) c.copy.ensures
 
 store-requires : tie.Need-store-requires
 store-requires c κs =
     let s = start c.before.before.before in
-    let p = s.pre in (
+    let p = s.requires in (
       (p.0.n_within, p.0.few),
       omega (arith, first_fits s.args.job (length s.args.boxes.now) p.1.1.1),
     )
 
 copy-requires-2 : tie.Need-copy-requires-2
 copy-requires-2 c κs =
-    let h = c.before.before in
-    let f = h.before.before.before in
-    let e = f.before.before in
-    let g = e.before.before in
+    let g = c.before.before.before.before.before.before.before.before.before in
     let s = start g in
-    let p = s.pre in
-    let fit = both-fit s.args.job (length s.args.boxes.now) e.if1.false p.1.1.1 in (
-      omega (arith, g.group-count.ensures, p.1.1.0.grouped.once.room),
-      omega (arith, g.group-count.ensures, h.group-count2.ensures, fit, f.store.auto.1.1.1.1.0),
+    let p = s.requires in
+    let fit = both-fit s.args.job (length s.args.boxes.now) c.if-job.false p.1.1.1 in (
+      omega (arith, g.group_count.ensures, p.1.1.0.grouped.once.room),
+      omega (arith, g.group_count.ensures, c.group_count-2.ensures, fit, c.store.auto.boxes),
     )
 
-returns-2 : tie.Need-returns-2
+returns-2 : tie.Need-returns
 returns-2 c =
-    let k = c.before.before in
-    let h = k.before.before.before in
-    let f = h.before.before.before in
-    let e = f.before.before in
-    let g = e.before.before in
+    let g = c.before.before.before.before.before.before.before.before.before.before.before.before in
     let s = start g in
-    let p = s.pre in
+    let p = s.requires in
     let job = s.args.job in
-    stored-both _ _ _ job _ p.1.0 p.1.1.0 _ _ _ _ e.if1.false p.1.1.1
-    (ap (λ (i : ℕ). job.n + i) h.group-count2.ensures) (count g) f.store.ensures k.copy2.ensures
+    stored-both _ _ _ job _ p.1.0 p.1.1.0 _ _ _ _ c.if-job.false p.1.1.1
+    (ap (λ (i : ℕ). job.n + i) c.group_count-2.ensures) (count g) c.store.ensures c.copy-2.ensures
 
-pub store-index-spec : {M : Type 1} → statement M
-store-index-spec =
+pub store_index_spec : {M : Type 1} → statement M
+store_index_spec =
     tie.close
     (tie.spec
     (λ c. search rules) (λ c κs. search rules) (λ c. search rules) copy-requires (λ c. search rules) returns

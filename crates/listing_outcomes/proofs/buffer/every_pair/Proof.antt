@@ -6,8 +6,8 @@ use borrow.Author.Rules.{rules}
 use Rattle.listing_outcomes.proofs.buffer.every_pair.Statement.{statement}
 use Rattle.listing_outcomes.proofs.buffer.every_pair.Tie as tie
 
-mul-result : tie.Need-overflow-mul-result
-mul-result c = let h = c.before.requires in omega (arith, mul-le-mul h.0 h.1)
+mul-result : tie.Need-overflow_mul-result
+mul-result c = let h = c.requires in omega (arith, mul-le-mul h.0 h.1)
 
-pub every-pair-spec : {M : Type 1} → statement M
-every-pair-spec = tie.close (tie.spec mul-result (λ c. refl))
+pub every_pair_spec : {M : Type 1} → statement M
+every_pair_spec = tie.close (tie.spec mul-result (λ c. refl))

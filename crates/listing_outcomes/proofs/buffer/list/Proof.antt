@@ -18,13 +18,13 @@ all = most_vertices * numbers_kept + most_groups
 long : length (let z : Float = of_bits binary64 0 in replicate all z) ≡ all
 long = let z : Float = of_bits binary64 0 in length-replicate all z
 
-list-in-requires : tie.Need-list-in-requires
+list-in-requires : tie.Need-list_in-requires
 list-in-requires c κs =
-    let p = c.before.before.before.before.before.before.before.requires in (p.0, (p.1.0, omega (arith, long, p.1.1)))
+    let p = c.requires in (p.0, (p.1.0, omega (arith, long, p.1.1)))
 
-pub list-spec : {M : Type 1} → statement M
-list-spec =
+pub list_spec : {M : Type 1} → statement M
+list_spec =
     tie.close
     (tie.spec
     (λ c. search rules) list-in-requires (λ c. search rules) (λ c. search rules)
-    (λ c. c.before.before.before.before.before.list-in.ensures.0))
+    (λ c. c.list_in.ensures.0))

@@ -10,16 +10,16 @@ use Rattle.listing_outcomes.specs.Workings.Outcome.{filled-first, joins-every, n
 use Rattle.listing_outcomes.proofs.buffer.list_by.Statement.{statement}
 use Rattle.listing_outcomes.proofs.buffer.list_by.Tie as tie
 
-abbrev start : tie.After-row-room → tie.Start
+abbrev start : tie.After-row_room-room → tie.Start
 start c = c.before.before.before.before.before.before.before
 
-every-pair-requires : tie.Need-every-pair-requires
+every-pair-requires : tie.Need-every_pair-budget-requires
 every-pair-requires c κs = let ready = (start c).requires.0.pairs in (ready.few, ready.few-second)
 
-fill-requires : tie.Need-fill-requires
+fill-requires : tie.Need-fill-all-requires
 fill-requires c κs =
     let n = c.before.before.before.before.before.before in
-    let e = n.row_room.ensures in
+    let e = n.row_room-room.ensures in
     let h = (start n).requires in (
       all-ready h.0 _ _ _,
       (
@@ -28,28 +28,25 @@ fill-requires c κs =
       ),
     )
 
-returns : tie.Need-returns
+returns : tie.Need-returns-then-budget-room
 returns c =
-    let f = c.before.before.before.before.before in
-    let t = f.before.before.before.before.before in
-    let b = t.before in
-    let n = b.before in
+    let n = c.before.before.before.before.before.before.before.before.before.before.before.before in
     let a = (start n).args in
     let F = look_by a.first.now a.second.now a.job in
     let ps = JobDefs.every a.job in
-    let room = n.row_room.result in
-    let done = filled-first F a.job f.before.before.before.before.from.result room b.every-pair.result f.fill.result
-    a.indices.now _ a.points.now _ f.before.before.before.before.from.ensures b.every-pair.ensures
-    f.fill.ensures.0 in
-    on-one-page F ps a.indices.now a.points.now (joins-every F a.job room) (omega (arith, n.row_room.ensures))
-    (no_more F a.job room (rw b.every-pair.ensures at t.if1.true)) _ _ _ _
+    let room = n.row_room-room.result in
+    let done = filled-first F a.job c.from-start.result room c.every_pair-budget.result c.fill-all.result
+    a.indices.now _ a.points.now _ c.from-start.ensures c.every_pair-budget.ensures
+    c.fill-all.ensures.0 in
+    on-one-page F ps a.indices.now a.points.now (joins-every F a.job room) (omega (arith, n.row_room-room.ensures))
+    (no_more F a.job room (rw c.every_pair-budget.ensures at c.if-budget-room.true)) _ _ _ _
     done.rows done.looked done.indices done.points
 
-list-held-back-requires : tie.Need-list-held-back-requires
-list-held-back-requires c κs = let n = c.before.before.before.before in ((start n).requires.0, (n.row_room.ensures, (start n).requires.1))
+list-held-back-requires : tie.Need-list_held_back-requires
+list-held-back-requires c κs = let n = c.before.before.before.before in ((start n).requires.0, (n.row_room-room.ensures, (start n).requires.1))
 
-pub list-by-spec : {M : Type 1} → statement M
-list-by-spec =
+pub list_by_spec : {M : Type 1} → statement M
+list_by_spec =
     tie.close
     (tie.spec
     (λ c. search rules) every-pair-requires (λ c. search rules) (λ c. search rules) fill-requires (λ c. search rules) (λ c. search rules) returns

@@ -32,10 +32,10 @@ use Rattle.listing_outcomes.specs.Workings.Outcome.{
 use Rattle.listing_outcomes.proofs.buffer.list_held_back.Statement.{statement}
 use Rattle.listing_outcomes.proofs.buffer.list_held_back.Tie as tie
 
-abbrev allowed : tie.After-fill → tie.After-every-pair
+abbrev allowed : tie.After-fill-held → tie.After-every_pair-budget
 allowed c = c.before.before.before.before
 
-abbrev start : tie.After-fill → tie.Start
+abbrev start : tie.After-fill-held → tie.Start
 start c = (allowed c).before.before.before.before.before.before.before.before.before
 
 -- the buffer, at first
@@ -52,52 +52,51 @@ long-no-points : length no-points ≡ held_rows * points_a_row
 long-no-points = let z : Float = of_bits binary64 0 in length-replicate (held_rows * points_a_row) z
 
 -- the pairs, and the page of them that the buffer is
-abbrev looks : tie.After-fill → ℕ → ℕ → Look
+abbrev looks : tie.After-fill-held → ℕ → ℕ → Look
 looks c = let a = (start c).args in look_by a.first.now a.second.now a.job
 
-abbrev pairs : tie.After-fill → List Pair
+abbrev pairs : tie.After-fill-held → List Pair
 pairs c = JobDefs.every (start c).args.job
 
-abbrev most : tie.After-fill → ℕ
-most c = (allowed c).before.lesser.result
+abbrev most : tie.After-fill-held → ℕ
+most c = (allowed c).lesser-most.result
 
-abbrev job : tie.After-fill → Job
+abbrev job : tie.After-fill-held → Job
 job c = (start c).args.job
 
-abbrev on-page : tie.After-fill → Page
+abbrev on-page : tie.After-fill-held → Page
 on-page c = page (looks c) (pairs c) (most c) (budget (looks c) (job c))
 
-abbrev first-j : tie.After-fill → ℕ
-first-j c = (allowed c).before.before.from.result
+abbrev first-j : tie.After-fill-held → ℕ
+first-j c = (allowed c).from-start.result
 
-done : (c : tie.After-fill)
-    → Filled (job c) (front (looks c) (job c) (first-j c) (most c) (budget (looks c) (job c))) (on-page c) c.fill.result
-    no-indices c.fill.new.1.1.1.1.1.1.1.1.0
-    no-points c.fill.new.1.1.1.1.1.1.1.1.1.0
+done : (c : tie.After-fill-held)
+    → Filled (job c) (front (looks c) (job c) (first-j c) (most c) (budget (looks c) (job c))) (on-page c) c.fill-held.result
+    no-indices c.fill-held.new.indices
+    no-points c.fill-held.new.points
 done c =
     let b = allowed c in
-    filled-first (looks c) (job c) (first-j c) (most c) b.every-pair.result c.fill.result _ _ _ _
-    b.before.before.from.ensures b.every-pair.ensures c.fill.ensures.0
+    filled-first (looks c) (job c) (first-j c) (most c) b.every_pair-budget.result c.fill-held.result _ _ _ _
+    b.from-start.ensures b.every_pair-budget.ensures c.fill-held.ensures.0
 
-few : (c : tie.After-fill) → c.fill.result.rows ≤ most c
+few : (c : tie.After-fill-held) → c.fill-held.result.rows ≤ most c
 few c = omega (arith, (done c).rows, (joins-every (looks c) (job c) (most c)).few)
 
-long-indices : (c : tie.After-fill) → length c.fill.new.1.1.1.1.1.1.1.1.0 ≡ held_rows * indices_a_row
+long-indices : (c : tie.After-fill-held) → length c.fill-held.new.indices ≡ held_rows * indices_a_row
 long-indices c =
     ap length (done c).indices ∙ length-sets no-indices 0 (numbers_of_rows indices_of (on-page c).rows) ∙ long-no-indices
 
-long-points : (c : tie.After-fill) → length c.fill.new.1.1.1.1.1.1.1.1.1.0 ≡ held_rows * points_a_row
+long-points : (c : tie.After-fill-held) → length c.fill-held.new.points ≡ held_rows * points_a_row
 long-points c = ap length (done c).points ∙ length-sets no-points 0 (numbers_of_rows points_of (on-page c).rows) ∙ long-no-points
 
-every-pair-requires : tie.Need-every-pair-requires
+every-pair-requires : tie.Need-every_pair-budget-requires
 every-pair-requires c κs =
-    let ready = c.before.before.before.before.before.before.before.before.requires.0.pairs in (ready.few, ready.few-second)
+    let ready = c.requires.0.pairs in (ready.few, ready.few-second)
 
-fill-requires : tie.Need-fill-requires
+fill-requires : tie.Need-fill-held-requires
 fill-requires c κs =
-    let b = c.before.before.before in
-    let e = b.before.lesser.ensures in
-    let h = b.before.before.before.before.before.before.before.before.before.requires in (
+    let e = c.lesser-most.ensures in
+    let h = c.requires in (
       all-ready h.0 _ _ _,
       (
         (omega arith, omega arith),
@@ -105,49 +104,45 @@ fill-requires c κs =
       ),
     )
 
-copy-rows-requires : tie.Need-copy-rows-requires
+copy-rows-requires : tie.Need-copy_rows-requires
 copy-rows-requires c κs =
     let f = c.before.before.before.before.before.before.before.before in
-    let e = (allowed f).before.lesser.ensures in
+    let e = (allowed f).lesser-most.ensures in
     let h = (start f).requires.1.0 in (
       (omega (arith, long-indices f, few f, e), omega (arith, long-points f, few f, e)),
       (omega (arith, few f, e, h), omega (arith, few f, e, h)),
     )
 
-returns : tie.Need-returns
+returns : tie.Need-returns-then-held
 returns c =
-    let k = c.before.before.before.before in
-    let t = k.before.before.before.before.before in
-    let f = t.before.before.before.before in
+    let f = c.before.before.before.before.before.before.before.before.before.before.before.before.before in
     let a = (start f).args in
-    let e = (allowed f).before.lesser.ensures in
+    let e = (allowed f).lesser-most.ensures in
     let d = done f in
     held_back (looks f) (pairs f) a.indices.now a.points.now (joins-every (looks f) (job f) (most f))
-    (omega (arith, e, (start f).requires.1.0)) (sym d.ended ∙ t.if1.true) _ _ no-indices _ _ no-points _ _
+    (omega (arith, e, (start f).requires.1.0)) (sym d.ended ∙ c.if-held.true) _ _ no-indices _ _ no-points _ _
     d.rows d.looked (omega (arith, e, long-no-indices)) (omega (arith, e, long-no-points))
-    d.indices d.points k.copy-rows.ensures.0 k.copy-rows.ensures.1
+    d.indices d.points c.copy_rows.ensures.0 c.copy_rows.ensures.1
 
-returns-2 : tie.Need-returns-2
+returns-2 : tie.Need-returns-then-room-le-ROWS
 returns-2 c =
-    let t = c.before in
-    let f = t.before.before.before.before.before in
+    let f = c.before.before.before.before.before.before in
     let a = (start f).args in
-    let more = too-many-every (looks f) (job f) (most f) (sym (done f).ended ∙ t.before.if1.false) in
-    let e = (allowed f).before.lesser.ensures in
-    is-refused (looks f) (pairs f) a.indices.now a.points.now (omega (arith, more, e, (start f).requires.1.0, t.if2.true))
+    let more = too-many-every (looks f) (job f) (most f) (sym (done f).ended ∙ c.if-held.false) in
+    let e = (allowed f).lesser-most.ensures in
+    is-refused (looks f) (pairs f) a.indices.now a.points.now (omega (arith, more, e, (start f).requires.1.0, c.if-room-le-ROWS.true))
     _ _ refl refl _ c.whole.ensures
 
-list-behind-requires : tie.Need-list-behind-requires
+list-behind-requires : tie.Need-list_behind-requires
 list-behind-requires c κs =
-    let o = c.before.before.before.before in
-    let f = o.before.before.before.before.before in
-    let all : most f ≡ held_rows = omega (arith, (allowed f).before.lesser.ensures, o.if2.false) in
-    let behind = hold (looks f) (job f) (first-j f) held_rows (most f) f.fill.result no-indices _ no-points _ all (done f)
-    o.before.if1.false long-no-indices long-no-points in
-    ((start f).requires.0, ((start f).requires.1.0, (omega (arith, o.if2.false), (behind, (start f).requires.1.1))))
+    let f = c.before.before.before.before.before.before.before.before.before in
+    let all : most f ≡ held_rows = omega (arith, (allowed f).lesser-most.ensures, c.if-room-le-ROWS.false) in
+    let behind = hold (looks f) (job f) (first-j f) held_rows (most f) f.fill-held.result no-indices _ no-points _ all (done f)
+    c.if-held.false long-no-indices long-no-points in
+    ((start f).requires.0, ((start f).requires.1.0, (omega (arith, c.if-room-le-ROWS.false), (behind, (start f).requires.1.1))))
 
-pub list-held-back-spec : {M : Type 1} → statement M
-list-held-back-spec =
+pub list_held_back_spec : {M : Type 1} → statement M
+list_held_back_spec =
     tie.close
     (tie.spec
     (λ c. search rules) (λ c. search rules) every-pair-requires (λ c. search rules) (λ c. search rules) (λ c. search rules)

@@ -13,24 +13,23 @@ neither : (a b : Bool) → (a || b) ≡ false → a ≡ false
 neither true b e = e
 neither false b e = refl
 
-abbrev start : tie.After-every-pair → tie.Start
+abbrev start : tie.After-every_pair-pairs → tie.Start
 start c = c.before.before.before.before.before.before
 
-every-pair-requires : tie.Need-every-pair-requires
-every-pair-requires c κs = let ready = c.before.before.before.before.before.requires.pairs in (ready.few, ready.few-second)
+every-pair-requires : tie.Need-every_pair-pairs-requires
+every-pair-requires c κs = let ready = c.requires.pairs in (ready.few, ready.few-second)
 
-list-by-requires : tie.Need-list-by-requires
+list-by-requires : tie.Need-list_by-requires
 list-by-requires c κs = ((start c.before.before.before.before).requires, (λ e. absurd (true≢false (sym e))))
 
-list-sieved-requires : tie.Need-list-sieved-requires
+list-sieved-requires : tie.Need-list_sieved-requires
 list-sieved-requires c κs =
-    let o = c.before.before in
-    let s = start o.before.before in
-    let few = ltb-false most_vertices s.args.job.m (neither (ltb most_vertices s.args.job.m) _ o.if1.false) in
-    (s.pre, omega (arith, few))
+    let s = start c.before.before.before.before in
+    let few = ltb-false most_vertices s.args.job.m (neither (ltb most_vertices s.args.job.m) _ c.if-m-pairs.false) in
+    (s.requires, omega (arith, few))
 
-pub list-kept-spec : {M : Type 1} → statement M
-list-kept-spec =
+pub list_kept_spec : {M : Type 1} → statement M
+list_kept_spec =
     tie.close
     (tie.spec
     every-pair-requires list-by-requires (λ c. search rules) (λ c. search rules) (λ c. search rules)

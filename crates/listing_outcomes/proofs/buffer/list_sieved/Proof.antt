@@ -10,42 +10,40 @@ use Rattle.sieves.specs.Workings.Lines.{numbers_of_side, SidesKept, sides-kept, 
 use Rattle.listing_outcomes.proofs.buffer.list_sieved.Statement.{statement}
 use Rattle.listing_outcomes.proofs.buffer.list_sieved.Tie as tie
 
-abbrev start : tie.After-sides → tie.Start
+abbrev start : tie.After-sides-1 → tie.Start
 start c = c.before.before.before.before.before.before
 
 long : (z : Float) → length (replicate (most_vertices * numbers_of_side) z) ≡ most_vertices * numbers_of_side
 long z = length-replicate (most_vertices * numbers_of_side) z
 
-keep-sides-requires : tie.Need-keep-sides-requires
+keep-sides-requires : tie.Need-keep_sides-requires
 keep-sides-requires c κs =
     let p = (start c).requires in
     ((p.0.pairs.m-within, p.0.pairs.few-second), omega (arith, long (of_bits binary64 0), p.1))
 
 -- what the sieve keeps
-sides : (k : tie.After-keep-sides)
-    → let a = (start k.before).args in SidesKept a.second.now k.keep-sides.new.1.1.1.0 a.job.epsilon a.job.m
+sides : (k : tie.After-keep_sides)
+    → let a = (start k.before).args in SidesKept a.second.now k.keep_sides.new.sides a.job.epsilon a.job.m
 sides k =
     let p = (start k.before).requires in
-    sides-kept _ _ _ _ _ (omega (arith, long (of_bits binary64 0), p.1)) k.keep-sides.ensures
+    sides-kept _ _ _ _ _ (omega (arith, long (of_bits binary64 0), p.1)) k.keep_sides.ensures
 
-judged-requires : tie.Need-judged-requires
+judged-requires : tie.Need-judged-lines-requires
 judged-requires c κs =
     let k = c.before.before in ((start k.before).requires.0.pairs.few-second, (sides k).room)
 
-mul-sieved-2 : tie.Need-overflow-mul-sieved-2
+mul-sieved-2 : tie.Need-overflow_mul-sieved-2
 mul-sieved-2 c =
-    let j = c.before in
-    let k = j.before.before.before in
-    let s = start k.before in
-    let few = judged-few k.keep-sides.new.1.1.1.0 s.args.job.m s.args.job.m in
-    omega (arith, j.judged.ensures, few, s.pre.1)
+    let s = start c.before.before.before.before.before in
+    let few = judged-few c.keep_sides.new.sides s.args.job.m s.args.job.m in
+    omega (arith, c.judged-lines.ensures, few, s.requires.1)
 
-list-by-requires : tie.Need-list-by-requires
+list-by-requires : tie.Need-list_by-requires
 list-by-requires c κs =
     let k = c.before.before.before.before.before.before.before in ((start k.before).requires.0, (λ e. sides k))
 
-pub list-sieved-spec : {M : Type 1} → statement M
-list-sieved-spec =
+pub list_sieved_spec : {M : Type 1} → statement M
+list_sieved_spec =
     tie.close
     (tie.spec
     (λ c. search rules) keep-sides-requires (λ c. search rules) judged-requires (λ c. search rules) mul-sieved-2

@@ -18,13 +18,13 @@ all = most_vertices * numbers_kept + most_groups
 long : length (let z : Float = of_bits binary64 0 in replicate all z) ≡ all
 long = let z : Float = of_bits binary64 0 in length-replicate all z
 
-page-in-requires : tie.Need-page-in-requires
+page-in-requires : tie.Need-page_in-requires
 page-in-requires c κs =
-    let p = c.before.before.before.before.before.before.before.requires in (p.0, (p.1.0, omega (arith, long, p.1.1)))
+    let p = c.requires in (p.0, (p.1.0, omega (arith, long, p.1.1)))
 
-pub page-spec : {M : Type 1} → statement M
-page-spec =
+pub page_spec : {M : Type 1} → statement M
+page_spec =
     tie.close
     (tie.spec
     (λ c. search rules) page-in-requires (λ c. search rules) (λ c. search rules)
-    (λ c. c.before.before.before.before.before.page-in.ensures.0))
+    (λ c. c.page_in.ensures.0))

@@ -5,13 +5,11 @@ use Rattle.listing_pairs.specs.Workings.Joint.{near_shared}
 use Rattle.listing_pairs.proofs.joint.near_shared.Statement.{statement}
 use Rattle.listing_pairs.proofs.joint.near_shared.Tie as tie
 
-pub near-shared-spec : {M : Type 1} → statement M
+pub near_shared_spec : {M : Type 1} → statement M
 unfolding near_shared
-near-shared-spec =
+near_shared_spec =
     tie.close
     (tie.spec
     (λ c. search rules) (λ c. search rules) (λ c. search rules)
-    (λ c. let p = c.before in
-    let v = p.before in
-    simp (v.before.if1.true, v.vertex.ensures, p.pos.ensures, c.fuzzy-eq-eps.ensures))
-    (λ c. simp c.if1.false))
+    (λ c. simp (c.if-shared.true, c.vertex.ensures, c.pos.ensures, c.fuzzy_eq_eps.ensures))
+    (λ c. simp c.if-shared.false))

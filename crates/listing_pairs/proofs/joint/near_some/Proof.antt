@@ -5,11 +5,11 @@ use Rattle.listing_pairs.specs.Workings.Joint.{near_either}
 use Rattle.listing_pairs.proofs.joint.near_some.Statement.{statement}
 use Rattle.listing_pairs.proofs.joint.near_some.Tie as tie
 
-pub near-some-spec : {M : Type 1} → statement M
+pub near_some_spec : {M : Type 1} → statement M
 unfolding near_either
-near-some-spec =
+near_some_spec =
     tie.close
     (tie.spec
     (λ c. search rules)
-    (λ c κs. let s = c.before.before in omega (arith, s.requires))
-    (λ c. simp (c.before.near-shared.ensures, c.near-shared2.ensures)))
+    (λ c κs. omega (arith, c.requires))
+    (λ c. simp (c.near_shared-at_next.ensures, c.near_shared-at_start.ensures)))

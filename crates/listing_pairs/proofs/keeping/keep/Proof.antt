@@ -22,8 +22,6 @@ keep_spec =
     (λ c. simp length-set (omega arith))
     (λ c. search rules) (λ c. search rules)
     (λ c.
-    let s = c.before in
-    let l = s.before in
-    storing-turn _ _ l.before.loop.invariant l.loop-test.true s.segment-from.ensures c.kept_of.ensures)
+    storing-turn _ _ c.loop-j.invariant c.loop-j-test.true c.segment_from-s.ensures c.kept_of-k.ensures)
     (λ c. search rules)
-    (λ c. storing-ends c.before.loop.invariant c.loop-test.false))
+    (λ c. storing-ends c.loop-j.invariant c.loop-j-test.false))

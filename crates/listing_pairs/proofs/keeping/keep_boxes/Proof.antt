@@ -7,16 +7,11 @@ use Rattle.listing_pairs.proofs.keeping.keep_boxes.Tie as tie
 
 returns : tie.Need-returns
 returns c =
-    let last = c.before.before in
-    let g = last.before.before in
-    let one = g.before.before.before in
-    let all = one.before.before.before.before in
-    let s = all.before.before.before.before in
-    boxes-stored _ _ _ _ _ _ _ _ s.requires.1.1 all.keep-segment-boxes.ensures one.store-groups.ensures
-    g.group-count.ensures last.store-groups2.ensures
+    boxes-stored _ _ _ _ _ _ _ _ c.requires.1.1 c.keep_segment_boxes.ensures c.store_groups.ensures
+    c.group_count-groups.ensures c.store_groups-2.ensures
 
-pub keep-boxes-spec : {M : Type 1} → statement M
-keep-boxes-spec =
+pub keep_boxes_spec : {M : Type 1} → statement M
+keep_boxes_spec =
     tie.close
     (tie.spec
     (λ c κs. search rules) (λ c. search rules) (λ c κs. search rules) (λ c κs. search rules) (λ c. search rules)

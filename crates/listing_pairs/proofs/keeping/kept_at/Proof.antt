@@ -5,9 +5,9 @@ use borrow.Author.Rules.{rules}
 use Rattle.listing_pairs.proofs.keeping.kept_at.Statement.{statement}
 use Rattle.listing_pairs.proofs.keeping.kept_at.Tie as tie
 
-pub kept-at-spec : {M : Type 1} → statement M
+pub kept_at_spec : {M : Type 1} → statement M
 unfolding kept_at
-kept-at-spec =
+kept_at_spec =
     tie.close
     (tie.spec
     (λ c. search rules) (λ c. search rules) (λ c. search rules) (λ c. search rules) (λ c. search rules)

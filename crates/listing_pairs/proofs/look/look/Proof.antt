@@ -11,51 +11,47 @@ use Rattle.listing_pairs.specs.Workings.Ready.{apart, given}
 use Rattle.listing_pairs.proofs.look.look.Statement.{statement}
 use Rattle.listing_pairs.proofs.look.look.Tie as tie
 
-kept-at-requires : tie.Need-kept-at-requires
+kept-at-requires : tie.Need-kept_at-u_kept-requires
 kept-at-requires c κs =
-    let s = c.before.before.before in
-    omega (arith, s.requires.1.0.room)
+    omega (arith, c.requires.1.0.room)
 
-pline-seg-kept-requires : tie.Need-pline-seg-kept-requires
+pline-seg-kept-requires : tie.Need-pline_seg_kept-met-requires
 pline-seg-kept-requires c κs =
-    let g = c.before in
-    let s = g.before.before.before in
-    let h = s.requires in (
-      rw g.segment-from.ensures (h.0.fine s.args.j h.1.1.1.0),
+    let h = c.requires in (
+      rw c.segment_from-u.ensures (h.0.fine c.args.j h.1.1.1.0),
       (
         h.1.1.0,
-        c.kept_at.ensures ∙ h.1.0.is
-            ∙ ap (λ (u : Segment). of_segment u s.args.job.epsilon) (sym g.segment-from.ensures),
+        c.kept_at-u_kept.ensures ∙ h.1.0.is
+            ∙ ap (λ (u : Segment). of_segment u c.args.job.epsilon) (sym c.segment_from-u.ensures),
       ),
     )
 
-look-met-requires : tie.Need-look-met-requires
+look-met-requires : tie.Need-look_met-requires
 look-met-requires c κs =
-    let s = c.before.before.before.before.before.before in
-    (s.requires.1.1.1.1, omega (arith, s.requires.0.m-within, s.requires.1.1.1.0))
+    (c.requires.1.1.1.1, omega (arith, c.requires.0.m-within, c.requires.1.1.1.0))
 
 -- how the two segments meet
-met : (c : tie.After-pline-seg-kept)
-    → let a = c.before.before.before.before.before.args in
+met : (c : tie.After-pline_seg_kept-met)
+    → let a = c.args in
     let u = segment_from a.second.now a.j in
-    c.pline-seg-kept.result ≡ pline_seg a.v.v1 a.v.v2 u.v1 u.v2 a.job.epsilon
+    c.pline_seg_kept-met.result ≡ pline_seg a.v.v1 a.v.v2 u.v1 u.v2 a.job.epsilon
 met c =
-    let a = c.before.before.before.before.before.args in
-    c.pline-seg-kept.ensures
+    let a = c.args in
+    c.pline_seg_kept-met.ensures
     ∙ ap (λ (u : Segment). pline_seg a.v.v1 a.v.v2 u.v1 u.v2 a.job.epsilon)
-    c.before.before.segment-from.ensures
+    c.segment_from-u.ensures
 
-returns : tie.Need-returns
+returns : tie.Need-returns-in-NoIntersect
 returns c =
-    let k = c.before.before in
-    let a = k.before.before.before.before.before.args in
-    apart a.v a.second.now a.job a.i a.j _ (met k) c.enum_told.given.1
+    let k = c.before in
+    let a = k.args in
+    apart a.v a.second.now a.job a.i a.j _ (met k) c.in-NoIntersect.is
 
-returns-2 : tie.Need-returns-2
+returns-2 : tie.Need-returns
 returns-2 c =
     let k = c.before.before in
-    let a = k.before.before.before.before.before.args in
-    given a.v a.second.now a.job a.i a.j _ (met k) _ c.look-met.ensures
+    let a = k.args in
+    given a.v a.second.now a.job a.i a.j _ (met k) _ c.look_met.ensures
 
 pub look_spec : {M : Type 1} → statement M
 look_spec =

@@ -4,20 +4,19 @@ use Rattle.listing_pairs.specs.Workings.Ready.{at-a-joint, elsewhere}
 use Rattle.listing_pairs.proofs.look.look_met.Statement.{statement}
 use Rattle.listing_pairs.proofs.look.look_met.Tie as tie
 
-abbrev start : tie.After-at-joint → tie.Start
+abbrev start : tie.After-at_joint → tie.Start
 start c = c.before.before
 
-pub look-met-spec : {M : Type 1} → statement M
-look-met-spec =
+pub look_met_spec : {M : Type 1} → statement M
+look_met_spec =
     tie.close
     (tie.spec
     (λ c κs. search rules)
     (λ c.
     let a = (start c.before).args in
-    at-a-joint a.second.now a.job a.i a.j a.met _ c.before.at-joint.ensures c.if1.true)
+    at-a-joint a.second.now a.job a.i a.j a.met _ c.at_joint.ensures c.if-at_joint.true)
     (λ c κs. search rules)
     (λ c.
-    let e = c.before in
-    let a = (start e.before).args in
-    elsewhere a.second.now a.job a.i a.j a.met _ e.before.at-joint.ensures e.if1.false _
-    c.look-of.ensures))
+    let a = (start c.before.before).args in
+    elsewhere a.second.now a.job a.i a.j a.met _ c.at_joint.ensures c.if-at_joint.false _
+    c.look_of.ensures))

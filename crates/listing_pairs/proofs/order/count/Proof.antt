@@ -13,13 +13,9 @@ count_spec =
     (λ job sum₀ i₀ sum i. Counting job sum i) (λ job sum₀ i₀ sum i. job.n - i) (λ c. counting-starts _)
     (λ c κs. search rules)
     (λ c.
-    let t = c.before in
-    let l = t.before.before in
-    let few = counting-few _ l.loop.invariant t.if1.true c.pairs-at.ensures l.before.requires.1 l.before.requires.0 in
+    let few = counting-few _ c.loop-i.invariant c.loop-i-test.true c.pairs_at-sum.ensures c.requires.1 c.requires.0 in
     omega (arith, few))
     (λ c. search rules) (λ c. search rules)
     (λ c.
-    let t = c.before in
-    let l = t.before.before in
-    counting-turn _ l.loop.invariant t.if1.true c.pairs-at.ensures l.before.requires.1)
-    (λ c. counting-ends c.before.before.loop.invariant c.if1.false))
+    counting-turn _ c.loop-i.invariant c.loop-i-test.true c.pairs_at-sum.ensures c.requires.1)
+    (λ c. counting-ends c.loop-i.invariant c.loop-i-test.false))

@@ -13,26 +13,20 @@ use Rattle.listing_pairs.specs.Workings.Position.{
 use Rattle.listing_pairs.proofs.order.locate.Statement.{statement}
 use Rattle.listing_pairs.proofs.order.locate.Tie as tie
 
-pub locate-spec : {M : Type 1} → statement M
-locate-spec =
+pub locate_spec : {M : Type 1} → statement M
+locate_spec =
     tie.close
     (tie.spec
     (λ job position rest₀ i₀ rest i. Locating job position rest i) (λ job position rest₀ i₀ rest i. job.n - i)
     (λ c. locating-starts _ _) (λ c κs. search rules) (λ c κs. search rules)
     (λ c.
-    let p = c.before.before in
-    let l = p.before.before.before in
-    let few = locating-few _ l.loop.invariant p.before.if1.true p.pairs-at.ensures _ c.from.ensures
-    c.before.if2.true in
-    omega (arith, few, l.before.requires.1))
+    let few = locating-few _ c.loop-i.invariant c.loop-i-test.true c.pairs_at-here.ensures _ c.from.ensures
+    c.if-rest-here.true in
+    omega (arith, few, c.requires.1))
     (λ c.
-    let p = c.before.before in
-    let l = p.before.before.before in
-    locating-here _ l.loop.invariant p.before.if1.true p.pairs-at.ensures _ c.from.ensures c.before.if2.true)
+    locating-here _ c.loop-i.invariant c.loop-i-test.true c.pairs_at-here.ensures _ c.from.ensures c.if-rest-here.true)
     (λ c. search rules) (λ c. search rules)
     (λ c.
-    let p = c.before in
-    let l = p.before.before.before in
-    locating-turn _ l.loop.invariant p.before.if1.true p.pairs-at.ensures c.if2.false)
+    locating-turn _ c.loop-i.invariant c.loop-i-test.true c.pairs_at-here.ensures c.if-rest-here.false)
     (λ c κs. search rules)
-    (λ c. locating-ends _ c.before.before.before.loop.invariant c.before.if1.false c.from2.ensures))
+    (λ c. locating-ends _ c.loop-i.invariant c.loop-i-test.false c.from-2.ensures))

@@ -33,10 +33,10 @@ module _ (i j : ℕ) (met : PlineSegIntr) (m : ClassAndPoints) (is : m ≡ class
       go zero e = absurd (e refl)
       go (suc class) e = refl
 
-pub look-of-spec : {M : Type 1} → statement M
-look-of-spec =
+pub look_of_spec : {M : Type 1} → statement M
+look_of_spec =
     tie.close
     (tie.spec
     (λ c κs. tt)
-    (λ c. no_row _ _ _ _ c.before.before.class-and-points.ensures c.if1.true)
-    (λ c. a-row _ _ _ _ c.before.before.class-and-points.ensures c.if1.false))
+    (λ c. no_row _ _ _ _ c.class_and_points-m.ensures c.if-m-eq0.true)
+    (λ c. a-row _ _ _ _ c.class_and_points-m.ensures c.if-m-eq0.false))

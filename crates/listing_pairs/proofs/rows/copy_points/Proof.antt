@@ -5,12 +5,12 @@ use Rattle.float_laws.specs.Stores.{Copied, copy-starts, copy-turn, copy-ends}
 use Rattle.listing_pairs.proofs.rows.copy_points.Statement.{statement}
 use Rattle.listing_pairs.proofs.rows.copy_points.Tie as tie
 
-pub copy-points-spec : {M : Type 1} → statement M
-copy-points-spec =
+pub copy_points_spec : {M : Type 1} → statement M
+copy_points_spec =
     tie.close
     (tie.spec
     (λ from n to₀ k₀ to k. Copied from n to₀ to k) (λ from n to₀ k₀ to k. n - k) (λ c. copy-starts _ _ _)
     (λ c. search rules) (λ c. search rules) (λ c. search rules) (λ c. search rules) (λ c. search rules)
     (λ c. search rules)
-    (λ c. copy-turn _ c.before.before.loop.invariant (search rules) (search rules) (search rules))
-    (λ c. search rules) (λ c. copy-ends c.before.loop.invariant (search rules)))
+    (λ c. copy-turn _ c.loop-k.invariant (search rules) (search rules) (search rules))
+    (λ c. search rules) (λ c. copy-ends c.loop-k.invariant (search rules)))

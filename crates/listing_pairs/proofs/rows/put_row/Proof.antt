@@ -7,8 +7,8 @@ use borrow.Author.Rules.{rules}
 use Rattle.listing_pairs.proofs.rows.put_row.Statement.{statement}
 use Rattle.listing_pairs.proofs.rows.put_row.Tie as tie
 
-pub put-row-spec : {M : Type 1} → statement M
-put-row-spec =
+pub put_row_spec : {M : Type 1} → statement M
+put_row_spec =
     tie.close
     (tie.spec
     (λ c. search rules) (λ c. search rules) (λ c. search rules) (λ c. search rules) (λ c. search rules)
@@ -22,5 +22,5 @@ put-row-spec =
     (λ c. search rules) (λ c. search rules)
     (λ c. simp length-set (omega arith))
     (λ c. search rules) (λ c. search rules)
-    (λ c. (put-indices _ _ _ c.if1.true _, put-points _ _ _ c.if1.true _))
-    (λ c. (no-indices _ _ _ c.if1.false _, no-points _ _ _ c.if1.false _)))
+    (λ c. (put-indices _ _ _ c.if-write.true _, put-points _ _ _ c.if-write.true _))
+    (λ c. (no-indices _ _ _ c.if-write.false _, no-points _ _ _ c.if-write.false _)))

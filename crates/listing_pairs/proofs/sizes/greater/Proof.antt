@@ -3,5 +3,5 @@ use native.Mathlib.Omega.{arith}
 use Rattle.listing_pairs.proofs.sizes.greater.Statement.{statement}
 use Rattle.listing_pairs.proofs.sizes.greater.Tie as tie
 
-pub greater-spec : {M : Type 1} → statement M
-greater-spec = tie.close (tie.spec (λ c. omega (arith, c.if1.true)) (λ c. omega (arith, c.if1.false)))
+pub greater_spec : {M : Type 1} → statement M
+greater_spec = tie.close (tie.spec (λ c. omega (arith, c.if-a-b.true)) (λ c. omega (arith, c.if-a-b.false)))

@@ -5,5 +5,5 @@ use borrow.Author.Rules.{rules}
 use Rattle.listing_pairs.proofs.sizes.less.Statement.{statement}
 use Rattle.listing_pairs.proofs.sizes.less.Tie as tie
 
-pub less-spec : {M : Type 1} → statement M
-less-spec = tie.close (tie.spec (λ c. omega (arith, c.if1.true)) (λ c. search rules) (λ c. refl))
+pub less_spec : {M : Type 1} → statement M
+less_spec = tie.close (tie.spec (λ c. omega (arith, c.if-a-b.true)) (λ c. search rules) (λ c. refl))

@@ -16,44 +16,44 @@ use Rattle.listing_pairs.specs.Workings.Tracks.{other, group_trace}
 use Rattle.listing_pairs.proofs.tracks.group_trace.Statement.{statement}
 use Rattle.listing_pairs.proofs.tracks.group_trace.Tie as tie
 
-abbrev start : tie.After-trace → tie.Start
+abbrev start : tie.After-trace-trace → tie.Start
 start c = c.before.before.before
 
 -- the tests of traces, in the definition's words
-low : (c : tie.After-trace) {b : Bool} → not (c.trace.result ≻ f0) ≡ b
+low : (c : tie.After-trace-trace) {b : Bool} → not (c.trace-trace.result ≻ f0) ≡ b
     → not (trace (start c).args.path.now ((start c).args.g * group_size) ≻ f0) ≡ b
-low c e = sym (ap (λ (t : Float). not (t ≻ f0)) c.trace.ensures) ∙ e
+low c e = sym (ap (λ (t : Float). not (t ≻ f0)) c.trace-trace.ensures) ∙ e
 
-found : (c : tie.After-next-other)
+found : (c : tie.After-next_other)
     → let a = (start c.before.before).args in
     let from = a.g * group_size in
     let t = trace a.path.now from in
-    ltb c.next-other.result (from + group_size)
+    ltb c.next_other.result (from + group_size)
     ≡ ltb (first (other a.path.now t) from (from + group_size)) (from + group_size)
 found c =
     let a = (start c.before.before).args in
     let from = a.g * group_size in
     ap (λ (k : ℕ). ltb k (from + group_size))
-    (c.next-other.ensures
-    ∙ ap (λ (t : Float). first (other a.path.now t) from (from + group_size)) c.before.before.trace.ensures)
+    (c.next_other.ensures
+    ∙ ap (λ (t : Float). first (other a.path.now t) from (from + group_size)) c.trace-trace.ensures)
 
-pub group-trace-spec : {M : Type 1} → statement M
+pub group_trace_spec : {M : Type 1} → statement M
 unfolding group_trace
-group-trace-spec =
+group_trace_spec =
     tie.close
     (tie.spec
-    (λ c. omega (arith, c.before.requires.1)) (λ c. omega (arith, c.before.requires.1))
-    (λ c. holds _ _ _ _ (lt-ltb _ _ c.if1.true) refl)
-    (λ c κs. omega (arith, c.if1.false, c.before.before.requires.0))
+    (λ c. omega (arith, c.requires.1)) (λ c. omega (arith, c.requires.1))
+    (λ c. holds _ _ _ _ (lt-ltb _ _ c.if-n-to.true) refl)
+    (λ c κs. omega (arith, c.if-n-to.false, c.requires.0))
     (λ c. let t = c.before in
-    fails _ _ _ _ (le-ltb _ _ t.before.if1.false) (holds _ _ _ _ (low t c.if2.true) refl))
-    (λ c κs. let e = c.before.before in (omega arith, omega (arith, e.if1.false, e.before.before.requires.0)))
+    fails _ _ _ _ (le-ltb _ _ t.if-n-to.false) (holds _ _ _ _ (low t (ap not c.if-not-trace.true)) refl))
+    (λ c κs. (omega arith, omega (arith, c.if-n-to.false, c.requires.0)))
     (λ c. let n = c.before in
     let t = n.before.before in
-    fails _ _ _ _ (le-ltb _ _ t.before.if1.false)
-    (fails _ _ _ _ (low t n.before.if2.false) (holds _ _ _ _ (sym (found n) ∙ lt-ltb _ _ c.if3.true) refl)))
+    fails _ _ _ _ (le-ltb _ _ t.if-n-to.false)
+    (fails _ _ _ _ (low t (ap not n.if-not-trace.false)) (holds _ _ _ _ (sym (found n) ∙ lt-ltb _ _ c.if-next_other-to.true) refl)))
     (λ c. let n = c.before in
     let t = n.before.before in
-    fails _ _ _ _ (le-ltb _ _ t.before.if1.false)
-    (fails _ _ _ _ (low t n.before.if2.false)
-    (fails _ _ _ _ (sym (found n) ∙ le-ltb _ _ c.if3.false) t.trace.ensures))))
+    fails _ _ _ _ (le-ltb _ _ t.if-n-to.false)
+    (fails _ _ _ _ (low t (ap not n.if-not-trace.false))
+    (fails _ _ _ _ (sym (found n) ∙ le-ltb _ _ c.if-next_other-to.false) t.trace-trace.ensures))))

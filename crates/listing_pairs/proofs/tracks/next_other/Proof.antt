@@ -11,29 +11,27 @@ use Rattle.listing_pairs.specs.Workings.Tracks.{other}
 use Rattle.listing_pairs.proofs.tracks.next_other.Statement.{statement}
 use Rattle.listing_pairs.proofs.tracks.next_other.Tie as tie
 
-abbrev invariant-loop : tie.invariant-loop
+abbrev invariant-loop : tie.invariant-loop-k
 invariant-loop path trace j end k₀ k = Finding (other path trace) j end k
 
-abbrev decreases-loop : tie.decreases-loop
+abbrev decreases-loop : tie.decreases-loop-k
 decreases-loop path trace j end k₀ k = end - k
 
 -- the trace that is sought
-abbrev sought : tie.In-loop invariant-loop decreases-loop → Float
-sought l = l.before.before.before.args.trace
+abbrev sought : tie.In-loop-k invariant-loop decreases-loop → Float
+sought l = l.args.trace
 
-pub next-other-spec : {M : Type 1} → statement M
-next-other-spec =
+pub next_other_spec : {M : Type 1} → statement M
+next_other_spec =
     tie.close
     (tie.spec
     invariant-loop decreases-loop
-    (λ c. finding-starts _ _ _ c.before.requires.0)
-    (λ c κs. omega (arith, c.loop-test.true, c.before.before.before.requires))
-    (λ c. let t = c.before in
-    let l = t.before in
-    finding-here l.before.loop.invariant _ l.loop-test.true (ap (λ (u : Float). not (sought l ≈ u)) t.trace.ensures) c.if1.true)
-    (λ c. let l = c.before.before in omega (arith, l.loop-test.true))
-    (λ c. let l = c.before.before in omega (arith, l.loop-test.true))
-    (λ c. let t = c.before in
-    let l = t.before in
-    finding-on l.before.loop.invariant _ l.loop-test.true (ap (λ (u : Float). not (sought l ≈ u)) t.trace.ensures) c.if1.false)
-    (λ c. finding-ends c.before.loop.invariant c.loop-test.false))
+    (λ c. finding-starts _ _ _ c.requires.0)
+    (λ c κs. omega (arith, c.loop-k-test.true, c.requires))
+    (λ c. let l = c.before.before in
+    finding-here l.loop-k.invariant _ l.loop-k-test.true (ap (λ (u : Float). not (sought l ≈ u)) c.trace.ensures) (ap not c.if-not-trace.true))
+    (λ c. omega (arith, c.loop-k-test.true))
+    (λ c. omega (arith, c.loop-k-test.true))
+    (λ c. let l = c.before.before in
+    finding-on l.loop-k.invariant _ l.loop-k-test.true (ap (λ (u : Float). not (sought l ≈ u)) c.trace.ensures) (ap not c.if-not-trace.false))
+    (λ c. finding-ends c.loop-k.invariant c.loop-k-test.false))

@@ -7,13 +7,13 @@ use Rattle.listing_pairs.specs.Workings.Tracks.{past_group}
 use Rattle.listing_pairs.proofs.tracks.past_group.Statement.{statement}
 use Rattle.listing_pairs.proofs.tracks.past_group.Tie as tie
 
-pub past-group-spec : {M : Type 1} → statement M
+pub past_group_spec : {M : Type 1} → statement M
 unfolding past_group
-past-group-spec =
+past_group_spec =
     tie.close
     (tie.spec
     (λ c. omega (arith, c.requires.0)) (λ c. omega (arith, c.requires.0)) (λ c. omega (arith, c.requires.0))
-    (λ c. let p = c.before.requires in omega (arith, p))
-    (λ c. omega (arith, c.before.before.requires.0)) (λ c. omega (arith, c.before.before.requires.0))
-    (λ c. holds _ _ _ _ c.if1.true refl)
-    (λ c. fails _ _ _ _ c.if1.false refl))
+    (λ c. let p = c.requires in omega (arith, p))
+    (λ c. omega (arith, c.requires.0)) (λ c. omega (arith, c.requires.0))
+    (λ c. holds _ _ _ _ c.if-trace-kept.true refl)
+    (λ c. fails _ _ _ _ c.if-trace-kept.false refl))

@@ -7,13 +7,13 @@ use Rattle.listing_pairs.specs.Workings.Tracks.{past_others}
 use Rattle.listing_pairs.proofs.tracks.past_others.Statement.{statement}
 use Rattle.listing_pairs.proofs.tracks.past_others.Tie as tie
 
-pub past-others-spec : {M : Type 1} → statement M
+pub past_others_spec : {M : Type 1} → statement M
 unfolding past_others
-past-others-spec =
+past_others_spec =
     tie.close
     (tie.spec
     (λ c. omega (arith, c.requires.0)) (λ c. omega (arith, c.requires.0)) (λ c. omega (arith, c.requires.0))
-    (λ c. let p = c.before.requires in omega (arith, p))
-    (λ c. omega (arith, c.before.before.requires.0)) (λ c. omega (arith, c.before.before.requires.0))
-    (λ c. holds _ _ _ _ c.if1.true refl)
-    (λ c. fails _ _ _ _ c.if1.false refl))
+    (λ c. let p = c.requires in omega (arith, p))
+    (λ c. omega (arith, c.requires.0)) (λ c. omega (arith, c.requires.0))
+    (λ c. holds _ _ _ _ c.if-other-trace.true refl)
+    (λ c. fails _ _ _ _ c.if-other-trace.false refl))

@@ -7,24 +7,23 @@ use Rattle.month.specs.Laws.Words.{Adding, adding-starts, adding-same, adding-lo
 use Rattle.month.proofs.add.add_words.Statement.{statement}
 use Rattle.month.proofs.add.add_words.Tie as tie
 
-abbrev invariant-loop : tie.invariant-loop
+abbrev invariant-loop : tie.invariant-loop-k
 invariant-loop into₀ other k₀ into k = Adding into₀ other into k
 
-abbrev decreases-loop : tie.decreases-loop
+abbrev decreases-loop : tie.decreases-loop-k
 decreases-loop into₀ other k₀ into k = words - k
 
 -- word k of the report is still what it was, and so its sum fits
-add-into : tie.Need-overflow-add-into invariant-loop decreases-loop
+add-into : tie.Need-overflow_add-into invariant-loop decreases-loop
 add-into c =
-    let at = c.before.before.before in
-    omega (arith, adding-same at.loop.invariant, at.before.requires.1.each at.loop.k (search rules))
+    omega (arith, adding-same c.loop-k.invariant, c.requires.1.each c.loop-k.k (search rules))
 
-pub add-words-spec : {M : Type 1} → statement M
-add-words-spec =
+pub add_words_spec : {M : Type 1} → statement M
+add_words_spec =
     tie.close
     (tie.spec invariant-loop decreases-loop (λ c. adding-starts _ _)
     (λ c. search rules) (λ c. search rules) (λ c. search rules)
-    (λ c. omega (arith, adding-long c.before.before.before.loop.invariant)) add-into
-    (λ c. omega (arith, adding-long c.before.before.before.loop.invariant)) (λ c. search rules) (λ c. search rules)
-    (λ c. adding-turn c.before.before.before.loop.invariant (search rules) (search rules) (search rules))
-    (λ c. adding-long c.before.loop.invariant) (λ c. adding-ends c.before.loop.invariant (search rules)))
+    (λ c. omega (arith, adding-long c.loop-k.invariant)) add-into
+    (λ c. omega (arith, adding-long c.loop-k.invariant)) (λ c. search rules) (λ c. search rules)
+    (λ c. adding-turn c.loop-k.invariant (search rules) (search rules) (search rules))
+    (λ c. adding-long c.loop-k.invariant) (λ c. adding-ends c.loop-k.invariant (search rules)))

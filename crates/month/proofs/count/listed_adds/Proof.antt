@@ -7,19 +7,16 @@ use Rattle.month.proofs.count.listed_adds.Tie as tie
 returns : tie.Need-returns
 unfolding listed_adds
 returns c =
-    let d = c.before in
-    let e = d.before in
-    let f = e.before in
     simp (
-      f.before.count-class.ensures,
-      f.count-class2.ensures,
-      e.count-class3.ensures,
-      d.count-class4.ensures,
-      c.count-class5.ensures,
+      c.count_class-tangent.ensures,
+      c.count_class-one.ensures,
+      c.count_class-two.ensures,
+      c.count_class-lines.ensures,
+      c.count_class-arcs.ensures,
     )
 
-pub listed-adds-spec : {M : Type 1} → statement M
-listed-adds-spec =
+pub listed_adds_spec : {M : Type 1} → statement M
+listed_adds_spec =
     tie.close
     (tie.spec
     (λ c. search rules) (λ c. search rules) (λ c. search rules) (λ c. search rules) (λ c. search rules) (λ c. search rules)

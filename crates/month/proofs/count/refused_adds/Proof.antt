@@ -9,6 +9,6 @@ returns : tie.Need-returns
 unfolding refused_adds
 returns c = refl
 
-pub refused-adds-spec : {M : Type 1} → statement M
-refused-adds-spec =
+pub refused_adds_spec : {M : Type 1} → statement M
+refused_adds_spec =
     tie.close (tie.spec (λ c. search rules) (λ c. search rules) (λ c. search rules) (λ c. search rules) returns)

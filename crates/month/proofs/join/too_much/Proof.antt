@@ -7,8 +7,8 @@ use Rattle.month.specs.Laws.Words.{MuchLeft, much-found, much-on, looking-ends, 
 use Rattle.month.proofs.join.too_much.Statement.{statement}
 use Rattle.month.proofs.join.too_much.Tie as tie
 
-pub too-much-spec : {M : Type 1} → statement M
-too-much-spec =
+pub too_much_spec : {M : Type 1} → statement M
+too_much_spec =
     tie.close
     (tie.spec
     (λ into other k₀ k. MuchLeft into other k) (λ into other k₀ k. words - k)
@@ -17,9 +17,9 @@ too-much-spec =
     (λ c. much-by-layouts _ _ (search rules) (search rules) (search rules))
     (λ c. much-starts _ _ (search rules) (search rules) (search rules))
     (λ c. search rules) (λ c. search rules) (λ c. search rules) (λ c. search rules)
-    (λ c. omega (arith, c.shared-slice-known5.given c.before.before.before.loop.k))
-    (λ c. much-found _ _ (search rules) (search rules) _ c.before.before.before.before.loop.invariant (search rules) (search rules))
+    (λ c. omega (arith, c.shared_slice_known-in-loop-k-2-1.given c.loop-k.k))
+    (λ c. much-found _ _ (search rules) (search rules) _ c.loop-k.invariant (search rules) (search rules))
     (λ c. search rules) (λ c. search rules)
-    (λ c. much-on _ _ (search rules) (search rules) _ c.before.before.before.before.loop.invariant (search rules)
-    (omega (arith, c.before.shared-slice-known5.given c.before.before.before.before.loop.k)))
-    (λ c. looking-ends c.before.loop.invariant (search rules)))
+    (λ c. much-on _ _ (search rules) (search rules) _ c.loop-k.invariant (search rules)
+    (omega (arith, c.shared_slice_known-in-loop-k-2-1.given c.loop-k.k)))
+    (λ c. looking-ends c.loop-k.invariant (search rules)))

@@ -6,31 +6,26 @@ use Rattle.month.specs.Laws.Listings.{mutual-countable, mutual-written}
 use Rattle.month.proofs.mutual_counted.mutual_counted.Statement.{statement}
 use Rattle.month.proofs.mutual_counted.mutual_counted.Tie as tie
 
-returns-2 : tie.Need-returns-2
+returns-2 : tie.Need-returns-then-full
 returns-2 c =
-    counted-full _ _ _ _ _ _ _ _ (search rules) _ c.before.before.full.ensures c.before.if2.true _ c.whole.ensures
+    counted-full _ _ _ _ _ _ _ _ (search rules) _ c.full.ensures c.if-full.true _ c.whole.ensures
 
 count-requires : tie.Need-count-requires
 count-requires c κs =
-    let m = c.before.before.before.before.before.before in
-    let e = m.before.before.before in
-    mutual-countable _ _ _ _ _ _ _ _ (search rules) (sym e.before.full.ensures ∙ e.if2.false) _ _ _
-    m.mutual-listing.ensures
+    mutual-countable _ _ _ _ _ _ _ _ (search rules) (sym c.full.ensures ∙ c.if-full.false) _ _ _
+    c.mutual_listing-answer.ensures
 
-returns-3 : tie.Need-returns-3
+returns-3 : tie.Need-returns
 returns-3 c =
-    let n = c.before.before in
-    let m = n.before.before.before.before.before.before.before in
-    let e = m.before.before.before in
-    let report = e.before.before.before.before.before.before.before.before.before.args.report.now in
-    counted-listed _ _ _ _ _ _ _ _ (search rules) _ e.before.full.ensures e.if2.false _ _ _ _
-    m.mutual-listing.ensures
-    (mutual-written _ _ _ _ _ _ _ report _ _ _ m.mutual-listing.ensures _ n.count.ensures)
+    let report = c.args.report.now in
+    counted-listed _ _ _ _ _ _ _ _ (search rules) _ c.full.ensures c.if-full.false _ _ _ _
+    c.mutual_listing-answer.ensures
+    (mutual-written _ _ _ _ _ _ _ report _ _ _ c.mutual_listing-answer.ensures _ c.count.ensures)
 
-pub mutual-counted-spec : {M : Type 1} → statement M
-mutual-counted-spec =
+pub mutual_counted_spec : {M : Type 1} → statement M
+mutual_counted_spec =
     tie.close
     (tie.spec
-    (λ c. counted-no-room _ _ _ _ _ _ _ _ c.if1.true)
+    (λ c. counted-no-room _ _ _ _ _ _ _ _ c.if-report-lt-WORDS.true)
     (λ c. search rules) (λ c. search rules) (λ c. search rules) returns-2
     (λ c. search rules) count-requires (λ c. search rules) (λ c. search rules) (λ c. search rules) returns-3)

@@ -7,14 +7,14 @@ use Rattle.month.specs.Laws.Words.{Looking, looking-found, looking-on, looking-e
 use Rattle.month.proofs.report.full.Statement.{statement}
 use Rattle.month.proofs.report.full.Tie as tie
 
-pub full-spec : {M : Type 1} → statement M
-full-spec =
+pub full_spec : {M : Type 1} → statement M
+full_spec =
     tie.close
     (tie.spec
     (λ report k₀ k. Looking (full report) most_held report k words) (λ report k₀ k. words - k)
-    (λ c. search rules) (λ c. full-by-layouts _ c.if1.true) (λ c. full-starts _ (search rules))
+    (λ c. search rules) (λ c. full-by-layouts _ c.if-report-ge-MOST_LAYOUTS.true) (λ c. full-starts _ (search rules))
     (λ c. search rules) (λ c. search rules)
-    (λ c. looking-found c.before.before.before.loop.invariant (search rules) (search rules) (search rules))
+    (λ c. looking-found c.loop-k.invariant (search rules) (search rules) (search rules))
     (λ c. search rules) (λ c. search rules)
-    (λ c. looking-on c.before.before.before.loop.invariant (search rules) (search rules) (search rules))
-    (λ c. looking-ends c.before.loop.invariant (search rules)))
+    (λ c. looking-on c.loop-k.invariant (search rules) (search rules) (search rules))
+    (λ c. looking-ends c.loop-k.invariant (search rules)))

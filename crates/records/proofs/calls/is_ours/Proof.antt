@@ -5,9 +5,9 @@ use Rattle.records.proofs.Picks.{picks}
 use Rattle.records.proofs.calls.is_ours.Statement.{statement}
 use Rattle.records.proofs.calls.is_ours.Tie as tie
 
-pub is-ours-spec : {M : Type 1} → statement M
+pub is_ours_spec : {M : Type 1} → statement M
 unfolding is_ours
-is-ours-spec =
+is_ours_spec =
     tie.close
     (tie.spec
     (λ c. search rules) (λ c. search picks depth 11) (λ c. search rules) (λ c. search picks depth 11)
@@ -17,6 +17,5 @@ is-ours-spec =
     (λ c. search rules) (λ c. search picks depth 11)
     (λ c. search rules) (λ c. search rules) (λ c. search rules) (λ c. search rules)
     (λ c.
-    let values = c.before in
-    simp (← values.before.before.value.ensures, ← values.before.value2.ensures, ← values.value3.ensures)
+    simp (← c.value.ensures, ← c.value-2.ensures, ← c.value-3.ensures)
     (search picks depth 11)))

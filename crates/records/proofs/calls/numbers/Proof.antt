@@ -6,9 +6,9 @@ use Rattle.records.proofs.Picks.{picks}
 use Rattle.records.proofs.calls.numbers.Statement.{statement}
 use Rattle.records.proofs.calls.numbers.Tie as tie
 
-pub numbers-spec : {M : Type 1} → statement M
+pub numbers_spec : {M : Type 1} → statement M
 unfolding numbers_of
-numbers-spec =
+numbers_spec =
     tie.close
     (tie.spec
     (λ c. (search picks depth 15, search rules)) (λ c. (search picks depth 15, search rules))
@@ -17,4 +17,4 @@ numbers-spec =
     (λ c. (search picks depth 15, search rules)) (λ c. (search picks depth 15, search rules))
     (λ c. (search picks depth 15, search rules)) (λ c. (search picks depth 15, search rules))
     (λ c. (search picks depth 15, search rules)) (λ c. (search picks depth 15, search rules))
-    (λ c. (simp c.if13.true, search rules)) (λ c. (search picks depth 15, search rules)))
+    (λ c. (simp c.if-call-eq-PLINE_SEG.true, search rules)) (λ c. (search picks depth 15, search rules)))

@@ -4,33 +4,29 @@ use Rattle.records.specs.OnCrossing.{is_answer}
 use Rattle.records.proofs.on_crossing.is_answer.Statement.{statement}
 use Rattle.records.proofs.on_crossing.is_answer.Tie as tie
 
-returns-2 : tie.Need-returns-2
+returns-2 : tie.Need-returns
 unfolding is_answer
 returns-2 c =
-    let third = c.before.before in
-    let second = third.before.before in
-    let first = second.before.before in
-    let test = first.before.before.before in
     simp (
-      ← test.before.value.ensures,
-      test.if1.false,
-      ← first.before.number.ensures,
-      ← first.same.ensures,
-      ← second.before.number2.ensures,
-      ← second.same2.ensures,
-      ← third.before.number3.ensures,
-      ← third.same3.ensures,
-      ← c.before.number4.ensures,
-      ← c.same4.ensures,
+      ← c.value-recorded.ensures,
+      c.if-numbers.false,
+      ← c.number.ensures,
+      ← c.same.ensures,
+      ← c.number-2.ensures,
+      ← c.same-2.ensures,
+      ← c.number-3.ensures,
+      ← c.same-3.ensures,
+      ← c.number-4.ensures,
+      ← c.same-4.ensures,
     )
 
-pub is-answer-spec : {M : Type 1} → statement M
+pub is_answer_spec : {M : Type 1} → statement M
 unfolding is_answer
-is-answer-spec =
+is_answer_spec =
     tie.close
     (tie.spec
     (λ c. search rules)
-    (λ c. simp (← c.before.before.value.ensures, c.before.if1.true))
+    (λ c. simp (← c.value-recorded.ensures, c.if-numbers.true))
     (λ c. search rules) (λ c. search rules) (λ c. search rules) (λ c. search rules) (λ c. search rules)
     (λ c. search rules) (λ c. search rules) (λ c. search rules) (λ c. search rules) (λ c. search rules)
     (λ c. search rules) (λ c. search rules) returns-2)

@@ -4,9 +4,9 @@ use Rattle.records.specs.OnCrossing
 use Rattle.records.proofs.on_crossing.line_circle.Statement.{statement}
 use Rattle.records.proofs.on_crossing.line_circle.Tie as tie
 
-pub line-circle-spec : {M : Type 1} → statement M
+pub line_circle_spec : {M : Type 1} → statement M
 unfolding OnCrossing.line_circle
-line-circle-spec =
+line_circle_spec =
     tie.close
     (tie.spec
     (λ c. search rules) (λ c. search rules) (λ c. search rules) (λ c. search rules) (λ c. search rules)

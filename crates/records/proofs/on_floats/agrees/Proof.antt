@@ -5,9 +5,9 @@ use Rattle.records.specs.OnFloats.{agrees_of}
 use Rattle.records.proofs.on_floats.agrees.Statement.{statement}
 use Rattle.records.proofs.on_floats.agrees.Tie as tie
 
-pub agrees-spec : {M : Type 1} → statement M
+pub agrees_spec : {M : Type 1} → statement M
 unfolding agrees_of
-agrees-spec =
+agrees_spec =
     tie.close
     (tie.spec
     (λ c. search rules) (λ c. search rules)

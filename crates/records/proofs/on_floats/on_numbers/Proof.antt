@@ -5,17 +5,17 @@ use Rattle.records.specs.OnFloats.{on_numbers}
 use Rattle.records.proofs.on_floats.on_numbers.Statement.{statement}
 use Rattle.records.proofs.on_floats.on_numbers.Tie as tie
 
-pub on-numbers-spec : {M : Type 1} → statement M
+pub on_numbers_spec : {M : Type 1} → statement M
 unfolding on_numbers
-on-numbers-spec =
+on_numbers_spec =
     tie.close
     (tie.spec
     (λ c. search rules) (λ c. search rules)
-    (λ c. simp (c.before.before.if1.true, ← c.before.abs.ensures, ← c.is-answer.ensures))
+    (λ c. simp (c.if-call-eq-ABS.true, ← c.abs.ensures, ← c.is_answer.ensures))
     (λ c. search rules) (λ c. search rules)
-    (λ c. simp (c.before.before.if2.true, ← c.before.min.ensures, ← c.is-answer2.ensures))
+    (λ c. simp (c.if-call-eq-MIN.true, ← c.min.ensures, ← c.is_answer-then-call-eq-MIN.ensures))
     (λ c. search rules) (λ c. search rules)
-    (λ c. simp (c.before.before.if3.true, ← c.before.max.ensures, ← c.is-answer3.ensures))
+    (λ c. simp (c.if-call-eq-MAX.true, ← c.max.ensures, ← c.is_answer-then-call-eq-MAX.ensures))
     (λ c. search rules) (λ c. search rules)
-    (λ c. simp (c.before.before.if4.true, ← c.before.sqrt.ensures, ← c.is-answer4.ensures))
+    (λ c. simp (c.if-call-eq-SQRT.true, ← c.sqrt.ensures, ← c.is_answer-then-call-eq-SQRT.ensures))
     (λ c. search branches depth 6))

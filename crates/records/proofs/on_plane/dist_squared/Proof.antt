@@ -4,9 +4,9 @@ use Rattle.records.specs.OnPlane
 use Rattle.records.proofs.on_plane.dist_squared.Statement.{statement}
 use Rattle.records.proofs.on_plane.dist_squared.Tie as tie
 
-pub dist-squared-spec : {M : Type 1} → statement M
+pub dist_squared_spec : {M : Type 1} → statement M
 unfolding OnPlane.dist_squared
-dist-squared-spec =
+dist_squared_spec =
     tie.close
     (tie.spec
     (λ c. search rules) (λ c. search rules) (λ c. search rules) (λ c. search rules) (λ c. search rules) (λ c. cc))

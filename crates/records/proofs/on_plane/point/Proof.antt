@@ -4,9 +4,9 @@ use Rattle.records.specs.OnPlane
 use Rattle.records.proofs.on_plane.point.Statement.{statement}
 use Rattle.records.proofs.on_plane.point.Tie as tie
 
-pub point-spec : {M : Type 1} → statement M
+pub point_spec : {M : Type 1} → statement M
 unfolding OnPlane.point_at
-point-spec =
+point_spec =
     tie.close
     (tie.spec
     (λ c. search rules) (λ c. search rules) (λ c. search rules) (λ c. search rules) (λ c. cc))

@@ -7,21 +7,19 @@ use Rattle.records.proofs.on_plane.point_from_parametric.Tie as tie
 returns : tie.Need-returns
 unfolding OnPlane.point_from_parametric
 returns c =
-    let first = c.before.before in
-    let called = first.before.before in
     simp (
-      ← called.before.before.before.point.ensures,
-      ← called.before.before.point2.ensures,
-      ← called.before.number.ensures,
-      ← called.point-from-parametric.ensures,
-      ← first.before.number2.ensures,
-      ← first.same.ensures,
-      ← c.before.number3.ensures,
-      ← c.same2.ensures,
+      ← c.point.ensures,
+      ← c.point-2.ensures,
+      ← c.number.ensures,
+      ← c.point_from_parametric-p.ensures,
+      ← c.number-2.ensures,
+      ← c.same.ensures,
+      ← c.number-3.ensures,
+      ← c.same-2.ensures,
     )
 
-pub point-from-parametric-spec : {M : Type 1} → statement M
-point-from-parametric-spec =
+pub point_from_parametric_spec : {M : Type 1} → statement M
+point_from_parametric_spec =
     tie.close
     (tie.spec
     (λ c. search rules) (λ c. search rules) (λ c. search rules) (λ c. search rules) (λ c. search rules)

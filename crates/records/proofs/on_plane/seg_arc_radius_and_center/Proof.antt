@@ -4,9 +4,9 @@ use Rattle.records.specs.OnPlane
 use Rattle.records.proofs.on_plane.seg_arc_radius_and_center.Statement.{statement}
 use Rattle.records.proofs.on_plane.seg_arc_radius_and_center.Tie as tie
 
-pub seg-arc-radius-and-center-spec : {M : Type 1} → statement M
+pub seg_arc_radius_and_center_spec : {M : Type 1} → statement M
 unfolding OnPlane.seg_arc_radius_and_center
-seg-arc-radius-and-center-spec =
+seg_arc_radius_and_center_spec =
     tie.close
     (tie.spec
     (λ c. search rules) (λ c. search rules) (λ c. search rules) (λ c. search rules) (λ c. search rules)

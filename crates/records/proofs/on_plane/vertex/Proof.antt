@@ -4,9 +4,9 @@ use Rattle.records.specs.OnPlane
 use Rattle.records.proofs.on_plane.vertex.Statement.{statement}
 use Rattle.records.proofs.on_plane.vertex.Tie as tie
 
-pub vertex-spec : {M : Type 1} → statement M
+pub vertex_spec : {M : Type 1} → statement M
 unfolding OnPlane.vertex_at
-vertex-spec =
+vertex_spec =
     tie.close
     (tie.spec
     (λ c. search rules) (λ c. search rules) (λ c. search rules) (λ c. search rules) (λ c. search rules)

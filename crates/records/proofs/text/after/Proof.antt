@@ -5,6 +5,6 @@ use Rattle.records.proofs.Picks.{picks}
 use Rattle.records.proofs.text.after.Statement.{statement}
 use Rattle.records.proofs.text.after.Tie as tie
 
-pub after-spec : {M : Type 1} → statement M
+pub after_spec : {M : Type 1} → statement M
 unfolding after_of
-after-spec = tie.close (tie.spec (λ c. search rules) (λ c. search picks) (λ c. search picks))
+after_spec = tie.close (tie.spec (λ c. search rules) (λ c. search picks) (λ c. search picks))

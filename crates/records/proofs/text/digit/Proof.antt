@@ -5,14 +5,14 @@ use Rattle.records.specs.Text.{digit_of}
 use Rattle.records.proofs.text.digit.Statement.{statement}
 use Rattle.records.proofs.text.digit.Tie as tie
 
-pub digit-spec : {M : Type 1} → statement M
+pub digit_spec : {M : Type 1} → statement M
 unfolding digit_of
-digit-spec =
+digit_spec =
     tie.close
     (tie.spec
     (λ c. search rules) (λ c. search rules) (λ c. search rules) (λ c. search rules)
     (λ c. simp c.wide.ensures.0 (search branches depth 6))
-    (λ c. simp c.wide2.ensures.0 (search branches depth 6))
+    (λ c. simp c.wide-in-97-to-102.ensures.0 (search branches depth 6))
     (λ c. search branches depth 6)
     (λ c. search branches depth 6)
     (λ c. search branches depth 6))

@@ -12,11 +12,11 @@ use Rattle.records.proofs.text.field_at.Tie as tie
 as_long : (at : ℕ) → at + field_digits - at ≡ field_digits
 as_long at = omega arith
 
-pub field-at-spec : {M : Type 1} → statement M
+pub field_at_spec : {M : Type 1} → statement M
 unfolding field_at
-field-at-spec =
+field_at_spec =
     tie.close
     (tie.spec
-    (λ c. search rules) (λ c. search rules) (λ c. simp (lt-ltb _ _ c.if1.true)) (λ c. search rules) (λ c. search rules)
+    (λ c. search rules) (λ c. search rules) (λ c. simp (lt-ltb _ _ c.if-body-end.true)) (λ c. search rules) (λ c. search rules)
     (λ c. search rules) (λ c. search rules)
-    (λ c. simp (le-ltb _ _ c.before.before.if1.false, c.word.ensures, as_long)))
+    (λ c. simp (le-ltb _ _ c.if-body-end.false, c.word.ensures, as_long)))

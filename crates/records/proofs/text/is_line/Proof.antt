@@ -12,33 +12,30 @@ use Rattle.records.proofs.Fields.{at-end, at-number, at-broken, at_other}
 use Rattle.records.proofs.text.is_line.Statement.{statement}
 use Rattle.records.proofs.text.is_line.Tie as tie
 
-abbrev invariant-loop : tie.invariant-loop
+abbrev invariant-loop : tie.invariant-loop-i
 invariant-loop body n i₀ i = (i ≤ n) × (length body ≡ n * field_bytes) × (fields_from n body (n - i) i ≡ is_line n body)
 
-abbrev decreases-loop : tie.decreases-loop
+abbrev decreases-loop : tie.decreases-loop-i
 decreases-loop body n i₀ i = n - i
 
-returns : tie.Need-returns invariant-loop decreases-loop
+returns : tie.Need-returns-then-body-n invariant-loop decreases-loop
 unfolding is_line
-returns c = simp (ne_eqb _ _ c.if1.true)
+returns c = simp (ne_eqb _ _ c.if-body-n.true)
 
-loop-holds : tie.Need-loop-init invariant-loop decreases-loop
+loop-holds : tie.Need-loop-i-init invariant-loop decreases-loop
 unfolding is_line
 loop-holds c =
-    let whole = c.if1.false in
+    let whole = c.if-body-n.false in
     (search rules, whole, simp (eq-eqb _ _ whole, sub-zero))
 
-loop-again : tie.Need-loop-preserved invariant-loop decreases-loop
+loop-again : tie.Need-loop-i-preserved invariant-loop decreases-loop
 loop-again c =
-    let read = c.before.before in
-    let called = read.before.before in
-    let turn = called.before.before in
-    let inv = turn.before.loop.invariant in
-    let said = at-number _ _ _ _ inv.2 turn.loop-test.true _ called.after.ensures read.before.if2.false in
-    (omega arith, inv.1, said _ read.field_at.ensures _ c.before.is_number.ensures c.if3.true)
+    let inv = c.loop-i.invariant in
+    let said = at-number _ _ _ _ inv.2 c.loop-i-test.true _ c.after.ensures c.if-body-i.false in
+    (omega arith, inv.1, said _ c.field_at.ensures _ c.is_number.ensures c.if-is_number.true)
 
-pub is-line-spec : {M : Type 1} → statement M
-is-line-spec =
+pub is_line_spec : {M : Type 1} → statement M
+is_line_spec =
     tie.close
     (tie.spec
     invariant-loop decreases-loop (λ c. search rules) returns loop-holds (omega arith) (omega arith) (omega arith) (λ c. search rules)

@@ -9,5 +9,5 @@ use Rattle.records.proofs.text.is_nan.Tie as tie
 returns : tie.Need-returns
 returns c = sym (nan_bits_above binary64 c.args.pattern)
 
-pub is-nan-spec : {M : Type 1} → statement M
-is-nan-spec = tie.close (tie.spec returns)
+pub is_nan_spec : {M : Type 1} → statement M
+is_nan_spec = tie.close (tie.spec returns)

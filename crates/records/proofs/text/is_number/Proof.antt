@@ -4,9 +4,9 @@ use Rattle.records.specs.Text.{is_number}
 use Rattle.records.proofs.text.is_number.Statement.{statement}
 use Rattle.records.proofs.text.is_number.Tie as tie
 
-pub is-number-spec : {M : Type 1} → statement M
+pub is_number_spec : {M : Type 1} → statement M
 unfolding is_number
-is-number-spec =
+is_number_spec =
     tie.close
     (tie.spec
-    (λ c. search rules) (λ c. search rules) (λ c. simp c.enum_told.given.1) (λ c. simp c.enum-told2.given.1))
+    (λ c. search rules) (λ c. search rules) (λ c. simp c.in-Number.is) (λ c. simp c.in-Broken.is))

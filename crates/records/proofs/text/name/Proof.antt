@@ -4,9 +4,9 @@ use Rattle.records.specs.Text.{name_of}
 use Rattle.records.proofs.text.name.Statement.{statement}
 use Rattle.records.proofs.text.name.Tie as tie
 
-pub name-spec : {M : Type 1} → statement M
+pub name_spec : {M : Type 1} → statement M
 unfolding name_of
-name-spec =
+name_spec =
     tie.close
     (tie.spec
     (λ c. search rules) (λ c. search rules) (λ c. search rules) (λ c. search rules) (λ c. search rules)

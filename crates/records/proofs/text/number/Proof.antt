@@ -9,16 +9,15 @@ use Rattle.records.specs.Text.{number_at}
 use Rattle.records.proofs.text.number.Statement.{statement}
 use Rattle.records.proofs.text.number.Tie as tie
 
-returns : tie.Need-returns
+returns : tie.Need-returns-then-is_nan
 unfolding number_at
 returns c =
-    let p1 = c.before in
-    let is = sym (nan_bits_is binary64 _) ∙ sym p1.is_nan.ensures ∙ c.if1.true in
-    zero-over-zero ∙ the_nan _ is ∙ ap (of_bits binary64) p1.before.value.ensures
+    let is = sym (nan_bits_is binary64 _) ∙ sym c.is_nan.ensures ∙ c.if-is_nan.true in
+    zero-over-zero ∙ the_nan _ is ∙ ap (of_bits binary64) c.value-pattern.ensures
 
-returns-2 : tie.Need-returns-2
+returns-2 : tie.Need-returns
 unfolding number_at
-returns-2 c = simp (← c.before.before.value.ensures)
+returns-2 c = simp (← c.value-pattern.ensures)
 
-pub number-spec : {M : Type 1} → statement M
-number-spec = tie.close (tie.spec (λ c. search rules) (λ c. search rules) returns (λ c. search denied) returns-2)
+pub number_spec : {M : Type 1} → statement M
+number_spec = tie.close (tie.spec (λ c. search rules) (λ c. search rules) returns (λ c. search denied) returns-2)

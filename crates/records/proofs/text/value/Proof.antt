@@ -10,5 +10,5 @@ value_spec =
     tie.close
     (tie.spec
     (λ c. search rules) (λ c. search rules) (λ c. search rules)
-    (λ c. let bound = c.before in simp (← bound.before.before.field_at.ensures, bound.f.given.1))
-    (λ c. simp (← c.before.before.field_at.ensures, c.enum_told.given.1)))
+    (λ c. simp (← c.field_at-f.ensures, c.in-Number.is))
+    (λ c. simp (← c.field_at-f.ensures, c.in-Broken.is)))

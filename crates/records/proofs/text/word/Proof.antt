@@ -10,17 +10,17 @@ use Rattle.records.proofs.Spelling.{at-end, at-digit, at_other}
 use Rattle.records.proofs.text.word.Statement.{statement}
 use Rattle.records.proofs.text.word.Tie as tie
 
-abbrev invariant-loop : tie.invariant-loop
+abbrev invariant-loop : tie.invariant-loop-i
 invariant-loop text value₀ i₀ value i = (i ≤ length text) × (spelt value (drop i text) ≡ word_of text)
 
-abbrev decreases-loop : tie.decreases-loop
+abbrev decreases-loop : tie.decreases-loop-i
 decreases-loop text value₀ i₀ value i = length text - i
 
-loop-holds : tie.Need-loop-init invariant-loop decreases-loop
+loop-holds : tie.Need-loop-i-init invariant-loop decreases-loop
 loop-holds c = (omega arith, refl)
 
-pub word-spec : {M : Type 1} → statement M
-word-spec =
+pub word_spec : {M : Type 1} → statement M
+word_spec =
     tie.close
     (tie.spec
     invariant-loop decreases-loop loop-holds (omega arith) (λ c. search rules) (λ c. search at_other) (omega arith) (omega arith) (omega arith)

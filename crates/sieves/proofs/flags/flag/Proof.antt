@@ -3,6 +3,6 @@ use Rattle.sieves.specs.Workings.Flags
 use Rattle.sieves.proofs.flags.flag.Statement.{statement}
 use Rattle.sieves.proofs.flags.flag.Tie as tie
 
-pub flag-spec : {M : Type 1} → statement M
+pub flag_spec : {M : Type 1} → statement M
 unfolding Flags.flag
-flag-spec = tie.close (tie.spec (λ c. simp c.if1.true) (λ c. simp c.if1.false))
+flag_spec = tie.close (tie.spec (λ c. simp c.if-left.true) (λ c. simp c.if-left.false))

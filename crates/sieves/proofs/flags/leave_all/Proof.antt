@@ -8,19 +8,19 @@ use Rattle.sieves.specs.Workings.Flags.{every, Writing, writing-starts, writing-
 use Rattle.sieves.proofs.flags.leave_all.Statement.{statement}
 use Rattle.sieves.proofs.flags.leave_all.Tie as tie
 
-pub leave-all-spec : {M : Type 1} → statement M
-leave-all-spec =
+pub leave_all_spec : {M : Type 1} → statement M
+leave_all_spec =
     tie.close
     (tie.spec
     (λ from to flags₀ j₀ flags j. Writing every from to flags₀ flags j)
     (λ from to flags₀ j₀ flags j. to - j)
-    (λ c. writing-starts _ _ _ _ c.before.requires.0)
+    (λ c. writing-starts _ _ _ _ c.requires.0)
     (λ c κs. search rules)
     (λ c. search rules)
     (λ c. search rules)
     (λ c. search rules)
     (λ c. search rules)
     (λ c. search rules)
-    (λ c. writing-turn _ true c.before.before.loop.invariant c.before.loop-test.true c.flag.ensures refl)
+    (λ c. writing-turn _ true c.loop-j.invariant c.loop-j-test.true c.flag.ensures refl)
     (λ c. search rules)
-    (λ c. writing-ends c.before.loop.invariant c.loop-test.false))
+    (λ c. writing-ends c.loop-j.invariant c.loop-j-test.false))

@@ -9,8 +9,8 @@ use Rattle.sieves.specs.Workings.Flags.{is_up}
 use Rattle.sieves.proofs.flags.next_left.Statement.{statement}
 use Rattle.sieves.proofs.flags.next_left.Tie as tie
 
-pub next-left-spec : {M : Type 1} → statement M
-next-left-spec =
+pub next_left_spec : {M : Type 1} → statement M
+next_left_spec =
     tie.close
     (tie.spec
     (λ flags from j end k₀ k. Finding (is_up flags from) j end k × (from ≤ k))
@@ -20,13 +20,12 @@ next-left-spec =
     (λ c. search rules)
     (λ c. search rules)
     (λ c.
-    let t = c.before.before in
-    finding-here t.before.loop.invariant.0 _ t.loop-test.true refl (lt-ltb _ _ c.if1.true))
+    finding-here c.loop-k.invariant.0 _ c.loop-k-test.true refl (lt-ltb _ _ c.if-flags-k-gt0.true))
     (λ c. search rules)
     (λ c. search rules)
     (λ c.
-    let t = c.before.before in (
-      finding-on t.before.loop.invariant.0 _ t.loop-test.true refl (le-ltb _ _ c.if1.false),
-      omega (arith, t.before.loop.invariant.1),
+    (
+      finding-on c.loop-k.invariant.0 _ c.loop-k-test.true refl (le-ltb _ _ c.if-flags-k-gt0.false),
+      omega (arith, c.loop-k.invariant.1),
     ))
-    (λ c. finding-ends c.before.loop.invariant.0 c.loop-test.false))
+    (λ c. finding-ends c.loop-k.invariant.0 c.loop-k-test.false))

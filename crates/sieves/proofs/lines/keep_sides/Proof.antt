@@ -7,8 +7,8 @@ use Rattle.sieves.specs.Workings.Lines.{Storing, storing-starts, storing-turn, s
 use Rattle.sieves.proofs.lines.keep_sides.Statement.{statement}
 use Rattle.sieves.proofs.lines.keep_sides.Tie as tie
 
-pub keep-sides-spec : {M : Type 1} → statement M
-keep-sides-spec =
+pub keep_sides_spec : {M : Type 1} → statement M
+keep_sides_spec =
     tie.close
     (tie.spec
     (λ path n eps sides₀ j₀ sides j. Storing path n eps sides₀ sides j)
@@ -24,8 +24,6 @@ keep-sides-spec =
     (λ c. simp length-set (omega arith))
     (λ c. search rules) (λ c. search rules)
     (λ c.
-    let s = c.before in
-    let l = s.before in
-    storing-turn _ _ l.before.loop.invariant l.loop-test.true s.segment-from.ensures c.side-of.ensures)
+    storing-turn _ _ c.loop-j.invariant c.loop-j-test.true c.segment_from-s.ensures c.side_of-side.ensures)
     (λ c. search rules)
-    (λ c. storing-ends c.before.loop.invariant c.loop-test.false))
+    (λ c. storing-ends c.loop-j.invariant c.loop-j-test.false))

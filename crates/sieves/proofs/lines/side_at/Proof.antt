@@ -5,9 +5,9 @@ use Rattle.sieves.specs.Workings.Lines.{side_at}
 use Rattle.sieves.proofs.lines.side_at.Statement.{statement}
 use Rattle.sieves.proofs.lines.side_at.Tie as tie
 
-pub side-at-spec : {M : Type 1} → statement M
+pub side_at_spec : {M : Type 1} → statement M
 unfolding side_at
-side-at-spec =
+side_at_spec =
     tie.close
     (tie.spec
     (λ c. search rules) (λ c. search rules) (λ c. search rules) (λ c. search rules) (λ c. search rules)

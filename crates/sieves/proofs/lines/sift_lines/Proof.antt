@@ -7,8 +7,8 @@ use Rattle.sieves.specs.Workings.Lines.{lines_left, left-of}
 use Rattle.sieves.proofs.lines.sift_lines.Statement.{statement}
 use Rattle.sieves.proofs.lines.sift_lines.Tie as tie
 
-pub sift-lines-spec : {M : Type 1} → statement M
-sift-lines-spec =
+pub sift_lines_spec : {M : Type 1} → statement M
+sift_lines_spec =
     tie.close
     (tie.spec
     (λ v sides n eps from to flags₀ j₀ flags j. Writing (lines_left v sides n eps) from to flags₀ flags j)
@@ -17,10 +17,7 @@ sift-lines-spec =
     (λ c κs. search rules) (λ c κs. search rules) (λ c κs. search rules)
     (λ c. search rules) (λ c. search rules) (λ c. search rules) (λ c. search rules) (λ c. search rules)
     (λ c.
-    let a = c.before in
-    let s = a.before in
-    let l = s.before in
-    writing-turn _ _ l.before.loop.invariant l.loop-test.true c.flag.ensures
-    (left-of _ _ _ _ _ _ _ s.side-at.ensures a.sides_apart.ensures))
+    writing-turn _ _ c.loop-j.invariant c.loop-j-test.true c.flag.ensures
+    (left-of _ _ _ _ _ _ _ c.side_at-u.ensures c.sides_apart.ensures))
     (λ c. search rules)
-    (λ c. writing-ends c.before.loop.invariant c.loop-test.false))
+    (λ c. writing-ends c.loop-j.invariant c.loop-j-test.false))

@@ -5,18 +5,18 @@ use Rattle.sieves.specs.Workings.Lines.{usual_line}
 use Rattle.sieves.proofs.lines.usual_line.Statement.{statement}
 use Rattle.sieves.proofs.lines.usual_line.Tie as tie
 
-pub usual-line-spec : {M : Type 1} → statement M
+pub usual_line_spec : {M : Type 1} → statement M
 unfolding usual_line
-usual-line-spec =
+usual_line_spec =
     tie.close
     (tie.spec
     (λ c κs. search rules) (λ c κs. search rules) (λ c κs. search rules) (λ c κs. search rules) (λ c κs. search rules)
     (λ c κs. search rules)
     (λ c. simp (
       c.usual.ensures,
-      c.before.length-squared.ensures,
-      c.before.before.bulge-is-zero.ensures,
-      c.before.before.before.sub.ensures,
-      c.before.before.before.before.pos2.ensures,
-      c.before.before.before.before.before.pos.ensures,
+      c.length_squared.ensures,
+      c.bulge_is_zero.ensures,
+      c.sub-way.ensures,
+      c.pos-2.ensures,
+      c.pos.ensures,
     )))

@@ -6,13 +6,13 @@ use Rattle.sieves.specs.Workings.Marks.{is_set}
 use Rattle.sieves.proofs.marks.is_set.Statement.{statement}
 use Rattle.sieves.proofs.marks.is_set.Tie as tie
 
-pub is-set-spec : {M : Type 1} → statement M
+pub is_set_spec : {M : Type 1} → statement M
 unfolding is_set
-is-set-spec =
+is_set_spec =
     tie.close
     (tie.spec
     (λ c. search rules)
     (λ c. search rules)
     (λ c. search rules)
-    (λ c. simp (lt-ltb _ _ c.before.if1.true))
-    (λ c. simp (le-ltb _ _ c.if1.false)))
+    (λ c. simp (lt-ltb _ _ c.if-word-marks.true))
+    (λ c. simp (le-ltb _ _ c.if-word-marks.false)))

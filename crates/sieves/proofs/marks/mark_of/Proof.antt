@@ -8,13 +8,13 @@ use Rattle.sieves.specs.Workings.Marks.{mark_of}
 use Rattle.sieves.proofs.marks.mark_of.Statement.{statement}
 use Rattle.sieves.proofs.marks.mark_of.Tie as tie
 
-pub mark-of-spec : {M : Type 1} → statement M
+pub mark_of_spec : {M : Type 1} → statement M
 unfolding mark_of
-mark-of-spec =
+mark_of_spec =
     tie.close
     (tie.spec
-    (λ c. let h = c.before.requires in omega (arith, mul-le-mul h.0 h.2.stride))
-    (λ c. let h = c.before.before.requires in omega (arith, h.2.shift))
-    (λ c. let h = c.before.before.requires in
-    omega (arith, mul-le-mul h.0 h.2.stride, h.1, shr_le c.before.before.args.j c.before.before.args.grain.shift))
+    (λ c. let h = c.requires in omega (arith, mul-le-mul h.0 h.2.stride))
+    (λ c. let h = c.requires in omega (arith, h.2.shift))
+    (λ c. let h = c.requires in
+    omega (arith, mul-le-mul h.0 h.2.stride, h.1, shr_le c.args.j c.args.grain.shift))
     (λ c. refl))

@@ -8,8 +8,8 @@ use Rattle.sieves.specs.Workings.Marks.{marked, marked-of}
 use Rattle.sieves.proofs.marks.recall.Statement.{statement}
 use Rattle.sieves.proofs.marks.recall.Tie as tie
 
-pub recall-spec : {M : Type 1} → statement M
-recall-spec =
+pub recall_spec : {M : Type 1} → statement M
+recall_spec =
     tie.close
     (tie.spec
     (λ marks grain i from to flags₀ j₀ flags j. Writing (marked marks grain i) from to flags₀ flags j)
@@ -18,10 +18,7 @@ recall-spec =
     (λ c κs. search rules) (λ c κs. search rules) (λ c κs. search rules)
     (λ c. search rules) (λ c. search rules) (λ c. search rules) (λ c. search rules) (λ c. search rules)
     (λ c.
-    let a = c.before in
-    let s = a.before in
-    let l = s.before in
-    writing-turn _ _ l.before.loop.invariant l.loop-test.true c.flag.ensures
-    (marked-of _ _ _ _ _ _ s.mark_of.ensures a.is_set.ensures))
+    writing-turn _ _ c.loop-j.invariant c.loop-j-test.true c.flag.ensures
+    (marked-of _ _ _ _ _ _ c.mark_of-p.ensures c.is_set.ensures))
     (λ c. search rules)
-    (λ c. writing-ends c.before.loop.invariant c.loop-test.false))
+    (λ c. writing-ends c.loop-j.invariant c.loop-j-test.false))

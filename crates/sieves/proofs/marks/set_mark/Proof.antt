@@ -7,9 +7,9 @@ use Rattle.sieves.specs.Workings.Marks.{set_mark}
 use Rattle.sieves.proofs.marks.set_mark.Statement.{statement}
 use Rattle.sieves.proofs.marks.set_mark.Tie as tie
 
-pub set-mark-spec : {M : Type 1} → statement M
+pub set_mark_spec : {M : Type 1} → statement M
 unfolding set_mark
-set-mark-spec =
+set_mark_spec =
     tie.close
     (tie.spec
     (λ c. search rules)
@@ -18,5 +18,5 @@ set-mark-spec =
     (λ c. search rules)
     (λ c. search rules)
     (λ c. search rules)
-    (λ c. simp (lt-ltb _ _ c.before.if1.true))
-    (λ c. simp (le-ltb _ _ c.if1.false)))
+    (λ c. simp (lt-ltb _ _ c.if-word-marks.true))
+    (λ c. simp (le-ltb _ _ c.if-word-marks.false)))

@@ -3,15 +3,15 @@ use borrow.Author.Rules.{rules}
 use Rattle.findings.proofs.finding.Finding.number.Statement.{statement}
 use Rattle.findings.proofs.finding.Finding.number.Tie as tie
 
-pub number-spec : {M : Type 1} → statement M
-number-spec =
+pub number_spec : {M : Type 1} → statement M
+number_spec =
     tie.close
     (tie.spec
     (search rules) (search rules) (search rules) (search rules) (search rules) (search rules) (search rules)
-    (λ c. simp c.enum_told.given.1)
-    (λ c. simp c.enum-told2.given.1)
-    (λ c. simp c.enum-told3.given.1)
-    (λ c. simp c.enum-told4.given.1)
-    (λ c. simp c.enum-told5.given.1)
-    (λ c. simp c.enum-told6.given.1)
-    (λ c. simp c.enum-told7.given.1))
+    (λ c. simp c.in-Outside.is)
+    (λ c. simp c.in-NearCenter.is)
+    (λ c. simp c.in-Inside.is)
+    (λ c. simp c.in-NearStart.is)
+    (λ c. simp c.in-NearEnd.is)
+    (λ c. simp c.in-EndPoint.is)
+    (λ c. simp c.in-NotTested.is))

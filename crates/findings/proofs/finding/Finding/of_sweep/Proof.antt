@@ -3,13 +3,13 @@ use borrow.Author.Rules.{rules}
 use Rattle.findings.proofs.finding.Finding.of_sweep.Statement.{statement}
 use Rattle.findings.proofs.finding.Finding.of_sweep.Tie as tie
 
-pub of-sweep-spec : {M : Type 1} → statement M
-of-sweep-spec =
+pub of_sweep_spec : {M : Type 1} → statement M
+of_sweep_spec =
     tie.close
     (tie.spec
     (search rules) (search rules) (search rules) (search rules) (search rules)
-    (λ c. simp c.enum_told.given.1)
-    (λ c. simp c.enum-told2.given.1)
-    (λ c. simp c.enum-told3.given.1)
-    (λ c. simp c.enum-told4.given.1)
-    (λ c. simp c.enum-told5.given.1))
+    (λ c. simp c.in-Outside.is)
+    (λ c. simp c.in-NearCenter.is)
+    (λ c. simp c.in-Inside.is)
+    (λ c. simp c.in-NearStart.is)
+    (λ c. simp c.in-NearEnd.is))
