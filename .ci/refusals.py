@@ -21,6 +21,9 @@ FOLLOWS = re.compile(
 # It is about the shape of a proof, not about the program: how many answers a walk needs, and which, and at which place.
 SHAPE = re.compile(r"\bLts\.Closed\b|\bNeed-|differ only where one has `[^`\s]*\.Lts\.(?:Start|After|Then|Else|At|Loop)\b")
 
+# A search that was not ended: it says nothing, and nothing against what else is said of the function.
+BOUND = re.compile(r"was found\. It stopped (?:\d+ lemmas deep|when its count)")
+
 # what a proof's equations leave of the goal. It may still hold, so it counts only where the proof fits the code.
 LEFT = "an equation is left"
 SHOWN = {
@@ -44,6 +47,10 @@ class Refusal:
     @property
     def follows(self):
         return bool(FOLLOWS.search(self.words))
+
+    @property
+    def at_bound(self):
+        return bool(BOUND.search(self.words))
 
     @property
     def shows(self):
@@ -77,9 +84,17 @@ def answer_at(text, line, column):
     """Which answer of a walk, `tie.spec A B ..`, is at this place of a proof file: its number, and how many there are."""
     lines = text.splitlines(keepends=True)
     place = sum(len(one) for one in lines[: line - 1]) + column - 1
-    start = text.rfind("tie.spec", 0, place + 1)
+    spans = answers_in(text, text.rfind("tie.spec", 0, place + 1))
+    for number, (begin, end) in enumerate(spans, 1):
+        if begin <= place < end:
+            return number, len(spans)
+    return None
+
+
+def answers_in(text, start):
+    """Where each answer of the walk stands that begins here."""
     if start < 0:
-        return None
+        return []
     at, spans = start + len("tie.spec"), []
     while at < len(text):
         if text[at].isspace():
@@ -92,10 +107,7 @@ def answer_at(text, line, column):
             depth += {"(": 1, "{": 1, ")": -1, "}": -1}.get(text[at], 0)
             at += 1
         spans.append((begin, at))
-    for number, (begin, end) in enumerate(spans, 1):
-        if begin <= place < end:
-            return number, len(spans)
-    return None
+    return spans
 
 
 def place_of(one, folder=None):

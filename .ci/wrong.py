@@ -1,7 +1,8 @@
 """The wrong programs of a crate, and how they are put beside what is right in a copy of it: for `.ci/trials`, which says more."""
 import pathlib
 import re
-import shutil
+
+from refusals import answers_in
 
 ROOT = pathlib.Path(__file__).resolve().parent.parent
 HEAD = re.compile(r'^ *(?:pub(?:\(crate\))? )?(?:extern "C" )?fn (\w+)', re.M)
@@ -199,8 +200,18 @@ def put_beside(folder, trial, ending):
         return f"{trial}: {what}: give it a proof file"
     for body, name in ((wrong, ending), (right, ending + RIGHT)):
         add(path, trial, head + body, name)
-        write_proof(folder, trial, name, calls_in(body))
+        write_proof(folder, trial.function + name, calls_in(body))
     return None
+
+
+def unproved_in(folder, trial):
+    """The functions that must be rejected for a change in place, and have no proof file, each with its body's calls."""
+    for function in trial.refused:
+        parts = function.split("::")
+        if "/" not in function and not (folder / folder_of(function)).is_dir():
+            files = [folder / "src" / pathlib.Path(*parts[:end] or ["lib"]).with_suffix(".rt") for end in range(len(parts))]
+            bodies = [parts_of(path.read_text(), parts[-1])[1] for path in reversed(files) if path.is_file()]
+            yield function, calls_in(next(filter(None, bodies), ""))
 
 
 def parts_of(text, name):
@@ -249,15 +260,15 @@ def copy_proof(folder, trial, ending, texts):
         write(folder / folder_of(trial.function + ending) / pathlib.Path(file).name, text)
 
 
-def write_proof(folder, trial, ending, calls):
+def write_proof(folder, function, calls):
     """The proof of a function with at most one call: it returns what the call answers, or the definition itself."""
-    there, name = trial.function.replace("::", ".") + ending, trial.function.split("::")[-1] + ending
+    there, name = f"Rattle.{folder.name}.proofs.{function.replace('::', '.')}", function.split("::")[-1]
     answers = f"(λ c. search rules) (λ c. c.{calls[0]}.ensures)" if calls else "(λ c. refl)"
     write(
-        folder / folder_of(trial.function + ending) / "Proof.antt",
+        folder / folder_of(function) / "Proof.antt",
         "use Rattle.std.proofs.Common.{refl, rules}\n"
-        f"use Rattle.{trial.crate}.proofs.{there}.Statement.{{statement}}\n"
-        f"use Rattle.{trial.crate}.proofs.{there}.Tie as tie\n\n"
+        f"use {there}.Statement.{{statement}}\n"
+        f"use {there}.Tie as tie\n\n"
         f"pub {name}_spec : {{M : Type 1}} → statement M\n{name}_spec = tie.close (tie.spec {answers})\n",
     )
 
@@ -268,27 +279,26 @@ def write_proof(folder, trial, ending, calls):
 def fit_names(folder, endings, names):
     """A function's proof cites places and facts by names that are made of the code's text, as `if-x-lt-y`. So in the copy of it
     that stands beside a wrong function each name is that of the same place there. `names` is what rt says of them: of each
-    function its places and facts, in the code's order, each also by a name that has only its call and its number. Where these
-    differ, calls or tests come in another order, and the proof does not fit. A trial that changes the proof too has made it
-    fit."""
+    function its places and facts, in the code's order, each also by a name that has only its call and its number. Where calls or
+    tests come in another order, the proof does not fit, unless the trial changes it too. Where a sum or a product is gone or has
+    come, as if it is changed for another, so has the answer that it is in range."""
     for trial, ending in endings.items():
         if not trial.function:
             continue
         key = f"Rattle-{trial.crate}-proofs.{trial.function.replace('::', '.')}"
         right, wrong = names.get(f"{key}.Lts"), names.get(f"{key}{ending}.Lts")
-        if not right or not wrong:
-            continue
-        if shape_of(right) == shape_of(wrong):
-            renamed = names_between(right, wrong)
+        if right and wrong:
+            same, renamed = shape_of(right) == shape_of(wrong), names_between(right, wrong)
+            trial.fits = same or any(file.endswith(".antt") for file in trial.files)
             for path in (folder / folder_of(trial.function + ending)).glob("*.antt"):
-                path.write_text(with_names(path.read_text(), renamed))
-        else:
-            trial.fits = any(file.endswith(".antt") for file in trial.files)
+                text = with_names(path.read_text(), renamed)
+                path.write_text(with_answers(text, named_in(right)[0], named_in(wrong)[0]) if same else text)
 
 
 def shape_of(names):
-    """The places and facts of a function, in the code's order, whatever its text calls them."""
-    return [fact for fact, _ in names["needs"]], [(place, field[0]) for place, _, field, *_ in names["places"]]
+    """The calls and tests of a function, in the code's order, whatever its text calls them."""
+    tests = ("Then", "Else", "At-", "Loop")
+    return [place for place, _, _, callee, *_ in names["places"] if callee or place.startswith(tests)]
 
 
 def with_names(text, renamed):
@@ -314,11 +324,26 @@ def with_names(text, renamed):
 
 def names_between(right, wrong):
     """For each name that differs, what stands for it in the wrong function."""
+    renamed = {}
+    for ours, theirs in zip(named_in(right), named_in(wrong)):
+        renamed.update({ours[key]: theirs[key] for key in ours if key in theirs and ours[key] and ours[key] != theirs[key]})
+    return renamed
 
-    def names_of(one):
-        return [name for _, name in one["needs"]] + [place[2][1] for place in one["places"]] + one["places_by_name"]
 
-    return {ours: theirs for ours, theirs in zip(names_of(right), names_of(wrong)) if ours and ours != theirs}
+def with_answers(text, right, wrong):
+    """A proof with answers for the wrong function's facts. The walk has an answer for each, in their order."""
+    start = text.rfind("tie.spec")
+    spans = answers_in(text, start)
+    if list(right) == list(wrong) or len(spans) != len(right):
+        return text
+    answers = {fact: text[begin:end] for fact, (begin, end) in zip(right, spans)}
+    return text[: spans[0][0]] + " ".join(answers.get(fact, "(λ c. search rules)") for fact in wrong) + text[spans[-1][1] :]
+
+
+def named_in(names):
+    """The names of the facts, of the places, and of what is known at each, by the names that have only calls and numbers."""
+    places = [place[0] for place in names["places"]]
+    return dict(names["needs"]), dict(zip(places, names["places_by_name"])), dict(zip(places, (it[2][1] for it in names["places"])))
 
 
 # ---- laws beside the right ones
