@@ -15,6 +15,9 @@ TYPE = re.compile(r"^(?:pub(?:\(crate\))? )?(?:struct|enum|type) [^;{]*(?:;|\{.*
 MOD = re.compile(r"^(?:pub )?mod \w+\n", re.M)
 # a line that imports a module whole, perhaps under another name
 MODULE = re.compile(r"^use ([\w.'-]+)(?: as ([\w'-]+))?$", re.M)
+# a search with the count of lemmas that it has by itself, and the count that it has in the proof of a wrong function
+SEARCH = re.compile(r"\bsearch [\w'-]+(?: depth \d+)?(?=\s*(?:\)|,|$))", re.M)
+FITS = " fits 20000"
 # the ending of a right function that stands beside itself
 RIGHT = "_not"
 
@@ -252,11 +255,13 @@ def calls_in(body):
 
 
 def copy_proof(folder, trial, ending, texts):
-    """Writes the proof of a wrong function: these texts of the right one's files, by their names in the crate."""
+    """Writes the proof of a wrong function: these texts of the right one's files, by their names in the crate. A search that ends
+    at its count says nothing, so it may try more here."""
     name, there = trial.function.split("::")[-1], trial.function.replace("::", ".")
     for file, text in texts.items():
         text = re.sub(rf"(?<![\w.])(Rattle\.{trial.crate}\.proofs\.{re.escape(there)})(?![\w'-])", rf"\g<1>{ending}", text)
         text = re.sub(rf"(?<![\w'-]){name}_spec(?![\w'-])", f"{name}{ending}_spec", text)
+        text = SEARCH.sub(lambda found: found[0] + FITS, text)
         write(folder / folder_of(trial.function + ending) / pathlib.Path(file).name, text)
 
 

@@ -42,7 +42,7 @@ def before():
 
 # What a name is made of, and a name in the older spelling: it begins with a small letter and has a capital after a small letter.
 PIECE = re.compile(r"[\w'-]+")
-OLDER = re.compile(r"[a-z](?=[\w'-]*[a-z0-9][A-Z])[A-Za-z0-9'-]*")
+OLDER = re.compile(r"(?=[\w'-]*[a-z0-9][A-Z])(?![\w'-]*-[A-Z])[a-z][\w'-]*")
 # Words of proofs and clauses stand between these.
 BETWEEN = re.compile(r"[\s(){};,.«»\"@]+")
 

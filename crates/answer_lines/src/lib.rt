@@ -1,5 +1,6 @@
 // The writer: an answer as text lines. specs/Lines.antt has the text, and specs/Written.antt what the writer promises.
 #![tactic(auto)]
+
 ghost use Rattle.answer_lines.specs.Written.{RefusalLine, RefusalAtLine, AnswerLines};
 
 use put_text::{put_byte, put_whole, put_word};

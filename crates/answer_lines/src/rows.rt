@@ -90,8 +90,8 @@ pub fn put_counts(out: &mut [u8], pairs: u64, rows: u64) -> usize
 
 // The text lines of the rows.
 pub fn put_rows(out: &mut [u8], start: usize, rows: usize, index: &[u64], points: &[f64]) -> usize
-    requires indices_arow_in_bounds { rows * lines.indices_a_row ≤ length index.now }
-    requires points_arow_in_bounds { rows * lines.points_a_row ≤ length points.now }
+    requires indices_in_bounds { rows * lines.indices_a_row ≤ length index.now }
+    requires points_in_bounds { rows * lines.points_a_row ≤ length points.now }
     requires line_in_bounds { start + rows * sizes.line ≤ length out.old }
     ensures { Put (lines.rows_text index.now points.now rows 0) out.old start out.new result }
 {

@@ -12,9 +12,9 @@ use Rattle.arcs.specs.declared.pline_seg_intr.PlineSegIntr.{PlineSegIntr}
 use Rattle.crossing.specs.declared.pline_seg_intersect.PlineSegAnswer.TheVariants.{Refused, Met}
 use Rattle.answers.specs.Laws.Bulges.{with_bulge, second-bulges}
 
-pub second-bulges-unused : (v1 v2 u1 u2 : PlineVertex) (pos_equal_eps vBulge uBulge : Float)
-    → pline_seg_intr v1 v2 u1 u2 pos_equal_eps ≡ pline_seg_intr v1 (with_bulge v2 vBulge) u1 (with_bulge u2 uBulge) pos_equal_eps
+pub second-bulges-unused : (v1 v2 u1 u2 : PlineVertex) (pos_equal_eps v_bulge u_bulge : Float)
+    → pline_seg_intr v1 v2 u1 u2 pos_equal_eps ≡ pline_seg_intr v1 (with_bulge v2 v_bulge) u1 (with_bulge u2 u_bulge) pos_equal_eps
 unfolding pline_seg_intr check_pline_seg arc_chord pos
-second-bulges-unused v1 v2 u1 u2 pos_equal_eps vBulge uBulge =
+second-bulges-unused v1 v2 u1 u2 pos_equal_eps v_bulge u_bulge =
     ap (λ (r : PlineSegIntr). answered Refused Met (check_pline_seg v1 v2 u1 u2 pos_equal_eps) r)
-    (second-bulges v1 v2 u1 u2 pos_equal_eps vBulge uBulge)
+    (second-bulges v1 v2 u1 u2 pos_equal_eps v_bulge u_bulge)

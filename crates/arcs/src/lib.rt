@@ -2,6 +2,7 @@
 // arc once the points of the line and the circle, or of the two circles, are known. It answers for any numbers: the calls of
 // `crossing` check their numbers before they use it.
 #![tactic(auto)]
+
 pub mod arc_geometry;
 mod arc_sweep;
 pub mod circle;

@@ -6,6 +6,7 @@
 // `HandedCounted` and `HandedJoin`; `pair_findings` has the pair call with findings, which promises `HandedFindings`; `dxf` has
 // the import and the export of a drawing's path, which promise `HandedImport` and `HandedExport`.
 #![tactic(auto)]
+
 ghost use Rattle.std.specs.Prelude.{◌≡◌};
 ghost use Rattle.floats.specs.F64;
 ghost use Rattle.floats.specs.Bits;

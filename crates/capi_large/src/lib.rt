@@ -4,6 +4,7 @@
 // `page` their pages, `boxed` the boxed listings, `counted` the counted listing, and `dxf` the import and the export of a
 // drawing's path.
 #![tactic(auto)]
+
 pub mod boxed;
 pub mod counted;
 pub mod dxf;

@@ -1,6 +1,7 @@
 // The checks of a call's numbers, before the call works with them. A chain of checks answers its first fault, with its place. The
 // limits and the refusal numbers are the scope's; each stands here once.
 #![tactic(auto)]
+
 pub mod arc;
 pub mod calls;
 pub mod chain;

@@ -20,10 +20,10 @@ same_center radius1 radius2 eps = cond (fuzzy_eq_eps radius1 radius2 eps) Overla
 -- lines 102-115
 unfoldable pub two_sides : Vector2 → Vector2 → Float → Float → CircleCircleIntr
 two_sides midpoint cv h_over_d eps =
-    let xTerm = h_over_d ⊗ cv.y in
-    let yTerm = h_over_d ⊗ cv.x in
-    let pt1 = vector2.new (midpoint.x ⊕ xTerm) (midpoint.y ⊖ yTerm) in
-    let pt2 = vector2.new (midpoint.x ⊖ xTerm) (midpoint.y ⊕ yTerm) in
+    let x_term = h_over_d ⊗ cv.y in
+    let y_term = h_over_d ⊗ cv.x in
+    let pt1 = vector2.new (midpoint.x ⊕ x_term) (midpoint.y ⊖ y_term) in
+    let pt2 = vector2.new (midpoint.x ⊖ x_term) (midpoint.y ⊕ y_term) in
     cond (vector2.fuzzy_eq_eps pt1 pt2 eps)
     (TangentIntersect pt1)
     (TwoIntersects pt1 pt2)

@@ -27,10 +27,10 @@ point_circle p0 p1 radius circle_center eps =
 -- lines 105-128: the default epsilon, not the given one, says whether the line is vertical
 unfoldable pub line_through : Float → Float → Vector2 → Vector2 → Line
 line_through dx dy p0_shifted p1_shifted =
-    let xPos = (p1_shifted.x ⊕ p0_shifted.x) ⊘ f2 in
+    let x_pos = (p1_shifted.x ⊕ p0_shifted.x) ⊘ f2 in
     let m = dy ⊘ dx in
     cond (fuzzy_eq_zero dx)
-    (record { a = f1; b = f0; c = neg xPos })
+    (record { a = f1; b = f0; c = neg x_pos })
     (record { a = m; b = neg f1; c = p1_shifted.y ⊖ m ⊗ p1_shifted.x })
 
 -- lines 158-171

@@ -1,6 +1,7 @@
 // Where two segments meet: the kernels, one module each, as in the Rust; the pair call over them is in `fast_pair`. A call checks
 // its numbers first and refuses what is out of range. Functions that work on unchecked numbers are private.
 #![tactic(auto)]
+
 mod arc_arc;
 mod circle_circle;
 pub mod circle_circle_intersect;

@@ -79,11 +79,11 @@ count_code = 90
 abbrev pub flags_code : ℕ
 flags_code = 70
 
-abbrev pub xCode : ℕ
-xCode = 10
+abbrev pub x_code : ℕ
+x_code = 10
 
-abbrev pub yCode : ℕ
-yCode = 20
+abbrev pub y_code : ℕ
+y_code = 20
 
 abbrev pub bulge_code : ℕ
 bulge_code = 42
@@ -100,16 +100,16 @@ pub data Group : Type 0 where
 pub record OtherCode (c : ℕ) : Type 0 where
   pub not-count : eqb c count_code ≡ false
   pub not-flags : eqb c flags_code ≡ false
-  pub not-x : eqb c xCode ≡ false
-  pub not-y : eqb c yCode ≡ false
+  pub not-x : eqb c x_code ≡ false
+  pub not-y : eqb c y_code ≡ false
   pub not-bulge : eqb c bulge_code ≡ false
 
 -- the group of a code and its value's line
 pub data ValueText : ℕ → List ℕ → Group → Type 0 where
   count-value : {line : List ℕ} {n : ℕ} → WholeText line n → ValueText count_code line (count n)
   flags-value : {line : List ℕ} {n : ℕ} → WholeText line n → ValueText flags_code line (flags n)
-  x-value : {line : List ℕ} {z : ℤ} → NumberText line z → ValueText xCode line (x z)
-  y-value : {line : List ℕ} {z : ℤ} → NumberText line z → ValueText yCode line (y z)
+  x-value : {line : List ℕ} {z : ℤ} → NumberText line z → ValueText x_code line (x z)
+  y-value : {line : List ℕ} {z : ℤ} → NumberText line z → ValueText y_code line (y z)
   bulge-value : {line : List ℕ} {z : ℤ} → NumberText line z → ValueText bulge_code line (bulge z)
   other-value : {c : ℕ} {line : List ℕ} → OtherCode c → Skipped line → ValueText c line other
 

@@ -1,7 +1,7 @@
 -- The order of the groups, by request 10: 90, then 70, then for each vertex 10, 20 and perhaps 42. All other codes may stand
 -- anywhere.
 use Rattle.std.specs.Prelude.{ℕ, ◌≡◌, Bool, true, false, cond, List, [], ◌∷◌, eqb}
-use Rattle.dxf_form.specs.Form.{Group, count, flags, x, y, bulge, other, count_code, flags_code, xCode, yCode, bulge_code}
+use Rattle.dxf_form.specs.Form.{Group, count, flags, x, y, bulge, other, count_code, flags_code, x_code, y_code, bulge_code}
 use Rattle.dxf_form.specs.declared.order.Due.{Due}
 use Rattle.dxf_form.specs.declared.order.Due.TheVariants as Due·
 use Rattle.dxf_form.specs.declared.order.Turn.{Turn}
@@ -22,19 +22,19 @@ flags_turn Due·.Vertex = Turn·.OutOfPlace
 flags_turn Due·.Y = Turn·.OutOfPlace
 flags_turn Due·.Bulge = Turn·.OutOfPlace
 
-abbrev pub xTurn : Due → Turn
-xTurn Due·.Count = Turn·.OutOfPlace
-xTurn Due·.Flags = Turn·.OutOfPlace
-xTurn Due·.Vertex = Turn·.X
-xTurn Due·.Y = Turn·.OutOfPlace
-xTurn Due·.Bulge = Turn·.X
+abbrev pub x_turn : Due → Turn
+x_turn Due·.Count = Turn·.OutOfPlace
+x_turn Due·.Flags = Turn·.OutOfPlace
+x_turn Due·.Vertex = Turn·.X
+x_turn Due·.Y = Turn·.OutOfPlace
+x_turn Due·.Bulge = Turn·.X
 
-abbrev pub yTurn : Due → Turn
-yTurn Due·.Count = Turn·.OutOfPlace
-yTurn Due·.Flags = Turn·.OutOfPlace
-yTurn Due·.Vertex = Turn·.OutOfPlace
-yTurn Due·.Y = Turn·.Y
-yTurn Due·.Bulge = Turn·.OutOfPlace
+abbrev pub y_turn : Due → Turn
+y_turn Due·.Count = Turn·.OutOfPlace
+y_turn Due·.Flags = Turn·.OutOfPlace
+y_turn Due·.Vertex = Turn·.OutOfPlace
+y_turn Due·.Y = Turn·.Y
+y_turn Due·.Bulge = Turn·.OutOfPlace
 
 abbrev pub bulge_turn : Due → Turn
 bulge_turn Due·.Count = Turn·.OutOfPlace
@@ -48,8 +48,8 @@ abbrev pub turn_at : Due → ℕ → Turn
 turn_at due code =
     cond (eqb code count_code) (count_turn due)
     (cond (eqb code flags_code) (flags_turn due)
-    (cond (eqb code xCode) (xTurn due)
-    (cond (eqb code yCode) (yTurn due)
+    (cond (eqb code x_code) (x_turn due)
+    (cond (eqb code y_code) (y_turn due)
     (cond (eqb code bulge_code) (bulge_turn due)
     Turn·.Other))))
 
@@ -77,8 +77,8 @@ may_end Due·.Bulge = true
 abbrev pub turn_of : Due → Group → Turn
 turn_of due (count n) = count_turn due
 turn_of due (flags n) = flags_turn due
-turn_of due (x z) = xTurn due
-turn_of due (y z) = yTurn due
+turn_of due (x z) = x_turn due
+turn_of due (y z) = y_turn due
 turn_of due (bulge z) = bulge_turn due
 turn_of due other = Turn·.Other
 

@@ -63,7 +63,7 @@ fn flags_turn(due: Due) -> Turn
 
 // The turn of code 10.
 fn x_turn(due: Due) -> Turn
-    ensures { result ≡ order.xTurn due }
+    ensures { result ≡ order.x_turn due }
 {
     match due {
         Due::Count => Turn::OutOfPlace,
@@ -76,7 +76,7 @@ fn x_turn(due: Due) -> Turn
 
 // The turn of code 20.
 fn y_turn(due: Due) -> Turn
-    ensures { result ≡ order.yTurn due }
+    ensures { result ≡ order.y_turn due }
 {
     match due {
         Due::Count => Turn::OutOfPlace,

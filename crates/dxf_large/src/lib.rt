@@ -2,6 +2,7 @@
 // and the path has the checks of crate cuts. A path is read and written as it stands: nothing is cut. specs/Large.antt has what
 // the two functions promise.
 #![tactic(auto)]
+
 ghost use Rattle.std.specs.Prelude.{◌≤◌, length};
 ghost use Rattle.cuts.specs.LargeChecks as checks_of;
 ghost use Rattle.dxf_read.specs.Import as import_of;

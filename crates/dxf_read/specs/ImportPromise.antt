@@ -110,25 +110,29 @@ tells text old = go (read_groups text) refl
         spelt-tells text old b.declared b.flags-are b.vertices
         ((accepted text b.declared b.flags-are b.vertices).0 (record { gs = gs; read = e; is = refl }))
 
+-- what the checks of a spelt body give
+abbrev spelt-by : ℕ → ℕ → List Corner → List Float → Checked → ImportOutcome
+spelt-by n f vs old c = by_checks (record { declared = n; flags-are = f; vertices = vs }) old c
+
 -- the other way
 told : (text : List ℕ) (old : List Float) {r : Imported} {now : List Float} → Tells text old r now
     → import_dxf text old ≡ record { answer = r; path = now }
 told text old (text-fault {number} {line} w) = fault-is text old ((fault-read text number line).1 w)
 told text old (unmet {n} {f} {vs} s h) =
-    spelt-import text old n f vs s ∙ ap (by_checks _ old) (unmet-first n (count_line s.gs) (closed_by f) vs old h)
+    spelt-import text old n f vs s ∙ ap (spelt-by n f vs old) (unmet-first n (count_line s.gs) (closed_by f) vs old h)
 told text old (too_long {n} {f} {vs} s met h) =
-    spelt-import text old n f vs s ∙ ap (by_checks _ old) (long-first n (count_line s.gs) (closed_by f) vs old met h)
+    spelt-import text old n f vs s ∙ ap (spelt-by n f vs old) (long-first n (count_line s.gs) (closed_by f) vs old met h)
 told text old (own-fault {n} {f} {vs} {fault} s met few h) =
     spelt-import text old n f vs s
-    ∙ ap (by_checks _ old) (own_first n (count_line s.gs) (closed_by f) vs old met few fault
+    ∙ ap (spelt-by n f vs old) (own_first n (count_line s.gs) (closed_by f) vs old met few fault
     ((first-bad (path_checks (path_of vs) (closed_by f) 0) fault).1 h))
 told text old (no_room {n} {f} {vs} s met few h short) =
     spelt-import text old n f vs s
-    ∙ ap (by_checks _ old) (room-first n (count_line s.gs) (closed_by f) vs old met few
+    ∙ ap (spelt-by n f vs old) (room-first n (count_line s.gs) (closed_by f) vs old met few
     ((first_fine (path_checks (path_of vs) (closed_by f) 0)).1 h) short)
 told text old (imported {n} {f} {vs} s met few h room) =
     spelt-import text old n f vs s
-    ∙ ap (by_checks _ old) (none_first n (count_line s.gs) (closed_by f) vs old met few
+    ∙ ap (spelt-by n f vs old) (none_first n (count_line s.gs) (closed_by f) vs old met few
     ((first_fine (path_checks (path_of vs) (closed_by f) 0)).1 h) room)
 
 -- the promise is exactly that

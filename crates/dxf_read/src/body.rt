@@ -50,8 +50,8 @@ pub fn check_count(n: usize, count: u64, line: u64) -> Checked
 
 // Copies the first `many` floats.
 fn copy(from: &[f64], many: usize, to: &mut [f64])
-    requires many_in_bounds { many ≤ length from.now }
-    requires many_in_bounds_2 { many ≤ length to.old }
+    requires many_in_from { many ≤ length from.now }
+    requires many_in_to { many ≤ length to.old }
     ensures { to.new ≡ sets to.old 0 (take many from.now) }
 {
     let mut i = 0;

@@ -1,5 +1,6 @@
 // Imports the body of an LWPOLYLINE entity. Crate dxf_form has the form of a text; specs/Import.antt has what an import promises.
 #![tactic(auto)]
+
 ghost use Rattle.std.specs.Prelude.{◌≤◌, length};
 ghost use Rattle.dxf_read.specs.Import as import_of;
 ghost use Rattle.dxf_read.specs.Workings.Scanning as scanning;

@@ -30,7 +30,7 @@ fn start_vertex(out: &mut [f64], n: usize, x: f64)
 // Changes number k of the last of n vertices.
 fn change_last(out: &mut [f64], n: usize, k: usize, v: f64)
     requires room_in_bounds { room ≤ length out.old }
-    requires k_lt_numbers_avertex { k < numbers_a_vertex }
+    requires k_in_vertex { k < numbers_a_vertex }
     ensures { out.new ≡ changed k v n out.old }
 {
     if n == 0 {

@@ -18,8 +18,8 @@ use Rattle.dxf_form.specs.Form.{
   NumberText,
   count_code,
   flags_code,
-  xCode,
-  yCode,
+  x_code,
+  y_code,
   bulge_code,
   Group,
   count,
@@ -206,12 +206,12 @@ vertices-spelt : (vs : List Corner) → Spells (vertices_bytes vs) (vertex_group
 unfolding vertices_bytes vertex_bytes
 vertices-spelt [] = nothing
 vertices-spelt (v ∷ rest) =
-    let a = group_bytes xCode (number_bytes v.x) in
-    let b = group_bytes yCode (number_bytes v.y) in
+    let a = group_bytes x_code (number_bytes v.x) in
+    let b = group_bytes y_code (number_bytes v.y) in
     let c = group_bytes bulge_code (number_bytes v.bulge) in
     rw (append_assoc a (b ++ c) (vertices_bytes rest), append_assoc b c (vertices_bytes rest))
-    (spelt-group xCode (number_bytes v.x) (x-value (number-spelt v.x))
-    (spelt-group yCode (number_bytes v.y) (y-value (number-spelt v.y))
+    (spelt-group x_code (number_bytes v.x) (x-value (number-spelt v.x))
+    (spelt-group y_code (number_bytes v.y) (y-value (number-spelt v.y))
     (spelt-group bulge_code (number_bytes v.bulge) (bulge-value (number-spelt v.bulge)) (vertices-spelt rest))))
 
 vertices-given : (vs : List Corner) → Vertices (vertex_groups vs) vs

@@ -4,7 +4,7 @@ use Rattle.std.specs.Prelude.{ℕ, ◌+◌, ◌/◌, ◌%◌, Bool, true, false,
 use Rattle.layouts.specs.Layout.{magnitude}
 use Rattle.put_text.specs.Decimal.{decimal}
 use Rattle.dxf_form.specs.Numbers.{million, Corner}
-use Rattle.dxf_form.specs.Form.{count_code, flags_code, xCode, yCode, bulge_code}
+use Rattle.dxf_form.specs.Form.{count_code, flags_code, x_code, y_code, bulge_code}
 
 -- ---- numbers
 
@@ -41,8 +41,8 @@ group_bytes code value = (decimal code ++ (10 ∷ [])) ++ (value ++ (10 ∷ []))
 
 unfoldable pub vertex_bytes : Corner → List ℕ
 vertex_bytes v =
-    group_bytes xCode (number_bytes v.x)
-    ++ (group_bytes yCode (number_bytes v.y) ++ group_bytes bulge_code (number_bytes v.bulge))
+    group_bytes x_code (number_bytes v.x)
+    ++ (group_bytes y_code (number_bytes v.y) ++ group_bytes bulge_code (number_bytes v.bulge))
 
 unfoldable pub vertices_bytes : List Corner → List ℕ
 vertices_bytes [] = []

@@ -1,5 +1,6 @@
 // Exports a path as the body of an LWPOLYLINE entity. specs/Written.antt has the text, specs/Export.antt what an export promises.
 #![tactic(auto)]
+
 ghost use Rattle.std.specs.Prelude.{◌≡◌, ◌≤◌, []};
 ghost use Rattle.paths.specs.Path.{vertex_count, most_vertices};
 ghost use Rattle.dxf_write.specs.Written;

@@ -54,11 +54,11 @@ m3 = of_bits binary64 0xc008_0000_0000_0000
 abbrev m4 : Float
 m4 = of_bits binary64 0xc010_0000_0000_0000
 
-abbrev mHalf : Float
-mHalf = of_bits binary64 0xbfe0_0000_0000_0000
+abbrev m_half : Float
+m_half = of_bits binary64 0xbfe0_0000_0000_0000
 
-abbrev mQuarter : Float
-mQuarter = of_bits binary64 0xbfd0_0000_0000_0000
+abbrev m_quarter : Float
+m_quarter = of_bits binary64 0xbfd0_0000_0000_0000
 
 abbrev tenth : Float
 tenth = of_bits binary64 0x3fb9_9999_9999_999a
@@ -123,7 +123,7 @@ table =
     -- (0,-1)-(0,2) with H's first arc: the line's start is on the arc and stands in, though the computed point equals it
     ∷ entry (at n0 m1) (at n0 n2) (arc_at m1 n0 n1) (at n1 n0) eps 2 (one n0 m1) (6 ∷ 5 ∷ 6 ∷ 0 ∷ [])
     -- epsilon 0.1: an end is the answer, and both computed points are outside an arc or not tested
-    ∷ entry (arc_at n2 n2 mHalf) (at m2 m4) (arc_at n3 m4 mQuarter) (at m4 m3) tenth 2 (one m2 m4) (0 ∷ 6 ∷ 0 ∷ 6 ∷ [])
+    ∷ entry (arc_at n2 n2 m_half) (at m2 m4) (arc_at n3 m4 m_quarter) (at m4 m3) tenth 2 (one m2 m4) (0 ∷ 6 ∷ 0 ∷ 6 ∷ [])
     ∷ []
 
 abbrev found : List Entry → List Numbers

@@ -47,10 +47,10 @@ sides-small : (midpoint cv : Vector2) (h_over_d eps : Float) → SmallPoint 266 
     → Bounded (kernel.two_sides midpoint cv h_over_d eps)
 unfolding kernel.two_sides
 sides-small midpoint cv h_over_d eps M C H =
-    let xTerm = times H C.at_y tt in
-    let yTerm = times H C.at_x tt in
-    let pt1 = point-wider (point-of (plus M.at_x xTerm 266 tt) (minus M.at_y yTerm 266 tt)) 600 tt in
-    let pt2 = point-wider (point-of (minus M.at_x xTerm 266 tt) (plus M.at_y yTerm 266 tt)) 600 tt in
+    let x_term = times H C.at_y tt in
+    let y_term = times H C.at_x tt in
+    let pt1 = point-wider (point-of (plus M.at_x x_term 266 tt) (minus M.at_y y_term 266 tt)) 600 tt in
+    let pt2 = point-wider (point-of (minus M.at_x x_term 266 tt) (plus M.at_y y_term 266 tt)) 600 tt in
     by-test Bounded
     (vector2.fuzzy_eq_eps (vector2.new (midpoint.x ⊕ h_over_d ⊗ cv.y) (midpoint.y ⊖ h_over_d ⊗ cv.x))
     (vector2.new (midpoint.x ⊖ h_over_d ⊗ cv.y) (midpoint.y ⊕ h_over_d ⊗ cv.x)) eps)

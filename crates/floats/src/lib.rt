@@ -1,6 +1,7 @@
 // Absolute value, minimum, maximum and square root, which the language lacks: on f64 here, on bit patterns in `bits`. Each
 // function answers for every input: see F64.antt and Bits.antt in specs/.
 #![tactic(auto)]
+
 ghost use Rattle.std.specs.Prelude.{◌≡◌};
 ghost use Rattle.floats.specs.F64;
 

@@ -2,6 +2,7 @@
 // a bulge above 1 with 3; only then are the paths cut. Otherwise its answer holds in this mode too, and its rows are spread into
 // rows of five with halves 0. So a call without large arcs takes as long as in the old mode.
 #![tactic(auto)]
+
 pub mod mutual_boxed_large;
 pub mod mutual_large;
 pub mod mutual_page_large;

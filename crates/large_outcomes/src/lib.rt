@@ -2,6 +2,7 @@
 // of five, in the caller's slice. The segments of a cut path have names: the index of the segment that one comes from, and its
 // half.
 #![tactic(auto)]
+
 pub mod listed;
 pub mod room;
 pub mod spread;

@@ -1,6 +1,7 @@
 // From the program's input, a text line and a packed file, to the text of the layout's listing: everything that the program
 // `crossings` does, except reading and writing.
 #![tactic(auto)]
+
 ghost use Rattle.std.specs.Prelude.{◌≡◌, ◌≤◌, length};
 ghost use Rattle.layout_listing.specs.Answer.{begins, room, LinesFor, FileAnswer, AnswerTo};
 

@@ -39,7 +39,7 @@ module _ {r s : Moved} {old now old2 now2 : List ℕ} {n : ℕ} where
       → Whole text s old2 now2
   packed-and-back {text} m enough e back enough2 =
       let is = front m enough (λ b i. file-short (pack-is text b i)) e in
-      whole back enough2 text (back_and_forth text (take n now).0 is) (text-short (pack-is text (take n now) is))
+      whole back enough2 text ((back_and_forth text (take n now)).0 is) (text-short (pack-is text (take n now) is))
 
   pub unpacked-and-back : {file : List ℕ} → UnpackLayout file r old now → text_sizes.longest ≤ length old → r ≡ Moved·.Length n
       → PackLayout (take n now) s old2 now2 → packed_sizes.longest ≤ length old2

@@ -1,6 +1,7 @@
 // Moves a layout between its two forms: from its text to its packed form, and back. specs/Moves.antt has what the two functions
 // promise. They look at the form only: a layout whose listing would be refused is moved too.
 #![tactic(auto)]
+
 ghost use Rattle.layout_moves.specs.Moves.{PackLayout, UnpackLayout};
 
 use layout_packed::limits::LONGEST as PACKED_ROOM;

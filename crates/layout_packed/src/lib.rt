@@ -1,6 +1,7 @@
 // Layouts in the packed form: the reader, and the writer of packed numbers. specs/Packed.antt has the form, and specs/Read.antt
 // what the reader promises.
 #![tactic(auto)]
+
 ghost use Rattle.layout_packed.specs.Read.{ReadPacked};
 
 use layouts::limits::ROOM;

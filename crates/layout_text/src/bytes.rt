@@ -12,6 +12,7 @@ pub const MINUS: u64 = 12;
 pub const OTHER: u64 = 13;
 
 // The kind of a byte.
+#[tactic(auto, unfolding(crate::specs::Workings::Reader::kind_of))]
 pub fn kind(b: u8) -> u64
     ensures { result ≡ kind_of b }
 {

@@ -1,6 +1,7 @@
 // Layouts as texts, for the programs that move them: the reader, and the writer of text lines. specs/Form.antt has the form of a
 // text. `shape::shape_of` finds out whether a text has it and where its paths start, and `vertex::vertex` reads one vertex.
 #![tactic(auto)]
+
 mod bytes;
 mod number;
 pub mod put;

@@ -1,6 +1,7 @@
 // Listings: which segments of two paths, or of one path, meet, and where; whole, page by page, or found by boxes. A listing
 // checks its numbers first and refuses what is out of range. Rows go into slices that the caller lends.
 #![tactic(auto)]
+
 pub mod filled;
 mod jobs;
 pub mod mutual_boxed;

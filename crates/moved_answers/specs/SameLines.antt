@@ -48,7 +48,7 @@ ten-moved text = (from (reads text) refl, to (reads text) refl)
         → packed_or (reads text) ≡ refused text_form.refusal
     from broken is e = ap packed_or is
     from (layout l) is e =
-        elim (lines-refused l (read-is-text text (l is).1) text_form.refusal (sym (ap text_answer_of is) ∙ e)) [
+        elim (lines-refused l (read-is-text text l is).1 text_form.refusal (sym (ap text_answer_of is) ∙ e)) [
           | inl same ↦ absurd (omega (arith, same))
           | inr same ↦ absurd (omega (arith, same))
         ]

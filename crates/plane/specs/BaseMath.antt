@@ -23,8 +23,8 @@ point_from_parametric p0 p1 t = vector2.add p0 (vector2.scale (vector2.sub p1 p0
 -- base_math.rs 312-336; the release build counts, and it does not read epsilon
 unfoldable pub parametric_from_point : Vector2 → Vector2 → Vector2 → Float → Float
 parametric_from_point p0 p1 point epsilon =
-    let xDiff = p1.x ⊖ p0.x in
-    let yDiff = p1.y ⊖ p0.y in
-    cond (F64.abs xDiff ≺ F64.abs yDiff)
-    ((point.y ⊖ p0.y) ⊘ yDiff)
-    ((point.x ⊖ p0.x) ⊘ xDiff)
+    let x_diff = p1.x ⊖ p0.x in
+    let y_diff = p1.y ⊖ p0.y in
+    cond (F64.abs x_diff ≺ F64.abs y_diff)
+    ((point.y ⊖ p0.y) ⊘ y_diff)
+    ((point.x ⊖ p0.x) ⊘ x_diff)

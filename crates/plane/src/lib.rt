@@ -2,6 +2,7 @@
 // along a segment, an arc's radius and centre. Nothing here checks its numbers: each function answers for every input, NaN and
 // infinities too. The file in specs/ with the name of the module says how.
 #![tactic(auto)]
+
 pub mod base_math;
 pub mod fuzzy;
 pub mod pline_seg;

@@ -5,6 +5,7 @@
 // A point goes in as its two coordinates, a vertex as its coordinates and its bulge. Each call is the function of its name, with
 // that function's contract. An answer of more than one number goes into a lent slice (`out`).
 #![tactic(auto)]
+
 pub mod base_math;
 pub mod filled;
 pub mod fuzzy;

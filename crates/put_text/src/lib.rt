@@ -1,6 +1,7 @@
 // How text is written: bytes, words and decimal numbers, put into a lent slice from a place on. Each function answers the place
 // after what it put. specs/Workings/Put.antt says what the slice holds then, and specs/Decimal.antt has the digits of a number.
 #![tactic(auto)]
+
 ghost use Rattle.std.specs.Prelude.{[], ◌∷◌, ◌+◌, ◌≤◌, ◌<◌, length};
 ghost use Rattle.put_text.specs.Decimal.{decimal};
 ghost use Rattle.put_text.specs.Workings.Put.{Put, PutIn};

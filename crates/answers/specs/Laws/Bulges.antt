@@ -23,17 +23,17 @@ use Rattle.crossing.specs.PlineSeg.{pline_seg}
 abbrev pub with_bulge : PlineVertex → Float → PlineVertex
 with_bulge v bulge = record { x = v.x; y = v.y; bulge = bulge }
 
-module _ (v1 v2 u1 u2 : PlineVertex) (pos_equal_eps vBulge uBulge : Float) where
+module _ (v1 v2 u1 u2 : PlineVertex) (pos_equal_eps v_bulge u_bulge : Float) where
   of-kernel : (r : CircleCircleIntr) (circle1 circle2 : ArcRadiusCenter)
       → arc_arc_of r v1 v2 u1 u2 circle1 circle2 pos_equal_eps
-      ≡ arc_arc_of r v1 (with_bulge v2 vBulge) u1 (with_bulge u2 uBulge) circle1 circle2 pos_equal_eps
+      ≡ arc_arc_of r v1 (with_bulge v2 v_bulge) u1 (with_bulge u2 u_bulge) circle1 circle2 pos_equal_eps
   unfolding overlapping_arc_arc same_arc of_segment pos
   of-kernel NoIntersect circle1 circle2 = refl
   of-kernel (TangentIntersect point) circle1 circle2 = refl
   of-kernel (TwoIntersects point1 point2) circle1 circle2 = refl
   of-kernel Overlapping circle1 circle2 = refl
 
-  two-arcs : arc_arc v1 v2 u1 u2 pos_equal_eps ≡ arc_arc v1 (with_bulge v2 vBulge) u1 (with_bulge u2 uBulge) pos_equal_eps
+  two-arcs : arc_arc v1 v2 u1 u2 pos_equal_eps ≡ arc_arc v1 (with_bulge v2 v_bulge) u1 (with_bulge u2 u_bulge) pos_equal_eps
   unfolding arc_arc seg_arc_radius_and_center pos
   two-arcs =
       let circle1 = seg_arc_radius_and_center v1 v2 in
@@ -41,6 +41,6 @@ module _ (v1 v2 u1 u2 : PlineVertex) (pos_equal_eps vBulge uBulge : Float) where
       of-kernel (circle_circle circle1.radius circle1.center circle2.radius circle2.center pos_equal_eps) circle1 circle2
 
   pub second-bulges :
-      pline_seg v1 v2 u1 u2 pos_equal_eps ≡ pline_seg v1 (with_bulge v2 vBulge) u1 (with_bulge u2 uBulge) pos_equal_eps
+      pline_seg v1 v2 u1 u2 pos_equal_eps ≡ pline_seg v1 (with_bulge v2 v_bulge) u1 (with_bulge u2 u_bulge) pos_equal_eps
   unfolding pline_seg process_line_arc_intr of_segment seg_arc_radius_and_center pos
   second-bulges = rw two-arcs

@@ -42,7 +42,7 @@ of_kernel (ArcAndLine found) v1 v2 circle1 u1 u2 circle2 eps =
 of_kernel (TwoArcs found) v1 v2 circle1 u1 u2 circle2 eps = arc_arc_of found v1 v2 u1 u2 circle1 circle2 eps
 
 module _ (v1 v2 : PlineVertex) (circle1 : ArcRadiusCenter) (u1 u2 : PlineVertex) (circle2 : ArcRadiusCenter) (eps : Float) where
-  by_kind : (vLine uLine : Bool) → vLine ≡ bulge_is_zero v1 → uLine ≡ bulge_is_zero u1 → OfArc v1 v2 circle1 → OfArc u1 u2 circle2
+  by_kind : (v_line u_line : Bool) → v_line ≡ bulge_is_zero v1 → u_line ≡ bulge_is_zero u1 → OfArc v1 v2 circle1 → OfArc u1 u2 circle2
       → of_kernel (pair_kernel v1 v2 circle1 u1 u2 circle2 eps) v1 v2 circle1 u1 u2 circle2 eps ≡ pline_seg v1 v2 u1 u2 eps
   unfolding pair_kernel pline_seg process_line_arc_intr arc_arc
   by_kind true true ev eu of_v of_u = simp (← ev, ← eu)

@@ -2,9 +2,9 @@
 use Rattle.std.specs.Prelude.{ℕ, ◌+◌, ◌<◌, ◌≡◌, refl, Bool, true, false, cond, List, [], ◌∷◌, ◌++◌, eqb, length}
 use Rattle.std.proofs.Common.{sym, ap, ◌∙◌, subst, arith, eqb-true, length-append}
 use Rattle.dxf_form.specs.Form.{WholeText, Group, OtherCode, ValueText, count-value, flags-value, x-value, y-value}
-use Rattle.dxf_form.specs.Form.{bulge-value, other-value, count_code, flags_code, xCode, yCode, bulge_code}
+use Rattle.dxf_form.specs.Form.{bulge-value, other-value, count_code, flags_code, x_code, y_code, bulge_code}
 use Rattle.dxf_form.specs.Form.{count, flags, x, y, bulge}
-use Rattle.dxf_form.specs.Order.{count_turn, flags_turn, xTurn, yTurn, bulge_turn, turn_at, turn_of, out_of_place}
+use Rattle.dxf_form.specs.Order.{count_turn, flags_turn, x_turn, y_turn, bulge_turn, turn_at, turn_of, out_of_place}
 use Rattle.dxf_form.specs.Refusal
 use Rattle.dxf_form.specs.Workings.Reader.{Got, nothing, got, is_empty, fault, pair, whole_line, value_for}
 use Rattle.dxf_form.specs.Workings.Reader.{by_code, pair_of}
@@ -19,21 +19,21 @@ use Rattle.dxf_form.specs.declared.order.Turn.TheVariants as Turn·
 data Code : ℕ → Type 0 where
   is-count : Code count_code
   is-flags : Code flags_code
-  is_x : Code xCode
-  is_y : Code yCode
+  is_x : Code x_code
+  is_y : Code y_code
   is-bulge : Code bulge_code
   is-other : {c : ℕ} → OtherCode c → Code c
 
 code_of : (c : ℕ) → Code c
 code_of c =
-    go (eqb c count_code) refl (eqb c flags_code) refl (eqb c xCode) refl (eqb c yCode) refl (eqb c bulge_code) refl
+    go (eqb c count_code) refl (eqb c flags_code) refl (eqb c x_code) refl (eqb c y_code) refl (eqb c bulge_code) refl
   where
-    go : (n : Bool) → eqb c count_code ≡ n → (f : Bool) → eqb c flags_code ≡ f → (a : Bool) → eqb c xCode ≡ a
-        → (b : Bool) → eqb c yCode ≡ b → (d : Bool) → eqb c bulge_code ≡ d → Code c
+    go : (n : Bool) → eqb c count_code ≡ n → (f : Bool) → eqb c flags_code ≡ f → (a : Bool) → eqb c x_code ≡ a
+        → (b : Bool) → eqb c y_code ≡ b → (d : Bool) → eqb c bulge_code ≡ d → Code c
     go true p f q a r b s d t = subst Code (sym (eqb-true c count_code p)) is-count
     go false p true q a r b s d t = subst Code (sym (eqb-true c flags_code q)) is-flags
-    go false p false q true r b s d t = subst Code (sym (eqb-true c xCode r)) is_x
-    go false p false q false r true s d t = subst Code (sym (eqb-true c yCode s)) is_y
+    go false p false q true r b s d t = subst Code (sym (eqb-true c x_code r)) is_x
+    go false p false q false r true s d t = subst Code (sym (eqb-true c y_code s)) is_y
     go false p false q false r false s true t = subst Code (sym (eqb-true c bulge_code t)) is-bulge
     go false p false q false r false s false t =
         is-other (record { not-count = p; not-flags = q; not-x = r; not-y = s; not-bulge = t })
@@ -56,14 +56,14 @@ flags-in Due·.Vertex h = never-so h
 flags-in Due·.Y h = never-so h
 flags-in Due·.Bulge h = never-so h
 
-x-in : (due : Due) → out_of_place (xTurn due) ≡ false → xTurn due ≡ Turn·.X
+x-in : (due : Due) → out_of_place (x_turn due) ≡ false → x_turn due ≡ Turn·.X
 x-in Due·.Count h = never-so h
 x-in Due·.Flags h = never-so h
 x-in Due·.Vertex h = refl
 x-in Due·.Y h = never-so h
 x-in Due·.Bulge h = refl
 
-y-in : (due : Due) → out_of_place (yTurn due) ≡ false → yTurn due ≡ Turn·.Y
+y-in : (due : Due) → out_of_place (y_turn due) ≡ false → y_turn due ≡ Turn·.Y
 y-in Due·.Count h = never-so h
 y-in Due·.Flags h = never-so h
 y-in Due·.Vertex h = never-so h
@@ -89,10 +89,10 @@ module _ (due : Due) {line : List ℕ} {g : Group} where
       subst (λ (h : Group). ValueText flags_code line h) (sym w.is) (flags-value w.spelt)
   of-turn is_x h v =
       let w : NumberAs x line g = rw (x-in due h) at v in
-      subst (λ (h : Group). ValueText xCode line h) (sym w.is) (x-value w.spelt)
+      subst (λ (h : Group). ValueText x_code line h) (sym w.is) (x-value w.spelt)
   of-turn is_y h v =
       let w : NumberAs y line g = rw (y-in due h) at v in
-      subst (λ (h : Group). ValueText yCode line h) (sym w.is) (y-value w.spelt)
+      subst (λ (h : Group). ValueText y_code line h) (sym w.is) (y-value w.spelt)
   of-turn is-bulge h v =
       let w : NumberAs bulge line g = rw (bulge-in due h) at v in
       subst (λ (h : Group). ValueText bulge_code line h) (sym w.is) (bulge-value w.spelt)

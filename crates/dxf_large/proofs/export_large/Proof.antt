@@ -6,37 +6,28 @@ use Rattle.dxf_write.specs.Laws.Ends.{shape-refused, path-refused, path-fine, sh
 use Rattle.dxf_large.proofs.export_large.Statement.{statement}
 use Rattle.dxf_large.proofs.export_large.Tie as tie
 
-returns : tie.Need-returns
+returns : tie.Need-returns-in-Bad
 unfolding export_large
 returns c =
-    let shaped = c.before.before.before in
-    shape-refused large_path_checks _ shaped.before.before.before.args.closed _ shaped.shape.ensures c.before.s.given.1
+    shape-refused large_path_checks _ c.args.closed _ c.shape-s.ensures c.in-Bad.is
 
-returns-2 : tie.Need-returns-2
+returns-2 : tie.Need-returns-in-Bad-c
 unfolding export_large check_large_path
 returns-2 c =
-    let checked = c.before.before.before in
-    let shaped = checked.before.before.before in
-    path-refused large_path_checks _ _ _ shaped.shape.ensures checked.check-large-path.ensures c.before.c.given.1
+    path-refused large_path_checks _ _ _ c.shape-s.ensures c.check_large_path-c.ensures c.in-Bad-c.is
 
-export-checked-requires : tie.Need-export-checked-requires
+export-checked-requires : tie.Need-export_checked-requires
 export-checked-requires c κs =
-    let checked = c.before.before.before in
-    let shaped = checked.before.before.before in
-    short-enough _ shaped.shape.ensures checked.before.enum_told.given.1
+    short-enough _ c.shape-s.ensures c.in-Fine.is
 
-returns-3 : tie.Need-returns-3
+returns-3 : tie.Need-returns
 unfolding export_large check_large_path
 returns-3 c =
-    let called = c.before.before in
-    let fine = called.before.before in
-    let checked = fine.before.before in
-    let shaped = checked.before.before.before in
-    path-fine large_path_checks _ _ _ shaped.shape.ensures checked.check-large-path.ensures fine.enum-told2.given.1
-    called.export-checked.ensures
+    path-fine large_path_checks _ _ _ c.shape-s.ensures c.check_large_path-c.ensures c.in-Fine-c.is
+    c.export_checked.ensures
 
-pub export-large-spec : {M : Type 1} → statement M
-export-large-spec =
+pub export_large_spec : {M : Type 1} → statement M
+export_large_spec =
     tie.close
     (tie.spec
     (λ c κs. search rules) (λ c. search rules) (λ c. search rules) returns (λ c κs. search rules) (λ c. search rules)

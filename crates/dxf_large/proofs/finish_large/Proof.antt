@@ -8,41 +8,33 @@ use Rattle.dxf_read.specs.Laws.Ends.{count-refused, few-vertices, handed-over}
 use Rattle.dxf_large.proofs.finish_large.Statement.{statement}
 use Rattle.dxf_large.proofs.finish_large.Tie as tie
 
-returns : tie.Need-returns
+returns : tie.Need-returns-in-Bad
 returns c =
-    let got = c.before in
-    count-refused large_path_checks _ _ _ _ _ _ _ got.before.before.check-count.ensures _ got.counted.given.1
+    count-refused large_path_checks _ _ _ _ _ _ _ c.check_count-counted.ensures _ c.in-Bad.is
 
-mul-check-large-path : tie.Need-overflow-mul-check-large-path
+mul-check-large-path : tie.Need-overflow_mul-n
 mul-check-large-path c =
-    let few = few-vertices _ _ _ _ c.before.before.check-count.ensures c.enum_told.given.1 in
+    let few = few-vertices _ _ _ _ c.check_count-counted.ensures c.in-Fine.is in
     omega (arith, few)
 
-slice-aggregate-check-large-path : tie.Need-slice-aggregate-check-large-path
+slice-aggregate-check-large-path : tie.Need-slice_bounds-check_large_path-end
 slice-aggregate-check-large-path c =
-    let told = c.before in
-    let few = few-vertices _ _ _ _ told.before.before.check-count.ensures told.enum_told.given.1 in
+    let few = few-vertices _ _ _ _ c.check_count-counted.ensures c.in-Fine.is in
     sym (length-take-le _ _ (omega (arith, few)))
 
-hand-over-requires : tie.Need-hand-over-requires
+hand-over-requires : tie.Need-hand_over-requires
 hand-over-requires c κs =
-    let told = c.before.before.before in
-    let counted = told.before.before in
-    let few = few-vertices _ _ _ _ counted.check-count.ensures told.enum_told.given.1 in
-    (few, counted.before.before.before.requires)
+    let few = few-vertices _ _ _ _ c.check_count-counted.ensures c.in-Fine.is in
+    (few, c.requires)
 
-returns-2 : tie.Need-returns-2
+returns-2 : tie.Need-returns
 unfolding check_large_path
 returns-2 c =
-    let done = c.before.before in
-    let checked = done.before.before in
-    let told = checked.before.before in
-    let counted = told.before.before in
-    handed-over large_path_checks _ _ _ _ _ _ _ counted.check-count.ensures told.enum_told.given.1 _
-    checked.check-large-path.ensures _ _ done.hand-over.ensures
+    handed-over large_path_checks _ _ _ _ _ _ _ c.check_count-counted.ensures c.in-Fine.is _
+    c.check_large_path-checked.ensures _ _ c.hand_over.ensures
 
-pub finish-large-spec : {M : Type 1} → statement M
-finish-large-spec =
+pub finish_large_spec : {M : Type 1} → statement M
+finish_large_spec =
     tie.close
     (tie.spec
     (λ c. search rules) (λ c. search rules) (λ c. search rules) returns mul-check-large-path slice-aggregate-check-large-path

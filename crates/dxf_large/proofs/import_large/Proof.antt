@@ -14,32 +14,26 @@ use Rattle.dxf_large.proofs.import_large.Tie as tie
 long : length (let z : Float = of_bits binary64 0 in replicate room z) ≡ room
 long = let z : Float = of_bits binary64 0 in length-replicate room z
 
-scan-requires : tie.Need-scan-requires
+scan-requires : tie.Need-scan-found-requires
 scan-requires c κs = omega (arith, long)
 
-finish-large-requires : tie.Need-finish-large-requires
+finish-large-requires : tie.Need-finish_large-requires
 finish-large-requires c κs =
-    let scanned = c.before.before.before.before.before.before in
-    omega (arith, long, scanned.scan.auto.1.0)
+    omega (arith, long, c.scan-found.auto.out)
 
-returns : tie.Need-returns
+returns : tie.Need-returns-in-Fault
 unfolding import_large
 returns c =
-    let got = c.before.before in
-    let scanned = got.before.before.before in
-    text-fault large_path_checks _ _ _ _ _ scanned.scan.ensures _ _ got.found.given.1 _ c.line-fault.ensures
+    text-fault large_path_checks _ _ _ _ _ c.scan-found.ensures _ _ c.in-Fault.is _ c.line_fault.ensures
 
-returns-2 : tie.Need-returns-2
+returns-2 : tie.Need-returns-in-Body
 unfolding import_large
 returns-2 c =
-    let done = c.before.before in
-    let got = done.before.before.before.before in
-    let scanned = got.before.before.before in
-    body-found large_path_checks _ _ _ _ _ scanned.scan.ensures _ _ _ _ got.found2.given.1 (omega arith)
-    (omega (arith, long)) _ _ done.finish-large.ensures
+    body-found large_path_checks _ _ _ _ _ c.scan-found.ensures _ _ _ _ c.in-Body.is (omega arith)
+    (omega (arith, long)) _ _ c.finish_large.ensures
 
-pub import-large-spec : {M : Type 1} → statement M
-import-large-spec =
+pub import_large_spec : {M : Type 1} → statement M
+import_large_spec =
     tie.close
     (tie.spec
     (λ c. search rules) scan-requires (λ c. search rules) (λ c. search rules) (λ c. search rules) (λ c. search rules)

@@ -9,39 +9,31 @@ use Rattle.dxf_read.specs.Laws.Ends.{count-refused, few-vertices, handed-over}
 use Rattle.dxf_read.proofs.finish.Statement.{statement}
 use Rattle.dxf_read.proofs.finish.Tie as tie
 
-returns : tie.Need-returns
+returns : tie.Need-returns-in-Bad
 unfolding finished
 returns c =
-    let got = c.before in
-    count-refused path_checks _ _ _ _ _ _ _ got.before.before.check-count.ensures _ got.counted.given.1
+    count-refused path_checks _ _ _ _ _ _ _ c.check_count-counted.ensures _ c.in-Bad.is
 
-mul-check-path : tie.Need-overflow-mul-check-path
+mul-check-path : tie.Need-overflow_mul-n
 mul-check-path c =
-    let few = few-vertices _ _ _ _ c.before.before.check-count.ensures c.enum_told.given.1 in
+    let few = few-vertices _ _ _ _ c.check_count-counted.ensures c.in-Fine.is in
     omega (arith, few)
 
-slice-aggregate-check-path : tie.Need-slice-aggregate-check-path
+slice-aggregate-check-path : tie.Need-slice_bounds-check_path-end
 slice-aggregate-check-path c =
-    let told = c.before in
-    let few = few-vertices _ _ _ _ told.before.before.check-count.ensures told.enum_told.given.1 in
+    let few = few-vertices _ _ _ _ c.check_count-counted.ensures c.in-Fine.is in
     sym (length-take-le _ _ (omega (arith, few)))
 
-hand-over-requires : tie.Need-hand-over-requires
+hand-over-requires : tie.Need-hand_over-requires
 hand-over-requires c κs =
-    let told = c.before.before.before in
-    let counted = told.before.before in
-    let few = few-vertices _ _ _ _ counted.check-count.ensures told.enum_told.given.1 in
-    (few, counted.before.before.before.requires)
+    let few = few-vertices _ _ _ _ c.check_count-counted.ensures c.in-Fine.is in
+    (few, c.requires)
 
-returns-2 : tie.Need-returns-2
+returns-2 : tie.Need-returns
 unfolding finished check_path
 returns-2 c =
-    let done = c.before.before in
-    let checked = done.before.before in
-    let told = checked.before.before in
-    let counted = told.before.before in
-    handed-over path_checks _ _ _ _ _ _ _ counted.check-count.ensures told.enum_told.given.1 _
-    checked.check-path.ensures _ _ done.hand-over.ensures
+    handed-over path_checks _ _ _ _ _ _ _ c.check_count-counted.ensures c.in-Fine.is _
+    c.check_path-checked.ensures _ _ c.hand_over.ensures
 
 pub finish_spec : {M : Type 1} → statement M
 finish_spec =

@@ -15,32 +15,26 @@ use Rattle.dxf_read.proofs.import_dxf.Tie as tie
 long : length (let z : Float = of_bits binary64 0 in replicate room z) ≡ room
 long = let z : Float = of_bits binary64 0 in length-replicate room z
 
-scan-requires : tie.Need-scan-requires
+scan-requires : tie.Need-scan-found-requires
 scan-requires c κs = omega (arith, long)
 
 finish-requires : tie.Need-finish-requires
 finish-requires c κs =
-    let scanned = c.before.before.before.before.before.before in
-    omega (arith, long, scanned.scan.auto.1.0)
+    omega (arith, long, c.scan-found.auto.out)
 
-returns : tie.Need-returns
+returns : tie.Need-returns-in-Fault
 unfolding import_dxf
 returns c =
-    let got = c.before.before in
-    let scanned = got.before.before.before in
-    text-fault path_checks _ _ _ _ _ scanned.scan.ensures _ _ got.found.given.1 _ c.line-fault.ensures
+    text-fault path_checks _ _ _ _ _ c.scan-found.ensures _ _ c.in-Fault.is _ c.line_fault.ensures
 
-returns-2 : tie.Need-returns-2
+returns-2 : tie.Need-returns-in-Body
 unfolding import_dxf finished
 returns-2 c =
-    let done = c.before.before in
-    let got = done.before.before.before.before in
-    let scanned = got.before.before.before in
-    body-found path_checks _ _ _ _ _ scanned.scan.ensures _ _ _ _ got.found2.given.1 (omega arith)
-    (omega (arith, long)) _ _ done.finish.ensures
+    body-found path_checks _ _ _ _ _ c.scan-found.ensures _ _ _ _ c.in-Body.is (omega arith)
+    (omega (arith, long)) _ _ c.finish.ensures
 
-pub import-dxf-spec : {M : Type 1} → statement M
-import-dxf-spec =
+pub import_dxf_spec : {M : Type 1} → statement M
+import_dxf_spec =
     tie.close
     (tie.spec
     (λ c. search rules) scan-requires (λ c. search rules) (λ c. search rules) (λ c. search rules) (λ c. search rules)

@@ -2,8 +2,8 @@
 use Rattle.std.specs.Prelude.{ℕ, ◌≡◌, refl, Bool, true, false, cond, List, eqb, ℤ}
 use Rattle.std.proofs.Common.{ap, ◌∙◌, true≢false, arith}
 use Rattle.dxf_form.specs.Form.{Group, count, flags, x, y, bulge}
-use Rattle.dxf_form.specs.Form.{count_code, flags_code, xCode, yCode, bulge_code}
-use Rattle.dxf_form.specs.Order.{turn_at, turn_of, out_of_place, count_turn, flags_turn, xTurn, yTurn, bulge_turn}
+use Rattle.dxf_form.specs.Form.{count_code, flags_code, x_code, y_code, bulge_code}
+use Rattle.dxf_form.specs.Order.{turn_at, turn_of, out_of_place, count_turn, flags_turn, x_turn, y_turn, bulge_turn}
 use Rattle.dxf_form.specs.Refusal
 use Rattle.dxf_form.specs.Workings.Reader as reader
 use Rattle.dxf_form.specs.Workings.Reader.{Got, nothing, got, fault, pair, Passed, cut, over, is_empty}
@@ -58,8 +58,8 @@ turn-kept due c =
     rw (
       eqb-kept c count_code (omega arith),
       eqb-kept c flags_code (omega arith),
-      eqb-kept c xCode (omega arith),
-      eqb-kept c yCode (omega arith),
+      eqb-kept c x_code (omega arith),
+      eqb-kept c y_code (omega arith),
       eqb-kept c bulge_code (omega arith),
     )
 
@@ -95,14 +95,14 @@ module _ (negative : Bool) (n : ℕ) where
   right-flags Due·.Y h = absurd (true≢false h)
   right-flags Due·.Bulge h = absurd (true≢false h)
 
-  right-x : (due : Due) → Right due negative n (xTurn due)
+  right-x : (due : Due) → Right due negative n (x_turn due)
   right-x Due·.Count h = absurd (true≢false h)
   right-x Due·.Flags h = absurd (true≢false h)
   right-x Due·.Vertex h = refl
   right-x Due·.Y h = absurd (true≢false h)
   right-x Due·.Bulge h = refl
 
-  right-y : (due : Due) → Right due negative n (yTurn due)
+  right-y : (due : Due) → Right due negative n (y_turn due)
   right-y Due·.Count h = absurd (true≢false h)
   right-y Due·.Flags h = absurd (true≢false h)
   right-y Due·.Vertex h = absurd (true≢false h)
@@ -121,6 +121,6 @@ module _ (negative : Bool) (n : ℕ) where
   in-turn due c =
       pick (Right due negative n) (eqb c count_code) (right-count due)
       (pick (Right due negative n) (eqb c flags_code) (right-flags due)
-      (pick (Right due negative n) (eqb c xCode) (right-x due)
-      (pick (Right due negative n) (eqb c yCode) (right-y due)
+      (pick (Right due negative n) (eqb c x_code) (right-x due)
+      (pick (Right due negative n) (eqb c y_code) (right-y due)
       (pick (Right due negative n) (eqb c bulge_code) (right-bulge due) (λ h. refl)))))

@@ -16,6 +16,7 @@ use Rattle.paths.specs.Path.{most_vertices}
 use Rattle.paths.specs.Shape
 use Rattle.paths.specs.Check.{path_checks}
 use Rattle.dxf_form.specs.Refusal
+use Rattle.dxf_form.specs.Body.{Body}
 use Rattle.dxf_form.specs.Numbers.{Corner, path_of}
 use Rattle.dxf_form.specs.Form.{SpellsBody, closed_by, count_line}
 use Rattle.dxf_form.specs.Exactly.{groups-read, gives-complete-body}
@@ -81,4 +82,7 @@ module _ (text : List ℕ) (old : List Float) (n f : ℕ) (vs : List Corner) (s 
   spelt-import =
       let c = gives-complete-body s.gs n f vs s.gives in
       let read = (groups-read text s.gs).1 (s.spelt, c.0) in
-      rw (read, c.1)
+      rw read
+      (ap
+      (λ (b : Body). by_checks b old (first (all_checks b.declared (count_line s.gs) (closed_by b.flags-are) b.vertices old)))
+      c.1)

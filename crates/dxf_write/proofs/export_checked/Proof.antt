@@ -6,89 +6,53 @@ use Rattle.dxf_write.specs.Laws.Ends.{text-refused, size_few, no_room, count_fit
 use Rattle.dxf_write.proofs.export_checked.Statement.{statement}
 use Rattle.dxf_write.proofs.export_checked.Tie as tie
 
-returns : tie.Need-returns
+returns : tie.Need-returns-in-Refused
 returns c =
-    let read = c.before.before.before in
-    text-refused _ read.before.before.before.args.closed _ _ read.measure.ensures c.before.m.given.1
+    text-refused _ c.args.closed _ _ c.measure-m.ensures c.in-Refused.is
 
-add-if1 : tie.Need-overflow-add-if1
+add-if1 : tie.Need-overflow_add-size
 add-if1 c =
-    let told = c.before.before.before in
-    let read = told.before.before in
-    let few = size_few read.before.before.before.args.path.now _ read.measure.ensures told.m2.given.1 in
-    omega (arith, few, decimal-long 19 c.before.vertex-count.result (omega arith))
+    let few = size_few c.args.path.now _ c.measure-m.ensures c.in-Bytes.is in
+    omega (arith, few, decimal-long 19 c.vertex_count-n.result (omega arith))
 
-add-if1-2 : tie.Need-overflow-add-if1-2
+add-if1-2 : tie.Need-overflow_add-size-in-Bytes
 add-if1-2 c =
-    let told = c.before.before.before in
-    let read = told.before.before in
-    let few = size_few read.before.before.before.args.path.now _ read.measure.ensures told.m2.given.1 in
-    omega (arith, few, decimal-long 19 c.before.vertex-count.result (omega arith))
+    let few = size_few c.args.path.now _ c.measure-m.ensures c.in-Bytes.is in
+    omega (arith, few, decimal-long 19 c.vertex_count-n.result (omega arith))
 
-returns-2 : tie.Need-returns-2
+returns-2 : tie.Need-returns-then-text-size
 returns-2 c =
-    let sized = c.before.before in
-    let counted = sized.before in
-    let told = counted.before.before in
-    let read = told.before.before in
-    no_room _ read.before.before.before.args.closed _ _ read.measure.ensures told.m2.given.1 _ _
-    counted.vertex-count.ensures sized.decimal-size.ensures c.before.if1.true c.whole.ensures
+    no_room _ c.args.closed _ _ c.measure-m.ensures c.in-Bytes.is _ _
+    c.vertex_count-n.ensures c.decimal_size.ensures c.if-text-size.true c.whole.ensures
 
-put-whole-group-requires : tie.Need-put-whole-group-requires
+put-whole-group-requires : tie.Need-put_whole_group-after_count-requires
 put-whole-group-requires c κs =
-    let sized = c.before.before in
-    let counted = sized.before in
-    let told = counted.before.before in
-    let read = told.before.before in
-    let a = read.before.before.before.args in
-    count_fits _ a.closed a.text.now _ read.measure.ensures told.m2.given.1 _ _
-    counted.vertex-count.ensures sized.decimal-size.ensures c.before.if1.false
+    let a = c.args in
+    count_fits _ a.closed a.text.now _ c.measure-m.ensures c.in-Bytes.is _ _
+    c.vertex_count-n.ensures c.decimal_size.ensures c.if-text-size.false
 
-put-whole-group-requires-2 : tie.Need-put-whole-group-requires-2
+put-whole-group-requires-2 : tie.Need-put_whole_group-start-requires
 put-whole-group-requires-2 c κs =
-    let count = c.before.before.before.before in
-    let enough = count.before.before in
-    let sized = enough.before in
-    let counted = sized.before in
-    let told = counted.before.before in
-    let read = told.before.before in
-    let a = read.before.before.before.args in
-    flags-fit _ a.closed a.text.now _ read.measure.ensures told.m2.given.1 _ _ counted.vertex-count.ensures
-    sized.decimal-size.ensures enough.if1.false count.put-whole-group.ensures (search rules) _ c.flags.ensures
+    let a = c.args in
+    flags-fit _ a.closed a.text.now _ c.measure-m.ensures c.in-Bytes.is _ _ c.vertex_count-n.ensures
+    c.decimal_size.ensures c.if-text-size.false c.put_whole_group-after_count.ensures (search rules) _ c.flags.ensures
 
-put-vertices-requires : tie.Need-put-vertices-requires
+put-vertices-requires : tie.Need-put_vertices-end-requires
 put-vertices-requires c κs =
-    let flags = c.before.before.before in
-    let flag = flags.before in
-    let count = flag.before.before.before.before in
-    let enough = count.before.before in
-    let sized = enough.before in
-    let counted = sized.before in
-    let told = counted.before.before in
-    let read = told.before.before in
-    let a = read.before.before.before.args in
-    vertices-fit _ a.closed a.text.now _ read.measure.ensures told.m2.given.1 _ _
-    counted.vertex-count.ensures sized.decimal-size.ensures enough.if1.false count.put-whole-group.ensures
-    (search rules) _ flag.flags.ensures flags.put-whole-group2.ensures (search rules)
+    let a = c.args in
+    vertices-fit _ a.closed a.text.now _ c.measure-m.ensures c.in-Bytes.is _ _
+    c.vertex_count-n.ensures c.decimal_size.ensures c.if-text-size.false c.put_whole_group-after_count.ensures
+    (search rules) _ c.flags.ensures c.put_whole_group-start.ensures (search rules)
 
-returns-3 : tie.Need-returns-3
+returns-3 : tie.Need-returns-in-Bytes
 returns-3 c =
-    let vertices = c.before.before in
-    let flags = vertices.before.before.before.before in
-    let flag = flags.before in
-    let count = flag.before.before.before.before in
-    let enough = count.before.before in
-    let sized = enough.before in
-    let counted = sized.before in
-    let told = counted.before.before in
-    let read = told.before.before in
-    let a = read.before.before.before.args in
-    all-written _ a.closed a.text.now _ read.measure.ensures told.m2.given.1 _ _ counted.vertex-count.ensures
-    sized.decimal-size.ensures enough.if1.false count.put-whole-group.ensures (search rules) _
-    flag.flags.ensures flags.put-whole-group2.ensures (search rules) vertices.put-vertices.ensures
+    let a = c.args in
+    all-written _ a.closed a.text.now _ c.measure-m.ensures c.in-Bytes.is _ _ c.vertex_count-n.ensures
+    c.decimal_size.ensures c.if-text-size.false c.put_whole_group-after_count.ensures (search rules) _
+    c.flags.ensures c.put_whole_group-start.ensures (search rules) c.put_vertices-end.ensures
 
-pub export-checked-spec : {M : Type 1} → statement M
-export-checked-spec =
+pub export_checked_spec : {M : Type 1} → statement M
+export_checked_spec =
     tie.close
     (tie.spec
     (λ c κs. search rules) (λ c. search rules) returns (λ c. search rules) (λ c κs. search rules) (λ c κs. search rules)

@@ -6,37 +6,28 @@ use Rattle.dxf_write.specs.Laws.Ends.{shape-refused, path-refused, path-fine, sh
 use Rattle.dxf_write.proofs.export_dxf.Statement.{statement}
 use Rattle.dxf_write.proofs.export_dxf.Tie as tie
 
-returns : tie.Need-returns
+returns : tie.Need-returns-in-Bad
 unfolding export_dxf
 returns c =
-    let shaped = c.before.before.before in
-    shape-refused path_checks _ shaped.before.before.before.args.closed _ shaped.shape.ensures c.before.s.given.1
+    shape-refused path_checks _ c.args.closed _ c.shape-s.ensures c.in-Bad.is
 
-returns-2 : tie.Need-returns-2
+returns-2 : tie.Need-returns-in-Bad-c
 unfolding export_dxf check_path
 returns-2 c =
-    let checked = c.before.before.before in
-    let shaped = checked.before.before.before in
-    path-refused path_checks _ _ _ shaped.shape.ensures checked.check-path.ensures c.before.c.given.1
+    path-refused path_checks _ _ _ c.shape-s.ensures c.check_path-c.ensures c.in-Bad-c.is
 
-export-checked-requires : tie.Need-export-checked-requires
+export-checked-requires : tie.Need-export_checked-requires
 export-checked-requires c κs =
-    let checked = c.before.before.before in
-    let shaped = checked.before.before.before in
-    short-enough _ shaped.shape.ensures checked.before.enum_told.given.1
+    short-enough _ c.shape-s.ensures c.in-Fine.is
 
-returns-3 : tie.Need-returns-3
+returns-3 : tie.Need-returns
 unfolding export_dxf check_path
 returns-3 c =
-    let called = c.before.before in
-    let fine = called.before.before in
-    let checked = fine.before.before in
-    let shaped = checked.before.before.before in
-    path-fine path_checks _ _ _ shaped.shape.ensures checked.check-path.ensures fine.enum-told2.given.1
-    called.export-checked.ensures
+    path-fine path_checks _ _ _ c.shape-s.ensures c.check_path-c.ensures c.in-Fine-c.is
+    c.export_checked.ensures
 
-pub export-dxf-spec : {M : Type 1} → statement M
-export-dxf-spec =
+pub export_dxf_spec : {M : Type 1} → statement M
+export_dxf_spec =
     tie.close
     (tie.spec
     (λ c κs. search rules) (λ c. search rules) (λ c. search rules) returns (λ c κs. search rules) (λ c. search rules)

@@ -2,5 +2,5 @@
 use Rattle.dxf_write.proofs.flags.Statement.{statement}
 use Rattle.dxf_write.proofs.flags.Tie as tie
 
-pub flags-spec : {M : Type 1} → statement M
-flags-spec = tie.close (tie.spec (λ c. rw c.if1.true) (λ c. rw c.if1.false))
+pub flags_spec : {M : Type 1} → statement M
+flags_spec = tie.close (tie.spec (λ c. rw c.if-closed.true) (λ c. rw c.if-closed.false))

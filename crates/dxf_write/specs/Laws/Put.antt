@@ -9,7 +9,7 @@ use Rattle.put_text.specs.Workings.Put.{Put}
 use Rattle.put_text.specs.Laws.Decimal.{decimal-long}
 use Rattle.put_text.specs.Laws.Put.{put-join}
 use Rattle.dxf_form.specs.Numbers.{million}
-use Rattle.dxf_form.specs.Form.{xCode, yCode, bulge_code}
+use Rattle.dxf_form.specs.Form.{x_code, y_code, bulge_code}
 use Rattle.dxf_write.specs.Written.{digit, six_digits, size_bytes, number_bytes, group_bytes, vertex_bytes}
 use Rattle.dxf_write.specs.Workings.Told.{corner_by}
 
@@ -122,11 +122,11 @@ group-put code value a b c = put-join a (put-join b c)
 
 -- ---- vertices
 
-x-digits : length (decimal xCode) ≡ 2
+x-digits : length (decimal x_code) ≡ 2
 unfolding decimal decimal_in
 x-digits = refl
 
-y-digits : length (decimal yCode) ≡ 2
+y-digits : length (decimal y_code) ≡ 2
 unfolding decimal decimal_in
 y-digits = refl
 
@@ -136,14 +136,14 @@ bulge-digits = refl
 
 module _ (x-minus : Bool) (x : ℕ) (y-minus : Bool) (y : ℕ) (b-minus : Bool) (b : ℕ) where
   pub vertex-long : length (vertex_bytes (corner_by x-minus x y-minus y b-minus b))
-      ≡ length (group_bytes xCode (number_bytes (whole x-minus x)))
-      + (length (group_bytes yCode (number_bytes (whole y-minus y)))
+      ≡ length (group_bytes x_code (number_bytes (whole x-minus x)))
+      + (length (group_bytes y_code (number_bytes (whole y-minus y)))
       + length (group_bytes bulge_code (number_bytes (whole b-minus b))))
   unfolding vertex_bytes
   vertex-long =
-      length-append (group_bytes xCode (number_bytes (whole x-minus x))) _
-      ∙ ap (λ (k : ℕ). length (group_bytes xCode (number_bytes (whole x-minus x))) + k)
-      (length-append (group_bytes yCode (number_bytes (whole y-minus y))) (group_bytes bulge_code (number_bytes (whole b-minus b))))
+      length-append (group_bytes x_code (number_bytes (whole x-minus x))) _
+      ∙ ap (λ (k : ℕ). length (group_bytes x_code (number_bytes (whole x-minus x))) + k)
+      (length-append (group_bytes y_code (number_bytes (whole y-minus y))) (group_bytes bulge_code (number_bytes (whole b-minus b))))
 
   -- each code has two digits
   pub vertex-size : length (vertex_bytes (corner_by x-minus x y-minus y b-minus b))
@@ -155,8 +155,8 @@ module _ (x-minus : Bool) (x : ℕ) (y-minus : Bool) (y : ℕ) (b-minus : Bool) 
       omega (
         arith,
         vertex-long,
-        group-long xCode (number_bytes (whole x-minus x)),
-        group-long yCode (number_bytes (whole y-minus y)),
+        group-long x_code (number_bytes (whole x-minus x)),
+        group-long y_code (number_bytes (whole y-minus y)),
         group-long bulge_code (number_bytes (whole b-minus b)),
         x-digits,
         y-digits,
@@ -164,8 +164,8 @@ module _ (x-minus : Bool) (x : ℕ) (y-minus : Bool) (y : ℕ) (b-minus : Bool) 
       )
 
   pub vertex-put : {o o1 o2 o3 : List ℕ} {at p1 p2 p3 : ℕ}
-      → Put (group_bytes xCode (number_bytes (whole x-minus x))) o at o1 p1
-      → Put (group_bytes yCode (number_bytes (whole y-minus y))) o1 p1 o2 p2
+      → Put (group_bytes x_code (number_bytes (whole x-minus x))) o at o1 p1
+      → Put (group_bytes y_code (number_bytes (whole y-minus y))) o1 p1 o2 p2
       → Put (group_bytes bulge_code (number_bytes (whole b-minus b))) o2 p2 o3 p3
       → Put (vertex_bytes (corner_by x-minus x y-minus y b-minus b)) o at o3 p3
   unfolding vertex_bytes

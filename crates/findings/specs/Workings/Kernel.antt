@@ -82,7 +82,7 @@ of-lines (lines.TrueIntersect seg1_t seg2_t) v1 v2 u1 u2 = refl
 of-lines (lines.Overlapping seg2_t0 seg2_t1) v1 v2 u1 u2 = refl
 
 module _ (v1 v2 : PlineVertex) (circle1 : ArcRadiusCenter) (u1 u2 : PlineVertex) (circle2 : ArcRadiusCenter) (eps : Float) where
-  by_kind : (vLine uLine : Bool) → vLine ≡ bulge_is_zero v1 → uLine ≡ bulge_is_zero u1 → OfArc v1 v2 circle1 → OfArc u1 u2 circle2
+  by_kind : (v_line u_line : Bool) → v_line ≡ bulge_is_zero v1 → u_line ≡ bulge_is_zero u1 → OfArc v1 v2 circle1 → OfArc u1 u2 circle2
       → findings_of_kernel (pair_kernel v1 v2 circle1 u1 u2 circle2 eps) v1 v2 circle1 u1 u2 circle2 eps ≡ findings v1 v2 u1 u2 eps
   unfolding pair_kernel findings computed line_arc_tested arc_arc_computed
   by_kind true true ev eu of_v of_u =

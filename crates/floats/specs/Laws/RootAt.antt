@@ -76,8 +76,8 @@ module _ (a G Q s q w : ℕ) (is : a ≡ 2 * Q + s) (S : s ≤ 1) (lo : q * G �
       → closest (a * l) (d * G) ≡ w
   near l d L P e c =
       let unit : 0 < l * G = mul-pos L P in
-      let dG : d * G ≡ l * 4 * G = ap (λ (z : ℕ). z * G) e in
-      let wG : w * (d * G) ≡ w * (l * 4 * G) = ap (λ (z : ℕ). w * z) dG in
+      let d_g : d * G ≡ l * 4 * G = ap (λ (z : ℕ). z * G) e in
+      let w_g : w * (d * G) ≡ w * (l * 4 * G) = ap (λ (z : ℕ). w * z) d_g in
       let between = around P c in
       closest-by (a * l) (d * G) w (omega arith)
       (omega (arith, mul-lt-mul_of_pos_right between.0 L))

@@ -17,7 +17,7 @@ abbrev pub part : Piece → Part
 part v = record { half = v.half; start = v.start; end = v.end }
 
 abbrev pub result_of : ℕ → ℕ → PlineSegIntr → Result
-result_of vHalf uHalf met = record { v-half = vHalf; u-half = uHalf; met = met }
+result_of v_half u_half met = record { v-half = v_half; u-half = u_half; met = met }
 
 -- how two parts meet
 abbrev pub meeting : Float → Piece → Piece → Result

@@ -10,37 +10,35 @@ use Rattle.layout_listing.specs.Laws.Begins.{too_short, at-end, at_other, at_sam
 use Rattle.layout_listing.proofs.begins_with.Statement.{statement}
 use Rattle.layout_listing.proofs.begins_with.Tie as tie
 
-abbrev invariant-loop : tie.invariant-loop
+abbrev invariant-loop : tie.invariant-loop-i
 invariant-loop bytes line i₀ i =
     (i ≤ length line) × (length line ≤ length bytes) × (begins (drop i line) (drop i bytes) ≡ begins line bytes)
 
-abbrev decreases-loop : tie.decreases-loop
+abbrev decreases-loop : tie.decreases-loop-i
 decreases-loop bytes line i₀ i = length line - i
 
-returns : tie.Need-returns invariant-loop decreases-loop
-returns c = sym (too_short _ _ c.if1.true)
+returns : tie.Need-returns-then-bytes-line invariant-loop decreases-loop
+returns c = sym (too_short _ _ c.if-bytes-line.true)
 
-loop-holds : tie.Need-loop-init invariant-loop decreases-loop
-loop-holds c = (omega arith, c.if1.false, refl)
+loop-holds : tie.Need-loop-i-init invariant-loop decreases-loop
+loop-holds c = (omega arith, c.if-bytes-line.false, refl)
 
-loop-again : tie.Need-loop-preserved invariant-loop decreases-loop
+loop-again : tie.Need-loop-i-preserved invariant-loop decreases-loop
 loop-again c =
-    let turn = c.before.before.before in
-    let inv = turn.before.loop.invariant in
-    (omega arith, inv.1, at_same _ _ _ _ inv.2 turn.loop-test.true inv.1 c.if2.false)
+    let inv = c.loop-i.invariant in
+    (omega arith, inv.1, at_same _ _ _ _ inv.2 c.loop-i-test.true inv.1 c.if-bytes-i.false)
 
-returns-2 : tie.Need-returns-2 invariant-loop decreases-loop
+returns-2 : tie.Need-returns-then-bytes-i invariant-loop decreases-loop
 returns-2 c =
-    let turn = c.before.before.before in
-    let inv = turn.before.loop.invariant in
-    at_other _ _ _ _ inv.2 turn.loop-test.true inv.1 c.if2.true
+    let inv = c.loop-i.invariant in
+    at_other _ _ _ _ inv.2 c.loop-i-test.true inv.1 c.if-bytes-i.true
 
-returns-3 : tie.Need-returns-3 invariant-loop decreases-loop
-returns-3 c = at-end _ _ _ _ c.before.loop.invariant.2 c.loop-test.false
+returns-3 : tie.Need-returns invariant-loop decreases-loop
+returns-3 c = at-end _ _ _ _ c.loop-i.invariant.2 c.loop-i-test.false
 
-pub begins-with-spec : {M : Type 1} → statement M
-begins-with-spec =
+pub begins_with_spec : {M : Type 1} → statement M
+begins_with_spec =
     tie.close
     (tie.spec
-    invariant-loop decreases-loop returns loop-holds (λ c. search rules) (λ c. omega (arith, c.before.before.before.loop.invariant.1)) returns-2
+    invariant-loop decreases-loop returns loop-holds (λ c. search rules) (λ c. omega (arith, c.loop-i.invariant.1)) returns-2
     (λ c. search rules) (λ c. search rules) loop-again returns-3)

@@ -8,68 +8,52 @@ use Rattle.layout_listing.specs.Laws.Ends.{Fronts, counted, refused-is, roomy, b
 use Rattle.layout_listing.proofs.list_file.Statement.{statement}
 use Rattle.layout_listing.proofs.list_file.Tie as tie
 
-abbrev start : tie.After-read-packed → tie.Start
-start c = c.before.before.before.before.before
-
 -- where counts were read
-fronts : (c : tie.After-read)
-    → let k = c.before.before.before.before in
-    Fronts (start k).args.file.now c.read.given.0.0 c.read.given.0.1.0
-    k.read-packed.new.1.0 k.read-packed.new.1.1.0
+fronts : (c : tie.In-Counts)
+    → Fronts c.args.file.now c.in-Counts.n c.in-Counts.m c.read_packed-read.new.first c.read_packed-read.new.second
 fronts c =
-    let k = c.before.before.before.before in
-    counted (start k).args.file.now k.read-packed.result k.read-packed.new.1.0
-    k.read-packed.new.1.1.0
-    k.read-packed.ensures _ _ c.read.given.1
+    counted c.args.file.now c.read_packed-read.result c.read_packed-read.new.first c.read_packed-read.new.second
+    c.read_packed-read.ensures _ _ c.in-Counts.is
 
-mul-a : tie.Need-overflow-mul-a
-mul-a c = omega (arith, (fronts c.before).few-first)
+mul-a : tie.Need-overflow_mul-a
+mul-a c = omega (arith, (fronts c).few-first)
 
-mul-b : tie.Need-overflow-mul-b
-mul-b c = omega (arith, (fronts c.before).few-second)
+mul-b : tie.Need-overflow_mul-b
+mul-b c = omega (arith, (fronts c).few-second)
 
-array-share-prefix-first : tie.Need-array-share-prefix-first
-array-share-prefix-first c = let f = fronts c.before in omega (arith, f.few-first, f.first-long)
+array-share-prefix-first : tie.Need-slice_bounds-first-end
+array-share-prefix-first c = let f = fronts c in omega (arith, f.few-first, f.first-long)
 
-slice-aggregate-list-paths : tie.Need-slice-aggregate-list-paths
+slice-aggregate-list-paths : tie.Need-slice_bounds-list_paths-end
 slice-aggregate-list-paths c =
-    let f = fronts c.before.before in sym (length-take-le _ _ (omega (arith, f.few-first, f.first-long)))
+    let f = fronts c.before in sym (length-take-le _ _ (omega (arith, f.few-first, f.first-long)))
 
-array-share-prefix-second : tie.Need-array-share-prefix-second
-array-share-prefix-second c = let f = fronts c.before.before in omega (arith, f.few-second, f.second-long)
+array-share-prefix-second : tie.Need-slice_bounds-second-end
+array-share-prefix-second c = let f = fronts c.before in omega (arith, f.few-second, f.second-long)
 
-slice-aggregate-list-paths-2 : tie.Need-slice-aggregate-list-paths-2
+slice-aggregate-list-paths-2 : tie.Need-slice_bounds-list_paths-end-in-Counts
 slice-aggregate-list-paths-2 c =
-    let f = fronts c.before.before.before in sym (length-take-le _ _ (omega (arith, f.few-second, f.second-long)))
+    let f = fronts c.before.before in sym (length-take-le _ _ (omega (arith, f.few-second, f.second-long)))
 
-enum_told : tie.Need-enum-told
+enum_told : tie.Need-enum_told-1
 enum_told c = search rules
 
-returns : tie.Need-returns
+returns : tie.Need-returns-in-Counts
 returns c =
-    let w = c.before.before in
-    let k = w.before.before.before.before.before in
-    let a = (start k.before.before.before.before).args in
-    listed_answer a.file.now a.out.now _ _ _ _ _ _ (fronts k) w.list-paths.ensures
+    listed_answer c.args.file.now c.args.out.now _ _ _ _ _ _ (fronts c.before.before.before.before.before.before)
+    c.list_paths.ensures
 
-returns-2 : tie.Need-returns-2
+returns-2 : tie.Need-returns-in-Refused
 returns-2 c =
-    let w = c.before.before in
-    let k = w.before.before.before in
-    let l = k.before.before.before.before in
-    let s = start l in
-    let a = s.args in
-    let is = refused-is a.file.now l.read-packed.result _ _ l.read-packed.ensures _ _ k.read2.given.1 in
-    broken-answer a.file.now a.out.now _ _ _ _ s.pre is.0 is.1 w.write-refusal.ensures
+    let is = refused-is c.args.file.now c.read_packed-read.result _ _ c.read_packed-read.ensures _ _ c.in-Refused.is in
+    broken-answer c.args.file.now c.args.out.now _ _ _ _ c.requires is.0 is.1 c.write_refusal.ensures
 
-returns-3 : tie.Need-returns-3
+returns-3 : tie.Need-returns-in-NoRoom
 returns-3 c =
-    let l = c.before.before.before.before in
-    let a = (start l).args in
-    absurd (roomy a.file.now l.read-packed.result _ _ l.read-packed.ensures c.enum_told.given.1)
+    absurd (roomy c.args.file.now c.read_packed-read.result _ _ c.read_packed-read.ensures c.in-NoRoom.is)
 
-pub list-file-spec : {M : Type 1} → statement M
-list-file-spec =
+pub list_file_spec : {M : Type 1} → statement M
+list_file_spec =
     tie.close
     (tie.spec
     (λ c. search rules) (λ c. search rules) (λ c. search rules) (λ c. search rules) mul-a mul-b

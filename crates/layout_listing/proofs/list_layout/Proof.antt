@@ -11,36 +11,31 @@ use Rattle.layout_listing.specs.Laws.Ends.{no_room, begun-answer, missing-answer
 use Rattle.layout_listing.proofs.list_layout.Statement.{statement}
 use Rattle.layout_listing.proofs.list_layout.Tie as tie
 
-abbrev start : tie.After-begins-with → tie.Start
-start c = c.before.before.before.before.before
+abbrev start : tie.After-begins_with → tie.Start
+start c = c.before.before.before.before.before.before
 
 -- where the line was found, there are its bytes
-long : (c : tie.Then2) → length first_line ≤ length (start c.before).args.input.now
-long c = begins-long first_line (start c.before).args.input.now (sym c.before.begins-with.ensures ∙ c.if2.true)
+long : (c : tie.Then-begins_with) → length first_line ≤ length (start c.before).args.input.now
+long c = begins-long first_line (start c.before).args.input.now (sym c.begins_with.ensures ∙ c.if-begins_with.true)
 
-returns : tie.Need-returns
+returns : tie.Need-returns-then-out-lt-ROOM
 returns c =
-    let a = c.before.before.before.args in no_room (answer_to a.input.now) a.out.now c.if1.true
+    let a = c.args in no_room (answer_to a.input.now) a.out.now c.if-out-lt-ROOM.true
 
-returns-2 : tie.Need-returns-2
+returns-2 : tie.Need-returns-then-begins_with
 returns-2 c =
-    let w = c.before.before in
-    let k = w.before.before.before in
-    let a = (start k.before).args in
-    begun-answer a.input.now a.out.now _ _ (sym k.before.begins-with.ensures ∙ k.if2.true) w.list-file.ensures
+    let a = (start c.before.before.before.before.before.before).args in
+    begun-answer a.input.now a.out.now _ _ (sym c.begins_with.ensures ∙ c.if-begins_with.true) c.list_file.ensures
 
-returns-3 : tie.Need-returns-3
+returns-3 : tie.Need-returns
 returns-3 c =
-    let w = c.before.before in
-    let k = w.before.before in
-    let e = k.before.before.before in
-    let a = (start k.before).args in
-    missing-answer a.input.now a.out.now _ _ e.if1.false (sym k.before.begins-with.ensures ∙ k.if2.false)
-    w.write-refusal.ensures
+    let a = (start c.before.before.before.before.before).args in
+    missing-answer a.input.now a.out.now _ _ c.if-out-lt-ROOM.false (sym c.begins_with.ensures ∙ c.if-begins_with.false)
+    c.write_refusal.ensures
 
-pub list-layout-spec : {M : Type 1} → statement M
-list-layout-spec =
+pub list_layout_spec : {M : Type 1} → statement M
+list_layout_spec =
     tie.close
     (tie.spec
-    returns (λ c. search rules) (λ c. search rules) (λ c. omega (arith, long c)) (λ c. omega (arith, long c))
+    returns (λ c. search rules) (λ c. omega (arith, long c)) (λ c. omega (arith, long c))
     (λ c. search rules) (λ c. search rules) (λ c. search rules) returns-2 (λ c. search rules) (λ c. search rules) returns-3)

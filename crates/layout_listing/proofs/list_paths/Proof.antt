@@ -5,36 +5,30 @@ use Rattle.layout_listing.specs.Laws.Ends.{no_room, refused-lines, listed-lines}
 use Rattle.layout_listing.proofs.list_paths.Statement.{statement}
 use Rattle.layout_listing.proofs.list_paths.Tie as tie
 
-abbrev start : tie.Else1 → tie.Start
+abbrev start : tie.Else-out-lt-ROOM → tie.Start
 start c = c.before.before.before.before
 
-returns : tie.Need-returns
+returns : tie.Need-returns-then-out-lt-ROOM
 returns c =
-    let a = c.before.before.before.before.args in
-    no_room (lines_for a.first.now a.second.now) a.out.now c.if1.true
+    let a = c.args in
+    no_room (lines_for a.first.now a.second.now) a.out.now c.if-out-lt-ROOM.true
 
-returns-2 : tie.Need-returns-2
+returns-2 : tie.Need-returns-in-Refused
 returns-2 c =
-    let w = c.before.before in
-    let k = w.before.before.before in
-    let l = k.before.before.before.before in
-    let e = l.before.before.before in
+    let e = c.before.before.before.before.before.before.before.before.before.before in
     let a = (start e).args in
-    refused-lines a.first.now a.second.now a.out.now e.if1.false l.mutual-listing.result _ _
-    l.mutual-listing.ensures _ _ _ k.listed.given.1 w.write-refusal.ensures
+    refused-lines a.first.now a.second.now a.out.now e.if-out-lt-ROOM.false c.mutual_listing-listed.result _ _
+    c.mutual_listing-listed.ensures _ _ _ c.in-Refused.is c.write_refusal.ensures
 
-returns-3 : tie.Need-returns-3
+returns-3 : tie.Need-returns-in-Listed
 returns-3 c =
-    let w = c.before.before in
-    let k = w.before.before.before.before.before in
-    let l = k.before.before.before.before in
-    let e = l.before.before.before in
+    let e = c.before.before.before.before.before.before.before.before.before.before.before.before in
     let a = (start e).args in
-    listed-lines a.first.now a.second.now a.out.now e.if1.false l.mutual-listing.result _ _
-    l.mutual-listing.ensures _ _ _ _ k.listed2.given.1 w.write-answer.ensures
+    listed-lines a.first.now a.second.now a.out.now e.if-out-lt-ROOM.false c.mutual_listing-listed.result _ _
+    c.mutual_listing-listed.ensures _ _ _ _ c.in-Listed.is c.write_answer.ensures
 
-pub list-paths-spec : {M : Type 1} → statement M
-list-paths-spec =
+pub list_paths_spec : {M : Type 1} → statement M
+list_paths_spec =
     tie.close
     (tie.spec
     returns (λ c. search rules) (λ c. search rules) (λ c. search rules) (λ c. search rules) (λ c. search rules)

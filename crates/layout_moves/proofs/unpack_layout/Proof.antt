@@ -8,48 +8,41 @@ use Rattle.layout_moves.specs.Laws.Ends.{no_room, file-broken, written-first, fi
 use Rattle.layout_moves.proofs.unpack_layout.Statement.{statement}
 use Rattle.layout_moves.proofs.unpack_layout.Tie as tie
 
-returns-2 : tie.Need-returns-2
+returns-2 : tie.Need-returns-in-Fault
 returns-2 c =
-    let fault = c.before in
-    let shape = fault.before.before in
-    file-broken _ _ shape.before.if1.false shape.shape_of.ensures fault.shape.given.1
+    file-broken _ _ c.if-out-lt-LONGEST.false c.shape_of-shape.ensures c.in-Fault.is
 
-fit : (c : tie.After-shape2)
-    → let bytes = c.before.before.before.before.before.before.args.bytes.now in
-    let at = c.shape2.given.0 in
-    Fitting bytes at.0 at.1.0 at.1.1.0 at.1.1.1.0
-fit c = fits-of _ c.before.before.shape_of.ensures c.shape2.given.1
+fit : (c : tie.In-Fits)
+    → let bytes = c.args.bytes.now in
+    let at = c.in-Fits in
+    Fitting bytes at.n at.m at.first at.second
+fit c = fits-of _ c.shape_of-shape.ensures c.in-Fits.is
 
-put-counts-requires : tie.Need-put-counts-requires
+put-counts-requires : tie.Need-put_counts-start-requires
 put-counts-requires c κs =
-    let shape = c.before.before in
-    ((fit shape).n_within, ((fit shape).m-within, omega (arith, shape.before.before.before.if1.false)))
+    let shape = c.before in
+    ((fit shape).n_within, ((fit shape).m-within, omega (arith, shape.if-out-lt-LONGEST.false)))
 
-unpack-vertices-requires : tie.Need-unpack-vertices-requires
+unpack-vertices-requires : tie.Need-unpack_vertices-between-requires
 unpack-vertices-requires c κs =
-    let shape = c.before.before.before.before.before.before in
-    omega (arith, (fit shape).n_within, shape.before.before.before.if1.false)
+    let shape = c.before.before.before.before.before in
+    omega (arith, (fit shape).n_within, shape.if-out-lt-LONGEST.false)
 
-unpack-vertices-requires-2 : tie.Need-unpack-vertices-requires-2
+unpack-vertices-requires-2 : tie.Need-unpack_vertices-end-requires
 unpack-vertices-requires-2 c κs =
-    let one = c.before.before.before in
-    let shape = one.before.before.before.before.before.before.before in
+    let shape = c.before.before.before.before.before.before.before.before.before in
     let f = fit shape in
-    let room = shape.before.before.before in
-    omega (arith, written-first f one.unpack-vertices.ensures, f.n_within, f.m-within, room.if1.false)
+    omega (arith, written-first f c.unpack_vertices-between.ensures, f.n_within, f.m-within, shape.if-out-lt-LONGEST.false)
 
-returns-3 : tie.Need-returns-3
+returns-3 : tie.Need-returns-in-Fits
 returns-3 c =
-    let two = c.before.before in
-    let one = two.before.before.before.before in
-    let counts = one.before.before.before.before in
-    let shape = counts.before.before.before in
-    file-unpacked (fit shape) shape.before.before.before.if1.false
-    counts.put-counts.ensures one.unpack-vertices.ensures two.unpack-vertices2.ensures
+    let shape = c.before.before.before.before.before.before.before.before.before.before.before.before in
+    file-unpacked (fit shape) shape.if-out-lt-LONGEST.false
+    c.put_counts-start.ensures c.unpack_vertices-between.ensures c.unpack_vertices-end.ensures
 
-pub unpack-layout-spec : {M : Type 1} → statement M
-unpack-layout-spec =
+pub unpack_layout_spec : {M : Type 1} → statement M
+unpack_layout_spec =
     tie.close
     (tie.spec
-    (λ c. no_room _ _ _ c.if1.true) (λ c. search rules) (λ c. search rules) returns-2 (λ c. search rules)
+    (λ c. no_room _ _ _ c.if-out-lt-LONGEST.true) (λ c. search rules) (λ c. search rules) returns-2 (λ c. search rules)
     put-counts-requires unpack-vertices-requires unpack-vertices-requires-2 (λ c. search rules) returns-3)

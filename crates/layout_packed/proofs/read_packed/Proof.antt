@@ -7,46 +7,40 @@ use Rattle.layout_packed.proofs.Ends.{first_short, second_short, form-broken, bo
 use Rattle.layout_packed.proofs.read_packed.Statement.{statement}
 use Rattle.layout_packed.proofs.read_packed.Tie as tie
 
-returns : tie.Need-returns
-returns c = first_short _ _ _ c.if1.true
+returns : tie.Need-returns-then-first-lt-ROOM
+returns c = first_short _ _ _ c.if-first-lt-ROOM.true
 
-returns-2 : tie.Need-returns-2
-returns-2 c = second_short _ _ _ c.before.if1.false c.if2.true
+returns-2 : tie.Need-returns-then-second-lt-ROOM
+returns-2 c = second_short _ _ _ c.if-first-lt-ROOM.false c.if-second-lt-ROOM.true
 
-returns-3 : tie.Need-returns-3
+returns-3 : tie.Need-returns-in-Fault
 returns-3 c =
-    let broken = c.before in
-    let called = broken.before.before in
-    let room = called.before in
-    form-broken _ _ _ room.before.if1.false room.if2.false _ _ called.shape_of.ensures broken.shape.given.1
+    form-broken _ _ _ c.if-first-lt-ROOM.false c.if-second-lt-ROOM.false _ _ c.shape_of-shape.ensures c.in-Fault.is
 
-fit : (c : tie.After-shape2)
-    → let bytes = c.before.before.before.before.before.before.before.before.args.bytes.now in
-    let at = c.shape2.given.0 in
-    Fitting bytes at.0 at.1.0 at.1.1.0 at.1.1.1.0
-fit c = fits-of _ c.before.before.shape_of.ensures c.shape2.given.1
+fit : (c : tie.In-Fits)
+    → let bytes = c.args.bytes.now in
+    let at = c.in-Fits in
+    Fitting bytes at.n at.m at.first_at at.second_at
+fit c = fits-of _ c.shape_of-shape.ensures c.in-Fits.is
 
 fill-requires : tie.Need-fill-requires
 fill-requires c κs =
-    let counts = c.before.before in
-    omega (arith, (fit counts).n_within, counts.before.before.before.before.if1.false)
+    let counts = c.before in
+    omega (arith, (fit counts).n_within, counts.if-first-lt-ROOM.false)
 
-fill-requires-2 : tie.Need-fill-requires-2
+fill-requires-2 : tie.Need-fill-requires-in-Fits
 fill-requires-2 c κs =
-    let counts = c.before.before.before.before.before.before in
-    omega (arith, (fit counts).m-within, counts.before.before.before.if2.false)
+    let counts = c.before.before.before.before.before in
+    omega (arith, (fit counts).m-within, counts.if-second-lt-ROOM.false)
 
-returns-4 : tie.Need-returns-4
+returns-4 : tie.Need-returns-in-Fits
 returns-4 c =
-    let second = c.before.before in
-    let first = second.before.before.before.before in
-    let counts = first.before.before.before in
-    let room = counts.before.before.before in
-    both-written _ _ _ room.before.if1.false room.if2.false _ _ _ _ _ _ (fit counts)
-    first.fill.ensures second.fill2.ensures
+    let counts = c.before.before.before.before.before.before.before.before in
+    both-written _ _ _ counts.if-first-lt-ROOM.false counts.if-second-lt-ROOM.false _ _ _ _ _ _ (fit counts)
+    c.fill.ensures c.fill-in-Fits.ensures
 
-pub read-packed-spec : {M : Type 1} → statement M
-read-packed-spec =
+pub read_packed_spec : {M : Type 1} → statement M
+read_packed_spec =
     tie.close
     (tie.spec
     returns returns-2 (λ c. search rules) (λ c. search rules) returns-3 (λ c. search rules) fill-requires

@@ -24,8 +24,8 @@ abbrev put-digits-below : ℕ → In 1 put-digits-kinds.ps
 put-digits-below t =
     and 1 put-digits-kinds.ps (falls 1 put-digits-kinds.ps ◌<◌ μ-put-digits t) put-digits.Pre
 
-pub +put-digits-spec : {M : Type 1} → statement M
-+put-digits-spec = close μ-put-digits λ t. put-digits-lts.spec (
+pub +put_digits_spec : {M : Type 1} → statement M
++put_digits_spec = close μ-put-digits λ t. put-digits-lts.spec (
   put-digits-below t,
   put-digits.Post,
 )
@@ -33,22 +33,22 @@ pub +put-digits-spec : {M : Type 1} → statement M
     put-digits.Post
     (λ c. search rules)
     (λ c. search rules)
-    (λ c. omega (arith, small-long _ c.if1.true, c.before.before.requires.1))
+    (λ c. omega (arith, small-long _ c.if-n-lt10.true, c.before.before.requires.1))
     (λ c. search rules)
     (λ c. search rules)
-    (λ c. put_small _ c.if1.true _ _)
+    (λ c. put_small _ c.if-n-lt10.true _ _)
     (λ c κs. let start = c.before.before.before in
-    let large = c.before.if1.false in
+    let large = c.before.if-n-lt10.false in
     (omega (arith, start.requires.0), omega (arith, start.requires.1, large-long _ large)))
     (λ c. search rules)
     (λ c. search rules)
     (λ c. let called = c.before.before in
-    last-inside _ called.put-digits.ensures (sym (large-long _ called.before.before.if1.false))
-    called.before.before.before.before.requires.1 called.put-digits.auto.0)
+    last-inside _ called.put_digits-next.ensures (sym (large-long _ called.before.before.if-n-lt10.false))
+    called.before.before.before.before.requires.1 called.put_digits-next.auto.out)
     (λ c. let called = c.before.before in
-    let inside = last-inside _ called.put-digits.ensures (sym (large-long _ called.before.before.if1.false))
-    called.before.before.before.before.requires.1 called.put-digits.auto.0 in
+    let inside = last-inside _ called.put_digits-next.ensures (sym (large-long _ called.before.before.if-n-lt10.false))
+    called.before.before.before.before.requires.1 called.put_digits-next.auto.out in
     omega arith)
     (λ c. search rules)
     (λ c. let called = c.before.before in
-    put-large _ called.before.before.if1.false called.put-digits.ensures)
+    put-large _ called.before.before.if-n-lt10.false called.put_digits-next.ensures)

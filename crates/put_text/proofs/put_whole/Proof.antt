@@ -6,7 +6,7 @@ use Rattle.put_text.specs.Laws.Put.{decimal-in}
 use Rattle.put_text.proofs.put_whole.Statement.{statement}
 use Rattle.put_text.proofs.put_whole.Tie as tie
 
-put-decimal-requires : tie.Need-put-decimal-requires
+put-decimal-requires : tie.Need-put_decimal-requires
 put-decimal-requires c κs =
     let start = c.before.before in
     omega (arith, start.requires, decimal-long 19 start.args.n (omega arith))
@@ -14,7 +14,7 @@ put-decimal-requires c κs =
 returns : tie.Need-returns
 returns c =
     let called = c.before.before in
-    decimal-in _ (omega arith) called.put-decimal.ensures
+    decimal-in _ (omega arith) called.put_decimal.ensures
 
-pub put-whole-spec : {M : Type 1} → statement M
-put-whole-spec = tie.close (tie.spec put-decimal-requires (λ c. search rules) returns)
+pub put_whole_spec : {M : Type 1} → statement M
+put_whole_spec = tie.close (tie.spec put-decimal-requires (λ c. search rules) returns)

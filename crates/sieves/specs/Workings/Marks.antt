@@ -22,8 +22,8 @@ use Rattle.listing_pairs.specs.Workings.Job as JobDefs
 use Rattle.sieves.specs.declared.marks.Grain.{Grain}
 
 -- how many marks a word has, and the largest share
-abbrev pub aWord : ℕ
-aWord = 64
+abbrev pub a_word : ℕ
+a_word = 64
 
 abbrev pub most_shift : ℕ
 most_shift = 13
@@ -40,14 +40,14 @@ unfoldable pub grain_of : ℕ → ℕ → ℕ → Grain
 grain_of n m words =
     cond (eqb n 0)
     (record { stride = 0; shift = most_shift })
-    (record { stride = words * aWord / n; shift = first (fine m (words * aWord / n)) 0 most_shift })
+    (record { stride = words * a_word / n; shift = first (fine m (words * a_word / n)) 0 most_shift })
 
 unfoldable pub mark_of : Grain → ℕ → ℕ → ℕ
 mark_of grain i j = i * grain.stride + j / 2 ^ grain.shift
 
 -- a grain whose marks can be numbered
 pub record Fair (grain : Grain) : Type 0 where
-  pub stride : grain.stride ≤ most_words * aWord
+  pub stride : grain.stride ≤ most_words * a_word
   pub shift : grain.shift ≤ most_shift
 
 -- ---- set and read
@@ -57,10 +57,10 @@ bit_of b = 1 * 2 ^ b % 18446744073709551616
 
 unfoldable pub set_mark : List ℕ → ℕ → List ℕ
 set_mark l p =
-    cond (ltb (p / aWord) (length l)) (set l (p / aWord) (bit_or (get_or l (p / aWord) 0) (bit_of (p % aWord)))) l
+    cond (ltb (p / a_word) (length l)) (set l (p / a_word) (bit_or (get_or l (p / a_word) 0) (bit_of (p % a_word)))) l
 
 unfoldable pub is_set : List ℕ → ℕ → Bool
-is_set l p = cond (ltb (p / aWord) (length l)) (ltb 0 (get_or l (p / aWord) 0 / 2 ^ (p % aWord) % 2)) true
+is_set l p = cond (ltb (p / a_word) (length l)) (ltb 0 (get_or l (p / a_word) 0 / 2 ^ (p % a_word) % 2)) true
 
 abbrev pub marked : List ℕ → Grain → ℕ → ℕ → Bool
 marked l grain i j = is_set l (mark_of grain i j)
@@ -76,16 +76,16 @@ fair n m words few = go (eqb n 0)
   where
     go : (none : Bool)
         → Fair (cond none (record { stride = 0; shift = most_shift })
-        (record { stride = words * aWord / n; shift = first (fine m (words * aWord / n)) 0 most_shift }))
+        (record { stride = words * a_word / n; shift = first (fine m (words * a_word / n)) 0 most_shift }))
     go true = record { stride = omega arith; shift = omega arith }
     go false =
         record {
-          stride = omega (arith, few, div-le_self (words * aWord) n);
-          shift = (first-is (fine m (words * aWord / n)) 0 most_shift _ (omega arith) refl).high;
+          stride = omega (arith, few, div-le_self (words * a_word) n);
+          shift = (first-is (fine m (words * a_word / n)) 0 most_shift _ (omega arith) refl).high;
         }
 
-pub some-grain : (n m words s : ℕ) → (n ≡ 0 → ⊥) → s ≡ first (fine m (words * aWord / n)) 0 most_shift
-    → record { stride = words * aWord / n; shift = s } ≡ grain_of n m words
+pub some-grain : (n m words s : ℕ) → (n ≡ 0 → ⊥) → s ≡ first (fine m (words * a_word / n)) 0 most_shift
+    → record { stride = words * a_word / n; shift = s } ≡ grain_of n m words
 unfolding grain_of
 some-grain n m words s some e = rw (ne_eqb n 0 some, e) refl
 
@@ -116,10 +116,10 @@ own-bit b few =
 
 module _ (l : List ℕ) (p : ℕ) where
   abbrev at : ℕ
-  at = p / aWord
+  at = p / a_word
 
   abbrev word : ℕ
-  word = bit_or (get_or l at 0) (bit_of (p % aWord))
+  word = bit_or (get_or l at 0) (bit_of (p % a_word))
 
   pub set-length : length (set_mark l p) ≡ length l
   unfolding set_mark
@@ -135,13 +135,13 @@ module _ (l : List ℕ) (p : ℕ) where
     where
       go : (inside : Bool) → ltb at (length l) ≡ inside
           → (let m = cond inside (set l at word) l in
-          cond (ltb at (length m)) (ltb 0 (get_or m at 0 / 2 ^ (p % aWord) % 2)) true ≡ true)
+          cond (ltb at (length m)) (ltb 0 (get_or m at 0 / 2 ^ (p % a_word) % 2)) true ≡ true)
       go true e =
           let less : at < length l = ltb-true at (length l) e in
           let own : get_or (set l at word) at 0 ≡ word = get_or-set_same l at word 0 less in
-          let bit = or-second (get_or l at 0 / 2 ^ (p % aWord) % 2) (bit_of (p % aWord) / 2 ^ (p % aWord) % 2)
-          (omega (arith, own-bit (p % aWord) (mod-lt p (omega arith)))) in
-          rw (length-set l at word, e, own, or-bit (get_or l at 0) (bit_of (p % aWord)) (p % aWord)) (lt-ltb _ _ bit)
+          let bit = or-second (get_or l at 0 / 2 ^ (p % a_word) % 2) (bit_of (p % a_word) / 2 ^ (p % a_word) % 2)
+          (omega (arith, own-bit (p % a_word) (mod-lt p (omega arith)))) in
+          rw (length-set l at word, e, own, or-bit (get_or l at 0) (bit_of (p % a_word)) (p % a_word)) (lt-ltb _ _ bit)
       go false e = rw e refl
 
   pub set-still : (q : ℕ) → is_set l q ≡ true → is_set (set_mark l p) q ≡ true
@@ -149,31 +149,31 @@ module _ (l : List ℕ) (p : ℕ) where
   set-still q was = go (ltb at (length l)) refl
     where
       there : ℕ
-      there = q / aWord
+      there = q / a_word
 
       go : (inside : Bool) → ltb at (length l) ≡ inside
           → (let m = cond inside (set l at word) l in
-          cond (ltb there (length m)) (ltb 0 (get_or m there 0 / 2 ^ (q % aWord) % 2)) true ≡ true)
+          cond (ltb there (length m)) (ltb 0 (get_or m there 0 / 2 ^ (q % a_word) % 2)) true ≡ true)
       go false e = was
       go true e = rw (length-set l at word) (by (ltb there (length l)) refl was)
         where
           by : (known : Bool) → ltb there (length l) ≡ known
-              → cond known (ltb 0 (get_or l there 0 / 2 ^ (q % aWord) % 2)) true ≡ true
-              → cond known (ltb 0 (get_or (set l at word) there 0 / 2 ^ (q % aWord) % 2)) true ≡ true
+              → cond known (ltb 0 (get_or l there 0 / 2 ^ (q % a_word) % 2)) true ≡ true
+              → cond known (ltb 0 (get_or (set l at word) there 0 / 2 ^ (q % a_word) % 2)) true ≡ true
           by false f h = refl
           by true f h = here (same_or_not there at)
             where
               here : (there ≡ at) ⊎ (there ≡ at → ⊥)
-                  → ltb 0 (get_or (set l at word) there 0 / 2 ^ (q % aWord) % 2) ≡ true
+                  → ltb 0 (get_or (set l at word) there 0 / 2 ^ (q % a_word) % 2) ≡ true
               here (inr other) = rw (get_or-set_other l at there word 0 other) h
               here (inl is) =
                   let less : at < length l = ltb-true at (length l) e in
                   let stands : get_or (set l at word) there 0 ≡ word =
                   ap (λ (n : ℕ). get_or (set l at word) n 0) is ∙ get_or-set_same l at word 0 less in
-                  let bit : 0 < get_or l at 0 / 2 ^ (q % aWord) % 2 = subst
-                  (λ (n : ℕ). 0 < get_or l n 0 / 2 ^ (q % aWord) % 2) is (ltb-true _ _ h) in
-                  rw (stands, or-bit (get_or l at 0) (bit_of (p % aWord)) (q % aWord))
-                  (lt-ltb _ _ (or-first _ (bit_of (p % aWord) / 2 ^ (q % aWord) % 2) bit))
+                  let bit : 0 < get_or l at 0 / 2 ^ (q % a_word) % 2 = subst
+                  (λ (n : ℕ). 0 < get_or l n 0 / 2 ^ (q % a_word) % 2) is (ltb-true _ _ h) in
+                  rw (stands, or-bit (get_or l at 0) (bit_of (p % a_word)) (q % a_word))
+                  (lt-ltb _ _ (or-first _ (bit_of (p % a_word) / 2 ^ (q % a_word) % 2) bit))
 
 -- ---- what a walk notes: each of these pairs that makes a row has its mark
 unfoldable pub Noted : (ℕ → ℕ → Look) → Grain → List Pair → List ℕ → Type 0

@@ -24,12 +24,12 @@ unfoldable pub sides_miss : Vector2 → Vector2 → Span → Span → ArcGeometr
 sides_miss center1 cv along h_over_d arc1 arc2 eps =
     let mx = plus center1.x (times cv.x along) in
     let my = plus center1.y (times cv.y along) in
-    let xTerm = times cv.y h_over_d in
-    let yTerm = times cv.x h_over_d in
-    let x1 = sum mx xTerm in
-    let y1 = difference my yTerm in
-    let x2 = difference mx xTerm in
-    let y2 = sum my yTerm in
+    let x_term = times cv.y h_over_d in
+    let y_term = times cv.x h_over_d in
+    let x1 = sum mx x_term in
+    let y1 = difference my y_term in
+    let x2 = difference mx x_term in
+    let y2 = sum my y_term in
     cond (apart (difference x1 x2) eps || apart (difference y1 y2) eps)
     (cond (off_one x1 y1 arc1 arc2) (off_one x2 y2 arc1 arc2) false)
     false

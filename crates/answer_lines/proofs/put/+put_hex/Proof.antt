@@ -24,8 +24,8 @@ put-hex-at t = and 1 put-hex-kinds.ps (is 1 put-hex-kinds.ps μ-put-hex t) put-h
 abbrev put-hex-below : ℕ → In 1 put-hex-kinds.ps
 put-hex-below t = and 1 put-hex-kinds.ps (falls 1 put-hex-kinds.ps ◌<◌ μ-put-hex t) put-hex.Pre
 
-pub +put-hex-spec : {M : Type 1} → statement M
-+put-hex-spec = close μ-put-hex λ t. put-hex-lts.spec (
+pub +put_hex_spec : {M : Type 1} → statement M
++put_hex_spec = close μ-put-hex λ t. put-hex-lts.spec (
   put-hex-below t,
   put-hex.Post,
   glyph-reads.Asked,
@@ -33,21 +33,21 @@ pub +put-hex-spec : {M : Type 1} → statement M
 )
     (put-hex-at t)
     put-hex.Post
-    (λ c. put-hex-none _ _ c.if1.true _ _)
-    (λ c. pos_of_ne-zero c.before.if1.false)
+    (λ c. put-hex-none _ _ c.if-k-eq0.true _ _)
+    (λ c. pos_of_ne-zero c.before.if-k-eq0.false)
     (λ c κs. let start = c.before.before.before in
-    let more = pos_of_ne-zero c.before.if1.false in
+    let more = pos_of_ne-zero c.before.if-k-eq0.false in
     (omega (arith, start.requires.0), omega (arith, start.requires.1)))
     (λ c κs. search rules)
     (λ c. let called = c.before.before.before in
-    let more = one_more _ _ (pos_of_ne-zero called.before.before.if1.false) in
-    last-inside _ called.put-hex.ensures more called.before.before.before.before.requires.1 called.put-hex.auto.0)
+    let more = one_more _ _ (pos_of_ne-zero called.before.before.if-k-eq0.false) in
+    last-inside _ called.put_hex-next.ensures more called.before.before.before.before.requires.1 called.put_hex-next.auto.out)
     (λ c. let called = c.before.before.before in
-    let more = one_more _ _ (pos_of_ne-zero called.before.before.if1.false) in
+    let more = one_more _ _ (pos_of_ne-zero called.before.before.if-k-eq0.false) in
     let room = called.before.before.before.before.requires.1 in
-    let inside = last-inside _ called.put-hex.ensures more room called.put-hex.auto.0 in
+    let inside = last-inside _ called.put_hex-next.ensures more room called.put_hex-next.auto.out in
     omega arith)
     (λ c. search rules)
     (λ c. let called = c.before.before.before in
-    let more = pos_of_ne-zero called.before.before.if1.false in
-    put-hex-more _ _ more called.put-hex.ensures _ c.glyph.ensures)
+    let more = pos_of_ne-zero called.before.before.if-k-eq0.false in
+    put-hex-more _ _ more called.put_hex-next.ensures _ c.glyph.ensures)

@@ -19,13 +19,13 @@ number nan h = subst T h tt
 number (inf s) h = tt
 number (fin s m e) h = tt
 
-returns : tie.Need-returns
+returns : tie.Need-returns-then-x
 returns c =
-    let is-nan-lem = differs_from_itself _ (subst T (sym c.if1.true) tt) in
+    let is-nan-lem = differs_from_itself _ (subst T (sym c.if-x.true) tt) in
     nan-bits ∙ ap (to_bits binary64) (sym is-nan-lem)
 
-float-to-bits-result : tie.Need-float-to-bits-result
-float-to-bits-result c = number _ c.if1.false
+float-to-bits-result : tie.Need-float_to_bits-result
+float-to-bits-result c = number _ c.if-x.false
 
-pub bits-spec : {M : Type 1} → statement M
-bits-spec = tie.close (tie.spec returns float-to-bits-result (λ c. search rules))
+pub bits_spec : {M : Type 1} → statement M
+bits_spec = tie.close (tie.spec returns float-to-bits-result (λ c. search rules))

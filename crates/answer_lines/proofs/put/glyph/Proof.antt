@@ -5,10 +5,10 @@ use Rattle.answer_lines.specs.Lines.{glyph}
 use Rattle.answer_lines.proofs.put.glyph.Statement.{statement}
 use Rattle.answer_lines.proofs.put.glyph.Tie as tie
 
-pub glyph-spec : {M : Type 1} → statement M
+pub glyph_spec : {M : Type 1} → statement M
 unfolding glyph
-glyph-spec =
+glyph_spec =
     tie.close
     (tie.spec
-    (λ c. search rules) (λ c. search rules) (λ c. simp (lt-ltb _ _ c.if1.true))
-    (λ c. search rules) (λ c. search rules) (λ c. simp (le-ltb _ _ c.if1.false)))
+    (λ c. search rules) (λ c. search rules) (λ c. simp (lt-ltb _ _ c.if-d-lt10.true))
+    (λ c. search rules) (λ c. search rules) (λ c. simp (le-ltb _ _ c.if-d-lt10.false)))

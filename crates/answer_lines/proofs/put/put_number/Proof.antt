@@ -10,13 +10,12 @@ use Rattle.answer_lines.proofs.put.put_number.Tie as tie
 returns : tie.Need-returns
 unfolding number_text
 returns c =
-    let called = c.before.before in
-    let digits = rw called.before.bits.ensures at called.put-hex.ensures in
-    let space = called.before.before.before.before.before.put_byte.ensures in
+    let digits = rw c.bits.ensures at c.put_hex.ensures in
+    let space = c.put_byte-next.ensures in
     record { is-put = put-join space digits; short = omega (arith, space.after, hex-after 16 _ digits) }
 
-pub put-number-spec : {M : Type 1} → statement M
-put-number-spec =
+pub put_number_spec : {M : Type 1} → statement M
+put_number_spec =
     tie.close
     (tie.spec
     (λ c. search rules) (λ c. search rules) (λ c. search rules) (λ c. search rules) returns)

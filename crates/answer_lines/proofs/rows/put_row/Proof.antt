@@ -6,24 +6,17 @@ use Rattle.answer_lines.proofs.rows.put_row.Tie as tie
 
 returns : tie.Need-returns
 returns c =
-    let end = c.before.before in
-    let points = end.before.before.before.before in
-    let class = points.before.before.before.before in
-    let gap = class.before.before.before.before in
-    let second = gap.before.before.before.before in
-    let space = second.before.before.before.before in
-    let first = space.before.before.before.before in
     row_put _ _ _ _ _ _ _
-    first.put_whole.ensures
-    space.put_byte.ensures
-    second.put-whole2.ensures
-    gap.put-byte2.ensures
-    class.put-class.ensures
-    points.put-points.ensures
-    end.put-byte3.ensures
+    c.put_whole-a.ensures
+    c.put_byte-b.ensures
+    c.put_whole-c.ensures
+    c.put_byte-d.ensures
+    c.put_class-e.ensures
+    c.put_points-f.ensures
+    c.put_byte.ensures
 
-pub put-row-spec : {M : Type 1} → statement M
-put-row-spec =
+pub put_row_spec : {M : Type 1} → statement M
+put_row_spec =
     tie.close
     (tie.spec
     (λ c. search rules) (λ c. search rules) (λ c. search rules) (λ c. search rules) (λ c. search rules)

@@ -46,11 +46,10 @@ process-line-arc-intr-requires-2 c κs =
     c.requires.0 (sym c.bulge_is_zero-v_is_line.ensures ∙ c.if-v_is_line.false)
 
 arc-arc-requires : tie.Need-arc_arc-requires
-arc-arc-requires c κs =
-    (
-      c.requires.0 (sym c.bulge_is_zero-v_is_line.ensures ∙ c.if-v_is_line.false),
-      c.requires.1 (sym c.bulge_is_zero-u_is_line.ensures ∙ c.if-u_is_line-2.false),
-    )
+arc-arc-requires c κs = (
+  c.requires.0 (sym c.bulge_is_zero-v_is_line.ensures ∙ c.if-v_is_line.false),
+  c.requires.1 (sym c.bulge_is_zero-u_is_line.ensures ∙ c.if-u_is_line-2.false),
+)
 
 pub pline_seg_on_spec : {M : Type 1} → statement M
 unfolding pline_seg

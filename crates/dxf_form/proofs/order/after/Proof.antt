@@ -3,11 +3,11 @@ use borrow.Author.Rules.{rules}
 use Rattle.dxf_form.proofs.order.after.Statement.{statement}
 use Rattle.dxf_form.proofs.order.after.Tie as tie
 
-pub after-spec : {M : Type 1} → statement M
-after-spec =
+pub after_spec : {M : Type 1} → statement M
+after_spec =
     tie.close
     (tie.spec
     (λ c. search rules) (λ c. search rules) (λ c. search rules) (λ c. search rules) (λ c. search rules) (λ c. search rules)
-    (λ c. search rules) (λ c. simp c.enum_told.given.1) (λ c. simp c.enum-told2.given.1)
-    (λ c. simp c.enum-told3.given.1) (λ c. simp c.enum-told4.given.1) (λ c. simp c.enum-told5.given.1)
-    (λ c. simp c.enum-told6.given.1) (λ c. simp c.enum-told7.given.1))
+    (λ c. search rules) (λ c. simp c.in-Count.is) (λ c. simp c.in-Flags.is)
+    (λ c. simp c.in-X.is) (λ c. simp c.in-Y.is) (λ c. simp c.in-Bulge.is)
+    (λ c. simp c.in-Other.is) (λ c. simp c.in-OutOfPlace.is))

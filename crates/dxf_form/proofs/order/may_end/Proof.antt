@@ -3,10 +3,10 @@ use borrow.Author.Rules.{rules}
 use Rattle.dxf_form.proofs.order.may_end.Statement.{statement}
 use Rattle.dxf_form.proofs.order.may_end.Tie as tie
 
-pub may-end-spec : {M : Type 1} → statement M
-may-end-spec =
+pub may_end_spec : {M : Type 1} → statement M
+may_end_spec =
     tie.close
     (tie.spec
     (λ c. search rules) (λ c. search rules) (λ c. search rules) (λ c. search rules) (λ c. search rules)
-    (λ c. simp c.enum_told.given.1) (λ c. simp c.enum-told2.given.1) (λ c. simp c.enum-told3.given.1)
-    (λ c. simp c.enum-told4.given.1) (λ c. simp c.enum-told5.given.1))
+    (λ c. simp c.in-Count.is) (λ c. simp c.in-Flags.is) (λ c. simp c.in-Vertex.is)
+    (λ c. simp c.in-Y.is) (λ c. simp c.in-Bulge.is))

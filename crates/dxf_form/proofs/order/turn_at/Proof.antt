@@ -4,8 +4,8 @@ use Rattle.dxf_form.specs.Laws.Turns.{codes}
 use Rattle.dxf_form.proofs.order.turn_at.Statement.{statement}
 use Rattle.dxf_form.proofs.order.turn_at.Tie as tie
 
-pub turn-at-spec : {M : Type 1} → statement M
-turn-at-spec =
+pub turn_at_spec : {M : Type 1} → statement M
+turn_at_spec =
     tie.close
     (tie.spec (λ c. search rules) (λ c. search codes) (λ c. search rules) (λ c. search codes depth 8)
     (λ c. search rules) (λ c. search codes depth 8) (λ c. search rules) (λ c. search codes depth 8)

@@ -8,32 +8,29 @@ use Rattle.dxf_read.proofs.Ends.{copy-end, copy_more}
 use Rattle.dxf_read.proofs.body.copy.Statement.{statement}
 use Rattle.dxf_read.proofs.body.copy.Tie as tie
 
-abbrev invariant-loop : tie.invariant-loop
+abbrev invariant-loop : tie.invariant-loop-i
 invariant-loop from many to₀ i₀ to i =
     (length to ≡ length to₀) × (sets to i (drop i (take many from)) ≡ sets to₀ 0 (take many from))
 
-abbrev decreases-loop : tie.decreases-loop
+abbrev decreases-loop : tie.decreases-loop-i
 decreases-loop from many to₀ i₀ to i = many - i
 
-loop-holds : tie.Need-loop-init invariant-loop decreases-loop
+loop-holds : tie.Need-loop-i-init invariant-loop decreases-loop
 loop-holds c = (refl, refl)
 
-loop-again : tie.Need-loop-preserved invariant-loop decreases-loop
-loop-again c =
-    let turn = c.before in
-    let head = turn.before in (
-      simp length-set head.loop.invariant.0,
-      copy_more _ _ _ _ _ head.before.requires.0 head.loop.invariant.1 turn.loop-test.true _,
-    )
+loop-again : tie.Need-loop-i-preserved invariant-loop decreases-loop
+loop-again c = (
+  simp length-set c.loop-i.invariant.0,
+  copy_more _ _ _ _ _ c.requires.0 c.loop-i.invariant.1 c.loop-i-test.true _,
+)
 
 returns : tie.Need-returns invariant-loop decreases-loop
 returns c =
-    let head = c.before in
-    copy-end _ _ _ _ _ head.before.requires.0 head.loop.invariant.1 c.loop-test.false
+    copy-end _ _ _ _ _ c.requires.0 c.loop-i.invariant.1 c.loop-i-test.false
 
 pub copy_spec : {M : Type 1} → statement M
 copy_spec =
     tie.close
     (tie.spec
     invariant-loop decreases-loop loop-holds (λ c. omega arith) (λ c. omega arith) (λ c. omega arith) (λ c. omega arith) (omega arith)
-    (omega arith) loop-again (λ c. c.before.loop.invariant.0) returns)
+    (omega arith) loop-again (λ c. c.loop-i.invariant.0) returns)

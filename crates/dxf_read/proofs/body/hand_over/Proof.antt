@@ -7,32 +7,21 @@ use Rattle.dxf_read.proofs.body.hand_over.Tie as tie
 
 copy-requires : tie.Need-copy-requires
 copy-requires c κs =
-    let told = c.before in
-    let both = told.before.before in
-    let last = both.before in
-    let start = last.before.before.before.before in
-    let room = enough start.args.n start.args.path.now _ _ last.before.at.ensures _ last.refuse.ensures _
-    both.later.ensures told.enum_told.given.1 in
-    (omega (arith, start.requires.0, start.requires.1), omega (arith, room))
+    let room = enough c.args.n c.args.path.now _ _ c.at.ensures _ c.refuse-fits.ensures _
+    c.later-all.ensures c.in-Fine.is in
+    (omega (arith, c.requires.0, c.requires.1), omega (arith, room))
 
-returns : tie.Need-returns
+returns : tie.Need-returns-in-Bad
 returns c =
-    let got = c.before in
-    let both = got.before.before in
-    let last = both.before in
-    refused _ _ _ _ last.before.at.ensures _ last.refuse.ensures _ both.later.ensures _ _ _ got.all.given.1
+    refused _ _ _ _ c.at.ensures _ c.refuse-fits.ensures _ c.later-all.ensures _ _ _ c.in-Bad.is
 
-returns-2 : tie.Need-returns-2
+returns-2 : tie.Need-returns-in-Fine
 returns-2 c =
-    let copied = c.before.before in
-    let told = copied.before.before in
-    let both = told.before.before in
-    let last = both.before in
-    accepted _ _ _ _ last.before.at.ensures _ last.refuse.ensures _ both.later.ensures _ _
-    told.enum_told.given.1 _ copied.copy.ensures
+    accepted _ _ _ _ c.at.ensures _ c.refuse-fits.ensures _ c.later-all.ensures _ _
+    c.in-Fine.is _ c.copy.ensures
 
-pub hand-over-spec : {M : Type 1} → statement M
-hand-over-spec =
+pub hand_over_spec : {M : Type 1} → statement M
+hand_over_spec =
     tie.close
     (tie.spec
     (λ c. search rules) (λ c. search rules) (λ c. search rules) (λ c. search rules) (λ c. search rules) (λ c. search rules)

@@ -6,13 +6,13 @@ use Rattle.dxf_read.proofs.Bytes.{first_past, first-at}
 use Rattle.dxf_read.proofs.digits.byte_at.Statement.{statement}
 use Rattle.dxf_read.proofs.digits.byte_at.Tie as tie
 
-returns : tie.Need-returns
-returns c = (first_past _ _ c.if1.true, λ h. omega arith)
+returns : tie.Need-returns-then-text-i
+returns c = (first_past _ _ c.if-text-i.true, λ h. omega arith)
 
-returns-2 : tie.Need-returns-2
+returns-2 : tie.Need-returns
 returns-2 c =
-    let inside = c.before.before.if1.false in
+    let inside = c.if-text-i.false in
     (c.wide.ensures ∙ first-at _ _ inside, λ h. inside)
 
-pub byte-at-spec : {M : Type 1} → statement M
-byte-at-spec = tie.close (tie.spec returns (λ c. search rules) (λ c. search rules) returns-2)
+pub byte_at_spec : {M : Type 1} → statement M
+byte_at_spec = tie.close (tie.spec returns (λ c. search rules) (λ c. search rules) returns-2)

@@ -10,18 +10,18 @@ use Rattle.dxf_read.proofs.Runs.{at-end, at_low, at_high, at-digit}
 use Rattle.dxf_read.proofs.digits.digits.Statement.{statement}
 use Rattle.dxf_read.proofs.digits.digits.Tie as tie
 
-abbrev invariant-loop : tie.invariant-loop
+abbrev invariant-loop : tie.invariant-loop-i
 invariant-loop text start before n₀ many₀ i₀ n many i =
     (many ≤ i) × (digits n many (drop i text) ≡ digits before 0 (drop start text))
 
-abbrev decreases-loop : tie.decreases-loop
+abbrev decreases-loop : tie.decreases-loop-i
 decreases-loop text start before n₀ many₀ i₀ n many i = length text - i
 
-loop-holds : tie.Need-loop-init invariant-loop decreases-loop
+loop-holds : tie.Need-loop-i-init invariant-loop decreases-loop
 loop-holds c = (omega arith, refl)
 
-pub digits-spec : {M : Type 1} → statement M
-digits-spec =
+pub digits_spec : {M : Type 1} → statement M
+digits_spec =
     tie.close
     (tie.spec
     invariant-loop decreases-loop loop-holds (omega arith) (λ c. search rules) (λ c. search at_low) (λ c. search at_high)

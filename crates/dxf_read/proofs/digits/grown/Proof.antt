@@ -6,10 +6,10 @@ use Rattle.dxf_read.specs.Workings.Kept.{grown}
 use Rattle.dxf_read.proofs.digits.grown.Statement.{statement}
 use Rattle.dxf_read.proofs.digits.grown.Tie as tie
 
-pub grown-spec : {M : Type 1} → statement M
+pub grown_spec : {M : Type 1} → statement M
 unfolding grown
-grown-spec =
+grown_spec =
     tie.close
     (tie.spec
-    (λ c. search rules) (λ c. below _ _ _ _ _ c.if1.true refl) (λ c. search rules) (λ c. search rules)
-    (λ c. above _ _ _ _ _ c.if1.false refl))
+    (λ c. search rules) (λ c. below _ _ _ _ _ c.if-n-gt-TOP.true refl) (λ c. search rules) (λ c. search rules)
+    (λ c. above _ _ _ _ _ c.if-n-gt-TOP.false refl))

@@ -5,9 +5,9 @@ use Rattle.dxf_read.proofs.Lines.{no-places, some-places}
 use Rattle.dxf_read.proofs.line.after_point.Statement.{statement}
 use Rattle.dxf_read.proofs.line.after_point.Tie as tie
 
-pub after-point-spec : {M : Type 1} → statement M
+pub after_point_spec : {M : Type 1} → statement M
 unfolding shown_number
-after-point-spec =
+after_point_spec =
     tie.close
     (tie.spec
     (λ c. search rules) (λ c. search no-places) (λ c. search rules) (λ c. search rules) (λ c. search some-places))

@@ -6,12 +6,12 @@ use Rattle.dxf_read.proofs.Lines.{none_at_all, with-point, no-point}
 use Rattle.dxf_read.proofs.line.after_sign.Statement.{statement}
 use Rattle.dxf_read.proofs.line.after_sign.Tie as tie
 
-add-after-point : tie.Need-overflow-add-after-point
-add-after-point c = omega (arith, c.before.byte_at.ensures.1 (omega arith))
+add-after-point : tie.Need-overflow_add-end
+add-after-point c = omega (arith, c.byte_at.ensures.1 (omega arith))
 
-pub after-sign-spec : {M : Type 1} → statement M
+pub after_sign_spec : {M : Type 1} → statement M
 unfolding shown_number
-after-sign-spec =
+after_sign_spec =
     tie.close
     (tie.spec
     (λ c. search rules) (λ c. search none_at_all) (λ c. search rules) add-after-point (λ c. search rules)

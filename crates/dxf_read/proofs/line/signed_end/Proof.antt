@@ -6,12 +6,12 @@ use Rattle.dxf_read.proofs.Lines.{minus-zero, number-ends, number-goes-on}
 use Rattle.dxf_read.proofs.line.signed_end.Statement.{statement}
 use Rattle.dxf_read.proofs.line.signed_end.Tie as tie
 
-add-t8 : tie.Need-overflow-add-t8
-add-t8 c = omega (arith, c.before.byte_at.ensures.1 (omega arith))
+add-t8 : tie.Need-overflow_add-result
+add-t8 c = omega (arith, c.byte_at.ensures.1 (omega arith))
 
-pub signed-end-spec : {M : Type 1} → statement M
+pub signed_end_spec : {M : Type 1} → statement M
 unfolding shown_number
-signed-end-spec =
+signed_end_spec =
     tie.close
     (tie.spec
     (λ c. search minus-zero) (λ c. search rules) add-t8 (λ c. search number-ends) (λ c. search number-goes-on))

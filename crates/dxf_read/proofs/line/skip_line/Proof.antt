@@ -11,18 +11,18 @@ use Rattle.dxf_read.proofs.Bytes.{skip-end, skip-over, skip-more}
 use Rattle.dxf_read.proofs.line.skip_line.Statement.{statement}
 use Rattle.dxf_read.proofs.line.skip_line.Tie as tie
 
-abbrev invariant-loop : tie.invariant-loop
+abbrev invariant-loop : tie.invariant-loop-i
 invariant-loop text start i₀ i = skip_line (drop i text) ≡ skip_line (drop start text)
 
-abbrev decreases-loop : tie.decreases-loop
+abbrev decreases-loop : tie.decreases-loop-i
 decreases-loop text start i₀ i = length text - i
 
-loop-holds : tie.Need-loop-init invariant-loop decreases-loop
+loop-holds : tie.Need-loop-i-init invariant-loop decreases-loop
 loop-holds c = refl
 
-pub skip-line-spec : {M : Type 1} → statement M
+pub skip_line_spec : {M : Type 1} → statement M
 unfolding shown_place
-skip-line-spec =
+skip_line_spec =
     tie.close
     (tie.spec
     invariant-loop decreases-loop loop-holds (λ c. search rules) (omega arith) (λ c. search skip-over) (omega arith) (omega arith)

@@ -4,14 +4,13 @@ use Rattle.dxf_read.proofs.Pairs.{misplaced, no_value, a-value}
 use Rattle.dxf_read.proofs.pair.after_code.Statement.{statement}
 use Rattle.dxf_read.proofs.pair.after_code.Tie as tie
 
-pub after-code-spec : {M : Type 1} → statement M
-after-code-spec =
+pub after_code_spec : {M : Type 1} → statement M
+after_code_spec =
     tie.close
     (tie.spec
     (λ c. search rules)
-    (λ c. misplaced _ c.before.before.before.args.at _ _ c.before.out-of-place.ensures c.if1.true)
-    (λ c. no_value _ _ _ _ c.before.before.out-of-place.ensures c.before.if1.false c.if2.true)
+    (λ c. misplaced _ c.args.at _ _ c.out_of_place.ensures c.if-out_of_place.true)
+    (λ c. no_value _ _ _ _ c.out_of_place.ensures c.if-out_of_place.false c.if-text-at.true)
     (λ c. search rules)
     (λ c.
-    let e = c.before.before in
-    a-value _ _ _ _ e.before.out-of-place.ensures e.if1.false c.before.if2.false _ c.value-at.ensures))
+    a-value _ _ _ _ c.out_of_place.ensures c.if-out_of_place.false c.if-text-at.false _ c.value_at.ensures))

@@ -4,9 +4,9 @@ use Rattle.dxf_read.specs.Workings.Pairs.{number_pair}
 use Rattle.dxf_read.proofs.pair.number_pair.Statement.{statement}
 use Rattle.dxf_read.proofs.pair.number_pair.Tie as tie
 
-pub number-pair-spec : {M : Type 1} → statement M
+pub number_pair_spec : {M : Type 1} → statement M
 unfolding number_pair
-number-pair-spec =
+number_pair_spec =
     tie.close
     (tie.spec
-    (λ c. search rules) (λ c. search rules) (λ c. simp c.enum_told.given.1) (λ c. simp c.before.value.given.1))
+    (λ c. search rules) (λ c. search rules) (λ c. simp c.in-Nothing.is) (λ c. simp c.in-Got.is))

@@ -4,9 +4,9 @@ use Rattle.dxf_read.specs.Workings.Pairs.{other_pair}
 use Rattle.dxf_read.proofs.pair.other_pair.Statement.{statement}
 use Rattle.dxf_read.proofs.pair.other_pair.Tie as tie
 
-pub other-pair-spec : {M : Type 1} → statement M
+pub other_pair_spec : {M : Type 1} → statement M
 unfolding other_pair
-other-pair-spec =
+other_pair_spec =
     tie.close
     (tie.spec
-    (λ c. search rules) (λ c. search rules) (λ c. simp c.enum_told.given.1) (λ c. simp c.before.value.given.1))
+    (λ c. search rules) (λ c. search rules) (λ c. simp c.in-Cut.is) (λ c. simp c.in-Over.is))

@@ -4,14 +4,12 @@ use Rattle.dxf_read.proofs.Pairs.{no_code, with_code}
 use Rattle.dxf_read.proofs.pair.pair_at.Statement.{statement}
 use Rattle.dxf_read.proofs.pair.pair_at.Tie as tie
 
-pub pair-at-spec : {M : Type 1} → statement M
-pair-at-spec =
+pub pair_at_spec : {M : Type 1} → statement M
+pair_at_spec =
     tie.close
     (tie.spec
     (λ c. search rules) (λ c. search rules) (λ c. search rules) (λ c. search rules) (λ c. search rules)
-    (λ c. no_code _ _ _ _ c.before.before.whole-line.ensures c.enum_told.given.1)
+    (λ c. no_code _ _ _ _ c.whole_line-code.ensures c.in-Nothing.is)
     (λ c.
-    let turn = c.before in
-    let got = turn.before.before in
-    with_code _ _ _ _ got.before.before.whole-line.ensures _ _ got.code.given.1 _ turn.turn_at.ensures
-    _ c.after-code.ensures))
+    with_code _ _ _ _ c.whole_line-code.ensures _ _ c.in-Got.is _ c.turn_at.ensures
+    _ c.after_code.ensures))

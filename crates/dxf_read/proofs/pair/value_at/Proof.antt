@@ -4,8 +4,8 @@ use Rattle.dxf_read.proofs.Pairs.{count-read, flags-read, x-read, y-read, bulge-
 use Rattle.dxf_read.proofs.pair.value_at.Statement.{statement}
 use Rattle.dxf_read.proofs.pair.value_at.Tie as tie
 
-pub value-at-spec : {M : Type 1} → statement M
-value-at-spec =
+pub value_at_spec : {M : Type 1} → statement M
+value_at_spec =
     tie.close
     (tie.spec
     (λ c. search rules) (λ c. search rules) (λ c. search rules)
@@ -15,13 +15,13 @@ value-at-spec =
     (λ c. search rules) (λ c. search rules) (λ c. search rules)
     (λ c. search rules) (λ c. search rules) (λ c. search rules)
     (λ c. search rules)
-    (λ c. count-read _ _ _ _ _ c.before.whole-line.ensures c.whole_pair.ensures c.before.before.enum_told.given.1)
-    (λ c. flags-read _ _ _ _ _ c.before.whole-line2.ensures c.whole-pair2.ensures
-    c.before.before.enum-told2.given.1)
-    (λ c. x-read _ _ _ _ _ c.before.number-line.ensures c.number-pair.ensures c.before.before.enum-told3.given.1)
-    (λ c. y-read _ _ _ _ _ c.before.number-line2.ensures c.number-pair2.ensures
-    c.before.before.enum-told4.given.1)
-    (λ c. bulge-read _ _ _ _ _ c.before.number-line3.ensures c.number-pair3.ensures
-    c.before.before.enum-told5.given.1)
-    (λ c. other-read _ _ _ _ _ c.before.skip-line.ensures c.other-pair.ensures c.before.before.enum-told6.given.1)
-    (λ c. none_read _ _ _ c.enum-told7.given.1))
+    (λ c. count-read _ _ _ _ _ c.whole_line.ensures c.whole_pair.ensures c.in-Count.is)
+    (λ c. flags-read _ _ _ _ _ c.whole_line-in-Flags.ensures c.whole_pair-in-Flags.ensures
+    c.in-Flags.is)
+    (λ c. x-read _ _ _ _ _ c.number_line.ensures c.number_pair.ensures c.in-X.is)
+    (λ c. y-read _ _ _ _ _ c.number_line-in-Y.ensures c.number_pair-in-Y.ensures
+    c.in-Y.is)
+    (λ c. bulge-read _ _ _ _ _ c.number_line-in-Bulge.ensures c.number_pair-in-Bulge.ensures
+    c.in-Bulge.is)
+    (λ c. other-read _ _ _ _ _ c.skip_line.ensures c.other_pair.ensures c.in-Other.is)
+    (λ c. none_read _ _ _ c.in-OutOfPlace.is))

@@ -11,6 +11,6 @@ step_spec =
     (tie.spec
     (λ c. search rules) (λ c. search rules) (λ c. search rules) (λ c. search rules) (λ c. search rules) (λ c. search rules)
     (λ c. search rules) (λ c. search rules) (λ c. search rules)
-    (λ c. simp c.enum_told.given.1) (λ c. simp c.enum-told2.given.1) (λ c. simp c.before.enum-told3.given.1)
-    (λ c. simp c.enum-told4.given.1) (λ c. simp c.enum-told5.given.1) (λ c. simp c.enum-told6.given.1)
-    (λ c. simp c.enum-told7.given.1))
+    (λ c. simp c.in-Count.is) (λ c. simp c.in-Flags.is) (λ c. simp c.in-X.is)
+    (λ c. simp c.in-Y.is) (λ c. simp c.in-Bulge.is) (λ c. simp c.in-Other.is)
+    (λ c. simp c.in-OutOfPlace.is))

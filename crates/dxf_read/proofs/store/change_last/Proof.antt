@@ -5,11 +5,11 @@ use Rattle.dxf_read.proofs.Written.{none-changed, past-changed, last-changed}
 use Rattle.dxf_read.proofs.store.change_last.Statement.{statement}
 use Rattle.dxf_read.proofs.store.change_last.Tie as tie
 
-pub change-last-spec : {M : Type 1} → statement M
-change-last-spec =
+pub change_last_spec : {M : Type 1} → statement M
+change_last_spec =
     tie.close
     (tie.spec
-    (λ c. none-changed _ _ _ _ c.if1.true)
-    (λ c. past-changed _ _ _ _ c.before.if1.false c.if2.true)
+    (λ c. none-changed _ _ _ _ c.if-n-eq0.true)
+    (λ c. past-changed _ _ _ _ c.if-n-eq0.false c.if-n-gt-VERTICES.true)
     (λ c. search rules) (λ c. omega arith) (λ c. omega arith) (λ c. omega arith) (λ c. omega arith) (λ c. search rules)
-    (λ c. last-changed _ _ _ _ c.before.if1.false c.if2.false))
+    (λ c. last-changed _ _ _ _ c.if-n-eq0.false c.if-n-gt-VERTICES.false))

@@ -6,11 +6,11 @@ use Rattle.dxf_read.proofs.Written.{not-started, all-started}
 use Rattle.dxf_read.proofs.store.start_vertex.Statement.{statement}
 use Rattle.dxf_read.proofs.store.start_vertex.Tie as tie
 
-pub start-vertex-spec : {M : Type 1} → statement M
-start-vertex-spec =
+pub start_vertex_spec : {M : Type 1} → statement M
+start_vertex_spec =
     tie.close
     (tie.spec
     (λ c. search rules) (λ c. search rules) (λ c. omega arith) (λ c. search rules) (λ c. search rules)
     (λ c. simp length-set (omega arith)) (λ c. search rules) (λ c. search rules) (λ c. simp length-set (omega arith))
     (λ c. search rules) (λ c. search rules) (λ c. simp length-set (omega arith)) (λ c. search rules)
-    (λ c. all-started _ _ _ c.if1.true) (λ c. not-started _ _ _ c.if1.false))
+    (λ c. all-started _ _ _ c.if-n-lt-VERTICES.true) (λ c. not-started _ _ _ c.if-n-lt-VERTICES.false))

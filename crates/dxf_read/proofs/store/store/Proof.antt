@@ -12,17 +12,14 @@ store_spec =
     (λ c. search rules) (λ c. search rules) (λ c. search rules)
     (λ c. search rules) (λ c. search rules) (λ c. search rules)
     (λ c. search rules) (λ c. search rules)
-    (λ c. simp c.enum_told.given.1) (λ c. simp c.enum-told2.given.1)
+    (λ c. simp c.in-Count.is) (λ c. simp c.in-Flags.is)
     (λ c. search rules)
     (λ c.
-    let v = c.before.before.before in
-    simp (v.before.before.enum-told3.given.1, ← v.value.ensures) c.before.before.start-vertex.ensures)
+    simp (c.in-X.is, ← c.value.ensures) c.start_vertex.ensures)
     (λ c. search rules)
     (λ c.
-    let v = c.before.before.before in
-    simp (v.before.before.enum-told4.given.1, ← v.value2.ensures) c.before.before.change-last.ensures)
+    simp (c.in-Y.is, ← c.value-in-Y.ensures) c.change_last.ensures)
     (λ c. search rules)
     (λ c.
-    let v = c.before.before.before in
-    simp (v.before.before.enum-told5.given.1, ← v.value3.ensures) c.before.before.change-last2.ensures)
-    (λ c. simp c.enum-told6.given.1) (λ c. simp c.enum-told7.given.1))
+    simp (c.in-Bulge.is, ← c.value-in-Bulge.ensures) c.change_last-in-Bulge.ensures)
+    (λ c. simp c.in-Other.is) (λ c. simp c.in-OutOfPlace.is))

@@ -6,16 +6,14 @@ use Rattle.dxf_write.specs.Laws.Number.{part-above, part-below, part-real, raise
 use Rattle.dxf_write.proofs.millionths.millionths.Statement.{statement}
 use Rattle.dxf_write.proofs.millionths.millionths.Tie as tie
 
-pub millionths-spec : {M : Type 1} → statement M
-millionths-spec =
+pub millionths_spec : {M : Type 1} → statement M
+millionths_spec =
     tie.close
     (tie.spec
     (λ c κs. search rules) (λ c κs. search rules)
-    (λ c κs. let h = sym c.before.has_part.ensures ∙ c.if1.true in (part-above _ h, part-below _ h))
-    (λ c κs. let t = c.before in
-    part-real _ (ap has_part (sym (raised_is _ _ t.before.before.abs.ensures)) ∙ sym t.before.has_part.ensures
-    ∙ t.if1.true))
-    (λ c. let t = c.before.before in
-    tried _ _ t.before.before.abs.ensures _ _ _ t.before.has_part.ensures t.if1.true
-    c.before.truncating-f64-to-u64.ensures c.tested.ensures)
-    (λ c. untried _ _ c.before.before.abs.ensures _ c.before.has_part.ensures c.if1.false))
+    (λ c κs. let h = sym c.has_part.ensures ∙ c.if-has_part.true in (part-above _ h, part-below _ h))
+    (λ c κs. part-real _ (ap has_part (sym (raised_is _ _ c.abs.ensures)) ∙ sym c.has_part.ensures
+    ∙ c.if-has_part.true))
+    (λ c. tried _ _ c.abs.ensures _ _ _ c.has_part.ensures c.if-has_part.true
+    c.truncating_f64_to_u64-n.ensures c.tested.ensures)
+    (λ c. untried _ _ c.abs.ensures _ c.has_part.ensures c.if-has_part.false))

@@ -6,13 +6,13 @@ use Rattle.dxf_write.specs.Laws.Number.{off, same_bits, other-bits}
 use Rattle.dxf_write.proofs.millionths.tested.Statement.{statement}
 use Rattle.dxf_write.proofs.millionths.tested.Tie as tie
 
-float-to-bits-if1 : tie.Need-float-to-bits-if1
-float-to-bits-if1 c = off (ap is_nan c.value.ensures ∙ value-real _)
+float-to-bits-if1 : tie.Need-float_to_bits-v
+float-to-bits-if1 c = off (ap is_nan c.value-v.ensures ∙ value-real _)
 
-pub tested-spec : {M : Type 1} → statement M
-tested-spec =
+pub tested_spec : {M : Type 1} → statement M
+tested_spec =
     tie.close
     (tie.spec
-    (λ c κs. search rules) float-to-bits-if1 (λ c. off c.before.requires)
-    (λ c. same_bits _ _ _ c.before.value.ensures c.if1.true)
-    (λ c. other-bits _ _ _ c.before.value.ensures c.if1.false))
+    (λ c κs. search rules) float-to-bits-if1 (λ c. off c.requires)
+    (λ c. same_bits _ _ _ c.value-v.ensures c.if-v-x.true)
+    (λ c. other-bits _ _ _ c.value-v.ensures c.if-v-x.false))

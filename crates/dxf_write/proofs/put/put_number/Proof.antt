@@ -5,28 +5,24 @@ use Rattle.dxf_write.specs.Laws.Put.{zero-put, plain-put, minus-put, zero-length
 use Rattle.dxf_write.proofs.put.put_number.Statement.{statement}
 use Rattle.dxf_write.proofs.put.put_number.Tie as tie
 
-put-size-requires : tie.Need-put-size-requires
+put-size-requires : tie.Need-put_size-requires
 put-size-requires c κs =
-    let zero = c.before in
-    omega (arith, zero-length zero.before.before.args.negative _ zero.if1.true)
+    omega (arith, zero-length c.args.negative _ c.if-n-eq0.true)
 
-put-byte-requires : tie.Need-put-byte-requires
+put-byte-requires : tie.Need-put_byte-next-requires
 put-byte-requires c κs =
-    let minus = c.before in
-    omega (arith, minus-length _ _ minus.if2.true minus.before.if1.false)
+    omega (arith, minus-length _ _ c.if-negative.true c.if-n-eq0.false)
 
-put-size-requires-2 : tie.Need-put-size-requires-2
+put-size-requires-2 : tie.Need-put_size-requires-then-negative
 put-size-requires-2 c κs =
-    let minus = c.before.before.before.before.before in
-    omega (arith, minus-length _ _ minus.if2.true minus.before.if1.false)
+    omega (arith, minus-length _ _ c.if-negative.true c.if-n-eq0.false)
 
-put-size-requires-3 : tie.Need-put-size-requires-3
+put-size-requires-3 : tie.Need-put_size-requires-2
 put-size-requires-3 c κs =
-    let plain = c.before in
-    omega (arith, plain-length _ plain.before.before.before.args.n plain.if2.false)
+    omega (arith, plain-length _ c.args.n c.if-negative.false)
 
-pub put-number-spec : {M : Type 1} → statement M
-put-number-spec =
+pub put_number_spec : {M : Type 1} → statement M
+put_number_spec =
     tie.close
     (tie.spec
     put-size-requires (λ c. search rules) (λ c. search zero-put)

@@ -7,23 +7,22 @@ use Rattle.dxf_write.specs.Laws.Put.{line-long, group-long, group-put}
 use Rattle.dxf_write.proofs.put.put_number_group.Statement.{statement}
 use Rattle.dxf_write.proofs.put.put_number_group.Tie as tie
 
-put-line-requires : tie.Need-put-line-requires
+put-line-requires : tie.Need-put_line-next-requires
 put-line-requires c κs =
-    let a = c.before.before.args in
+    let a = c.args in
     omega (arith, group-long a.code (number_bytes (whole a.negative a.n)))
 
-put-number-requires : tie.Need-put-number-requires
+put-number-requires : tie.Need-put_number-end-requires
 put-number-requires c κs =
-    let a = c.before.before.before.before.before.before.args in
+    let a = c.args in
     omega (arith, group-long a.code (number_bytes (whole a.negative a.n)), line-long (decimal a.code))
 
-put-byte-requires : tie.Need-put-byte-requires
+put-byte-requires : tie.Need-put_byte-requires
 put-byte-requires c κs =
-    let number = c.before.before.before in
-    let a = number.before.before.before.before.before.before.before.args in
+    let a = c.args in
     omega (arith, group-long a.code (number_bytes (whole a.negative a.n)), line-long (decimal a.code))
 
-pub put-number-group-spec : {M : Type 1} → statement M
-put-number-group-spec =
+pub put_number_group_spec : {M : Type 1} → statement M
+put_number_group_spec =
     tie.close
     (tie.spec put-line-requires put-number-requires put-byte-requires (λ c. search rules) (λ c. search group-put))

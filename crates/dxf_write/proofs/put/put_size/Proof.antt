@@ -4,21 +4,18 @@ use Rattle.dxf_write.specs.Laws.Put.{size-long, size-put}
 use Rattle.dxf_write.proofs.put.put_size.Statement.{statement}
 use Rattle.dxf_write.proofs.put.put_size.Tie as tie
 
-put-decimal-requires : tie.Need-put-decimal-requires
-put-decimal-requires c κs = omega (arith, size-long c.before.before.args.n)
+put-decimal-requires : tie.Need-put_decimal-point-requires
+put-decimal-requires c κs = omega (arith, size-long c.args.n)
 
-put-byte-requires : tie.Need-put-byte-requires
+put-byte-requires : tie.Need-put_byte-digits-requires
 put-byte-requires c κs =
-    let start = c.before.before.before.before.before.before in
-    omega (arith, size-long start.args.n)
+    omega (arith, size-long c.args.n)
 
-put-six-requires : tie.Need-put-six-requires
+put-six-requires : tie.Need-put_six-requires
 put-six-requires c κs =
-    let point = c.before.before.before in
-    let start = point.before.before.before.before.before.before.before in
-    omega (arith, size-long start.args.n)
+    omega (arith, size-long c.args.n)
 
-pub put-size-spec : {M : Type 1} → statement M
-put-size-spec =
+pub put_size_spec : {M : Type 1} → statement M
+put_size_spec =
     tie.close
     (tie.spec put-decimal-requires put-byte-requires put-six-requires (λ c. search rules) (λ c. search size-put))

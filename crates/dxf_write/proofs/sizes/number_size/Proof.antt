@@ -7,26 +7,26 @@ use Rattle.dxf_write.specs.Laws.Put.{size-long, zero-length, plain-length, minus
 use Rattle.dxf_write.proofs.sizes.number_size.Statement.{statement}
 use Rattle.dxf_write.proofs.sizes.number_size.Tie as tie
 
-add-size : tie.Need-overflow-add-size
-add-size c = omega (arith, decimal-long 19 (c.before.args.n / million) (omega arith))
+add-size : tie.Need-overflow_add-size
+add-size c = omega (arith, decimal-long 19 (c.args.n / million) (omega arith))
 
-add-result : tie.Need-overflow-add-result
-add-result c = omega (arith, decimal-long 19 (c.before.before.before.args.n / million) (omega arith))
+add-result : tie.Need-overflow_add-result
+add-result c = omega (arith, decimal-long 19 (c.args.n / million) (omega arith))
 
-returns : tie.Need-returns
+returns : tie.Need-returns-then-n-eq0
 returns c =
-    let a = c.before.before.args in
-    omega (arith, size-long a.n, zero-length a.negative a.n c.if1.true)
+    let a = c.args in
+    omega (arith, size-long a.n, zero-length a.negative a.n c.if-n-eq0.true)
 
-returns-2 : tie.Need-returns-2
+returns-2 : tie.Need-returns-then-negative
 returns-2 c =
-    let a = c.before.before.before.args in
-    omega (arith, size-long a.n, minus-length a.negative a.n c.if2.true c.before.if1.false)
+    let a = c.args in
+    omega (arith, size-long a.n, minus-length a.negative a.n c.if-negative.true c.if-n-eq0.false)
 
-returns-3 : tie.Need-returns-3
+returns-3 : tie.Need-returns
 returns-3 c =
-    let a = c.before.before.before.args in
-    omega (arith, size-long a.n, plain-length a.negative a.n c.if2.false)
+    let a = c.args in
+    omega (arith, size-long a.n, plain-length a.negative a.n c.if-negative.false)
 
-pub number-size-spec : {M : Type 1} → statement M
-number-size-spec = tie.close (tie.spec (λ c. search rules) add-size returns add-result returns-2 returns-3)
+pub number_size_spec : {M : Type 1} → statement M
+number_size_spec = tie.close (tie.spec (λ c. search rules) add-size returns add-result returns-2 returns-3)

@@ -4,45 +4,45 @@ use Rattle.dxf_write.specs.Laws.Put.{number_short, vertex-size}
 use Rattle.dxf_write.proofs.sizes.vertex_size.Statement.{statement}
 use Rattle.dxf_write.proofs.sizes.vertex_size.Tie as tie
 
-add-result : tie.Need-overflow-add-result
+add-result : tie.Need-overflow_add-result
 add-result c =
-    let a = c.before.before.args in
-    omega (arith, number_short a.x-minus a.x (omega arith), number_short a.y-minus a.y (omega arith))
+    let a = c.args in
+    omega (arith, number_short a.x_minus a.x (omega arith), number_short a.y_minus a.y (omega arith))
 
-add-result-2 : tie.Need-overflow-add-result-2
+add-result-2 : tie.Need-overflow_add-result-2
 add-result-2 c =
-    let a = c.before.before.before.args in
+    let a = c.args in
     omega (
       arith,
-      number_short a.x-minus a.x (omega arith),
-      number_short a.y-minus a.y (omega arith),
-      number_short a.b-minus a.b (omega arith),
+      number_short a.x_minus a.x (omega arith),
+      number_short a.y_minus a.y (omega arith),
+      number_short a.b_minus a.b (omega arith),
     )
 
-add-result-3 : tie.Need-overflow-add-result-3
+add-result-3 : tie.Need-overflow_add-result-3
 add-result-3 c =
-    let a = c.before.before.before.args in
+    let a = c.args in
     omega (
       arith,
-      number_short a.x-minus a.x (omega arith),
-      number_short a.y-minus a.y (omega arith),
-      number_short a.b-minus a.b (omega arith),
+      number_short a.x_minus a.x (omega arith),
+      number_short a.y_minus a.y (omega arith),
+      number_short a.b_minus a.b (omega arith),
     )
 
 returns : tie.Need-returns
 returns c =
-    let a = c.before.before.before.args in (
-      omega (arith, vertex-size a.x-minus a.x a.y-minus a.y a.b-minus a.b),
+    let a = c.args in (
+      omega (arith, vertex-size a.x_minus a.x a.y_minus a.y a.b_minus a.b),
       omega (
         arith,
-        number_short a.x-minus a.x (omega arith),
-        number_short a.y-minus a.y (omega arith),
-        number_short a.b-minus a.b (omega arith),
+        number_short a.x_minus a.x (omega arith),
+        number_short a.y_minus a.y (omega arith),
+        number_short a.b_minus a.b (omega arith),
       ),
     )
 
-pub vertex-size-spec : {M : Type 1} → statement M
-vertex-size-spec =
+pub vertex_size_spec : {M : Type 1} → statement M
+vertex_size_spec =
     tie.close
     (tie.spec
     (λ c. search rules) (λ c. search rules) add-result (λ c. search rules) add-result-2 add-result-3 returns)

@@ -7,42 +7,38 @@ use Rattle.dxf_write.specs.Laws.Passes.{Counted, counted_none, counted-on, count
 use Rattle.dxf_write.proofs.vertices.measure.Statement.{statement}
 use Rattle.dxf_write.proofs.vertices.measure.Tie as tie
 
-abbrev invariant-loop : tie.invariant-loop
+abbrev invariant-loop : tie.invariant-loop-i
 invariant-loop path n size₀ i₀ size i = Counted path (vertex_count path) i size × (i ≤ vertex_count path) × (size ≤ i * vertex_most)
 
-abbrev decreases-loop : tie.decreases-loop
+abbrev decreases-loop : tie.decreases-loop-i
 decreases-loop path n size₀ i₀ size i = vertex_count path - i
 
-loop-holds : tie.Need-loop-init invariant-loop decreases-loop
+loop-holds : tie.Need-loop-i-init invariant-loop decreases-loop
 loop-holds c = (counted_none _ _, omega arith, omega arith)
 
-returns : tie.Need-returns invariant-loop decreases-loop
+returns : tie.Need-returns-in-Refused invariant-loop decreases-loop
 returns c =
-    let read = c.before.before.before in
-    let turn = read.before in
-    left-bad _ turn.before.loop.invariant.0.left (search rules) read.vertex-numbers.ensures c.before.v.given.1
+    left-bad _ c.loop-i.invariant.0.left (search rules) c.vertex_numbers-v.ensures c.in-Refused.is
 
-add-size : tie.Need-overflow-add-size invariant-loop decreases-loop
-add-size c = omega (arith, c.vertex-size.ensures)
+add-size : tie.Need-overflow_add-size invariant-loop decreases-loop
+add-size c = omega (arith, c.vertex_size-size.ensures)
 
-loop-again : tie.Need-loop-preserved invariant-loop decreases-loop
+loop-again : tie.Need-loop-i-preserved invariant-loop decreases-loop
 loop-again c =
-    let told = c.before.before in
-    let read = told.before.before in
-    let inv = read.before.before.loop.invariant in (
-      counted-on inv.0 (search rules) read.vertex-numbers.ensures told.v2.given.1 c.vertex-size.ensures.0,
+    let inv = c.loop-i.invariant in (
+      counted-on inv.0 (search rules) c.vertex_numbers-v.ensures c.in-Numbers.is c.vertex_size-size.ensures.0,
       omega arith,
-      omega (arith, c.vertex-size.ensures.1, inv.2),
+      omega (arith, c.vertex_size-size.ensures.1, inv.2),
     )
 
-returns-2 : tie.Need-returns-2 invariant-loop decreases-loop
+returns-2 : tie.Need-returns invariant-loop decreases-loop
 returns-2 c =
-    let inv = c.before.loop.invariant in
+    let inv = c.loop-i.invariant in
     let all = counted-all inv.0 (search rules) in
     (all.0, all.1, omega (arith, inv.1, inv.2))
 
-pub measure-spec : {M : Type 1} → statement M
-measure-spec =
+pub measure_spec : {M : Type 1} → statement M
+measure_spec =
     tie.close
     (tie.spec
     invariant-loop decreases-loop (λ c κs. search rules) loop-holds (λ c κs. search rules) (λ c. search rules) returns (λ c. search rules)

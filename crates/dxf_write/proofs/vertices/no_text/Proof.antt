@@ -3,5 +3,5 @@ use Rattle.std.proofs.Common.{rules}
 use Rattle.dxf_write.proofs.vertices.no_text.Statement.{statement}
 use Rattle.dxf_write.proofs.vertices.no_text.Tie as tie
 
-pub no-text-spec : {M : Type 1} → statement M
-no-text-spec = tie.close (tie.spec (λ c κs. search rules) (λ c. simp (← c.at.ensures)))
+pub no_text_spec : {M : Type 1} → statement M
+no_text_spec = tie.close (tie.spec (λ c κs. search rules) (λ c. simp (← c.at.ensures)))

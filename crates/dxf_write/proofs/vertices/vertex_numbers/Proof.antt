@@ -5,42 +5,27 @@ use Rattle.dxf_write.specs.Laws.Passes.{no-x, no-y, no-bulge, all_three}
 use Rattle.dxf_write.proofs.vertices.vertex_numbers.Statement.{statement}
 use Rattle.dxf_write.proofs.vertices.vertex_numbers.Tie as tie
 
-returns : tie.Need-returns
+returns : tie.Need-returns-in_default
 returns c =
-    let x = c.before.before.before in
-    no-x _ _ _ x.before.vertex.ensures x.millionths.ensures c.before.enum_told.given.1 c.no_text.ensures
+    no-x _ _ _ c.vertex-v.ensures c.millionths.ensures c.in_default.is c.no_text.ensures
 
-returns-2 : tie.Need-returns-2
+returns-2 : tie.Need-returns-in_default-millionths
 returns-2 c =
-    let y = c.before.before.before in
-    let has-x = y.before.before in
-    let x = has-x.before.before in
-    no-y _ _ _ x.before.vertex.ensures x.millionths.ensures has-x.x-minus.given.1 y.millionths2.ensures
-    c.before.enum-told2.given.1 c.no-text2.ensures
+    no-y _ _ _ c.vertex-v.ensures c.millionths.ensures c.in-Text.is c.millionths-2.ensures
+    c.in_default-millionths.is c.no_text-in_default-millionths.ensures
 
-returns-3 : tie.Need-returns-3
+returns-3 : tie.Need-returns-in_default-millionths-2
 returns-3 c =
-    let b = c.before.before.before in
-    let has-y = b.before.before in
-    let y = has-y.before.before in
-    let has-x = y.before.before in
-    let x = has-x.before.before in
-    no-bulge _ _ _ x.before.vertex.ensures x.millionths.ensures has-x.x-minus.given.1 y.millionths2.ensures
-    has-y.y-minus.given.1 b.millionths3.ensures c.before.enum-told3.given.1 c.no-text3.ensures
+    no-bulge _ _ _ c.vertex-v.ensures c.millionths.ensures c.in-Text.is c.millionths-2.ensures
+    c.in-Text-millionths.is c.millionths-3.ensures c.in_default-millionths-2.is c.no_text-in_default-millionths-2.ensures
 
-returns-4 : tie.Need-returns-4
+returns-4 : tie.Need-returns
 returns-4 c =
-    let has-b = c.before in
-    let b = has-b.before.before in
-    let has-y = b.before.before in
-    let y = has-y.before.before in
-    let has-x = y.before.before in
-    let x = has-x.before.before in
-    all_three _ _ _ x.before.vertex.ensures x.millionths.ensures has-x.x-minus.given.1 y.millionths2.ensures
-    has-y.y-minus.given.1 b.millionths3.ensures has-b.b-minus.given.1
+    all_three _ _ _ c.vertex-v.ensures c.millionths.ensures c.in-Text.is c.millionths-2.ensures
+    c.in-Text-millionths.is c.millionths-3.ensures c.in-Text-millionths-2.is
 
-pub vertex-numbers-spec : {M : Type 1} → statement M
-vertex-numbers-spec =
+pub vertex_numbers_spec : {M : Type 1} → statement M
+vertex_numbers_spec =
     tie.close
     (tie.spec
     (λ c κs. search rules) (λ c κs. search rules) (λ c. search rules) (λ c. search rules) (λ c κs. search rules) returns

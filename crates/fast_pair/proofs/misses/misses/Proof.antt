@@ -8,11 +8,10 @@ use Rattle.fast_pair.proofs.misses.misses.Statement.{statement}
 use Rattle.fast_pair.proofs.misses.misses.Tie as tie
 
 line-misses-requires : tie.Need-line_misses-requires
-line-misses-requires c κs =
-    (
-      slope-kept _ _ _ _ c.requires.0 (sym c.bulge_is_zero.ensures ∙ c.if-bulge_is_zero.true),
-      circle-at _ _ _ _ c.requires.1 (sym c.bulge_is_zero-then-bulge_is_zero.ensures ∙ c.if-bulge_is_zero-2.false),
-    )
+line-misses-requires c κs = (
+  slope-kept _ _ _ _ c.requires.0 (sym c.bulge_is_zero.ensures ∙ c.if-bulge_is_zero.true),
+  circle-at _ _ _ _ c.requires.1 (sym c.bulge_is_zero-then-bulge_is_zero.ensures ∙ c.if-bulge_is_zero-2.false),
+)
 
 returns-2 : tie.Need-returns-then-bulge_is_zero
 returns-2 c =
@@ -20,11 +19,10 @@ returns-2 c =
     (sym c.bulge_is_zero-then-bulge_is_zero.ensures ∙ c.if-bulge_is_zero-2.false) c.line_misses.ensures.1
 
 line-misses-requires-2 : tie.Need-line_misses-requires-then-bulge_is_zero-3
-line-misses-requires-2 c κs =
-    (
-      slope-kept _ _ _ _ c.requires.1 (sym c.bulge_is_zero-2.ensures ∙ c.if-bulge_is_zero-3.true),
-      circle-at _ _ _ _ c.requires.0 (sym c.bulge_is_zero.ensures ∙ c.if-bulge_is_zero.false),
-    )
+line-misses-requires-2 c κs = (
+  slope-kept _ _ _ _ c.requires.1 (sym c.bulge_is_zero-2.ensures ∙ c.if-bulge_is_zero-3.true),
+  circle-at _ _ _ _ c.requires.0 (sym c.bulge_is_zero.ensures ∙ c.if-bulge_is_zero.false),
+)
 
 returns-3 : tie.Need-returns-then-bulge_is_zero-3
 returns-3 c =
@@ -32,11 +30,10 @@ returns-3 c =
     (sym c.bulge_is_zero-2.ensures ∙ c.if-bulge_is_zero-3.true) c.line_misses-then-bulge_is_zero-3.ensures.1
 
 arcs-miss-requires : tie.Need-arcs_miss-requires
-arcs-miss-requires c κs =
-    (
-      circle-at _ _ _ _ c.requires.0 (sym c.bulge_is_zero.ensures ∙ c.if-bulge_is_zero.false),
-      circle-at _ _ _ _ c.requires.1 (sym c.bulge_is_zero-2.ensures ∙ c.if-bulge_is_zero-3.false),
-    )
+arcs-miss-requires c κs = (
+  circle-at _ _ _ _ c.requires.0 (sym c.bulge_is_zero.ensures ∙ c.if-bulge_is_zero.false),
+  circle-at _ _ _ _ c.requires.1 (sym c.bulge_is_zero-2.ensures ∙ c.if-bulge_is_zero-3.false),
+)
 
 returns-4 : tie.Need-returns
 returns-4 c =

@@ -20,11 +20,10 @@ unfolding pline_seg_intr
 met v1 v2 u1 u2 eps r h e = rw h (ap Met e)
 
 pline-seg-after-checks-requires : tie.Need-pline_seg_after_checks-requires
-pline-seg-after-checks-requires c κs =
-    (
-      sym c.check_pline_seg-checked.ensures ∙ c.in-Fine.is,
-      (circle-if-arc _ _ _ c.circle_if_arc-circle1.ensures, circle-if-arc _ _ _ c.circle_if_arc-circle2.ensures),
-    )
+pline-seg-after-checks-requires c κs = (
+  sym c.check_pline_seg-checked.ensures ∙ c.in-Fine.is,
+  (circle-if-arc _ _ _ c.circle_if_arc-circle1.ensures, circle-if-arc _ _ _ c.circle_if_arc-circle2.ensures),
+)
 
 returns : tie.Need-returns-in-Fine
 returns c =

@@ -14,83 +14,74 @@ use Rattle.large_counted.proofs.mutual_counted_large.counted_cut.Statement.{stat
 use Rattle.large_counted.proofs.mutual_counted_large.counted_cut.Tie as tie
 
 -- the places after both cuts, and the start
-abbrev first-cut : tie.After-cut2 → tie.After-cut
+abbrev first-cut : tie.After-cut-b → tie.After-cut-a
 first-cut c = c.before.before.before.before.before
 
-abbrev start : tie.After-cut → tie.Start
+abbrev start : tie.After-cut-a → tie.Start
 start c = c.before.before.before.before.before.before.before.before
 
-cut-requires : tie.Need-cut-requires
+cut-requires : tie.Need-cut-a-requires
 cut-requires c κs =
-    let s = c.before.before.before.before.before.before.before in
-    roomy _ 0 _ _ (mutual-fine _ _ _ _ _ s.requires.0).first-shape (omega (arith, floats-long)) (omega (arith, names-long))
+    roomy _ 0 _ _ (mutual-fine _ _ _ _ _ c.requires.0).first-shape (omega (arith, floats-long)) (omega (arith, names-long))
 
-cut-requires-2 : tie.Need-cut-requires-2
+cut-requires-2 : tie.Need-cut-b-requires
 cut-requires-2 c κs =
-    let s = c.before.before.before.before.before.before.before.before.before.before.before.before in
-    roomy _ 1 _ _ (mutual-fine _ _ _ _ _ s.requires.0).second-shape (omega (arith, floats-long)) (omega (arith, names-long))
+    roomy _ 1 _ _ (mutual-fine _ _ _ _ _ c.requires.0).second-shape (omega (arith, floats-long)) (omega (arith, names-long))
 
 -- the lent parts
-long : tie.Need-slice-aggregate-list-counted
+long : tie.Need-slice_bounds-list_counted-end
 long c =
-    let k = c.before.before.before.before.before.before.before.before.before in
-    sym (length-take-le _ _ k.cut.ensures.inside)
+    sym (length-take-le _ _ c.cut-a.ensures.inside)
 
-long-2 : tie.Need-slice-aggregate-list-counted-2
+long-2 : tie.Need-slice_bounds-list_counted-end-2
 long-2 c =
-    let k = c.before.before.before.before.before in
-    sym (length-take-le _ _ k.cut2.ensures.inside)
+    sym (length-take-le _ _ c.cut-b.ensures.inside)
 
-long-3 : tie.Need-slice-aggregate-list-counted-3
+long-3 : tie.Need-slice_bounds-list_counted-end-3
 long-3 c =
-    let k = c.before.before.before.before.before.before.before.before.before.before.before in
-    sym (length-take-le _ _ k.cut.ensures.names-inside)
+    sym (length-take-le _ _ c.cut-a.ensures.names-inside)
 
-long-4 : tie.Need-slice-aggregate-list-counted-4
+long-4 : tie.Need-slice_bounds-list_counted-end-4
 long-4 c =
-    let k = c.before.before.before.before.before.before.before in
-    sym (length-take-le _ _ k.cut2.ensures.names-inside)
+    sym (length-take-le _ _ c.cut-b.ensures.names-inside)
 
-list-counted-requires : tie.Need-list-counted-requires
+list-counted-requires : tie.Need-list_counted-requires
 list-counted-requires c κs =
-    let j = c.before.before.before.before.before.before.before.before in
-    let b = j.before.before.before in
+    let b = c.before.before.before.before.before.before.before.before.before.before.before in
     let a = first-cut b in
     let s = start a in
-    let f = mutual-fine _ _ _ _ _ s.pre.0 in
-    let few = few-cut _ _ _ _ _ b.cut2.ensures in (
-      mutual-ready _ _ _ _ false _ _ _ _ _ _ _ f.eps f.first_fine f.second-fine a.cut.ensures b.cut2.ensures _
-          j.mutual-job.ensures,
+    let f = mutual-fine _ _ _ _ _ s.requires.0 in
+    let few = few-cut _ _ _ _ _ b.cut-b.ensures in (
+      mutual-ready _ _ _ _ false _ _ _ _ _ _ _ f.eps f.first_fine f.second-fine a.cut-a.ensures b.cut-b.ensures _
+          c.mutual_job-job.ensures,
       (
-        mutual-plain _ _ _ _ j.mutual-job.ensures,
+        mutual-plain _ _ _ _ c.mutual_job-job.ensures,
         (
           omega (
             arith,
             plain-long,
             plain-enough _ few,
             ap (λ (k : Job). k.m)
-                j.mutual-job.ensures,
+                c.mutual_job-job.ensures,
           ),
-          s.pre.1,
+          s.requires.1,
         ),
       ),
     )
 
 returns : tie.Need-returns
 returns c =
-    let l = c.before.before.before.before.before.before.before in
-    let j = l.before.before.before.before.before.before.before.before.before in
-    let b = j.before.before.before in
+    let b = c.before.before.before.before.before.before.before.before.before.before.before.before.before.before.before.before.before.before.before in
     let a = first-cut b in
     let s = start a in
-    let x = a.cut.ensures in
-    let y = b.cut2.ensures in
+    let x = a.cut-a.ensures in
+    let y = b.cut-b.ensures in
     mutual-counted _ _ _ _ _ _ _ _ _ _ _ x.path-is y.path-is x.names-are y.names-are x.count-is y.count-is
-    s.pre.0
-    _ _ _ _ _ _ _ _ j.mutual-job.ensures l.list_counted.ensures
+    s.requires.0
+    _ _ _ _ _ _ _ _ c.mutual_job-job.ensures c.list_counted.ensures
 
-pub counted-cut-spec : {M : Type 1} → statement M
-counted-cut-spec =
+pub counted_cut_spec : {M : Type 1} → statement M
+counted_cut_spec =
     tie.close
     (tie.spec
     (λ c. search rules) (λ c. search rules) cut-requires (λ c. search rules) (λ c. search rules) cut-requires-2

@@ -8,36 +8,32 @@ use Rattle.large_counted.specs.Laws.LargeCounting.{refused-countable, refused-ad
 use Rattle.large_counted.proofs.mutual_counted_large.counted_large.Statement.{statement}
 use Rattle.large_counted.proofs.mutual_counted_large.counted_large.Tie as tie
 
-abbrev start : tie.After-check-mutual-large → tie.Start
+abbrev start : tie.After-check_mutual_large-checked → tie.Start
 start c = c.before.before.before.before.before.before
 
 -- no fault was found
-fine : (c : tie.After-enum-told)
-    → let a = (start c.before.before).args in
-    check_mutual_large a.first.now a.first-closed a.second.now a.second-closed a.epsilon ≡ Fine
-fine c = sym c.before.before.check-mutual-large.ensures ∙ c.enum_told.given.1
+fine : (c : tie.In-Fine)
+    → let a = (start c.before).args in
+    check_mutual_large a.first.now a.first_closed a.second.now a.second_closed a.epsilon ≡ Fine
+fine c = sym c.check_mutual_large-checked.ensures ∙ c.in-Fine.is
 
-counted-cut-requires : tie.Need-counted-cut-requires
-counted-cut-requires c κs = let t = c.before.before.before in (fine t, (start t.before.before).requires)
+counted-cut-requires : tie.Need-counted_cut-requires
+counted-cut-requires c κs = let t = c.before.before.before in (fine t, (start t.before).requires)
 
 count-requires : tie.Need-count-requires
 count-requires c κs =
-    let k = c.before.before.before in
-    let h = k.before.before in
+    let h = c.before.before in
     let s = start h in
     refused-countable _ _ _ _ _ s.args.indices.now s.args.points.now _ _
-    (sym h.check-mutual-large.ensures ∙ k.checked.given.1)
-    s.pre.0 s.pre.1 _
+    (sym h.check_mutual_large-checked.ensures ∙ c.in-Bad.is)
+    s.requires.0 s.requires.1 _
 
-returns-2 : tie.Need-returns-2
+returns-2 : tie.Need-returns-in-Bad
 returns-2 c =
-    let n = c.before.before in
-    let k = n.before.before.before.before in
-    let h = k.before.before in
-    refused-added _ _ _ _ _ _ _ _ _ (sym h.check-mutual-large.ensures ∙ k.checked.given.1) _ n.count.ensures
+    refused-added _ _ _ _ _ _ _ _ _ (sym c.check_mutual_large-checked.ensures ∙ c.in-Bad.is) _ c.count.ensures
 
-pub counted-large-spec : {M : Type 1} → statement M
-counted-large-spec =
+pub counted_large_spec : {M : Type 1} → statement M
+counted_large_spec =
     tie.close
     (tie.spec
     (λ c. search rules) (λ c. search rules) counted-cut-requires (λ c. search rules) count-requires

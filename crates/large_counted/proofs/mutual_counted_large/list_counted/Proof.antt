@@ -16,44 +16,44 @@ use Rattle.large_counted.specs.Laws.LargeCounting.{countable, still-fits, counte
 use Rattle.large_counted.proofs.mutual_counted_large.list_counted.Statement.{statement}
 use Rattle.large_counted.proofs.mutual_counted_large.list_counted.Tie as tie
 
-abbrev start : tie.After-large-row-room → tie.Start
+abbrev start : tie.After-large_row_room-room → tie.Start
 start c = c.before.before.before.before.before.before.before.before.before
 
-abbrev roomed : tie.After-list-in → tie.After-large-row-room
+abbrev roomed : tie.After-list_in-answer → tie.After-large_row_room-room
 roomed c = c.before.before.before.before
 
-indices-fit : tie.Need-slice-relend-prefix-list-in
+indices-fit : tie.Need-slice_bounds-list_in-end
 indices-fit c =
     let r = c.before in
     let a = (start r).args in
-    indices-inside a.indices.now a.points.now _ r.large-row-room.ensures
+    indices-inside a.indices.now a.points.now _ r.large_row_room-room.ensures
 
-indices-long : tie.Need-slice-aggregate-list-in
+indices-long : tie.Need-slice_bounds-list_in-end-2
 indices-long c =
     let r = c.before.before in
     let a = (start r).args in
-    sym (length-take-le _ _ (indices-inside a.indices.now a.points.now _ r.large-row-room.ensures))
+    sym (length-take-le _ _ (indices-inside a.indices.now a.points.now _ r.large_row_room-room.ensures))
 
-points-fit : tie.Need-slice-relend-prefix-list-in-2
+points-fit : tie.Need-slice_bounds-list_in-end-3
 points-fit c =
     let r = c.before.before in
     let a = (start r).args in
-    points-inside a.indices.now a.points.now _ r.large-row-room.ensures
+    points-inside a.indices.now a.points.now _ r.large_row_room-room.ensures
 
-points-long : tie.Need-slice-aggregate-list-in-2
+points-long : tie.Need-slice_bounds-list_in-end-4
 points-long c =
     let r = c.before.before.before in
     let a = (start r).args in
-    sym (length-take-le _ _ (points-inside a.indices.now a.points.now _ r.large-row-room.ensures))
+    sym (length-take-le _ _ (points-inside a.indices.now a.points.now _ r.large_row_room-room.ensures))
 
 -- there are not too many pairs
-few : (c : tie.After-list-in) → length (every (start (roomed c)).args.job) ≤ most_added
+few : (c : tie.After-list_in-answer) → length (every (start (roomed c)).args.job) ≤ most_added
 few c =
     let s = start (roomed c) in
-    omega (arith, every-few s.args.job s.pre.0.few s.pre.0.few-second)
+    omega (arith, every-few s.args.job s.requires.0.few s.requires.0.few-second)
 
-abbrev listed : tie.After-count-arg2 → tie.After-list-in
-listed c = c.before.before.before.before.before.before.before.before
+abbrev listed : tie.After-count-arg-1 → tie.After-list_in-answer
+listed c = c.before.before.before.before.before.before.before
 
 count-requires : tie.Need-count-requires
 count-requires c κs =
@@ -61,50 +61,46 @@ count-requires c κs =
     let r = roomed l in
     let s = start r in
     let a = s.args in
-    let p = s.pre.1.1.1 in
+    let p = s.requires.1.1.1 in
     countable (look_by a.first.now a.second.now a.job) (every a.job) (few l) a.indices.now a.points.now _
-    r.large-row-room.ensures (λ c. c) (λ c e. e) (room-known _ _ _) _ _ _ l.list-in.ensures.0 _ p.0 p.1
+    r.large_row_room-room.ensures (λ c. c) (λ c e. e) (room-known _ _ _) _ _ _ l.list_in-answer.ensures.0 _ p.0 p.1
 
 -- from the place after both
-abbrev counted : tie.After-slice-known8 → tie.After-count
+abbrev counted : tie.After-slice_known-8-1 → tie.After-count
 counted c = c.before.before
 
 spread-requires : tie.Need-spread-requires
 spread-requires c κs =
-    let k = c.before.before in
-    let l = listed (counted k.before.before).before in
+    let l = listed (counted c.before.before).before in
     let r = roomed l in
     let a = (start r).args in
     still-fits (look_by a.first.now a.second.now a.job) (every a.job) (few l) a.indices.now
     a.points.now _
-    r.large-row-room.ensures (λ c. c) (λ c e. e) (room-known _ _ _) _ _ _ l.list-in.ensures.0 a.report.now _ _
-    k.answer2.given.1
+    r.large_row_room-room.ensures (λ c. c) (λ c e. e) (room-known _ _ _) _ _ _ l.list_in-answer.ensures.0 a.report.now _ _
+    c.in-Listed.is
 
-returns : tie.Need-returns
+returns : tie.Need-returns-in-Refused
 returns c =
-    let k = c.before in
-    let n = counted k.before.before in
+    let n = counted c.before in
     let l = listed n.before in
     let r = roomed l in
     let a = (start r).args in
-    counted-refused a.first-names.now a.second-names.now (look_by a.first.now a.second.now a.job)
-    (every a.job) (few l) a.indices.now a.points.now _ r.large-row-room.ensures _ _ _ l.list-in.ensures.0
-    a.report.now _ n.count.ensures _ k.answer.given.1
+    counted-refused a.first_names.now a.second_names.now (look_by a.first.now a.second.now a.job)
+    (every a.job) (few l) a.indices.now a.points.now _ r.large_row_room-room.ensures _ _ _ l.list_in-answer.ensures.0
+    a.report.now _ n.count.ensures _ c.in-Refused.is
 
-returns-2 : tie.Need-returns-2
+returns-2 : tie.Need-returns-in-Listed
 returns-2 c =
-    let s = c.before.before in
-    let k = s.before.before.before in
-    let n = counted k.before.before in
+    let n = counted c.before.before.before.before.before in
     let l = listed n.before in
     let r = roomed l in
     let a = (start r).args in
-    counted-spread a.first-names.now a.second-names.now (look_by a.first.now a.second.now a.job)
-    (every a.job) (few l) a.indices.now a.points.now _ r.large-row-room.ensures _ _ _ l.list-in.ensures.0
-    a.report.now _ n.count.ensures _ _ _ k.answer2.given.1 s.spread.ensures
+    counted-spread a.first_names.now a.second_names.now (look_by a.first.now a.second.now a.job)
+    (every a.job) (few l) a.indices.now a.points.now _ r.large_row_room-room.ensures _ _ _ l.list_in-answer.ensures.0
+    a.report.now _ n.count.ensures _ _ _ c.in-Listed.is c.spread.ensures
 
-pub list-counted-spec : {M : Type 1} → statement M
-list-counted-spec =
+pub list_counted_spec : {M : Type 1} → statement M
+list_counted_spec =
     tie.close
     (tie.spec
     (λ c. search rules) (λ c. search rules) (λ c. search rules)

@@ -14,28 +14,27 @@ use Rattle.layout_moves.specs.Laws.FromText.{line-within, pack-end, pack-broken,
 use Rattle.layout_moves.proofs.vertices.pack_vertices.Statement.{statement}
 use Rattle.layout_moves.proofs.vertices.pack_vertices.Tie as tie
 
-abbrev invariant-loop : tie.invariant-loop
+abbrev invariant-loop : tie.invariant-loop-i
 invariant-loop text start n out₀ to at₀ next₀ i₀ out at next i =
     (i ≤ n) × (length out ≡ length out₀) × (next ≤ to + i * vertex_bytes)
     × (stored vertices_bytes (from_text (vertices_of (n - i) (drop at text))) out next
     ≡ stored vertices_bytes (from_text (vertices_of n (drop start text))) out₀ to)
 
-abbrev decreases-loop : tie.decreases-loop
+abbrev decreases-loop : tie.decreases-loop-i
 decreases-loop text start n out₀ to at₀ next₀ i₀ out at next i = n - i
 
-loop-holds : tie.Need-loop-init invariant-loop decreases-loop
+loop-holds : tie.Need-loop-i-init invariant-loop decreases-loop
 loop-holds c = (omega arith, refl, omega arith, rw sub-zero)
 
-put-vertex-requires : tie.Need-put-vertex-requires invariant-loop decreases-loop
+put-vertex-requires : tie.Need-put_vertex-next-requires invariant-loop decreases-loop
 put-vertex-requires c κs = (search line-within, omega arith)
 
-loop-again : tie.Need-loop-preserved invariant-loop decreases-loop
+loop-again : tie.Need-loop-i-preserved invariant-loop decreases-loop
 loop-again c =
-    let put = c.before.before in
-    (omega arith, search rules, omega (arith, put.put-vertex.ensures.short), search pack-line)
+    (omega arith, search rules, omega (arith, c.put_vertex-next.ensures.short), search pack-line)
 
-pub pack-vertices-spec : {M : Type 1} → statement M
-pack-vertices-spec =
+pub pack_vertices_spec : {M : Type 1} → statement M
+pack_vertices_spec =
     tie.close
     (tie.spec
     invariant-loop decreases-loop loop-holds (λ c. search rules) (λ c. search rules) (λ c. search rules)

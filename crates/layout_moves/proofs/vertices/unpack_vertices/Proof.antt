@@ -15,28 +15,27 @@ use Rattle.layout_moves.specs.Laws.FromPacked.{vertex-within, unpack-end, unpack
 use Rattle.layout_moves.proofs.vertices.unpack_vertices.Statement.{statement}
 use Rattle.layout_moves.proofs.vertices.unpack_vertices.Tie as tie
 
-abbrev invariant-loop : tie.invariant-loop
+abbrev invariant-loop : tie.invariant-loop-i
 invariant-loop bytes start n out₀ to at₀ next₀ i₀ out at next i =
     (i ≤ n) × (length out ≡ length out₀) × (next ≤ to + i * vertex_line)
     × (stored vertices_text (from_packed (vertices_from (n - i) at (drop at bytes))) out next
     ≡ stored vertices_text (from_packed (vertices_from n start (drop start bytes))) out₀ to)
 
-abbrev decreases-loop : tie.decreases-loop
+abbrev decreases-loop : tie.decreases-loop-i
 decreases-loop bytes start n out₀ to at₀ next₀ i₀ out at next i = n - i
 
-loop-holds : tie.Need-loop-init invariant-loop decreases-loop
+loop-holds : tie.Need-loop-i-init invariant-loop decreases-loop
 loop-holds c = (omega arith, refl, omega arith, rw sub-zero)
 
-put-vertex-requires : tie.Need-put-vertex-requires invariant-loop decreases-loop
+put-vertex-requires : tie.Need-put_vertex-next-requires invariant-loop decreases-loop
 put-vertex-requires c κs = (search vertex-within, omega arith)
 
-loop-again : tie.Need-loop-preserved invariant-loop decreases-loop
+loop-again : tie.Need-loop-i-preserved invariant-loop decreases-loop
 loop-again c =
-    let put = c.before.before in
-    (omega arith, search rules, omega (arith, put.put-vertex.ensures.short), search unpack-vertex)
+    (omega arith, search rules, omega (arith, c.put_vertex-next.ensures.short), search unpack-vertex)
 
-pub unpack-vertices-spec : {M : Type 1} → statement M
-unpack-vertices-spec =
+pub unpack_vertices_spec : {M : Type 1} → statement M
+unpack_vertices_spec =
     tie.close
     (tie.spec
     invariant-loop decreases-loop loop-holds (λ c. search rules) (λ c. search rules) (λ c. search rules)

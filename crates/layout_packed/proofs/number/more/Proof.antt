@@ -13,74 +13,55 @@ use Rattle.layout_packed.proofs.Groups.{share, below, at-end, too_far, at_zero, 
 use Rattle.layout_packed.proofs.number.more.Statement.{statement}
 use Rattle.layout_packed.proofs.number.more.Tie as tie
 
-abbrev invariant-loop : tie.invariant-loop
+abbrev invariant-loop : tie.invariant-loop-i
 invariant-loop bytes start most low n₀ scale₀ i₀ n scale i =
     (n < scale) × (scale ≤ 128 * written.coordinate)
     × (more_from most start scale n i (drop i bytes) ≡ more_from most start 128 low i₀ (drop i₀ bytes))
 
-abbrev decreases-loop : tie.decreases-loop
+abbrev decreases-loop : tie.decreases-loop-i
 decreases-loop bytes start most low n₀ scale₀ i₀ n scale i = length bytes - i
 
-loop-holds : tie.Need-loop-init invariant-loop decreases-loop
+loop-holds : tie.Need-loop-i-init invariant-loop decreases-loop
 loop-holds c = (omega arith, omega arith, refl)
 
-returns-2 : tie.Need-returns-2 invariant-loop decreases-loop
+returns-2 : tie.Need-returns-then-b-eq0 invariant-loop decreases-loop
 unfolding shown_number
 returns-2 c =
-    let last = c.before in
-    let turn = last.before in
-    let near = turn.before.before in
-    let head = near.before.before in
-    at_zero _ _ _ _ _ _ _ head.loop.invariant.2 near.before.loop-test.true near.if1.false _ turn.wide.ensures.0
-    last.if2.true c.if3.true
+    at_zero _ _ _ _ _ _ _ c.loop-i.invariant.2 c.loop-i-test.true c.if-scale-most.false _ c.wide-b.ensures.0
+    c.if-b-lt128.true c.if-b-eq0.true
 
-returns-3 : tie.Need-returns-3 invariant-loop decreases-loop
+returns-3 : tie.Need-returns-then-sum-most invariant-loop decreases-loop
 unfolding shown_number
 returns-3 c =
-    let some = c.before in
-    let last = some.before in
-    let turn = last.before in
-    let near = turn.before.before in
-    let head = near.before.before in
-    at-beyond _ _ _ _ _ _ _ head.loop.invariant.2 near.before.loop-test.true near.if1.false _ turn.wide.ensures.0
-    last.if2.true some.if3.false c.if4.true
+    at-beyond _ _ _ _ _ _ _ c.loop-i.invariant.2 c.loop-i-test.true c.if-scale-most.false _ c.wide-b.ensures.0
+    c.if-b-lt128.true c.if-b-eq0.false c.if-sum-most.true
 
-returns-4 : tie.Need-returns-4 invariant-loop decreases-loop
+returns-4 : tie.Need-returns-then-b-lt128 invariant-loop decreases-loop
 unfolding shown_number
 returns-4 c =
-    let some = c.before in
-    let last = some.before in
-    let turn = last.before in
-    let near = turn.before.before in
-    let head = near.before.before in
-    at_last _ _ _ _ _ _ _ head.loop.invariant.2 near.before.loop-test.true near.if1.false _ turn.wide.ensures.0
-    last.if2.true some.if3.false c.if4.false
+    at_last _ _ _ _ _ _ _ c.loop-i.invariant.2 c.loop-i-test.true c.if-scale-most.false _ c.wide-b.ensures.0
+    c.if-b-lt128.true c.if-b-eq0.false c.if-sum-most.false
 
 -- the byte's share, with the scale of the loop
-sum_fits : tie.Need-overflow-add-sum invariant-loop decreases-loop
+sum_fits : tie.Need-overflow_add-sum invariant-loop decreases-loop
 sum_fits c =
-    let turn = c.before.before in
-    let head = turn.before.before.before.before in
-    omega (arith, share _ head.loop.scale _ turn.wide.ensures.1 head.loop.invariant.1)
+    omega (arith, share _ c.loop-i.scale _ c.wide-b.ensures.1 c.loop-i.invariant.1)
 
-n-fits : tie.Need-overflow-add-n invariant-loop decreases-loop
+n-fits : tie.Need-overflow_add-n invariant-loop decreases-loop
 n-fits c =
-    let turn = c.before in
-    let head = turn.before.before.before.before in
-    omega (arith, share (turn.wide.result - 128) head.loop.scale _ (omega arith) head.loop.invariant.1)
+    omega (arith, share (c.wide-b.result - 128) c.loop-i.scale _ (omega arith) c.loop-i.invariant.1)
 
-pub more-spec : {M : Type 1} → statement M
+pub more_spec : {M : Type 1} → statement M
 unfolding shown_number
-more-spec =
+more_spec =
     tie.close
     (tie.spec
     invariant-loop decreases-loop (λ c. search rules) loop-holds (λ c. search too_far)
     (λ c. search rules) (λ c. search rules) returns-2
     (λ c. omega (arith, sum_fits c)) sum_fits returns-3 (λ c. search rules) returns-4
     (λ c. omega (arith, n-fits c)) n-fits (λ c. search rules) (λ c. search rules) (λ c. search rules)
-    (λ c. let turn = c.before in
-    let head = turn.before.before.before.before in (
-      below _ (turn.wide.result - 128) _ head.loop.invariant.0 (omega (arith, turn.wide.ensures.1)),
+    (λ c. (
+      below _ (c.wide-b.result - 128) _ c.loop-i.invariant.0 (omega (arith, c.wide-b.ensures.1)),
       search rules,
       search at_more,
     ))

@@ -5,9 +5,9 @@ use Rattle.layout_packed.proofs.Groups.{no_byte, one-beyond, one-group, more-gro
 use Rattle.layout_packed.proofs.number.number_at.Statement.{statement}
 use Rattle.layout_packed.proofs.number.number_at.Tie as tie
 
-pub number-at-spec : {M : Type 1} → statement M
+pub number_at_spec : {M : Type 1} → statement M
 unfolding shown_number
-number-at-spec =
+number_at_spec =
     tie.close
     (tie.spec
     (λ c. search no_byte) (λ c. search rules) (λ c. search rules) (λ c. search one-beyond)

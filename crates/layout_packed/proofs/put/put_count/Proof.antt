@@ -6,15 +6,13 @@ use Rattle.layout_packed.specs.Laws.Put.{put_in}
 use Rattle.layout_packed.proofs.put.put_count.Statement.{statement}
 use Rattle.layout_packed.proofs.put.put_count.Tie as tie
 
-put-number-requires : tie.Need-put-number-requires
+put-number-requires : tie.Need-put_number-requires
 put-number-requires c κs =
-    let start = c.before.before in
-    omega (arith, start.requires.1, groups-long 1 start.args.n (omega (arith, start.requires.0)))
+    omega (arith, c.requires.1, groups-long 1 c.args.n (omega (arith, c.requires.0)))
 
 returns : tie.Need-returns
 returns c =
-    let called = c.before.before in
-    put_in 1 _ (omega arith) called.put-number.ensures
+    put_in 1 _ (omega arith) c.put_number.ensures
 
-pub put-count-spec : {M : Type 1} → statement M
-put-count-spec = tie.close (tie.spec put-number-requires (λ c. search rules) returns)
+pub put_count_spec : {M : Type 1} → statement M
+put_count_spec = tie.close (tie.spec put-number-requires (λ c. search rules) returns)

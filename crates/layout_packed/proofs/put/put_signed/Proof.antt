@@ -3,13 +3,12 @@ use borrow.Author.Rules.{rules}
 use Rattle.layout_packed.proofs.put.put_signed.Statement.{statement}
 use Rattle.layout_packed.proofs.put.put_signed.Tie as tie
 
-put-number-requires : tie.Need-put-number-requires
-put-number-requires c κs = rw c.zigzagged.ensures c.before.before.before.requires.1
+put-number-requires : tie.Need-put_number-requires
+put-number-requires c κs = rw c.zigzagged.ensures c.requires.1
 
 returns : tie.Need-returns
 returns c =
-    let called = c.before.before in
-    rw called.before.zigzagged.ensures at called.put-number.ensures
+    rw c.zigzagged.ensures at c.put_number.ensures
 
-pub put-signed-spec : {M : Type 1} → statement M
-put-signed-spec = tie.close (tie.spec (λ c. search rules) put-number-requires (λ c. search rules) returns)
+pub put_signed_spec : {M : Type 1} → statement M
+put_signed_spec = tie.close (tie.spec (λ c. search rules) put-number-requires (λ c. search rules) returns)

@@ -7,45 +7,39 @@ use Rattle.layout_packed.proofs.put.put_vertex.Statement.{statement}
 use Rattle.layout_packed.proofs.put.put_vertex.Tie as tie
 
 sizes : (c : tie.Start)
-    → Sizes c.args.x-minus c.args.x c.args.y-minus c.args.y c.args.b-minus c.args.b
+    → Sizes c.args.x_minus c.args.x c.args.y_minus c.args.y c.args.b_minus c.args.b
 sizes c = sizes-of _ _ _ _ _ _ c.requires.0
 
-put-signed-requires : tie.Need-put-signed-requires
+put-signed-requires : tie.Need-put_signed-after_x-requires
 put-signed-requires c κs =
     let start = c.before.before in
     omega (arith, start.requires.1, sizes start)
 
-put-signed-requires-2 : tie.Need-put-signed-requires-2
+put-signed-requires-2 : tie.Need-put_signed-after_y-requires
 put-signed-requires-2 c κs =
-    let one = c.before.before.before in
-    let start = one.before.before.before in
-    omega (arith, start.requires.1, sizes start, one.put-signed.ensures.after, one.put-signed.auto.0)
+    let start = c.before.before.before.before.before.before in
+    omega (arith, start.requires.1, sizes start, c.put_signed-after_x.ensures.after, c.put_signed-after_x.auto.out)
 
-put-signed-requires-3 : tie.Need-put-signed-requires-3
+put-signed-requires-3 : tie.Need-put_signed-requires
 put-signed-requires-3 c κs =
-    let two = c.before.before.before in
-    let one = two.before.before.before.before in
-    let start = one.before.before.before in
+    let start = c.before.before.before.before.before.before.before.before.before.before in
     omega (
       arith,
       start.requires.1,
       sizes start,
-      one.put-signed.ensures.after,
-      one.put-signed.auto.0,
-      two.put-signed2.ensures.after,
-      two.put-signed2.auto.0,
+      c.put_signed-after_x.ensures.after,
+      c.put_signed-after_x.auto.out,
+      c.put_signed-after_y.ensures.after,
+      c.put_signed-after_y.auto.out,
     )
 
 returns : tie.Need-returns
 returns c =
-    let three = c.before.before in
-    let two = three.before.before.before.before in
-    let one = two.before.before.before.before in
-    let start = one.before.before.before in
-    put_three _ _ _ _ (omega (arith, sizes start)) one.put-signed.ensures two.put-signed2.ensures
-    three.put-signed3.ensures
+    let start = c.before.before.before.before.before.before.before.before.before.before.before.before.before in
+    put_three _ _ _ _ (omega (arith, sizes start)) c.put_signed-after_x.ensures c.put_signed-after_y.ensures
+    c.put_signed.ensures
 
-pub put-vertex-spec : {M : Type 1} → statement M
-put-vertex-spec =
+pub put_vertex_spec : {M : Type 1} → statement M
+put_vertex_spec =
     tie.close
     (tie.spec put-signed-requires put-signed-requires-2 put-signed-requires-3 (λ c. search rules) returns)

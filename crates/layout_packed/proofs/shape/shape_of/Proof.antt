@@ -5,45 +5,23 @@ use Rattle.layout_packed.proofs.Files.{no-n, no-m, no-first, no_second, bytes_le
 use Rattle.layout_packed.proofs.shape.shape_of.Statement.{statement}
 use Rattle.layout_packed.proofs.shape.shape_of.Tie as tie
 
-returns-3 : tie.Need-returns-3
+returns-3 : tie.Need-returns-in-Fault
 returns-3 c =
-    let one = c.before in
-    let called = one.before.before in
-    let m = called.before.before in
-    let second = m.before.before in
-    let n = second.before.before in
-    let first = n.before.before in
-    no-first _ _ first.number_at.ensures _ _ n.n.given.1 _ second.number-at2.ensures _ _ m.m.given.1
-    _ called.skip.ensures _ one.one.given.1
+    no-first _ _ c.number_at.ensures _ _ c.in-Whole.is _ c.number_at-2.ensures _ _ c.in-Whole-number_at.is
+    _ c.skip-one.ensures _ c.in-Fault.is
 
-returns-5 : tie.Need-returns-5
+returns-5 : tie.Need-returns-then-end-bytes
 returns-5 c =
-    let two = c.before.before in
-    let again = two.before.before in
-    let one = again.before.before in
-    let called = one.before.before in
-    let m = called.before.before in
-    let second = m.before.before in
-    let n = second.before.before in
-    let first = n.before.before in
-    bytes_left _ _ first.number_at.ensures _ _ n.n.given.1 _ second.number-at2.ensures _ _ m.m.given.1
-    _ called.skip.ensures _ one.one2.given.1 _ again.skip2.ensures _ two.two2.given.1 c.if1.true
+    bytes_left _ _ c.number_at.ensures _ _ c.in-Whole.is _ c.number_at-2.ensures _ _ c.in-Whole-number_at.is
+    _ c.skip-one.ensures _ c.in-At.is _ c.skip-two.ensures _ c.in-At-two.is c.if-end-bytes.true
 
-returns-6 : tie.Need-returns-6
+returns-6 : tie.Need-returns-in-At-two
 returns-6 c =
-    let two = c.before.before in
-    let again = two.before.before in
-    let one = again.before.before in
-    let called = one.before.before in
-    let m = called.before.before in
-    let second = m.before.before in
-    let n = second.before.before in
-    let first = n.before.before in
-    bytes-over _ _ first.number_at.ensures _ _ n.n.given.1 _ second.number-at2.ensures _ _ m.m.given.1
-    _ called.skip.ensures _ one.one2.given.1 _ again.skip2.ensures _ two.two2.given.1 c.if1.false
+    bytes-over _ _ c.number_at.ensures _ _ c.in-Whole.is _ c.number_at-2.ensures _ _ c.in-Whole-number_at.is
+    _ c.skip-one.ensures _ c.in-At.is _ c.skip-two.ensures _ c.in-At-two.is c.if-end-bytes.false
 
-pub shape-of-spec : {M : Type 1} → statement M
-shape-of-spec =
+pub shape_of_spec : {M : Type 1} → statement M
+shape_of_spec =
     tie.close
     (tie.spec
     (λ c. search rules) (λ c. search rules) (λ c. search rules) (λ c. search no-n)

@@ -12,15 +12,15 @@ use Rattle.layout_packed.proofs.Vertices.{stored, store-fault, store-vertex, sto
 use Rattle.layout_packed.proofs.vertex.fill.Statement.{statement}
 use Rattle.layout_packed.proofs.vertex.fill.Tie as tie
 
-abbrev invariant-loop : tie.invariant-loop
+abbrev invariant-loop : tie.invariant-loop-i
 invariant-loop bytes start n out₀ at₀ to₀ i₀ out at to i =
     (to ≡ i * numbers_a_vertex) × (length out ≡ length out₀)
     × (stored (vertices_from (n - i) at (drop at bytes)) out to ≡ stored (vertices_from n start (drop start bytes)) out₀ 0)
 
-abbrev decreases-loop : tie.decreases-loop
+abbrev decreases-loop : tie.decreases-loop-i
 decreases-loop bytes start n out₀ at₀ to₀ i₀ out at to i = n - i
 
-loop-holds : tie.Need-loop-init invariant-loop decreases-loop
+loop-holds : tie.Need-loop-i-init invariant-loop decreases-loop
 loop-holds c = (refl, refl, rw sub-zero)
 
 pub fill_spec : {M : Type 1} → statement M

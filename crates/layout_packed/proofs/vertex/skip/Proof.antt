@@ -12,19 +12,19 @@ use Rattle.layout_packed.proofs.Vertices.{pass-fault, pass-vertex, pass-end}
 use Rattle.layout_packed.proofs.vertex.skip.Statement.{statement}
 use Rattle.layout_packed.proofs.vertex.skip.Tie as tie
 
-abbrev invariant-loop : tie.invariant-loop
+abbrev invariant-loop : tie.invariant-loop-i
 invariant-loop bytes start n at₀ i₀ at i =
     passed (vertices_from (n - i) at (drop at bytes)) ≡ passed (vertices_from n start (drop start bytes))
 
-abbrev decreases-loop : tie.decreases-loop
+abbrev decreases-loop : tie.decreases-loop-i
 decreases-loop bytes start n at₀ i₀ at i = n - i
 
-loop-holds : tie.Need-loop-init invariant-loop decreases-loop
+loop-holds : tie.Need-loop-i-init invariant-loop decreases-loop
 loop-holds c = rw sub-zero
 
-pub skip-spec : {M : Type 1} → statement M
+pub skip_spec : {M : Type 1} → statement M
 unfolding shown_place
-skip-spec =
+skip_spec =
     tie.close
     (tie.spec
     invariant-loop decreases-loop loop-holds (λ c. search rules) (λ c. search rules) (λ c. search pass-fault) (λ c. search rules)

@@ -6,28 +6,20 @@ use Rattle.layout_packed.proofs.Vertices.{no-x, no-y, no-b, all_three}
 use Rattle.layout_packed.proofs.vertex.vertex.Statement.{statement}
 use Rattle.layout_packed.proofs.vertex.vertex.Tie as tie
 
-returns-2 : tie.Need-returns-2
+returns-2 : tie.Need-returns-in_default-number_at
 unfolding shown_vertex
 returns-2 c =
-    let second = c.before.before in
-    let x = second.before.before in
-    let first = x.before.before in
-    no-y _ _ _ _ first.number_at.ensures _ _ x.x.given.1 _ second.number-at2.ensures c.enum-told2.given.1
+    no-y _ _ _ _ c.number_at.ensures _ _ c.in-Whole.is _ c.number_at-2.ensures c.in_default-number_at.is
 
-returns-3 : tie.Need-returns-3
+returns-3 : tie.Need-returns-in_default-number_at-2
 unfolding shown_vertex
 returns-3 c =
-    let third = c.before.before in
-    let y = third.before.before in
-    let second = y.before.before in
-    let x = second.before.before in
-    let first = x.before.before in
-    no-b _ _ _ _ first.number_at.ensures _ _ x.x.given.1 _ second.number-at2.ensures _ _ y.y.given.1
-    _ third.number-at3.ensures c.enum-told3.given.1
+    no-b _ _ _ _ c.number_at.ensures _ _ c.in-Whole.is _ c.number_at-2.ensures _ _ c.in-Whole-number_at.is
+    _ c.number_at-3.ensures c.in_default-number_at-2.is
 
-pub vertex-spec : {M : Type 1} → statement M
+pub vertex_spec : {M : Type 1} → statement M
 unfolding shown_vertex
-vertex-spec =
+vertex_spec =
     tie.close
     (tie.spec
     (λ c. search rules) (λ c. search rules) (λ c. search rules) (λ c. search no-x)

@@ -13,5 +13,5 @@ unfolding count_of
 count_spec =
     tie.close
     (tie.spec
-    (λ c. search rules) (λ c. omega (arith, c.before.kind_at.ensures.1 (omega arith))) (λ c. search rules)
+    (λ c. search rules) (λ c. omega (arith, c.kind_at.ensures.1 (omega arith))) (λ c. search rules)
     (λ c. simp drop-drop (search first_byte)) (λ c. search rules) (λ c. search first_byte))

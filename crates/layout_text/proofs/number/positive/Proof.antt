@@ -6,9 +6,9 @@ use Rattle.layout_text.proofs.Digits.{first_byte}
 use Rattle.layout_text.proofs.number.positive.Statement.{statement}
 use Rattle.layout_text.proofs.number.positive.Tie as tie
 
-pub positive-spec : {M : Type 1} → statement M
+pub positive_spec : {M : Type 1} → statement M
 unfolding positive_of shown_number
-positive-spec =
+positive_spec =
     tie.close
     (tie.spec
     (λ c. search rules) (λ c. search first_byte) (λ c. search first_byte) (λ c. search rules) (λ c. search first_byte))

@@ -8,10 +8,10 @@ use Rattle.layout_text.proofs.Digits.{first_byte}
 use Rattle.layout_text.proofs.number.whole.Statement.{statement}
 use Rattle.layout_text.proofs.number.whole.Tie as tie
 
-pub whole-spec : {M : Type 1} → statement M
+pub whole_spec : {M : Type 1} → statement M
 unfolding whole_of
-whole-spec =
+whole_spec =
     tie.close
     (tie.spec
-    (λ c. search rules) (λ c. omega (arith, c.before.kind_at.ensures.1 (omega arith))) (λ c. search rules)
+    (λ c. search rules) (λ c. omega (arith, c.kind_at.ensures.1 (omega arith))) (λ c. search rules)
     (λ c. simp drop-drop (search first_byte)) (λ c. search rules) (λ c. search first_byte))

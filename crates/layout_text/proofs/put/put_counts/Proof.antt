@@ -7,29 +7,24 @@ use Rattle.layout_text.specs.Laws.Put.{counts-put}
 use Rattle.layout_text.proofs.put.put_counts.Statement.{statement}
 use Rattle.layout_text.proofs.put.put_counts.Tie as tie
 
-put-decimal-requires : tie.Need-put-decimal-requires
+put-decimal-requires : tie.Need-put_decimal-after_n-requires
 put-decimal-requires c κs =
-    let start = c.before.before in
-    omega (arith, decimal-long 2 start.args.n (omega arith))
+    omega (arith, decimal-long 2 c.args.n (omega arith))
 
-put-byte-requires : tie.Need-put-byte-requires
+put-byte-requires : tie.Need-put_byte-m_at-requires
 put-byte-requires c κs =
-    let start = c.before.before.before.before.before.before in
-    omega (arith, decimal-long 2 start.args.n (omega arith))
+    omega (arith, decimal-long 2 c.args.n (omega arith))
 
-put-decimal-requires-2 : tie.Need-put-decimal-requires-2
+put-decimal-requires-2 : tie.Need-put_decimal-after_m-requires
 put-decimal-requires-2 c κs =
-    let start = c.before.before.before.before.before.before.before.before.before.before in
-    omega (arith, decimal-long 2 start.args.n (omega arith), decimal-long 2 start.args.m (omega arith))
+    omega (arith, decimal-long 2 c.args.n (omega arith), decimal-long 2 c.args.m (omega arith))
 
-put-byte-requires-2 : tie.Need-put-byte-requires-2
+put-byte-requires-2 : tie.Need-put_byte-requires
 put-byte-requires-2 c κs =
-    let second = c.before.before.before.before.before.before.before in
-    let start = second.before.before.before.before.before.before.before in
-    omega (arith, decimal-long 2 start.args.n (omega arith), decimal-long 2 start.args.m (omega arith))
+    omega (arith, decimal-long 2 c.args.n (omega arith), decimal-long 2 c.args.m (omega arith))
 
-pub put-counts-spec : {M : Type 1} → statement M
-put-counts-spec =
+pub put_counts_spec : {M : Type 1} → statement M
+put_counts_spec =
     tie.close
     (tie.spec
     put-decimal-requires put-byte-requires put-decimal-requires-2 put-byte-requires-2 (λ c. search rules)

@@ -6,28 +6,24 @@ use Rattle.layout_text.specs.Laws.Put.{zero-put, plain-put, minus-put, zero-leng
 use Rattle.layout_text.proofs.put.put_signed.Statement.{statement}
 use Rattle.layout_text.proofs.put.put_signed.Tie as tie
 
-put-decimal-requires : tie.Need-put-decimal-requires
+put-decimal-requires : tie.Need-put_decimal-requires
 put-decimal-requires c κs =
-    let zero = c.before in
-    omega (arith, zero-length zero.before.before.args.negative _ zero.if1.true)
+    omega (arith, zero-length c.args.negative _ c.if-n-eq0.true)
 
-put-byte-requires : tie.Need-put-byte-requires
+put-byte-requires : tie.Need-put_byte-next-requires
 put-byte-requires c κs =
-    let minus = c.before in
-    omega (arith, minus-length _ _ minus.if2.true minus.before.if1.false)
+    omega (arith, minus-length _ _ c.if-negative.true c.if-n-eq0.false)
 
-put-decimal-requires-2 : tie.Need-put-decimal-requires-2
+put-decimal-requires-2 : tie.Need-put_decimal-requires-then-negative
 put-decimal-requires-2 c κs =
-    let minus = c.before.before.before.before.before in
-    omega (arith, minus-length _ _ minus.if2.true minus.before.if1.false)
+    omega (arith, minus-length _ _ c.if-negative.true c.if-n-eq0.false)
 
-put-decimal-requires-3 : tie.Need-put-decimal-requires-3
+put-decimal-requires-3 : tie.Need-put_decimal-requires-2
 put-decimal-requires-3 c κs =
-    let plain = c.before in
-    omega (arith, plain-length _ plain.before.before.before.args.n plain.if2.false)
+    omega (arith, plain-length _ c.args.n c.if-negative.false)
 
-pub put-signed-spec : {M : Type 1} → statement M
-put-signed-spec =
+pub put_signed_spec : {M : Type 1} → statement M
+put_signed_spec =
     tie.close
     (tie.spec
     put-decimal-requires (λ c. search rules) (λ c. search zero-put)

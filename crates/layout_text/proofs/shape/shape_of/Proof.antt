@@ -8,72 +8,65 @@ use Rattle.layout_text.proofs.Texts.{no_second, text-left, text-over}
 use Rattle.layout_text.proofs.shape.shape_of.Statement.{statement}
 use Rattle.layout_text.proofs.shape.shape_of.Tie as tie
 
-abbrev at_n : tie.After-m → tie.After-n
-at_n c = c.before.before.before.before
+abbrev at_n : tie.In-Whole-count → tie.In-Whole
+at_n c = c.before.before
 
-abbrev at-m : tie.After-second → tie.After-m
-at-m c = c.before.before.before.before
+abbrev at-m : tie.In-At → tie.In-Whole-count
+at-m c = c.before.before
 
-counts : (c : tie.After-m)
+counts : (c : tie.In-Whole-count)
     → let n = at_n c in
-    let text = n.before.before.before.before.before.args.text.now in
-    Counts text n.n.given.0.1.0 c.m.given.0.1.0 c.m.given.0.1.1.0
+    let text = n.args.text.now in
+    Counts text n.in-Whole.n c.in-Whole-count.m c.in-Whole-count.first
 counts c =
     let n = at_n c in
-    let start = n.before.before in
     record {
-      after-n = n.n.given.0.1.1.0;
-      short = start.before.if1.left;
-      n-is = counted _ (omega arith) start.count.ensures n.n.given.1;
-      m-is = counted _ (omega arith) c.before.before.count2.ensures c.m.given.1;
+      after-n = n.in-Whole.after_n;
+      short = n.if-text-gt-BYTES.false;
+      n-is = counted _ (omega arith) n.count.ensures n.in-Whole.is;
+      m-is = counted _ (omega arith) c.count-2.ensures c.in-Whole-count.is;
     }
 
-paths : (c : tie.After-end)
-    → let s = c.before.before.before.before in
+paths : (c : tie.In-At-skip)
+    → let s = c.before.before in
     let m = at-m s in
     let n = at_n m in
-    let text = n.before.before.before.before.before.args.text.now in
-    Paths text n.n.given.0.1.0 m.m.given.0.1.0 m.m.given.0.1.1.0
-    s.second.given.0.0 c.end.given.0.0
+    let text = n.args.text.now in
+    Paths text n.in-Whole.n m.in-Whole-count.m m.in-Whole-count.first
+    s.in-At.second c.in-At-skip.end
 paths c =
-    let s = c.before.before.before.before in
+    let s = c.before.before in
     record {
       counts = counts (at-m s);
-      one = a-place _ s.before.before.skip.ensures s.second.given.1;
-      two = a-place _ c.before.before.skip2.ensures c.end.given.1;
+      one = a-place _ s.skip.ensures s.in-At.is;
+      two = a-place _ c.skip-2.ensures c.in-At-skip.is;
     }
 
-returns-3 : tie.Need-returns-3
+returns-3 : tie.Need-returns-in_default-count
 returns-3 c =
-    let m = c.before.before in
-    let n = m.before.before in
-    let start = n.before.before in
-    let cn = counted _ (omega arith) start.count.ensures n.n.given.1 in
-    no-count-2 _ start.before.if1.false cn (no_number _ m.count2.ensures c.enum-told2.given.1)
+    let cn = counted _ (omega arith) c.count.ensures c.in-Whole.is in
+    no-count-2 _ c.if-text-gt-BYTES.false cn (no_number _ c.count-2.ensures c.in_default-count.is)
 
-returns-5 : tie.Need-returns-5
+returns-5 : tie.Need-returns-in_default-skip-2
 returns-5 c =
-    let second = c.before.before in
-    let s = second.before.before in
-    let one = a-place _ s.before.before.skip.ensures s.second.given.1 in
-    no_second _ (counts (at-m s)) one (no_place _ second.skip2.ensures c.enum-told4.given.1)
+    let s = c.before.before in
+    let one = a-place _ s.skip.ensures s.in-At.is in
+    no_second _ (counts (at-m s)) one (no_place _ c.skip-2.ensures c.in_default-skip-2.is)
 
-returns-6 : tie.Need-returns-6
-returns-6 c = text-left _ (paths c.before.before) c.if2.true
+returns-6 : tie.Need-returns-then-end-text
+returns-6 c = text-left _ (paths c.before) c.if-end-text.true
 
-returns-7 : tie.Need-returns-7
-returns-7 c = text-over _ (paths c.before.before) c.if2.false
+returns-7 : tie.Need-returns
+returns-7 c = text-over _ (paths c.before) c.if-end-text.false
 
-pub shape-of-spec : {M : Type 1} → statement M
-shape-of-spec =
+pub shape_of_spec : {M : Type 1} → statement M
+shape_of_spec =
     tie.close
     (tie.spec
-    (λ c. too_long _ c.if1.true)
+    (λ c. too_long _ c.if-text-gt-BYTES.true)
     (λ c. search rules) (λ c. search rules) (λ c. search rules)
-    (λ c. let start = c.before.before in
-    no-count _ start.before.if1.false (no_number _ start.count.ensures c.enum_told.given.1))
+    (λ c. no-count _ c.if-text-gt-BYTES.false (no_number _ c.count.ensures c.in_default.is))
     (λ c. search rules) (λ c. search rules) (λ c. search rules) returns-3
     (λ c. search rules) (λ c. search rules) (λ c. search rules)
-    (λ c. let first = c.before.before in
-    no-first _ (counts first.before.before) (no_place _ first.skip.ensures c.enum-told3.given.1))
+    (λ c. no-first _ (counts c.before.before) (no_place _ c.skip.ensures c.in_default-skip.is))
     (λ c. search rules) (λ c. search rules) (λ c. search rules) returns-5 returns-6 returns-7)

@@ -12,18 +12,18 @@ use Rattle.layout_text.proofs.VertexLines.{pass-broken, pass-line, pass-end}
 use Rattle.layout_text.proofs.vertex.skip.Statement.{statement}
 use Rattle.layout_text.proofs.vertex.skip.Tie as tie
 
-abbrev invariant-loop : tie.invariant-loop
+abbrev invariant-loop : tie.invariant-loop-i
 invariant-loop text start n at₀ i₀ at i = passed (vertices_of (n - i) (drop at text)) ≡ passed (vertices_of n (drop start text))
 
-abbrev decreases-loop : tie.decreases-loop
+abbrev decreases-loop : tie.decreases-loop-i
 decreases-loop text start n at₀ i₀ at i = n - i
 
-loop-holds : tie.Need-loop-init invariant-loop decreases-loop
+loop-holds : tie.Need-loop-i-init invariant-loop decreases-loop
 loop-holds c = rw sub-zero
 
-pub skip-spec : {M : Type 1} → statement M
+pub skip_spec : {M : Type 1} → statement M
 unfolding shown_place
-skip-spec =
+skip_spec =
     tie.close
     (tie.spec
     invariant-loop decreases-loop loop-holds (λ c. search rules) (λ c. search rules) (λ c. search pass-broken) (λ c. search rules)

@@ -6,9 +6,9 @@ use Rattle.layout_text.proofs.VertexLines.{no-x, no-y, no-b, all_three}
 use Rattle.layout_text.proofs.vertex.vertex.Statement.{statement}
 use Rattle.layout_text.proofs.vertex.vertex.Tie as tie
 
-pub vertex-spec : {M : Type 1} → statement M
+pub vertex_spec : {M : Type 1} → statement M
 unfolding shown_vertex
-vertex-spec =
+vertex_spec =
     tie.close
     (tie.spec
     (λ c. search rules) (λ c. search rules) (λ c. search rules) (λ c. search no-x)

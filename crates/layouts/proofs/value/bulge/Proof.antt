@@ -8,5 +8,5 @@ returns : tie.Need-returns
 unfolding coordinate bulge
 returns c = simp c.coordinate.ensures
 
-pub bulge-spec : {M : Type 1} → statement M
-bulge-spec = tie.close (tie.spec (λ c. search rules) returns)
+pub bulge_spec : {M : Type 1} → statement M
+bulge_spec = tie.close (tie.spec (λ c. search rules) returns)

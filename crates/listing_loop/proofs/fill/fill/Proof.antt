@@ -243,12 +243,11 @@ grain-of-requires c κs =
     (p.0.pairs.few-second, p.1.1.1.1.few)
 
 loop-holds : tie.Need-loop-i-init invariant-loop2 decreases-loop2 invariant-loop decreases-loop
-loop-holds c =
-    (
-      starts _ _ _ _ _ _ _ _ _ _ c.requires.0.keeps c.requires.1.0.1 c.requires.1.0.0
-          (λ h. rw c.grain_of-grain.ensures (c.requires.1.1.1.1.noted h)),
-      refl,
-    )
+loop-holds c = (
+  starts _ _ _ _ _ _ _ _ _ _ c.requires.0.keeps c.requires.1.0.1 c.requires.1.0.0
+      (λ h. rw c.grain_of-grain.ensures (c.requires.1.1.1.1.noted h)),
+  refl,
+)
 
 segment-from-requires : tie.Need-segment_from-v-requires invariant-loop2 decreases-loop2 invariant-loop decreases-loop
 segment-from-requires c κs = search rules

@@ -24,15 +24,13 @@ sift_spec =
     let p = c.requires in
     ((p.0.1, p.1.0 c.if-lines.true), p.1.1))
     (λ c. search rules)
-    (λ c.
-    (
+    (λ c. (
       simp (← c.by_marks.ensures, c.if-by_marks.false) (simp c.if-lines.true c.sift_lines.ensures),
       held c.before.before.before.before.before.before.before.before.before.before,
     ))
     (λ c κs. search rules)
     (λ c. search rules)
-    (λ c.
-    (
+    (λ c. (
       simp (← c.by_marks.ensures, c.if-by_marks.false) (simp c.if-lines.false c.leave_all.ensures),
       held c.before.before.before.before.before.before.before.before.before.before,
     )))

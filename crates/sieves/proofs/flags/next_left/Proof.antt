@@ -23,8 +23,7 @@ next_left_spec =
     finding-here c.loop-k.invariant.0 _ c.loop-k-test.true refl (lt-ltb _ _ c.if-flags-k-gt0.true))
     (λ c. search rules)
     (λ c. search rules)
-    (λ c.
-    (
+    (λ c. (
       finding-on c.loop-k.invariant.0 _ c.loop-k-test.true refl (le-ltb _ _ c.if-flags-k-gt0.false),
       omega (arith, c.loop-k.invariant.1),
     ))

@@ -22,18 +22,16 @@ add-count c =
     omega (arith, c.loop-j.invariant.0, c.loop-j.invariant.1, judged-few c.args.sides.now c.args.n c.loop-j.j, c.requires.0)
 
 loop-again : tie.Need-loop-j-preserved-then-side invariant-loop decreases-loop
-loop-again c =
-    (
-      ap (λ (k : ℕ). k + 1) c.loop-j.invariant.0 ∙ judged-turn _ _ _ _ _ c.side_at-side.ensures c.if-side.true,
-      omega (arith, c.loop-j-test.true),
-    )
+loop-again c = (
+  ap (λ (k : ℕ). k + 1) c.loop-j.invariant.0 ∙ judged-turn _ _ _ _ _ c.side_at-side.ensures c.if-side.true,
+  omega (arith, c.loop-j-test.true),
+)
 
 loop-again-2 : tie.Need-loop-j-preserved invariant-loop decreases-loop
-loop-again-2 c =
-    (
-      c.loop-j.invariant.0 ∙ judged-turn _ _ _ _ _ c.side_at-side.ensures c.if-side.false,
-      omega (arith, c.loop-j-test.true),
-    )
+loop-again-2 c = (
+  c.loop-j.invariant.0 ∙ judged-turn _ _ _ _ _ c.side_at-side.ensures c.if-side.false,
+  omega (arith, c.loop-j-test.true),
+)
 
 returns : tie.Need-returns invariant-loop decreases-loop
 returns c =
