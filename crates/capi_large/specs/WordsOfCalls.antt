@@ -1,6 +1,6 @@
 -- The word that a call returns for a refusal gives the fault back: for each call of the mode of large arcs, if its definition
 -- refuses with the fault f, the word has f's number, item, owner and index in its parts. The number of results is no word.
-use Rattle.std.specs.Prelude.{ℕ, ◌<◌, ◌≡◌, refl, Bool, cond, ltb, length, Float}
+use Rattle.std.specs.Prelude.{ℕ, ◌+◌, ◌<◌, ◌≡◌, refl, Bool, cond, ltb, length, Float}
 use Rattle.std.proofs.Common.{sym, subst, inl, inr, arith}
 use Rattle.std.proofs.Math.Bool.{true, false}
 use mathlib.Core.List.{List, [], ◌∷◌, ◌++◌}
@@ -40,7 +40,19 @@ use Rattle.large_listings.specs.LargeListings.{
   self_page_large,
   mutual_boxed_large,
   self_boxed_large,
+  mutual_numbers,
+  self_numbers,
+  mutual_large_look,
+  self_large_look,
+  mutual_large_pairs,
+  self_large_pairs,
 }
+use Rattle.large_outcomes.specs.LargeRow.{large_room}
+use Rattle.listing_pairs.specs.Rows.{rows_of, looked_at}
+use Rattle.listing_pairs.specs.Page.{page}
+use Rattle.listing_pairs.specs.Boxed.{boxed_pairs}
+use Rattle.cuts.specs.CutPath.{cut_path}
+use lib.ListN.{drop}
 use Rattle.large_counted.specs.LargeCounted.{mutual_large_rows, mutual_counted_large}
 use Rattle.dxf_read.specs.declared.Imported.TheVariants as imports
 use Rattle.dxf_write.specs.declared.Exported.TheVariants as exports
@@ -125,42 +137,63 @@ module _ (first : List Float) (first_closed : Bool) (second : List Float) (secon
       → Shown f
   unfolding mutual_large large_outcome
   mutual-large =
-      of-large listings.Refused (λ f g e. cc) _ _ _ _ i p (laws.mutual-small _ i p first first_closed second second_closed eps)
-      (λ f e. listing-other f e)
+      let look = mutual_large_look first first_closed second second_closed eps in
+      let ps = mutual_large_pairs first first_closed second second_closed in
+      let rows = rows_of look ps in
+      of-large listings.Refused (λ f g e. cc) (mutual_numbers first first_closed second second_closed) _ (listings.Listed (length rows) (looked_at look ps)) rows i p
+      (laws.mutual-small _ i p first first_closed second second_closed eps) (λ f e. listing-other f e)
 
   pub mutual-page-large : (position budget : ℕ) (f : Fault)
       → (mutual_page_large first first_closed second second_closed eps position budget i p).answer ≡ pages.Refused f → Shown f
   unfolding mutual_page_large large_page_outcome
   mutual-page-large position budget =
-      of-large pages.Refused (λ f g e. cc) _ _ _ _ i p
+      let look = mutual_large_look first first_closed second second_closed eps in
+      let ps = mutual_large_pairs first first_closed second second_closed in
+      let q = page look (drop position ps) (large_room i p) budget in
+      of-large pages.Refused (λ f g e. cc) (mutual_numbers first first_closed second second_closed) _
+      (pages.Paged (length q.rows) q.passed (position + q.passed) (length ps)) q.rows i p
       (laws.mutual-page-small position _ budget i p first first_closed second second_closed eps) (λ f e. page-other f e)
 
   pub mutual-boxed-large : (b : List Float) (f : Fault)
       → (mutual_boxed_large first first_closed second second_closed eps b i p).listing.answer ≡ listings.Refused f → Shown f
   unfolding mutual_boxed_large large_boxed_outcome
   mutual-boxed-large b =
-      of-large listings.Refused (λ f g e. cc) _ _ _ _ i p
+      let look = mutual_large_look first first_closed second second_closed eps in
+      let ps = boxed_pairs (cut_path first first_closed) (cut_path second second_closed) eps (mutual_large_pairs first first_closed second second_closed) in
+      let rows = rows_of look ps in
+      of-large listings.Refused (λ f g e. cc) (mutual_numbers first first_closed second second_closed) _ (listings.Listed (length rows) (looked_at look ps)) rows i p
       (laws.mutual-boxed-small _ b _ i p first first_closed second second_closed eps) (λ f e. listing-other f e)
 
 module _ (path : List Float) (closed : Bool) (eps : Float) (i : List ℕ) (p : List Float) where
   pub self-large : (f : Fault) → (self_large path closed eps i p).answer ≡ listings.Refused f → Shown f
   unfolding self_large large_outcome
   self-large =
-      of-large listings.Refused (λ f g e. cc) _ _ _ _ i p (laws.self-small _ i p path closed eps) (λ f e. listing-other f e)
+      let look = self_large_look path closed eps in
+      let ps = self_large_pairs path closed in
+      let rows = rows_of look ps in
+      of-large listings.Refused (λ f g e. cc) (self_numbers path closed) _ (listings.Listed (length rows) (looked_at look ps)) rows i p
+      (laws.self-small _ i p path closed eps) (λ f e. listing-other f e)
 
   pub self-page-large : (position budget : ℕ) (f : Fault)
       → (self_page_large path closed eps position budget i p).answer ≡ pages.Refused f → Shown f
   unfolding self_page_large large_page_outcome
   self-page-large position budget =
-      of-large pages.Refused (λ f g e. cc) _ _ _ _ i p (laws.self-page-small position _ budget i p path closed eps)
-      (λ f e. page-other f e)
+      let look = self_large_look path closed eps in
+      let ps = self_large_pairs path closed in
+      let q = page look (drop position ps) (large_room i p) budget in
+      of-large pages.Refused (λ f g e. cc) (self_numbers path closed) _
+      (pages.Paged (length q.rows) q.passed (position + q.passed) (length ps)) q.rows i p
+      (laws.self-page-small position _ budget i p path closed eps) (λ f e. page-other f e)
 
   pub self-boxed-large : (b : List Float) (f : Fault)
       → (self_boxed_large path closed eps b i p).listing.answer ≡ listings.Refused f → Shown f
   unfolding self_boxed_large large_boxed_outcome
   self-boxed-large b =
-      of-large listings.Refused (λ f g e. cc) _ _ _ _ i p (laws.self-boxed-small _ b _ i p path closed eps)
-      (λ f e. listing-other f e)
+      let look = self_large_look path closed eps in
+      let ps = boxed_pairs (cut_path path closed) (cut_path path closed) eps (self_large_pairs path closed) in
+      let rows = rows_of look ps in
+      of-large listings.Refused (λ f g e. cc) (self_numbers path closed) _ (listings.Listed (length rows) (looked_at look ps)) rows i p
+      (laws.self-boxed-small _ b _ i p path closed eps) (λ f e. listing-other f e)
 
 -- ---- a counted listing: 19, and what the listing refuses
 nineteen : Shown (whole Refusal.report Report)

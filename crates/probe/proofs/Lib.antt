@@ -1,3 +1,2 @@
-mod ByView
 mod Written
 pub mod Tellings

@@ -5,15 +5,13 @@ use Rattle.capi.specs.Laws.ListingEnds.{no-room-boxed, handed-boxed}
 use Rattle.capi.proofs.boxed.vj_mutual_boxed.Statement.{statement}
 use Rattle.capi.proofs.boxed.vj_mutual_boxed.Tie as tie
 
-pub vj-mutual-boxed-spec : {M : Type 1} → statement M
-vj-mutual-boxed-spec =
+pub vj_mutual_boxed_spec : {M : Type 1} → statement M
+vj_mutual_boxed_spec =
     tie.close
     (tie.spec
-    (λ c. no-room-boxed _ _ _ _ _ c.if1.true)
+    (λ c. no-room-boxed _ _ _ _ _ c.if-counts-lt-COUNTS.true)
     (λ c. search rules)
     (λ c. search rules)
     (λ c. search rules) (λ c. search rules) (λ c. search rules) (λ c. search rules)
-    (λ c. let h = c.before.before in
-    let l = h.before.before.before.before.before.before.before.before in
-    handed-boxed _ _ _ _ _ l.before.before.before.before.if1.false _ _ _ _ _ _ l.mutual-boxed.ensures
-    h.hand-counts.ensures.0 h.hand-counts.ensures.1))
+    (λ c. handed-boxed _ _ _ _ _ c.if-counts-lt-COUNTS.false _ _ _ _ _ _ c.mutual_boxed-answer.ensures
+    c.hand_counts.ensures.0 c.hand_counts.ensures.1))

@@ -5,8 +5,8 @@ use Rattle.capi.proofs.Ends.{handed}
 use Rattle.capi.proofs.calls.vj_circle_circle_intr.Statement.{statement}
 use Rattle.capi.proofs.calls.vj_circle_circle_intr.Tie as tie
 
-pub vj-circle-circle-intr-spec : {M : Type 1} → statement M
-vj-circle-circle-intr-spec =
+pub vj_circle_circle_intr_spec : {M : Type 1} → statement M
+vj_circle_circle_intr_spec =
     tie.close
     (tie.spec
     (λ c. search rules) (λ c. search rules)

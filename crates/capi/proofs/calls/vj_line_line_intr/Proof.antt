@@ -5,8 +5,8 @@ use Rattle.capi.proofs.Ends.{handed}
 use Rattle.capi.proofs.calls.vj_line_line_intr.Statement.{statement}
 use Rattle.capi.proofs.calls.vj_line_line_intr.Tie as tie
 
-pub vj-line-line-intr-spec : {M : Type 1} → statement M
-vj-line-line-intr-spec =
+pub vj_line_line_intr_spec : {M : Type 1} → statement M
+vj_line_line_intr_spec =
     tie.close
     (tie.spec
     (λ c. search rules) (λ c. search rules)

@@ -5,8 +5,8 @@ use Rattle.capi.proofs.Ends.{handed}
 use Rattle.capi.proofs.calls.vj_pair.Statement.{statement}
 use Rattle.capi.proofs.calls.vj_pair.Tie as tie
 
-pub vj-pair-spec : {M : Type 1} → statement M
-vj-pair-spec =
+pub vj_pair_spec : {M : Type 1} → statement M
+vj_pair_spec =
     tie.close
     (tie.spec
     (λ c. search rules) (λ c. search rules)

@@ -3,11 +3,11 @@ use borrow.Author.Rules.{rules}
 use Rattle.capi.proofs.counted.join_code.Statement.{statement}
 use Rattle.capi.proofs.counted.join_code.Tie as tie
 
-pub join-code-spec : {M : Type 1} → statement M
-join-code-spec =
+pub join_code_spec : {M : Type 1} → statement M
+join_code_spec =
     tie.close
     (tie.spec
     (λ c. search rules) (λ c. search rules) (λ c. search rules) (λ c. search rules)
-    (λ c. simp c.enum_told.given.1)
-    (λ c. simp (c.before.before.answer.given.1, c.word.ensures))
-    (λ c. simp c.enum-told2.given.1))
+    (λ c. simp c.in-NoRoom.is)
+    (λ c. simp (c.in-Refused.is, c.word.ensures))
+    (λ c. simp c.in-Joined.is))

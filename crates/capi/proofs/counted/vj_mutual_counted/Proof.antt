@@ -5,18 +5,16 @@ use Rattle.capi.specs.Laws.MonthEnds.{no-room-counted, handed-counted}
 use Rattle.capi.proofs.counted.vj_mutual_counted.Statement.{statement}
 use Rattle.capi.proofs.counted.vj_mutual_counted.Tie as tie
 
-returns-2 : tie.Need-returns-2
+returns-2 : tie.Need-returns
 returns-2 c =
-    let h = c.before.before in
-    let m = h.before.before.before.before.before.before.before.before in
-    handed-counted _ _ _ _ _ (search rules) _ _ _ _ _ _ m.mutual-counted.ensures h.hand-counted.ensures.0
-    h.hand-counted.ensures.1
+    handed-counted _ _ _ _ _ (search rules) _ _ _ _ _ _ c.mutual_counted-answer.ensures c.hand_counted.ensures.0
+    c.hand_counted.ensures.1
 
-pub vj-mutual-counted-spec : {M : Type 1} → statement M
-vj-mutual-counted-spec =
+pub vj_mutual_counted_spec : {M : Type 1} → statement M
+vj_mutual_counted_spec =
     tie.close
     (tie.spec
-    (λ c. no-room-counted _ _ _ _ _ c.if1.true)
+    (λ c. no-room-counted _ _ _ _ _ c.if-counts-lt-COUNTS.true)
     (λ c. search rules)
     (λ c. search rules)
     (λ c. search rules) (λ c. search rules) (λ c. search rules) (λ c. search rules)

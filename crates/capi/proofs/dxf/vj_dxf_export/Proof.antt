@@ -4,18 +4,16 @@ use Rattle.capi.specs.Laws.DxfEnds.{no-room-told, handed-told}
 use Rattle.capi.proofs.dxf.vj_dxf_export.Statement.{statement}
 use Rattle.capi.proofs.dxf.vj_dxf_export.Tie as tie
 
-returns-2 : tie.Need-returns-2
+returns-2 : tie.Need-returns
 returns-2 c =
-    let h = c.before.before in
-    let m = h.before.before.before.before in
-    let done = m.export-dxf.ensures in
-    handed-told _ _ _ _ m.before.before.if1.false _ _ _ _ done.answer-is done.text-holds h.hand-exported.ensures.0
-    h.hand-exported.ensures.1
+    let done = c.export_dxf-answer.ensures in
+    handed-told _ _ _ _ c.if-told-lt-EXPORT_WORDS.false _ _ _ _ done.answer-is done.text-holds c.hand_exported.ensures.0
+    c.hand_exported.ensures.1
 
-pub vj-dxf-export-spec : {M : Type 1} → statement M
-vj-dxf-export-spec =
+pub vj_dxf_export_spec : {M : Type 1} → statement M
+vj_dxf_export_spec =
     tie.close
     (tie.spec
-    (λ c. no-room-told _ _ _ _ c.if1.true)
+    (λ c. no-room-told _ _ _ _ c.if-told-lt-EXPORT_WORDS.true)
     (λ c. search rules) (λ c. search rules) (λ c. search rules) (λ c. search rules)
     returns-2)

@@ -4,18 +4,16 @@ use Rattle.capi.specs.Laws.DxfEnds.{no-room-told, handed-told}
 use Rattle.capi.proofs.dxf.vj_dxf_import.Statement.{statement}
 use Rattle.capi.proofs.dxf.vj_dxf_import.Tie as tie
 
-returns-2 : tie.Need-returns-2
+returns-2 : tie.Need-returns
 returns-2 c =
-    let h = c.before.before in
-    let m = h.before.before.before.before in
-    let done = m.import-dxf.ensures in
-    handed-told _ _ _ _ m.before.before.if1.false _ _ _ _ done.answer-is done.path-holds h.hand-imported.ensures.0
-    h.hand-imported.ensures.1
+    let done = c.import_dxf-answer.ensures in
+    handed-told _ _ _ _ c.if-told-lt-IMPORT_WORDS.false _ _ _ _ done.answer-is done.path-holds c.hand_imported.ensures.0
+    c.hand_imported.ensures.1
 
-pub vj-dxf-import-spec : {M : Type 1} → statement M
-vj-dxf-import-spec =
+pub vj_dxf_import_spec : {M : Type 1} → statement M
+vj_dxf_import_spec =
     tie.close
     (tie.spec
-    (λ c. no-room-told _ _ _ _ c.if1.true)
+    (λ c. no-room-told _ _ _ _ c.if-told-lt-IMPORT_WORDS.true)
     (λ c. search rules) (λ c. search rules) (λ c. search rules) (λ c. search rules)
     returns-2)

@@ -4,14 +4,14 @@ use borrow.Author.Rules.{rules}
 use Rattle.capi.proofs.listing.hand_counts.Statement.{statement}
 use Rattle.capi.proofs.listing.hand_counts.Tie as tie
 
-returns : tie.Need-returns
-returns c = (simp (c.before.before.answer.given.1, c.word.ensures), simp c.before.before.answer.given.1)
+returns : tie.Need-returns-in-Refused
+returns c = (simp (c.in-Refused.is, c.word.ensures), simp c.in-Refused.is)
 
-returns-2 : tie.Need-returns-2
-returns-2 c = (simp c.before.answer2.given.1, simp c.before.answer2.given.1)
+returns-2 : tie.Need-returns-in-Listed
+returns-2 c = (simp c.in-Listed.is, simp c.in-Listed.is)
 
-pub hand-counts-spec : {M : Type 1} → statement M
-hand-counts-spec =
+pub hand_counts_spec : {M : Type 1} → statement M
+hand_counts_spec =
     tie.close
     (tie.spec
     (λ c. search rules) (λ c. search rules) (λ c. search rules) (λ c. search rules) (λ c. search rules) returns

@@ -4,11 +4,11 @@ use Rattle.capi.specs.Laws.ListingEnds.{no_room, handed}
 use Rattle.capi.proofs.listing.vj_mutual.Statement.{statement}
 use Rattle.capi.proofs.listing.vj_mutual.Tie as tie
 
-pub vj-mutual-spec : {M : Type 1} → statement M
-vj-mutual-spec =
+pub vj_mutual_spec : {M : Type 1} → statement M
+vj_mutual_spec =
     tie.close
     (tie.spec
-    (λ c. no_room _ _ _ _ c.if1.true)
+    (λ c. no_room _ _ _ _ c.if-counts-lt-COUNTS.true)
     (λ c. search rules)
     (λ c. search rules)
     (λ c. search rules) (λ c. search rules) (λ c. search rules)

@@ -4,11 +4,11 @@ use Rattle.capi.specs.Laws.ListingEnds.{no_room, handed}
 use Rattle.capi.proofs.page.vj_self_page.Statement.{statement}
 use Rattle.capi.proofs.page.vj_self_page.Tie as tie
 
-pub vj-self-page-spec : {M : Type 1} → statement M
-vj-self-page-spec =
+pub vj_self_page_spec : {M : Type 1} → statement M
+vj_self_page_spec =
     tie.close
     (tie.spec
-    (λ c. no_room _ _ _ _ c.if1.true)
+    (λ c. no_room _ _ _ _ c.if-counts-lt-COUNTS.true)
     (λ c. search rules)
     (λ c. search rules)
     (λ c. search rules) (λ c. search rules) (λ c. search rules)

@@ -7,12 +7,10 @@ use Rattle.capi.proofs.pair_findings.hand_findings.Tie as tie
 
 returns : tie.Need-returns
 returns c =
-    let n3 = c.before in
-    let n2 = n3.before in
-    simp (← n2.before.number.ensures, ← n2.number2.ensures, ← n3.number3.ensures, ← c.number4.ensures)
+    simp (← c.number.ensures, ← c.number-2.ensures, ← c.number-3.ensures, ← c.number-4.ensures)
 
-pub hand-findings-spec : {M : Type 1} → statement M
-hand-findings-spec =
+pub hand_findings_spec : {M : Type 1} → statement M
+hand_findings_spec =
     tie.close
     (tie.spec
     (λ c. search rules) (λ c. search rules)

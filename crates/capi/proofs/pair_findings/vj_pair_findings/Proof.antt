@@ -5,33 +5,24 @@ use Rattle.capi.proofs.FindingsEnds.{no_room, no-room-to-tell, refused, met}
 use Rattle.capi.proofs.pair_findings.vj_pair_findings.Statement.{statement}
 use Rattle.capi.proofs.pair_findings.vj_pair_findings.Tie as tie
 
-returns : tie.Need-returns
-returns c = no_room _ _ _ c.if1.true
+returns : tie.Need-returns-then-out-lt-PLACES
+returns c = no_room _ _ _ c.if-out-lt-PLACES.true
 
-returns-2 : tie.Need-returns-2
-returns-2 c = no-room-to-tell _ _ _ c.before.if1.false c.if2.true
+returns-2 : tie.Need-returns-then-findings-lt-FINDINGS
+returns-2 c = no-room-to-tell _ _ _ c.if-out-lt-PLACES.false c.if-findings-lt-FINDINGS.true
 
-returns-3 : tie.Need-returns-3
+returns-3 : tie.Need-returns-in-Refused
 returns-3 c =
-    let t = c.before.before in
-    let f = t.before.before in
-    let e = f.before in
-    refused _ _ _ e.before.if1.false e.if2.false _ _ _ f.pline-seg-findings.ensures t.told.given.1
+    refused _ _ _ c.if-out-lt-PLACES.false c.if-findings-lt-FINDINGS.false _ _ _ c.pline_seg_findings-told.ensures c.in-Refused.is
     c.word.ensures
 
-returns-4 : tie.Need-returns-4
+returns-4 : tie.Need-returns-in-Met
 returns-4 c =
-    let h = c.before.before in
-    let p = h.before.before in
-    let g = p.before.before.before in
-    let t = g.before.before.before.before in
-    let f = t.before.before in
-    let e = f.before in
-    met _ _ _ e.before.if1.false e.if2.false _ _ _ _ _ _ f.pline-seg-findings.ensures t.told2.given.1
-    p.of-pline-seg.ensures h.hand-over.ensures g.hand-findings.ensures
+    met _ _ _ c.if-out-lt-PLACES.false c.if-findings-lt-FINDINGS.false _ _ _ _ _ _ c.pline_seg_findings-told.ensures c.in-Met.is
+    c.of_pline_seg.ensures c.hand_over.ensures c.hand_findings.ensures
 
-pub vj-pair-findings-spec : {M : Type 1} → statement M
-vj-pair-findings-spec =
+pub vj_pair_findings_spec : {M : Type 1} → statement M
+vj_pair_findings_spec =
     tie.close
     (tie.spec
     returns returns-2 (λ c. search rules) (λ c. search rules) (λ c. search rules) (λ c. search rules) (λ c. search rules)

@@ -5,11 +5,11 @@ use Rattle.capi.specs.Laws.ListingEnds.{no_room, handed}
 use Rattle.capi_large.proofs.listing.vj_self_large.Statement.{statement}
 use Rattle.capi_large.proofs.listing.vj_self_large.Tie as tie
 
-pub vj-self-large-spec : {M : Type 1} → statement M
-vj-self-large-spec =
+pub vj_self_large_spec : {M : Type 1} → statement M
+vj_self_large_spec =
     tie.close
     (tie.spec
-    (λ c. no_room _ _ _ _ c.if1.true)
+    (λ c. no_room _ _ _ _ c.if-counts-lt-COUNTS.true)
     (λ c. search rules)
     (λ c. search rules)
     (λ c. search rules) (λ c. search rules) (λ c. search rules)

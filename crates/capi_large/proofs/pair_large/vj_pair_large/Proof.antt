@@ -19,8 +19,8 @@ handed o a n r p leaves code_is =
       points-hold = leaves.points-hold;
     }
 
-pub vj-pair-large-spec : {M : Type 1} → statement M
-vj-pair-large-spec =
+pub vj_pair_large_spec : {M : Type 1} → statement M
+vj_pair_large_spec =
     tie.close
     (tie.spec
     (λ c. search rules) (λ c. search rules) (λ c. search rules) (λ c. search rules) (λ c. search handed))

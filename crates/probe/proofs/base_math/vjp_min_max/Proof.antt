@@ -5,8 +5,8 @@ use Rattle.probe.proofs.Written.{handed}
 use Rattle.probe.proofs.base_math.vjp_min_max.Statement.{statement}
 use Rattle.probe.proofs.base_math.vjp_min_max.Tie as tie
 
-pub vjp-min-max-spec : {M : Type 1} → statement M
-vjp-min-max-spec =
+pub vjp_min_max_spec : {M : Type 1} → statement M
+vjp_min_max_spec =
     tie.close
     (tie.spec
     (search rules) (search rules) (search rules) (λ c. search (handed of_min_max)))

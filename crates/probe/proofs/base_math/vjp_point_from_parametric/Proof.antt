@@ -5,8 +5,8 @@ use Rattle.probe.proofs.Written.{handed}
 use Rattle.probe.proofs.base_math.vjp_point_from_parametric.Statement.{statement}
 use Rattle.probe.proofs.base_math.vjp_point_from_parametric.Tie as tie
 
-pub vjp-point-from-parametric-spec : {M : Type 1} → statement M
-vjp-point-from-parametric-spec =
+pub vjp_point_from_parametric_spec : {M : Type 1} → statement M
+vjp_point_from_parametric_spec =
     tie.close
     (tie.spec
     (search rules) (search rules) (search rules) (λ c. search (handed of_vector)))

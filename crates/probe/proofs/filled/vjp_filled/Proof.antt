@@ -4,8 +4,8 @@ use Rattle.probe.proofs.Written.{handed}
 use Rattle.probe.proofs.filled.vjp_filled.Statement.{statement}
 use Rattle.probe.proofs.filled.vjp_filled.Tie as tie
 
-pub vjp-filled-spec : {M : Type 1} → statement M
-vjp-filled-spec =
+pub vjp_filled_spec : {M : Type 1} → statement M
+vjp_filled_spec =
     tie.close
     (tie.spec
     (λ c. search rules) (λ c. search rules) (λ c. search rules) (λ c. search (handed (λ (l : _). l))))

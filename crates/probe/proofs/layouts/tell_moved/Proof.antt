@@ -6,11 +6,11 @@ use Rattle.probe.proofs.Tellings.{two-told}
 use Rattle.probe.proofs.layouts.tell_moved.Statement.{statement}
 use Rattle.probe.proofs.layouts.tell_moved.Tie as tie
 
-pub tell-moved-spec : {M : Type 1} → statement M
-tell-moved-spec =
+pub tell_moved_spec : {M : Type 1} → statement M
+tell_moved_spec =
     tie.close
     (tie.spec
     (λ c. search rules) (λ c. search rules) (λ c. search rules) (λ c. search rules) (λ c. search rules) (λ c. search rules)
     (λ c. search rules) (λ c. search rules) (λ c. search rules)
-    (λ c. two-told _ (ap of_moved c.before.moved.given.1)) (λ c. search rules) (λ c. search rules)
-    (λ c. two-told _ (ap of_moved c.before.moved3.given.1)) (λ c. search rules))
+    (λ c. two-told _ (ap of_moved c.in-Length.is)) (λ c. search rules) (λ c. search rules)
+    (λ c. two-told _ (ap of_moved c.in-RefusedAt.is)) (λ c. search rules))

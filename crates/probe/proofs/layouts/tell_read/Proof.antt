@@ -6,10 +6,10 @@ use Rattle.probe.proofs.Tellings.{two-told}
 use Rattle.probe.proofs.layouts.tell_read.Statement.{statement}
 use Rattle.probe.proofs.layouts.tell_read.Tie as tie
 
-pub tell-read-spec : {M : Type 1} → statement M
-tell-read-spec =
+pub tell_read_spec : {M : Type 1} → statement M
+tell_read_spec =
     tie.close
     (tie.spec
     (λ c. search rules) (λ c. search rules) (λ c. search rules) (λ c. search rules) (λ c. search rules) (λ c. search rules)
-    (λ c. search rules) (λ c. search rules) (λ c. two-told _ (ap of_unpacking c.before.read.given.1)) (λ c. search rules)
-    (λ c. two-told _ (ap of_unpacking c.before.read2.given.1)) (λ c. search rules))
+    (λ c. search rules) (λ c. search rules) (λ c. two-told _ (ap of_unpacking c.in-Counts.is)) (λ c. search rules)
+    (λ c. two-told _ (ap of_unpacking c.in-Refused.is)) (λ c. search rules))

@@ -6,8 +6,7 @@ use Rattle.probe.proofs.layouts.vjp_list_layout.Tie as tie
 
 returns : tie.Need-returns
 returns c =
-    let list = c.before.before.before in
-    listed-told _ _ list.list-layout.ensures c.bytes_of.ensures
+    listed-told _ _ c.list_layout.ensures c.bytes_of.ensures
 
-pub vjp-list-layout-spec : {M : Type 1} → statement M
-vjp-list-layout-spec = tie.close (tie.spec (λ c. search rules) (λ c. search rules) (λ c. search rules) returns)
+pub vjp_list_layout_spec : {M : Type 1} → statement M
+vjp_list_layout_spec = tie.close (tie.spec (λ c. search rules) (λ c. search rules) (λ c. search rules) returns)

@@ -4,15 +4,13 @@ use Rattle.probe.proofs.Tellings.{untold, moved_told}
 use Rattle.probe.proofs.layouts.vjp_unpack_layout.Statement.{statement}
 use Rattle.probe.proofs.layouts.vjp_unpack_layout.Tie as tie
 
-returns-2 : tie.Need-returns-2
+returns-2 : tie.Need-returns
 returns-2 c =
-    let told = c.before.before in
-    let moved = told.before.before.before.before in
-    moved_told _ _ _ _ moved.before.before.if1.false moved.unpack-layout.ensures told.tell-moved.ensures
+    moved_told _ _ _ _ c.if-told-lt-PLACES.false c.unpack_layout-moved.ensures c.tell_moved.ensures
 
-pub vjp-unpack-layout-spec : {M : Type 1} → statement M
-vjp-unpack-layout-spec =
+pub vjp_unpack_layout_spec : {M : Type 1} → statement M
+vjp_unpack_layout_spec =
     tie.close
     (tie.spec
-    (λ c. untold _ _ _ _ c.if1.true)
+    (λ c. untold _ _ _ _ c.if-told-lt-PLACES.true)
     (λ c. search rules) (λ c. search rules) (λ c. search rules) (λ c. search rules) returns-2)

@@ -5,14 +5,14 @@ use Rattle.probe.proofs.Written.{none, all}
 use Rattle.probe.proofs.out.two.Statement.{statement}
 use Rattle.probe.proofs.out.two.Tie as tie
 
-returns : tie.Need-returns
+returns : tie.Need-returns-then-out-lt2
 returns c = none _ _ (omega arith)
 
-returns-2 : tie.Need-returns-2
-returns-2 c = all _ _ c.if1.false
+returns-2 : tie.Need-returns
+returns-2 c = all _ _ c.if-out-lt2.false
 
-pub two-spec : {M : Type 1} → statement M
-two-spec =
+pub two_spec : {M : Type 1} → statement M
+two_spec =
     tie.close
     (tie.spec
     returns (search rules) (λ c. search rules) (search rules) returns-2)

@@ -5,8 +5,8 @@ use Rattle.probe.proofs.Written.{handed}
 use Rattle.probe.proofs.vector2.vjp_perp.Statement.{statement}
 use Rattle.probe.proofs.vector2.vjp_perp.Tie as tie
 
-pub vjp-perp-spec : {M : Type 1} → statement M
-vjp-perp-spec =
+pub vjp_perp_spec : {M : Type 1} → statement M
+vjp_perp_spec =
     tie.close
     (tie.spec
     (search rules) (search rules) (search rules) (λ c. search (handed of_vector)))

@@ -5,8 +5,8 @@ use Rattle.probe.proofs.Written.{handed}
 use Rattle.probe.proofs.vector2.vjp_scale.Statement.{statement}
 use Rattle.probe.proofs.vector2.vjp_scale.Tie as tie
 
-pub vjp-scale-spec : {M : Type 1} → statement M
-vjp-scale-spec =
+pub vjp_scale_spec : {M : Type 1} → statement M
+vjp_scale_spec =
     tie.close
     (tie.spec
     (search rules) (search rules) (search rules) (λ c. search (handed of_vector)))

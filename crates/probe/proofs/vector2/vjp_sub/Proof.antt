@@ -5,8 +5,8 @@ use Rattle.probe.proofs.Written.{handed}
 use Rattle.probe.proofs.vector2.vjp_sub.Statement.{statement}
 use Rattle.probe.proofs.vector2.vjp_sub.Tie as tie
 
-pub vjp-sub-spec : {M : Type 1} → statement M
-vjp-sub-spec =
+pub vjp_sub_spec : {M : Type 1} → statement M
+vjp_sub_spec =
     tie.close
     (tie.spec
     (search rules) (search rules) (search rules) (λ c. search (handed of_vector)))
