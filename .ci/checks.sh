@@ -8,6 +8,8 @@ quick=
 trials= # the process that tries wrong functions, while it runs
 check=  # the longest run of the comparison, while it runs
 times=()
+programs=(crossings pack unpack replay)
+libraries=(capi capi_large probe)
 
 fail() {
     echo "gate: $*"
@@ -40,23 +42,57 @@ say_times() {
 
 # ---- proofs
 
-# rt ci removes target/, so it comes first and nothing is proved twice. Its last line is printed at the end. It leaves a core idle
-# for much of the time, so the wrong functions of a crate are tried as soon as it is proved. target/ is removed before: what is in
-# target/stamp is then proved in this run. If rt ci fails, the trials end with the gate.
+# rt ci comes first, in the tree as it is. Its last line is printed at the end. A must-fail edit that could not be tried would
+# count for nothing, and rt ci passes all the same, so its line that all is well must not speak of bad ones. The programs that it
+# built are the ones that are looked at below.
 prove() {
     local start=$SECONDS
     command -v rt > /dev/null || fail "the Rattle kit's rt is not on the PATH"
-    rm -rf target
-    .ci/trials until "$scratch/proved" > "$scratch/trials" 2>&1 &
-    trials=$!
     if ! rt ci 2>&1 | tee "$scratch/rt" | sed -u '$d'; then
         tail -n 1 "$scratch/rt"
         fail "rt ci failed"
     fi
     verdict=$(tail -n 1 "$scratch/rt")
     [[ $verdict =~ ^[1-9][0-9]*\ passed,\ 0\ failed$ ]] || fail "rt ci ended with '$verdict'"
-    : > "$scratch/proved"
+    check_edits
     note_time "$start"
+}
+
+check_edits() {
+    local line
+    line=$(grep '^rt: ok' "$scratch/rt") || fail "rt ci does not say that all is well"
+    [[ ! $line =~ ,\ [0-9]+\ bad ]] || fail "a must-fail edit is bad: $line"
+}
+
+# What rt ci proved it keeps for itself, so the crates are proved once more for the libraries for C and for the wrong functions.
+# Of a crate that rt check proved on this machine, with those below it, as it stands, rt takes what that kept.
+prove_for_use() {
+    local start=$SECONDS program
+    quietly rt all check --jobs "$(side_by_side)" || fail "rt all check failed"
+    for program in "${programs[@]}"; do
+        take_program "$program"
+    done
+    note_time "$start"
+}
+
+# How many crates are proved at a time: a check takes up to 4 GB.
+side_by_side() {
+    local free
+    free=$(awk '/^MemAvailable:/ { print int($2 / 4000000) }' /proc/meminfo)
+    free=$((free < 1 ? 1 : free > 4 ? 4 : free))
+    echo $((free < $(nproc) ? free : $(nproc)))
+}
+
+# Puts a program that rt ci has built where tools/make puts one.
+take_program() {
+    mkdir -p target/bin target/made
+    cp "crates/$1/out/$1" "target/bin/$1" || fail "rt ci left no program $1"
+    tools/make sum > "target/made/$1"
+}
+
+begin_trials() {
+    .ci/trials "$@" > "$scratch/trials" 2>&1 &
+    trials=$!
 }
 
 # Ends what still runs if a check has failed.
@@ -68,34 +104,21 @@ end_rest() {
     done
 }
 
-# Proves what has changed, then the product that uses it, and tries the wrong functions at the same time. What only the comparison
-# needs is proved during the comparison, and `prove_rest` waits for it.
+# Proves all crates, over what earlier checks kept, and then tries the wrong functions of those that have changed.
 prove_changed() {
     local start=$SECONDS changed
     quick=yes
     command -v rt > /dev/null || fail "the Rattle kit's rt is not on the PATH"
     changed=$(.ci/trials changed) || fail "what has changed could not be found out: $changed"
+    quietly rt all check --jobs "$(side_by_side)" || fail "rt all check failed"
+    quietly tools/make "${programs[@]}" || fail "a program is not made"
     if [ -n "$changed" ]; then
         # shellcheck disable=SC2086
-        quietly rt check $changed || fail "what has changed is not proved: $changed"
-        # shellcheck disable=SC2086
-        .ci/trials $changed > "$scratch/trials" 2>&1 &
-        trials=$!
-    fi
-    quietly rt check capi capi_large probe crossings pack unpack || fail "the product is not proved"
-    if can_compare; then make_libraries; fi
-    quietly rt check &
-    rest=$!
-    if [ -n "$trials" ]; then
+        begin_trials $changed
         wait_for_trials
         say "$(tail -n 1 "$scratch/trials") ($(echo $changed))"
     fi
     note_time "$start"
-}
-
-prove_rest() {
-    wait "$rest" || fail "rt check failed"
-    check_replaying
 }
 
 # Waits for the wrong functions, which are tried many at a time. rt ci has tried the must-fail edits one by one.
@@ -115,7 +138,6 @@ wait_for_trials() {
 
 check_texts() {
     local start=$SECONDS
-    quietly rt fmt --check || fail "rt fmt would change the files above"
     check_paths
     check_links
     .ci/promises || fail "the documents and the sources differ as above: .ci/promises write writes what is generated"
@@ -178,7 +200,7 @@ check_stored() {
     check_streams target/bin/crossings "$scratch/input" layouts/two_coils.out
     check_streams target/bin/pack layouts/two_coils.txt layouts/packed/two_coils.packed
     check_streams target/bin/unpack layouts/packed/two_coils.packed layouts/two_coils.txt
-    [ -n "$quick" ] || check_replaying
+    check_replaying
     note_time "$start"
 }
 
@@ -363,16 +385,9 @@ find_rust_text() {
     fi
 }
 
-# Makes one library after the other, since rt has notes in target/. A library that was made from what is proved now is not made
-# again.
+# A library that was made from what is proved now is not made again.
 make_libraries() {
-    local library
-    for library in capi capi_large probe; do
-        if ! cmp -s "target/stamp/$library" "target/staticlib/$library.stamp"; then
-            quietly rt staticlib "$library" || fail "rt staticlib $library failed"
-            cp "target/stamp/$library" "target/staticlib/$library.stamp"
-        fi
-    done
+    quietly tools/make "${libraries[@]}" || fail "a library for C is not made"
 }
 
 # Begins the longest run of the comparison, which takes five times as long as all others: it runs beside the wrong functions. The

@@ -12,18 +12,27 @@ import re
 ERROR = re.compile(r"^(?P<path>[^\s:]+):(?P<line>\d+):(?P<column>\d+): error: (?:`(?P<name>[^`]+)`: )?", re.M)
 
 # It follows from another error: something that it uses was not accepted.
-FOLLOWS = re.compile(r"was not admitted \(it has holes or undetermined implicits, or was rejected\)")
+FOLLOWS = re.compile(
+    r"was not admitted \(it has holes or undetermined implicits, or was rejected\)"
+    r"|^\d+ declarations? that depends? on .* (?:was|were) not checked",
+    re.S,
+)
 
-# It is about the shape of a proof, not about the program: how many answers a walk needs, and which.
-SHAPE = re.compile(r"\bLts\.Closed\b|\bNeed-")
+# It is about the shape of a proof, not about the program: how many answers a walk needs, and which, and at which place.
+SHAPE = re.compile(r"\bLts\.Closed\b|\bNeed-|differ only where one has `[^`\s]*\.Lts\.(?:Start|After|Then|Else|At|Loop)\b")
 
+# A search that was not ended: it says nothing, and nothing against what else is said of the function.
+BOUND = re.compile(r"was found\. It stopped (?:\d+ lemmas deep|when its count)")
+
+# what a proof's equations leave of the goal. It may still hold, so it counts only where the proof fits the code.
+LEFT = "an equation is left"
 SHOWN = {
     "two sides differ": re.compile(
         r"the two (?:types|sides) (?:first differ|differ only|are )|^.*expected type `.*but this has type `"
         r"|does not hold \(this comparison",
         re.S,
     ),
-    "an equation is left": re.compile(r"what it leaves must be a path whose two ends are equal, and .* is none", re.S),
+    LEFT: re.compile(r"what it leaves must be a path whose two ends are equal, and .* is none", re.S),
     "numbers for which it fails": re.compile(r"All of that holds, and the (?:goal|part) fails, at"),
     "every way was tried": re.compile(r"was found\. Every way was tried: a deeper search would find nothing either"),
 }
@@ -38,6 +47,10 @@ class Refusal:
     @property
     def follows(self):
         return bool(FOLLOWS.search(self.words))
+
+    @property
+    def at_bound(self):
+        return bool(BOUND.search(self.words))
 
     @property
     def shows(self):
@@ -71,9 +84,17 @@ def answer_at(text, line, column):
     """Which answer of a walk, `tie.spec A B ..`, is at this place of a proof file: its number, and how many there are."""
     lines = text.splitlines(keepends=True)
     place = sum(len(one) for one in lines[: line - 1]) + column - 1
-    start = text.rfind("tie.spec", 0, place + 1)
+    spans = answers_in(text, text.rfind("tie.spec", 0, place + 1))
+    for number, (begin, end) in enumerate(spans, 1):
+        if begin <= place < end:
+            return number, len(spans)
+    return None
+
+
+def answers_in(text, start):
+    """Where each answer of the walk stands that begins here."""
     if start < 0:
-        return None
+        return []
     at, spans = start + len("tie.spec"), []
     while at < len(text):
         if text[at].isspace():
@@ -86,22 +107,19 @@ def answer_at(text, line, column):
             depth += {"(": 1, "{": 1, ")": -1, "}": -1}.get(text[at], 0)
             at += 1
         spans.append((begin, at))
-    for number, (begin, end) in enumerate(spans, 1):
-        if begin <= place < end:
-            return number, len(spans)
-    return None
+    return spans
 
 
-def place_of(one, folder):
+def place_of(one, folder=None):
     """Whose fact an error is about, and which one. It is a function, MODULE::NAME, with the name of the fact in its proof or
     its place among the answers of its walk; or a file of definitions and laws, with the name of the law. `folder` is the
-    crate's."""
-    path = one.path[len(str(folder)) + 1 :] if one.path.startswith(f"{folder}/") else one.path
-    proof = re.match(r"proofs/(.*)/Proof\.antt$", path)
+    crate's, for the text of the proof."""
+    path = one.path.removeprefix(f"{folder}/").removeprefix("./")
+    proof = re.match(r"proofs/(.*)/(?:Proof|Answers|Invariants)\.antt$", path)
     if not proof:
         return path.removesuffix(".antt"), one.name or "?"
     owner = proof.group(1).replace("/", "::")
-    if not (one.name or "").endswith("-spec"):
+    if not (one.name or "").endswith("_spec") or not folder:
         return owner, one.name or "?"
     found = answer_at((folder / path).read_text(), one.line, one.column)
     return owner, f"answer {found[0]} of {found[1]}" if found else "its walk"

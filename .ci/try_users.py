@@ -8,11 +8,13 @@ from tries import Damaged, fails, passes, shell, stub
 
 def try_users(tree):
     """What stands in for a library has nothing in it, and counts as made."""
-    for folder in ("target/stamp", "target/staticlib"):
+    for folder in ("target/made", "target/staticlib", "with_rt"):
         (tree / folder).mkdir(parents=True)
+    stub(tree / "with_rt/rt", "[ $1 = version ]")
+    os.environ["PATH"] = f"{tree / 'with_rt'}:{os.environ['PATH']}"
+    now = subprocess.run(["tools/make", "sum"], cwd=tree, check=True, capture_output=True, text=True).stdout
     for name in ("capi", "capi_large", "probe"):
-        (tree / "target/stamp" / name).write_text("1\n")
-        (tree / "target/staticlib" / f"{name}.stamp").write_text("1\n")
+        (tree / "target/made" / name).write_text(now)
         if shutil.which("ar"):
             subprocess.run(["ar", "rcs", tree / f"target/staticlib/lib{name}.a"], check=True)
     tools = tree / "few"

@@ -1,15 +1,23 @@
 """The wrong programs of a crate, and how they are put beside what is right in a copy of it: for `.ci/trials`, which says more."""
 import pathlib
 import re
-import shutil
+
+from refusals import answers_in
 
 ROOT = pathlib.Path(__file__).resolve().parent.parent
 HEAD = re.compile(r'^ *(?:pub(?:\(crate\))? )?(?:extern "C" )?fn (\w+)', re.M)
-# a line of specs/ or proofs/ that imports something of a crate: of its own by `·specs.specs.`, of another one by `.specs.`
-IMPORT = re.compile(r"^((?:pub )?use Rattle·)(\w+)(?:(·)(specs|proofs)\.\4|\.(specs|proofs))\.([^\s{]+)", re.M)
+# the end of a function's head: its body begins behind it
+HEAD_END = re.compile(r"\{$", re.M)
+# a line of specs/ or proofs/ that imports something of a crate
+IMPORT = re.compile(r"^((?:pub |unfoldable )*use Rattle\.)(\w+)\.(specs|proofs)\.([^\s{]+)", re.M)
 # a type that is declared in src: laws can see it
 TYPE = re.compile(r"^(?:pub(?:\(crate\))? )?(?:struct|enum|type) [^;{]*(?:;|\{.*?^\})", re.M | re.S)
 MOD = re.compile(r"^(?:pub )?mod \w+\n", re.M)
+# a line that imports a module whole, perhaps under another name
+MODULE = re.compile(r"^use ([\w.'-]+)(?: as ([\w'-]+))?$", re.M)
+# a search with the count of lemmas that it has by itself, and the count that it has in the proof of a wrong function
+SEARCH = re.compile(r"\bsearch [\w'-]+(?: depth \d+)?(?=\s*(?:\)|,|$))", re.M)
+FITS = " fits 20000"
 # the ending of a right function that stands beside itself
 RIGHT = "_not"
 
@@ -21,6 +29,7 @@ class Trial:
         self.crate, self.kind, self.name, self.how = crate, kind, name, ""
         self.refused = [name] if kind == "fn" else []
         self.changes = []
+        self.fits = True
 
     def __str__(self):
         return f"{self.crate}::{self.name}"
@@ -34,8 +43,14 @@ class Trial:
         """The wrong function, if it can stand beside the right one: only its own text changes, or that and its proof."""
         if len(self.refused) != 1 or self.kind not in ("fn", "law") or "/" in self.refused[0]:
             return None
-        own = {file for file in self.files if file.endswith(".rt")} | {proof_of(self.refused[0])}
-        return self.refused[0] if len(own) == 2 and self.files <= own else None
+        code = {file for file in self.files if file.endswith(".rt")}
+        own = f"{folder_of(self.refused[0])}/"
+        return self.refused[0] if len(code) == 1 and all(file.startswith(own) for file in self.files - code) else None
+
+    @property
+    def whole(self):
+        """Whether it may change any place of a file."""
+        return self.kind == "edit" or self.kind in ("law", "above") and not self.function
 
     @property
     def of_laws(self):
@@ -57,7 +72,7 @@ def crate_lines():
     for line in (ROOT / "crates.txt").read_text().splitlines():
         name, found, uses = line.partition(":")
         if found and not line.startswith("#"):
-            yield name.strip(), uses.split()
+            yield name.split()[0], uses.replace(",", " ").split()
 
 
 def closure(top, uses):
@@ -75,8 +90,9 @@ def closure(top, uses):
     return found
 
 
-def proof_of(function):
-    return f"proofs/{function.replace('::', '/')}/Proof.antt"
+def folder_of(function):
+    """The folder of a function's proof, if it has one."""
+    return f"proofs/{function.replace('::', '/')}"
 
 
 def trials_in(crate, text):
@@ -112,20 +128,26 @@ def trials_in(crate, text):
 
 
 def part_of(file, text, trial):
-    """Where the text that a trial changes begins and ends: a function, a constant or an enum; or the whole file of a
+    """Where the text that a trial changes begins and ends: a function's body, a constant or an enum; or the whole file of a
     definition."""
-    if not file.endswith(".rt") or (trial.kind in ("law", "above") and not trial.function):
+    if not file.endswith(".rt") or trial.whole:
         return 0, len(text)
     name = (trial.function or trial.name).split("::")[-1]
     if trial.kind in ("fn", "law"):
         heads = list(HEAD.finditer(text))
         for at, head in enumerate(heads):
             if head.group(1) == name:
-                return head.start(), heads[at + 1].start() if at + 1 < len(heads) else len(text)
+                return body_of(text, head.start()), heads[at + 1].start() if at + 1 < len(heads) else len(text)
         return 0, 0
     form = rf"^(?:pub )?const {name}\b[^;]*;" if trial.kind == "const" else rf"^(?:pub )?enum {name} \{{.*?^\}}"
     found = re.search(form, text, re.M | re.S)
     return found.span() if found else (0, 0)
+
+
+def body_of(text, start):
+    """Where the body begins of the function whose head begins here."""
+    found = HEAD_END.search(text, start)
+    return found.end() if found else start
 
 
 def changed(folder, trial):
@@ -161,40 +183,68 @@ def put_beside(folder, trial, ending):
     None. A function without a proof file, whose proof the checker finds, gets one here: so the checker says what differs, not
     that it found nothing. The right function then stands there once more, with such a proof too, which must prove it."""
     (file,) = (file for file in trial.files if file.endswith(".rt"))
-    path, proof = folder / file, folder / proof_of(trial.function)
+    path, proof = folder / file, folder / folder_of(trial.function)
     if not path.is_file():
         return f"{trial}: there is no file {file}"
-    text = path.read_text()
-    start, end = part_of(file, text, trial)
-    right = own_text(text[start:end])
+    head, right = parts_of(path.read_text(), trial.function.split("::")[-1])
     texts = {file: right}
-    if proof.is_file():
-        texts[proof_of(trial.function)] = proof.read_text()
+    if proof.is_dir():
+        texts.update({str(one.relative_to(folder)): one.read_text() for one in proof.glob("*.antt")})
     defect = changed_texts(texts, trial)
     if defect:
         return defect
-    wrong = texts[file]
-    if proof.is_file():
-        add(path, trial, wrong, ending)
-        copy_proof(proof, trial, ending, texts[proof_of(trial.function)])
+    wrong = texts.pop(file)
+    if texts:
+        add(path, trial, head + wrong, ending)
+        copy_proof(folder, trial, ending, texts)
         return None
     if len(calls_in(wrong)) != len(calls_in(right)) or len(calls_in(right)) > 1:
         what = "it has no proof file, and calls more than one function, or more than the right one"
         return f"{trial}: {what}: give it a proof file"
     for body, name in ((wrong, ending), (right, ending + RIGHT)):
-        add(path, trial, body, name)
-        write_proof(folder, trial, name, calls_in(body))
+        add(path, trial, head + body, name)
+        write_proof(folder, trial.function + name, calls_in(body))
     return None
 
 
-def add(path, trial, body, ending):
+def unproved_in(folder, trial):
+    """The functions that must be rejected for a change in place, and have no proof file, each with its body's calls."""
+    for function in trial.refused:
+        parts = function.split("::")
+        if "/" not in function and not (folder / folder_of(function)).is_dir():
+            files = [folder / "src" / pathlib.Path(*parts[:end] or ["lib"]).with_suffix(".rt") for end in range(len(parts))]
+            bodies = [parts_of(path.read_text(), parts[-1])[1] for path in reversed(files) if path.is_file()]
+            yield function, calls_in(next(filter(None, bodies), ""))
+
+
+def parts_of(text, name):
+    """A function's head, with the attributes before it and its contract, and its body, up to its closing brace."""
+    for found in HEAD.finditer(text):
+        if found.group(1) == name:
+            body, indent = body_of(text, found.start()), re.match(r" *", found.group()).group()
+            end = re.compile(rf"^{indent}\}}$", re.M).search(text, body)
+            return text[attributes_of(text, found.start()) : body], text[body : end.end() if end else len(text)]
+    return "", ""
+
+
+def attributes_of(text, start):
+    """Where the attributes begin of the function whose head begins here: lines from one that begins with `#[` on."""
+    begin = start
+    for line in reversed(text[:start].splitlines(keepends=True)):
+        if re.match(r"\s*(?://|$|\})", line):
+            break
+        start -= len(line)
+        if re.match(r"\s*#\[", line):
+            begin = start
+    return begin
+
+
+def add(path, trial, text, ending):
     """Adds a function under its name with the ending, at the end of the file."""
     name = trial.function.split("::")[-1]
-    body = re.sub(rf"(?<![.:\w]){name}(?=\()", name + ending, body)
-    if 'extern "C"' in body.split("(")[0]:
-        body = f"#[no_mangle]\n{body}"
-    owner = re.match(r"\s", body) and trial.function.split("::")[-2]
-    block = f"impl {owner} {{\n{body}\n}}" if owner else body
+    text = re.sub(rf"(?<![.:\w]){name}(?=[(<])", name + ending, text)
+    owner = re.match(r"\s", text) and trial.function.split("::")[-2]
+    block = f"impl {owner} {{\n{text}\n}}" if owner else text
     path.write_text(f"{path.read_text().rstrip()}\n\n{block}\n")
 
 
@@ -204,50 +254,113 @@ def calls_in(body):
     return [name for name in re.findall(r"\b([a-z_]\w*)\(", text) if name != "len"]
 
 
-def copy_proof(proof, trial, ending, text):
-    """Writes the proof of a wrong function: a copy of the right one's folder, with this text of its main file."""
-    name = trial.function.split("::")[-1]
-    copy = proof.parent.with_name(name + ending)
-    shutil.copytree(proof.parent, copy)
-    (copy / proof.name).write_text(text)
-    there = trial.function.replace("::", ".")
-    for one in copy.rglob("*.antt"):
-        text = one.read_text().replace(f"proofs.{there}.", f"proofs.{there}{ending}.")
-        spec = name.replace("_", "-")
-        one.write_text(re.sub(rf"(?<![\w-]){spec}-spec(?![\w-])", (name + ending).replace("_", "-") + "-spec", text))
+def copy_proof(folder, trial, ending, texts):
+    """Writes the proof of a wrong function: these texts of the right one's files, by their names in the crate. A search that ends
+    at its count says nothing, so it may try more here."""
+    name, there = trial.function.split("::")[-1], trial.function.replace("::", ".")
+    for file, text in texts.items():
+        text = re.sub(rf"(?<![\w.])(Rattle\.{trial.crate}\.proofs\.{re.escape(there)})(?![\w'-])", rf"\g<1>{ending}", text)
+        text = re.sub(rf"(?<![\w'-]){name}_spec(?![\w'-])", f"{name}{ending}_spec", text)
+        text = SEARCH.sub(lambda found: found[0] + FITS, text)
+        write(folder / folder_of(trial.function + ending) / pathlib.Path(file).name, text)
 
 
-def write_proof(folder, trial, ending, calls):
+def write_proof(folder, function, calls):
     """The proof of a function with at most one call: it returns what the call answers, or the definition itself."""
-    there, name = trial.function.replace("::", ".") + ending, (trial.function.split("::")[-1] + ending).replace("_", "-")
-    answers = f"(λ c. search needs) (λ c. c .{calls[0].replace('_', '-')} .ensures)" if calls else "(λ c. refl)"
-    path = folder / proof_of(trial.function + ending)
-    path.parent.mkdir(parents=True)
-    path.write_text(
-        "use mathlib.Core.Path.{refl}\nuse borrow.Author.Needs.{needs}\n"
-        f"use Rattle·{trial.crate}·proofs.proofs.{there}.Statement.{{statement}}\n"
-        f"use Rattle·{trial.crate}·proofs.proofs.{there}.Tie as tie\n\n"
-        f"pub {name}-spec : {{M : Type 1}} → statement M\n{name}-spec = tie.close (tie.spec {answers})\n"
+    there, name = f"Rattle.{folder.name}.proofs.{function.replace('::', '.')}", function.split("::")[-1]
+    answers = f"(λ c. search rules) (λ c. c.{calls[0]}.ensures)" if calls else "(λ c. refl)"
+    write(
+        folder / folder_of(function) / "Proof.antt",
+        "use Rattle.std.proofs.Common.{refl, rules}\n"
+        f"use {there}.Statement.{{statement}}\n"
+        f"use {there}.Tie as tie\n\n"
+        f"pub {name}_spec : {{M : Type 1}} → statement M\n{name}_spec = tie.close (tie.spec {answers})\n",
     )
 
 
-def own_text(text):
-    """A function's text up to its closing brace, which has the indent of its head."""
-    indent = re.match(r" *", text).group()
-    found = re.search(rf"^{indent}\}}$", text, re.M)
-    return text[: found.end()] if found else text
+# ---- the names of a proof
+
+
+def fit_names(folder, endings, names):
+    """A function's proof cites places and facts by names that are made of the code's text, as `if-x-lt-y`. So in the copy of it
+    that stands beside a wrong function each name is that of the same place there. `names` is what rt says of them: of each
+    function its places and facts, in the code's order, each also by a name that has only its call and its number. Where calls or
+    tests come in another order, the proof does not fit, unless the trial changes it too. Where a sum or a product is gone or has
+    come, as if it is changed for another, so has the answer that it is in range."""
+    for trial, ending in endings.items():
+        if not trial.function:
+            continue
+        key = f"Rattle-{trial.crate}-proofs.{trial.function.replace('::', '.')}"
+        right, wrong = names.get(f"{key}.Lts"), names.get(f"{key}{ending}.Lts")
+        if right and wrong:
+            same, renamed = shape_of(right) == shape_of(wrong), names_between(right, wrong)
+            trial.fits = same or any(file.endswith(".antt") for file in trial.files)
+            for path in (folder / folder_of(trial.function + ending)).glob("*.antt"):
+                text = with_names(path.read_text(), renamed)
+                path.write_text(with_answers(text, named_in(right)[0], named_in(wrong)[0]) if same else text)
+
+
+def shape_of(names):
+    """The calls and tests of a function, in the code's order, whatever its text calls them."""
+    tests = ("Then", "Else", "At-", "Loop")
+    return [place for place, _, _, callee, *_ in names["places"] if callee or place.startswith(tests)]
+
+
+def with_names(text, renamed):
+    """A proof with other names of places and facts: behind a dot, but for a definition's name behind that of its module; and where
+    a fact's name is the answer's too, at the start of a line."""
+    if not renamed:
+        return text
+    modules = {named or path.split(".")[-1] for path, named in MODULE.findall(text)} - {"tie", "goal"}
+
+    def other(found, line):
+        owner = re.search(r"([\w'-]+)\.$", line[: found.start()])
+        return found.group() if owner and owner[1] in modules else (found[1] or "") + renamed[found[2]]
+
+    names = "|".join(map(re.escape, sorted(renamed, key=len, reverse=True)))
+    lines = text.splitlines(keepends=True)
+    for at, line in enumerate(lines):
+        if not line.startswith("use "):
+            lines[at] = re.sub(rf"(?<=\.)(Need-)?({names})(?![\w'-])", lambda found: other(found, line), line)
+            if " as goal\n" in text:
+                lines[at] = re.sub(rf"^((?:abbrev )?(?:pub )?)({names})(?= )", lambda found: other(found, ""), lines[at])
+    return "".join(lines)
+
+
+def names_between(right, wrong):
+    """For each name that differs, what stands for it in the wrong function."""
+    renamed = {}
+    for ours, theirs in zip(named_in(right), named_in(wrong)):
+        renamed.update({ours[key]: theirs[key] for key in ours if key in theirs and ours[key] and ours[key] != theirs[key]})
+    return renamed
+
+
+def with_answers(text, right, wrong):
+    """A proof with answers for the wrong function's facts. The walk has an answer for each, in their order."""
+    start = text.rfind("tie.spec")
+    spans = answers_in(text, start)
+    if list(right) == list(wrong) or len(spans) != len(right):
+        return text
+    answers = {fact: text[begin:end] for fact, (begin, end) in zip(right, spans)}
+    return text[: spans[0][0]] + " ".join(answers.get(fact, "(λ c. search rules)") for fact in wrong) + text[spans[-1][1] :]
+
+
+def named_in(names):
+    """The names of the facts, of the places, and of what is known at each, by the names that have only calls and numbers."""
+    places = [place[0] for place in names["places"]]
+    return dict(names["needs"]), dict(zip(places, names["places_by_name"])), dict(zip(places, (it[2][1] for it in names["places"])))
 
 
 # ---- laws beside the right ones
 
 
 class Import:
-    """What a line of specs/ or proofs/ imports: the crate, whether that is its own, the folder, the path, and the file if it is
-    among these texts. Else it is declared in src, or a function's module, or in another crate."""
+    """What a line of specs/ or proofs/ imports: the crate, the folder, the path, and the file if it is among these texts. Else it
+    is declared in src, or a function's module, or in another crate."""
 
     def __init__(self, found, texts):
-        self.start, self.crate, self.own, one, other, self.path = found
-        self.library, parts = one or other, self.path.rstrip(".").split(".")
+        self.start, self.crate, self.library, self.path = found
+        parts = self.path.rstrip(".").split(".")
         files = ("/".join([self.crate, self.library, *parts[:end]]) + ".antt" for end in range(len(parts), 0, -1))
         self.file = next((file for file in files if file in texts), None)
 
@@ -315,8 +428,8 @@ def put_laws_beside(folder, trial, name):
         one = Import(found.groups(), texts)
         if one.file in copies:
             below = "" if one.crate == trial.top else f"of_{one.crate}."
-            return f"{one.start}{trial.top}·{one.library}.{one.library}.{name}.{below}{one.path}"
-        return f"{one.start}{one.crate}.{one.library}.{one.path}" if one.own and one.crate != trial.top else found.group()
+            return f"{one.start}{trial.top}.{one.library}.{name}.{below}{one.path}"
+        return found.group()
 
     nodes = {}
     for file in copies:

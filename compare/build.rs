@@ -1,4 +1,4 @@
-//! Links the proved static libraries, which `rt staticlib NAME` writes: the product, the calls with large arcs, and the functions
+//! Links the proved static libraries, which `tools/make NAME` writes: the product, the calls with large arcs, and the functions
 //! that only the comparison calls.
 
 use std::env;
@@ -18,7 +18,7 @@ fn main() {
         println!("cargo:rerun-if-changed={}", archive.display());
         if !archive.is_file() {
             eprintln!(
-                "{} is missing: run `rt staticlib {name}`",
+                "{} is missing: run `tools/make {name}`",
                 archive.display()
             );
             exit(1);

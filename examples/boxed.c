@@ -3,7 +3,7 @@
  * every pair of segments. The boxed one looks only at pairs whose boxes meet,
  * and hands out the boxes. From the repository's root:
  *
- *   rt staticlib capi
+ *   tools/make capi
  *   cc -std=c11 -Wall -Wextra -Werror -Iinclude examples/boxed.c \
  *      target/staticlib/libcapi.a -o boxed && ./boxed
  */

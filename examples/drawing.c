@@ -3,7 +3,7 @@
  * program writes it, looks where a track crosses it, exports it again, and shows
  * what is told if a line of the drawing is wrong. From the repository's root:
  *
- *   rt staticlib capi
+ *   tools/make capi
  *   cc -std=c11 -Wall -Wextra -Werror -Iinclude examples/drawing.c \
  *      target/staticlib/libcapi.a -o drawing && ./drawing
  */

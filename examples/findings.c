@@ -2,7 +2,7 @@
  * Why a point counted: how some pairs of segments meet, and what is told of each
  * computed point for each segment. From the repository's root:
  *
- *   rt staticlib capi
+ *   tools/make capi
  *   cc -std=c11 -Wall -Wextra -Werror -Iinclude examples/findings.c \
  *      target/staticlib/libcapi.a -o findings && ./findings
  */

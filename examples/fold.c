@@ -4,7 +4,7 @@
  * make a row only if they overlap, or have a point that is not near such a
  * vertex. From the repository's root:
  *
- *   rt staticlib capi
+ *   tools/make capi
  *   cc -std=c11 -Wall -Wextra -Werror -Iinclude examples/fold.c \
  *      target/staticlib/libcapi.a -o fold && ./fold
  */

@@ -4,7 +4,7 @@
  * check that takes such a number finds no crossing where there was one. From the
  * repository's root:
  *
- *   rt staticlib capi
+ *   tools/make capi
  *   cc -std=c11 -Wall -Wextra -Werror -Iinclude examples/listing.c \
  *      target/staticlib/libcapi.a -o listing && ./listing
  */

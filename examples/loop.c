@@ -4,7 +4,7 @@
  * which cut it into two halves. A row names the segment of the path that was
  * given, and the half. From the repository's root:
  *
- *   rt staticlib capi && rt staticlib capi_large
+ *   tools/make capi capi_large
  *   cc -std=c11 -Wall -Wextra -Werror -Iinclude examples/loop.c \
  *      target/staticlib/libcapi_large.a target/staticlib/libcapi.a \
  *      -o loop && ./loop

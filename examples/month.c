@@ -4,7 +4,7 @@
  * At the month's end the two are joined, and printed as a table. From the
  * repository's root:
  *
- *   rt staticlib capi
+ *   tools/make capi
  *   cc -std=c11 -Wall -Wextra -Werror -Iinclude examples/month.c \
  *      target/staticlib/libcapi.a -o month && ./month
  */

@@ -2,7 +2,7 @@
  * How do two segments meet? The pair call takes the two vertices of each segment
  * and answers a class, 0 to 5, and its points. From the repository's root:
  *
- *   rt staticlib capi
+ *   tools/make capi
  *   cc -std=c11 -Wall -Wextra -Werror -Iinclude examples/pair.c \
  *      target/staticlib/libcapi.a -o pair && ./pair
  */

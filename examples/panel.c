@@ -4,7 +4,7 @@
  * room for a few rows. The next cycle starts at the position that this one
  * answered. From the repository's root:
  *
- *   rt staticlib capi
+ *   tools/make capi
  *   cc -std=c11 -Wall -Wextra -Werror -Iinclude examples/panel.c \
  *      target/staticlib/libcapi.a -o panel && ./panel
  */

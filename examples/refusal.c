@@ -4,7 +4,7 @@
  * English, for listings, the pair call, the kernels and a join. From the
  * repository's root:
  *
- *   rt staticlib capi
+ *   tools/make capi
  *   cc -std=c11 -Wall -Wextra -Werror -Iinclude examples/refusal.c \
  *      target/staticlib/libcapi.a -o refusal && ./refusal
  */

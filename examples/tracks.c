@@ -4,7 +4,7 @@
  * a listing skips them. Where track 2 runs across what belongs to track 1, there
  * is a row. From the repository's root:
  *
- *   rt staticlib capi
+ *   tools/make capi
  *   cc -std=c11 -Wall -Wextra -Werror -Iinclude examples/tracks.c \
  *      target/staticlib/libcapi.a -o tracks && ./tracks
  */

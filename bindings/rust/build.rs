@@ -1,5 +1,5 @@
 //! Links the two static libraries: from the folder that `VONJEKONA_LIB` names, else from the
-//! repository's `target/staticlib`. Where the latter lacks them they are made there, by `rt`.
+//! repository's `target/staticlib`. Where the latter lacks them they are made there, by `tools/make`.
 
 use std::env;
 use std::path::{Path, PathBuf};
@@ -56,7 +56,7 @@ fn of_the_repository() -> PathBuf {
         }
         if !archive(&folder, name).is_file() {
             stop(&format!(
-                "`rt staticlib {name}` ran, and {} is missing all the same.",
+                "`tools/make {name}` ran, and {} is missing all the same.",
                 archive(&folder, name).display()
             ));
         }
@@ -67,12 +67,12 @@ fn of_the_repository() -> PathBuf {
 /// Makes a library. The first time this takes a while.
 fn make(root: &Path, name: &str) {
     let help = format!(
-        "lib{name}.a is missing. Put the Rattle kit's `rt` on the PATH and run `rt staticlib {name}` \
+        "lib{name}.a is missing. Put the Rattle kit's `rt` on the PATH and run `tools/make {name}` \
          at the repository's root, or set VONJEKONA_LIB to a folder that has the libraries."
     );
-    match Command::new("rt").args(["staticlib", name]).current_dir(root).status() {
+    match Command::new(root.join("tools/make")).arg(name).status() {
         Ok(status) if status.success() => {}
-        Ok(status) => stop(&format!("`rt staticlib {name}` failed, {status}. {help}")),
-        Err(e) => stop(&format!("`rt` cannot be run: {e}. {help}")),
+        Ok(status) => stop(&format!("`tools/make {name}` failed, {status}. {help}")),
+        Err(e) => stop(&format!("`tools/make` cannot be run: {e}. {help}")),
     }
 }

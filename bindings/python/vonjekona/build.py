@@ -1,7 +1,7 @@
 """Makes the shared library: python3 -m vonjekona.build [FILE]
 
 Links libcapi.a and libcapi_large.a to libvonjekona.so with cc, or with what CC names. The archives are those of the folder
-that VONJEKONA_LIB names, else of target/staticlib; there `rt staticlib` makes what is missing. FILE is where the library
+that VONJEKONA_LIB names, else of target/staticlib; there `tools/make` makes what is missing. FILE is where the library
 goes; else it goes to target/python, where the package looks for it.
 """
 import os
@@ -37,12 +37,11 @@ def archives():
 
 
 def _make(name, file):
-    rt = shutil.which("rt")
-    if rt is None:
+    if shutil.which("rt") is None:
         raise Wrong(f"{file} is not there, and the Rattle kit's rt, which makes it, is not on the PATH")
-    print(f"rt staticlib {name}", file=sys.stderr)
-    if subprocess.run([rt, "staticlib", name], cwd=library.REPOSITORY).returncode != 0 or not file.exists():
-        raise Wrong(f"`rt staticlib {name}` did not make {file}")
+    print(f"tools/make {name}", file=sys.stderr)
+    if subprocess.run([library.REPOSITORY / "tools" / "make", name]).returncode != 0 or not file.exists():
+        raise Wrong(f"`tools/make {name}` did not make {file}")
 
 
 def build(target):
