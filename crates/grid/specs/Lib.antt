@@ -3,15 +3,4 @@
 pub mod Promise
 pub mod Plane
 pub mod Floats
-pub mod Accepted
-pub mod Joined
-pub mod Crossed
-pub mod Level
-pub mod Kernel
-pub mod Meeting
-pub mod Proved
-pub mod Boxes
-pub mod Nearby
 pub mod Joints
-pub mod Jointed
-pub mod JointsProved

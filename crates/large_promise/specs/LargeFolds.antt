@@ -12,7 +12,7 @@ use Rattle.cuts.specs.Laws.Joined.{joined-more}
 use Rattle.cuts.specs.Laws.Places.{start-least}
 use Rattle.listing_pairs.specs.Traces.{same_trace, one_trace}
 use Rattle.grid.specs.Promise.{Spot, Epsilon, ShareMore, GridLine, OtherTraces}
-use Rattle.grid.specs.JointsProved.{closed-count, fold-of}
+use Rattle.grid.proofs.JointsProved.{closed-count, fold-of}
 use Rattle.large_promise.specs.Places.{place, Stands, one-part, stands-once}
 use Rattle.large_promise.specs.LargePromise.{MakesLargeRow, LargeFoldPromise}
 use Rattle.large_promise.specs.LargeProved.{LineStands, line-stands}

@@ -22,8 +22,8 @@ use Rattle.listing_calls.specs.Complete.{pair_of}
 use Rattle.large_listings.specs.HasLargeRow.{HasLargeRow}
 use Rattle.large_listings.specs.LargeComplete.{large-complete, large-boxed-complete}
 use Rattle.grid.specs.Promise.{Spot, On, Epsilon, Share, GridLine, OtherTraces}
-use Rattle.grid.specs.Boxes.{segment-boxes-meet}
-use Rattle.grid.specs.Proved.{above}
+use Rattle.grid.proofs.Boxes.{segment-boxes-meet}
+use Rattle.grid.proofs.Proved.{above}
 use Rattle.large_promise.specs.Places.{place, Stands, is-part, whole-stands}
 use Rattle.large_promise.specs.LargeChainedCalls.{large-chain-complete}
 use Rattle.large_promise.specs.LargePromise.{LargeListingPromise, LargePagesPromise, LargeBoxedPromise}

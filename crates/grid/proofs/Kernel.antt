@@ -15,11 +15,11 @@ use Rattle.crossing.specs.declared.line_line_intr.LineLineIntr.{LineLineIntr}
 use Rattle.crossing.specs.declared.line_line_intr.LineLineIntr.TheVariants.{TrueIntersect, FalseIntersect, NoIntersect}
 use Rattle.grid.specs.Promise.{Spot, Parallel, Promised}
 use Rattle.grid.specs.Plane.Whole.{diff}
-use Rattle.grid.specs.Plane.Sides.{way, across, first, second, parallel-across, across-parallel}
-use Rattle.grid.specs.Plane.Cross.{base, steps-v, steps-u, crossing-point, crossing-point-v, crossing-point-u}
-use Rattle.grid.specs.Plane.Spots.{Same, flip}
-use Rattle.grid.specs.Plane.Points.{Collinear, swapped, flipped}
-use Rattle.grid.specs.Plane.Suffices.{
+use Rattle.grid.proofs.Plane.Sides.{way, across, first, second, parallel-across, across-parallel}
+use Rattle.grid.proofs.Plane.Cross.{base, steps-v, steps-u, crossing-point, crossing-point-v, crossing-point-u}
+use Rattle.grid.proofs.Plane.Spots.{Same, flip}
+use Rattle.grid.proofs.Plane.Points.{Collinear, swapped, flipped}
+use Rattle.grid.proofs.Plane.Suffices.{
   slanted-none,
   slanted-one,
   Matched,
@@ -41,9 +41,9 @@ use Rattle.grid.specs.Floats.Crossing.{Inside, Crossed, crossing-says}
 use Rattle.grid.specs.Floats.Parallel.{Spanned}
 use Rattle.grid.specs.Floats.Ways as kernel
 use Rattle.grid.specs.Floats.Ways.{point-or-not}
-use Rattle.grid.specs.Joined.{At, way_at, cross_at, zero-at, size-gap, place_at, point_at}
-use Rattle.grid.specs.Crossed.{square-long, reach, coordinate, inside}
-use Rattle.grid.specs.Level.{at-matched, along-matched}
+use Rattle.grid.proofs.Joined.{At, way_at, cross_at, zero-at, size-gap, place_at, point_at}
+use Rattle.grid.proofs.Crossed.{square-long, reach, coordinate, inside}
+use Rattle.grid.proofs.Level.{at-matched, along-matched}
 
 module _ (e : Float) (num den : ℕ) (h : Eps e num den)
     (v1 v2 u1 u2 : Vector2) (A1 : Vec 20 v1) (A2 : Vec 20 v2) (B1 : Vec 20 u1) (B2 : Vec 20 u2)

@@ -27,10 +27,10 @@ use Rattle.listing_calls.specs.Complete.{pair_of, complete, boxed-complete}
 use Rattle.listing_calls.specs.ChainedCalls.{chain-complete}
 use Rattle.grid.specs.Promise.{Spot, On, Epsilon, Share, Promised, Promise, GridLine}
 use Rattle.grid.specs.Promise.{ListingPromise, PagesPromise, BoxedPromise}
-use Rattle.grid.specs.Boxes.{segment-boxes-meet}
-use Rattle.grid.specs.Accepted.{accepted, two-lines}
-use Rattle.grid.specs.Joined.{At, vec, vec-at, eps}
-use Rattle.grid.specs.Kernel.{crossed-promised, level-promised}
+use Rattle.grid.proofs.Boxes.{segment-boxes-meet}
+use Rattle.grid.proofs.Accepted.{accepted, two-lines}
+use Rattle.grid.proofs.Joined.{At, vec, vec-at, eps}
+use Rattle.grid.proofs.Kernel.{crossed-promised, level-promised}
 use Rattle.grid.specs.Floats.Small.{Vec, vec-sub, perp}
 use Rattle.grid.specs.Floats.Zero.{Eps}
 use Rattle.grid.specs.Floats.Ways.{goes-crossing, goes-parallel}

@@ -6,9 +6,9 @@ use Rattle.grid.specs.Promise.{Spot, Point, OnSegment, Differ, Parallel, Shared,
 use Rattle.grid.specs.Plane.Whole.{whole, naturals}
 use Rattle.grid.specs.Plane.Ring.{solve, var, num, ◌⊠◌}
 use Rattle.grid.specs.Plane.Order.{le_antisym, lt-or-le}
-use Rattle.grid.specs.Plane.Cross.{on_line, crossing-same}
-use Rattle.grid.specs.Plane.Spots.{spot, start-on, end_on, Same, IsSpot, spot-lies}
-use Rattle.grid.specs.Plane.Points.{point-once}
+use Rattle.grid.proofs.Plane.Cross.{on_line, crossing-same}
+use Rattle.grid.proofs.Plane.Spots.{spot, start-on, end_on, Same, IsSpot, spot-lies}
+use Rattle.grid.proofs.Plane.Points.{point-once}
 
 -- ---- the same grid point
 pub back : {a b : Spot} → Same a b → Same b a

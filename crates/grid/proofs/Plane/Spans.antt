@@ -6,8 +6,8 @@ use Rattle.grid.specs.Promise.{Spot, Point, Along, OnSegment}
 use Rattle.grid.specs.Plane.Whole.{whole, naturals}
 use Rattle.grid.specs.Plane.Ring.{combine, combine2, var, num, neg, ◌⊞◌, ◌⊟◌, ◌⊠◌}
 use Rattle.grid.specs.Plane.Order.{turned, lt-or-le, either, other}
-use Rattle.grid.specs.Plane.Sides.{same-x}
-use Rattle.grid.specs.Plane.Spots.{IsSpot, along-back, is-end}
+use Rattle.grid.proofs.Plane.Sides.{same-x}
+use Rattle.grid.proofs.Plane.Spots.{IsSpot, along-back, is-end}
 
 -- ---- spans: from a to b, in either order, against 0 to k
 abbrev pub SpansShare : ℤ → ℤ → ℕ → Type 0

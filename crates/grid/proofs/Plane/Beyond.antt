@@ -6,7 +6,7 @@ use Rattle.grid.specs.Promise.{Spot, Point, Close, Reached}
 use Rattle.grid.specs.Plane.Whole.{naturals}
 use Rattle.grid.specs.Plane.Ring.{solve, combine, var, num, ◌⊞◌, ◌⊟◌, ◌⊠◌}
 use Rattle.grid.specs.Plane.Order.{lt-or-le}
-use Rattle.grid.specs.Plane.Cross.{Placed, placed-segment}
+use Rattle.grid.proofs.Plane.Cross.{Placed, placed-segment}
 
 -- the square of the length, a natural
 abbrev pub long : Spot → Spot → ℕ

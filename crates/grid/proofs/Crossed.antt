@@ -6,16 +6,16 @@ use Rattle.float_laws.specs.Binary64.{unit, unit-pos}
 use Rattle.plane.specs.declared.vector2.Vector2.{Vector2}
 use Rattle.grid.specs.Promise.{Spot, Point, Reached, NearExact}
 use Rattle.grid.specs.Plane.Whole.{diff, naturals}
-use Rattle.grid.specs.Plane.Sides.{way}
-use Rattle.grid.specs.Plane.Cross.{Between, Placed}
-use Rattle.grid.specs.Plane.Beyond.{long}
-use Rattle.grid.specs.Plane.Parts.{between-parts, reached-parts, within-parts}
+use Rattle.grid.proofs.Plane.Sides.{way}
+use Rattle.grid.proofs.Plane.Cross.{Between, Placed}
+use Rattle.grid.proofs.Plane.Beyond.{long}
+use Rattle.grid.proofs.Plane.Parts.{between-parts, reached-parts, within-parts}
 use Rattle.grid.specs.Floats.Small.{Vec}
 use Rattle.grid.specs.Floats.Length.{gap, square}
 use Rattle.grid.specs.Floats.Reach.{Reaches}
 use Rattle.grid.specs.Floats.Point.{Beside}
 use Rattle.grid.specs.Floats.Crossing.{Inside}
-use Rattle.grid.specs.Joined.{At, size-gap, is-diff}
+use Rattle.grid.proofs.Joined.{At, size-gap, is-diff}
 
 -- ---- equal naturals
 nearer : (j S S' D D' num den : ℕ) → S ≡ S' → D ≡ D' → j * j * S * (den * den) < 4 * (num * num * (D * D))

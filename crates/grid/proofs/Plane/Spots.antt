@@ -5,8 +5,8 @@ use Rattle.std.proofs.Common.{ap, subst, inl, inr, arith}
 use Rattle.grid.specs.Promise.{Spot, Point, Along, OnSegment, Differ, Share, ShareMore}
 use Rattle.grid.specs.Plane.Ring.{solve, combine, combine2, var, neg, num, ◌⊞◌, ◌⊟◌, ◌⊠◌}
 use Rattle.grid.specs.Plane.Order.{cancel, pos-le, natural, turned, turned-eq, size-pos}
-use Rattle.grid.specs.Plane.Sides.{way, cross}
-use Rattle.grid.specs.Plane.Cross.{Between, between}
+use Rattle.grid.proofs.Plane.Sides.{way, cross}
+use Rattle.grid.proofs.Plane.Cross.{Between, between}
 
 pub one-pos : 0 < 1
 one-pos = omega arith

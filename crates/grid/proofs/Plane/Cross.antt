@@ -7,7 +7,7 @@ use Rattle.std.proofs.Math.IntN.{*ℤ_comm}
 use Rattle.grid.specs.Promise.{Spot, Point, Along, OnLine, OnSegment, Differ, Parallel, Share, ShareMore, Crossing}
 use Rattle.grid.specs.Plane.Ring.{solve, combine, combine2, var, neg, num, ◌⊞◌, ◌⊟◌, ◌⊠◌}
 use Rattle.grid.specs.Plane.Order.{cancel, cancel-le, pos-le, natural, turned, turned-eq, size-pos}
-use Rattle.grid.specs.Plane.Sides.{across, across-parallel, first, second, place-v, place-u}
+use Rattle.grid.proofs.Plane.Sides.{across, across-parallel, first, second, place-v, place-u}
 
 -- m / k is from 0 to 1
 abbrev pub Between : ℤ → ℕ → Type 0

@@ -6,7 +6,7 @@ use Rattle.plane.specs.declared.vector2.Vector2.{Vector2}
 use Rattle.arcs.specs.declared.pline_seg_intr.PlineSegIntr.{PlineSegIntr}
 use Rattle.arcs.specs.declared.pline_seg_intr.PlineSegIntr.TheVariants.{NoIntersect, OneIntersect, OverlappingLines}
 use Rattle.grid.specs.Promise.{Spot, Parallel, Share, ShareMore, Reached, NearExact, Promised}
-use Rattle.grid.specs.Plane.Cross.{
+use Rattle.grid.proofs.Plane.Cross.{
   Between,
   base,
   steps-v,
@@ -16,11 +16,11 @@ use Rattle.grid.specs.Plane.Cross.{
   shared-between,
   share-once,
 }
-use Rattle.grid.specs.Plane.Sides.{way, cross}
-use Rattle.grid.specs.Plane.Points.{Collinear, share-collinear, both-points, point-share, point-once}
-use Rattle.grid.specs.Plane.Spots.{Same, flip, share-swapped, share-more-swapped, share-flipped, share-more-flipped}
-use Rattle.grid.specs.Plane.Spans.{SpansShare, SpansShareMore, size, mark}
-use Rattle.grid.specs.Plane.Overlap.{overlap, overlap-more}
+use Rattle.grid.proofs.Plane.Sides.{way, cross}
+use Rattle.grid.proofs.Plane.Points.{Collinear, share-collinear, both-points, point-share, point-once}
+use Rattle.grid.proofs.Plane.Spots.{Same, flip, share-swapped, share-more-swapped, share-flipped, share-more-flipped}
+use Rattle.grid.proofs.Plane.Spans.{SpansShare, SpansShareMore, size, mark}
+use Rattle.grid.proofs.Plane.Overlap.{overlap, overlap-more}
 
 -- ---- different answers are not equal
 none-or-one : (r : PlineSegIntr) (p q o : Vector2) → (r ≡ NoIntersect) ⊎ (r ≡ OneIntersect o) → r ≡ OverlappingLines p q → ⊥

@@ -22,11 +22,11 @@ use Rattle.boxes.specs.Laws.Joined.{they-meet}
 use Rattle.boxes.specs.Laws.Moved.{down-below, up_above}
 use Rattle.grid.specs.Promise.{Is, Epsilon, Spot, On, Share, GridLine}
 use Rattle.grid.specs.Plane.Whole.{diff, whole, gain, loss, le-diff}
-use Rattle.grid.specs.Plane.Parts.{gain-loss}
-use Rattle.grid.specs.Plane.Spots.{flip, share-swapped, share-flipped}
-use Rattle.grid.specs.Plane.Ends.{ends}
+use Rattle.grid.proofs.Plane.Parts.{gain-loss}
+use Rattle.grid.proofs.Plane.Spots.{flip, share-swapped, share-flipped}
+use Rattle.grid.proofs.Plane.Ends.{ends}
 use Rattle.grid.specs.Floats.Zero.{Eps}
-use Rattle.grid.specs.Joined.{whole-diff, eps}
+use Rattle.grid.proofs.Joined.{whole-diff, eps}
 
 -- ---- the statement
 abbrev pub BoxesMeet : Type 0

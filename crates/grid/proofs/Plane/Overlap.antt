@@ -22,10 +22,10 @@ use Rattle.grid.specs.Plane.Order.{
   either,
   other,
 }
-use Rattle.grid.specs.Plane.Sides.{way, cross, across, start-v, end-v, start-u, end-u, leg, wedge, corners}
-use Rattle.grid.specs.Plane.Cross.{Between}
-use Rattle.grid.specs.Plane.Points.{Collinear, swapped}
-use Rattle.grid.specs.Plane.Spots.{
+use Rattle.grid.proofs.Plane.Sides.{way, cross, across, start-v, end-v, start-u, end-u, leg, wedge, corners}
+use Rattle.grid.proofs.Plane.Cross.{Between}
+use Rattle.grid.proofs.Plane.Points.{Collinear, swapped}
+use Rattle.grid.proofs.Plane.Spots.{
   spot,
   one-pos,
   start-on,
@@ -36,7 +36,7 @@ use Rattle.grid.specs.Plane.Spots.{
   share-reversed,
   share-more-reversed,
 }
-use Rattle.grid.specs.Plane.Spans.{
+use Rattle.grid.proofs.Plane.Spans.{
   SpansShare,
   SpansShareMore,
   size,

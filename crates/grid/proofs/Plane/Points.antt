@@ -6,7 +6,7 @@ use Rattle.std.proofs.Common.{sym, ◌∙◌}
 use Rattle.grid.specs.Promise.{Spot, Parallel, Share, ShareMore}
 use Rattle.grid.specs.Plane.Ring.{solve, combine, combine2, var, num, neg, ◌⊟◌, ◌⊠◌}
 use Rattle.grid.specs.Plane.Order.{cancel}
-use Rattle.grid.specs.Plane.Sides.{
+use Rattle.grid.proofs.Plane.Sides.{
   way,
   cross,
   across,
@@ -23,8 +23,8 @@ use Rattle.grid.specs.Plane.Sides.{
   place-v,
   place-u,
 }
-use Rattle.grid.specs.Plane.Cross.{Between}
-use Rattle.grid.specs.Plane.Spots.{
+use Rattle.grid.proofs.Plane.Cross.{Between}
+use Rattle.grid.proofs.Plane.Spots.{
   spot,
   start-on,
   Same,
@@ -36,7 +36,7 @@ use Rattle.grid.specs.Plane.Spots.{
   on-level,
   flip,
 }
-use Rattle.grid.specs.Plane.Spans.{size, mark}
+use Rattle.grid.proofs.Plane.Spans.{size, mark}
 
 -- ---- on one straight line
 pub record Collinear (v1 v2 u1 u2 : Spot) : Type 0 where

@@ -12,16 +12,16 @@ use Rattle.plane.specs.PlineVertex as vertex
 use Rattle.plane.specs.declared.vector2.Vector2.{Vector2}
 use Rattle.plane.specs.declared.pline_vertex.PlineVertex.{PlineVertex}
 use Rattle.grid.specs.Promise.{Is, Spot, Point, On, NearExact}
-use Rattle.grid.specs.Accepted.{size-mul}
+use Rattle.grid.proofs.Accepted.{size-mul}
 use Rattle.grid.specs.Plane.Whole.{diff, whole, naturals, gain, loss}
 use Rattle.grid.specs.Plane.Ring.{combine, sub-of-equal, var, num, ◌⊟◌, ◌⊠◌}
 use Rattle.grid.specs.Plane.Order.{cancel}
-use Rattle.grid.specs.Plane.Spots.{Same, IsSpot}
+use Rattle.grid.proofs.Plane.Spots.{Same, IsSpot}
 use Rattle.grid.specs.Floats.Small.{Vec}
 use Rattle.grid.specs.Floats.Zero.{Eps}
 use Rattle.grid.specs.Floats.Length.{gap}
 use Rattle.grid.specs.Floats.Joint.{near-whole, There}
-use Rattle.grid.specs.Joined.{is-diff, whole-diff, size-gap, At}
+use Rattle.grid.proofs.Joined.{is-diff, whole-diff, size-gap, At}
 
 -- ---- coordinates
 

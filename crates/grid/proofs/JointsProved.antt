@@ -29,10 +29,10 @@ use Rattle.listing_pairs.specs.Neighbours.{shared_vertices, near_some, at_joint}
 use Rattle.listing_calls.specs.Complete.{pair_of, makes-looked}
 use Rattle.grid.specs.Promise.{Spot, On, Epsilon, ShareMore, GridLine, OtherTraces}
 use Rattle.grid.specs.Joints.{Seen, EndOf, near_to, JointPromise, ThreeWays, BackPromise, FoldPromise}
-use Rattle.grid.specs.Plane.Joints.{AnEnd, start-shared, end-shared, there_and_back}
-use Rattle.grid.specs.Nearby.{one_spot}
-use Rattle.grid.specs.Proved.{class-above}
-use Rattle.grid.specs.Jointed.{seen}
+use Rattle.grid.proofs.Plane.Joints.{AnEnd, start-shared, end-shared, there_and_back}
+use Rattle.grid.proofs.Nearby.{one_spot}
+use Rattle.grid.proofs.Proved.{class-above}
+use Rattle.grid.proofs.Jointed.{seen}
 
 -- ---- two lines with a common end
 pub joint-promise : JointPromise

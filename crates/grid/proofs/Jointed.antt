@@ -22,17 +22,17 @@ use Rattle.arcs.specs.declared.pline_seg_intr.PlineSegIntr.TheVariants.{NoInters
 use Rattle.listing_pairs.specs.Neighbours.{only_at}
 use Rattle.grid.specs.Promise.{Epsilon, Spot, On, Parallel, Shared, ShareMore, Promised}
 use Rattle.grid.specs.Joints.{Seen}
-use Rattle.grid.specs.Accepted.{two-lines}
-use Rattle.grid.specs.Plane.Spots.{Same, spot}
-use Rattle.grid.specs.Plane.Joints.{AnEnd, start-shared, end-shared, only_one, cross-there}
+use Rattle.grid.proofs.Accepted.{two-lines}
+use Rattle.grid.proofs.Plane.Spots.{Same, spot}
+use Rattle.grid.proofs.Plane.Joints.{AnEnd, start-shared, end-shared, only_one, cross-there}
 use Rattle.grid.specs.Floats.Small.{Vec, vec-sub, perp}
 use Rattle.grid.specs.Floats.Ways.{goes-parallel}
 use Rattle.grid.specs.Floats.Joint.{at-start, at-end}
-use Rattle.grid.specs.Joined.{vec, vec-at, eps}
-use Rattle.grid.specs.Nearby.{Close, close-there, close-cross, close-same, near-vertex}
-use Rattle.grid.specs.Kernel.{slant}
-use Rattle.grid.specs.Meeting.{meets_at}
-use Rattle.grid.specs.Proved.{promised}
+use Rattle.grid.proofs.Joined.{vec, vec-at, eps}
+use Rattle.grid.proofs.Nearby.{Close, close-there, close-cross, close-same, near-vertex}
+use Rattle.grid.proofs.Kernel.{slant}
+use Rattle.grid.proofs.Meeting.{meets_at}
+use Rattle.grid.proofs.Proved.{promised}
 
 -- ---- the point that is answered
 -- a point comes from a true intersection

@@ -13,8 +13,8 @@ use Rattle.crossing.specs.LineLine.{parallel, span_of, touching_end}
 use Rattle.crossing.specs.declared.line_line_intr.LineLineIntr.{LineLineIntr}
 use Rattle.crossing.specs.declared.line_line_intr.LineLineIntr.TheVariants.{NoIntersect, TrueIntersect}
 use Rattle.grid.specs.Promise.{Spot}
-use Rattle.grid.specs.Plane.Spots.{Same}
-use Rattle.grid.specs.Plane.Joints.{AnEnd, back, through}
+use Rattle.grid.proofs.Plane.Spots.{Same}
+use Rattle.grid.proofs.Plane.Joints.{AnEnd, back, through}
 use Rattle.grid.specs.Floats.Small.{Vec, vec-sub, perp}
 use Rattle.grid.specs.Floats.Zero.{Eps}
 use Rattle.grid.specs.Floats.Length.{IsZero}
@@ -24,7 +24,7 @@ use Rattle.grid.specs.Floats.Parallel.{PointOn, PointAt}
 use Rattle.grid.specs.Floats.Ways as kernel
 use Rattle.grid.specs.Floats.Ways.{point-or-not}
 use Rattle.grid.specs.Floats.Joint.{zero_is, one-is, ratio-zero, ratio-one, overlap-end, touching}
-use Rattle.grid.specs.Joined.{At, point_at}
+use Rattle.grid.proofs.Joined.{At, point_at}
 
 -- ---- the same grid point
 

@@ -7,8 +7,8 @@ use Rattle.std.specs.Float.Ieee.{up, down}
 use Rattle.grid.specs.Promise.{Spot, Point, Is, Reached, NearExact}
 use Rattle.grid.specs.Plane.Whole.{diff, parts, naturals, gain, loss, gain-add, gain-neg}
 use Rattle.grid.specs.Plane.Order.{turned}
-use Rattle.grid.specs.Plane.Cross.{Between, Placed}
-use Rattle.grid.specs.Plane.Beyond.{long, reached}
+use Rattle.grid.proofs.Plane.Cross.{Between, Placed}
+use Rattle.grid.proofs.Plane.Beyond.{long, reached}
 
 -- ---- sizes and signs
 pub gain-loss : (z : ℤ) → gain z + loss z ≡ nat_abs z

@@ -11,14 +11,14 @@ use Rattle.crossing.specs.declared.line_line_intr.LineLineIntr.TheVariants.{True
 use Rattle.grid.specs.Promise.{Spot}
 use Rattle.grid.specs.Plane.Whole.{diff, same}
 use Rattle.grid.specs.Plane.Order.{turned, turned_same}
-use Rattle.grid.specs.Plane.Sides.{way, cross}
-use Rattle.grid.specs.Plane.Cross.{Between}
-use Rattle.grid.specs.Plane.Points.{Collinear, cross-flipped}
-use Rattle.grid.specs.Plane.Spots.{Same, flip}
-use Rattle.grid.specs.Plane.Spans.{SpansShare, SpansShareMore}
-use Rattle.grid.specs.Plane.Overlap.{same-on-axis}
-use Rattle.grid.specs.Plane.Parts.{between-parts, least, most, above_zero, below-size}
-use Rattle.grid.specs.Plane.Suffices.{
+use Rattle.grid.proofs.Plane.Sides.{way, cross}
+use Rattle.grid.proofs.Plane.Cross.{Between}
+use Rattle.grid.proofs.Plane.Points.{Collinear, cross-flipped}
+use Rattle.grid.proofs.Plane.Spots.{Same, flip}
+use Rattle.grid.proofs.Plane.Spans.{SpansShare, SpansShareMore}
+use Rattle.grid.proofs.Plane.Overlap.{same-on-axis}
+use Rattle.grid.proofs.Plane.Parts.{between-parts, least, most, above_zero, below-size}
+use Rattle.grid.proofs.Plane.Suffices.{
   Matched,
   MatchedIf,
   MatchedBySpans,
@@ -32,7 +32,7 @@ use Rattle.grid.specs.Floats.Ratio.{Ratio}
 use Rattle.grid.specs.Floats.Span.{Which}
 use Rattle.grid.specs.Floats.Overlap.{Overlapped}
 use Rattle.grid.specs.Floats.Parallel.{PointOn, PointAt, Spanned}
-use Rattle.grid.specs.Joined.{At, zero-at, size-gap, place_at}
+use Rattle.grid.proofs.Joined.{At, zero-at, size-gap, place_at}
 
 -- ---- a divisor with a size is not 0
 not-zero : (z : ℤ) (p n : ℕ) → z ≡ diff p n → 0 < gap p n → z ≡ pos 0 → ⊥

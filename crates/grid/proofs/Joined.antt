@@ -11,9 +11,9 @@ use Rattle.plane.specs.declared.pline_vertex.PlineVertex.{PlineVertex}
 use Rattle.grid.specs.Promise.{Is, Epsilon, Spot, On}
 use Rattle.grid.specs.Plane.Whole.{diff, parts, whole, naturals, gain, loss}
 use Rattle.grid.specs.Plane.Order.{turned}
-use Rattle.grid.specs.Plane.Sides.{way, cross}
-use Rattle.grid.specs.Plane.Spots.{Same}
-use Rattle.grid.specs.Plane.Parts.{is-plus, is-minus, gain-loss, turned_up, turned_down}
+use Rattle.grid.proofs.Plane.Sides.{way, cross}
+use Rattle.grid.proofs.Plane.Spots.{Same}
+use Rattle.grid.proofs.Plane.Parts.{is-plus, is-minus, gain-loss, turned_up, turned_down}
 use Rattle.grid.specs.Floats.Small.{Small, Vec, vec-sub, perp}
 use Rattle.grid.specs.Floats.Zero.{Eps}
 use Rattle.grid.specs.Floats.Length.{gap, IsZero}
