@@ -366,11 +366,11 @@ class Import:
 
 
 def texts_with(trial):
-    """The files of the trial's crate, and of specs/ up to the crate that must reject it, as CRATE/FILE, with the trial's changes;
-    and what is wrong with these, or None."""
+    """The files of the trial's crate, and of specs/ and proofs/ up to the crate that must reject it, as CRATE/FILE, with the
+    trial's changes; and what is wrong with these, or None."""
     texts, defect = {}, None
     for crate in closure(trial.top, dict(crate_lines())) if trial.kind == "above" else [trial.crate]:
-        folder, parts = ROOT / "crates" / crate, ("src", "specs", "proofs") if crate == trial.crate else ("specs",)
+        folder, parts = ROOT / "crates" / crate, ("src", "specs", "proofs") if crate == trial.crate else ("specs", "proofs")
         paths = [path for part in parts for path in sorted((folder / part).rglob("*.*t"))]
         found = {str(path.relative_to(folder)): path.read_text() for path in paths}
         if crate == trial.crate:
