@@ -11,6 +11,9 @@ import re
 # The first line of an error; its other lines are indented.
 ERROR = re.compile(r"^(?P<path>[^\s:]+):(?P<line>\d+):(?P<column>\d+): error: (?:`(?P<name>[^`]+)`: )?", re.M)
 
+# What it says of a goal that no proof file answers: with the facts that are known there it found values at which the goal fails.
+OPEN = re.compile(r"^note: `(?P<name>[^`]+)` of (?P<path>proofs/\S+/(?:Answers|Invariants)\.antt) may be false: (?P<words>.*)$")
+
 # It follows from another error: something that it uses was not accepted.
 FOLLOWS = re.compile(
     r"was not admitted \(it has holes or undetermined implicits, or was rejected\)"
@@ -33,7 +36,9 @@ SHOWN = {
         re.S,
     ),
     LEFT: re.compile(r"what it leaves must be a path whose two ends are equal, and .* is none", re.S),
-    "numbers for which it fails": re.compile(r"All of that holds, and the (?:goal|part) fails, at"),
+    "numbers for which it fails": re.compile(
+        r"All of that holds, and the (?:goal|part) fails, at|^the known facts allow `"
+    ),
     "every way was tried": re.compile(r"was found\. Every way was tried: a deeper search would find nothing either"),
 }
 
@@ -68,6 +73,9 @@ def refusals(said):
     lines = said.splitlines()
     at = 0
     while at < len(lines):
+        found = OPEN.match(lines[at])
+        if found:
+            yield Refusal(found["path"], 0, 0, found["name"], found["words"])
         found = ERROR.match(lines[at])
         if not found:
             at += 1

@@ -101,6 +101,7 @@ fn bulge_turn(due: Due) -> Turn
 }
 
 // What a code is for where it stands.
+#[tactic(auto, unfolding(crate::specs::Order::turn_at))]
 pub fn turn_at(due: Due, code: u64) -> Turn
     ensures { result ≡ order.turn_at due code }
 {

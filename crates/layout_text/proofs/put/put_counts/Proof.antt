@@ -28,4 +28,5 @@ put_counts_spec =
     tie.close
     (tie.spec
     put-decimal-requires put-byte-requires put-decimal-requires-2 put-byte-requires-2 (λ c. search rules)
-    (λ c. search counts-put))
+    (λ c. counts-put _ _ c.requires.0 c.requires.1.0 c.put_decimal-after_n.ensures c.put_byte-m_at.ensures
+    c.put_decimal-after_m.ensures c.put_byte.ensures))
