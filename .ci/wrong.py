@@ -18,6 +18,8 @@ MODULE = re.compile(r"^use ([\w.'-]+)(?: as ([\w'-]+))?$", re.M)
 # a search with the count of lemmas that it has by itself, and the count that it has in the proof of a wrong function
 SEARCH = re.compile(r"\bsearch [\w'-]+(?: depth \d+)?(?=\s*(?:\)|,|$))", re.M)
 FITS = " fits 20000"
+# an impl of a trait, by the name that rt gives it: a wrong method cannot stand beside the right one there
+TRAIT = re.compile(r"\w(?:From|TryFrom|Display)\w*::\w+$")
 # the ending of a right function that stands beside itself
 RIGHT = "_not"
 
@@ -41,7 +43,7 @@ class Trial:
     @property
     def function(self):
         """The wrong function, if it can stand beside the right one: only its own text changes, or that and its proof."""
-        if len(self.refused) != 1 or self.kind not in ("fn", "law") or "/" in self.refused[0]:
+        if len(self.refused) != 1 or self.kind not in ("fn", "law") or "/" in self.refused[0] or TRAIT.search(self.refused[0]):
             return None
         code = {file for file in self.files if file.endswith(".rt")}
         own = f"{folder_of(self.refused[0])}/"

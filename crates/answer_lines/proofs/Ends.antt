@@ -6,11 +6,12 @@ use mathlib.Core.List.{List}
 use native.Mathlib.Omega.{arith}
 use lib.ListN.{length}
 use lib.Ieee.{Float}
+use Rattle.std.specs.Prelude.{Ok, Err}
 use Rattle.answer_lines.specs.Lines.{row_at, rows_text}
 use Rattle.put_text.specs.Workings.Put.{Put}
 use Rattle.answer_lines.specs.Written.{Lines}
 use Rattle.put_text.specs.Laws.Put.{put-none, put-join}
-use Rattle.answer_lines.specs.declared.Written.TheVariants as Written·
+use Rattle.answer_lines.specs.declared.WriteError.TheVariants.{NoRows, NoRoom}
 
 -- ---- rows
 
@@ -32,15 +33,15 @@ module _ (index : List ℕ) (points : List Float) (rows k : ℕ) where
 -- ---- the ends
 
 module _ (rowless roomless : Bool) (bytes old : List ℕ) where
-  pub no_rows : rowless ≡ true → Lines rowless roomless bytes Written·.NoRows old old
+  pub no_rows : rowless ≡ true → Lines rowless roomless bytes (Err NoRows) old old
   no_rows e = record { answer-is = rw e; holds = rw e }
 
   module _ (rowed : rowless ≡ false) where
-    pub no_room : roomless ≡ true → Lines rowless roomless bytes Written·.NoRoom old old
+    pub no_room : roomless ≡ true → Lines rowless roomless bytes (Err NoRoom) old old
     no_room e = record { answer-is = rw (rowed, e); holds = rw (rowed, e) }
 
     pub written : roomless ≡ false → (now : List ℕ) (next : ℕ) → Put bytes old 0 now next
-        → Lines rowless roomless bytes (Written·.Length next) old now
+        → Lines rowless roomless bytes (Ok next) old now
     written e now next p =
         let long : next ≡ length bytes = omega (arith, p.after) in
         record { answer-is = rw (rowed, e, long); holds = rw (rowed, e) p.holds }

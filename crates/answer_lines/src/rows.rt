@@ -96,8 +96,7 @@ pub fn put_rows(out: &mut [u8], start: usize, rows: usize, index: &[u64], points
     ensures { Put (lines.rows_text index.now points.now rows 0) out.old start out.new result }
 {
     let mut at = start;
-    let mut k = 0;
-    while k < rows {
+    for k in 0..rows {
         let i = k * INDICES;
         let p = k * POINTS;
         at = put_row(
@@ -111,7 +110,6 @@ pub fn put_rows(out: &mut [u8], start: usize, rows: usize, index: &[u64], points
             points[p + 2],
             points[p + 3],
         );
-        k += 1;
     }
     at
 }

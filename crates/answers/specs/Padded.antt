@@ -1,6 +1,10 @@
 -- A call's answer as plain numbers: whether it is a refusal, its number (the refusal's word or the case's number), and four
 -- values. Values that the case lacks are +0.
-use Rattle.std.specs.Prelude.{ℕ, true, false, cond, List, [], ◌∷◌, Float}
+use Rattle.crossing.specs.declared.line_line_intr.LineLineIntr.{LineLineIntr}
+use Rattle.crossing.specs.declared.line_circle_intr.LineCircleIntr.{LineCircleIntr}
+use Rattle.crossing.specs.declared.circle_circle_intr.CircleCircleIntr.{CircleCircleIntr}
+use Rattle.arcs.specs.declared.pline_seg_intr.PlineSegIntr.{PlineSegIntr}
+use Rattle.std.specs.Prelude.{ℕ, true, false, cond, List, [], ◌∷◌, Float, Result}
 use Rattle.floats.specs.Ops.{f0}
 use Rattle.checks.specs.declared.fault.Fault.{Fault}
 use Rattle.checks.specs.Word.{word_of, word}
@@ -9,10 +13,6 @@ use Rattle.crossing.specs.LineLineIntersect
 use Rattle.crossing.specs.LineCircleIntersect
 use Rattle.crossing.specs.CircleCircleIntersect
 use Rattle.crossing.specs.PlineSegIntersect
-use Rattle.crossing.specs.declared.line_line_intersect.LineLineAnswer.{LineLineAnswer}
-use Rattle.crossing.specs.declared.line_circle_intersect.LineCircleAnswer.{LineCircleAnswer}
-use Rattle.crossing.specs.declared.circle_circle_intersect.CircleCircleAnswer.{CircleCircleAnswer}
-use Rattle.crossing.specs.declared.pline_seg_intersect.PlineSegAnswer.{PlineSegAnswer}
 use Rattle.answers.specs.declared.padded.PaddedAnswer.{PaddedAnswer}
 
 -- ---- a refusal, and a case with its values
@@ -44,14 +44,14 @@ padded t =
       d = first_value (later_values (later_values (later_values t.values)));
     }
 
-unfoldable pub of_line_line : LineLineAnswer → PaddedAnswer
+unfoldable pub of_line_line : Result LineLineIntr Fault → PaddedAnswer
 of_line_line answer = padded (LineLineIntersect.numbers_of answer)
 
-unfoldable pub of_line_circle : LineCircleAnswer → PaddedAnswer
+unfoldable pub of_line_circle : Result LineCircleIntr Fault → PaddedAnswer
 of_line_circle answer = padded (LineCircleIntersect.numbers_of answer)
 
-unfoldable pub of_circle_circle : CircleCircleAnswer → PaddedAnswer
+unfoldable pub of_circle_circle : Result CircleCircleIntr Fault → PaddedAnswer
 of_circle_circle answer = padded (CircleCircleIntersect.numbers_of answer)
 
-unfoldable pub of_pline_seg : PlineSegAnswer → PaddedAnswer
+unfoldable pub of_pline_seg : Result PlineSegIntr Fault → PaddedAnswer
 of_pline_seg answer = padded (PlineSegIntersect.numbers_of answer)

@@ -1,6 +1,10 @@
 -- Two answers with the same numbers are the same answer, for each of the four calls: an answer can be built again from its
 -- numbers.
-use Rattle.std.specs.Prelude.{◌≡◌, refl, cond, List, [], ◌∷◌, eqb, Float}
+use Rattle.crossing.specs.declared.line_line_intr.LineLineIntr.{LineLineIntr}
+use Rattle.crossing.specs.declared.line_circle_intr.LineCircleIntr.{LineCircleIntr}
+use Rattle.crossing.specs.declared.circle_circle_intr.CircleCircleIntr.{CircleCircleIntr}
+use Rattle.arcs.specs.declared.pline_seg_intr.PlineSegIntr.{PlineSegIntr}
+use Rattle.std.specs.Prelude.{◌≡◌, refl, cond, List, [], ◌∷◌, eqb, Float, Err, Ok, Result}
 use Rattle.std.proofs.Common.{sym, ap, ◌∙◌}
 use Rattle.plane.specs.declared.vector2.Vector2.{Vector2}
 use Rattle.checks.specs.declared.fault.Item.{Item}
@@ -14,17 +18,9 @@ use Rattle.crossing.specs.LineLineIntersect as lines
 use Rattle.crossing.specs.LineCircleIntersect as line_and_circle
 use Rattle.crossing.specs.CircleCircleIntersect as circles
 use Rattle.crossing.specs.PlineSegIntersect as pairs
-use Rattle.crossing.specs.declared.line_line_intersect.LineLineAnswer.{LineLineAnswer}
-use Rattle.crossing.specs.declared.line_line_intersect.LineLineAnswer.TheVariants as of_lines
 use Rattle.crossing.specs.declared.line_line_intr.LineLineIntr.TheVariants as line_line_is
-use Rattle.crossing.specs.declared.line_circle_intersect.LineCircleAnswer.{LineCircleAnswer}
-use Rattle.crossing.specs.declared.line_circle_intersect.LineCircleAnswer.TheVariants as of_line_and_circle
 use Rattle.crossing.specs.declared.line_circle_intr.LineCircleIntr.TheVariants as line_circle_is
-use Rattle.crossing.specs.declared.circle_circle_intersect.CircleCircleAnswer.{CircleCircleAnswer}
-use Rattle.crossing.specs.declared.circle_circle_intersect.CircleCircleAnswer.TheVariants as of_circles
 use Rattle.crossing.specs.declared.circle_circle_intr.CircleCircleIntr.TheVariants as circle_circle_is
-use Rattle.crossing.specs.declared.pline_seg_intersect.PlineSegAnswer.{PlineSegAnswer}
-use Rattle.crossing.specs.declared.pline_seg_intersect.PlineSegAnswer.TheVariants as of_pairs
 
 -- if answers can be built again from their numbers, equal numbers mean equal answers
 same_by : {A : Type 0} (numbers : A → AnswerNumbers) (back : AnswerNumbers → A) → ((a : A) → back (numbers a) ≡ a) → (a b : A)
@@ -58,87 +54,87 @@ abbrev point : Float → Float → Vector2
 point x y = record { x = x; y = y }
 
 -- ---- two lines
-line-line-back : AnswerNumbers → LineLineAnswer
+line-line-back : AnswerNumbers → Result LineLineIntr Fault
 line-line-back t =
-    cond t.refused (of_lines.Refused (fault_of t))
+    cond t.refused (Err (fault_of t))
     (cond (eqb t.number 1)
-    (two (λ a b. of_lines.Met (line_line_is.TrueIntersect a b))
-    (of_lines.Met line_line_is.NoIntersect) t.values)
+    (two (λ a b. Ok (line_line_is.TrueIntersect a b))
+    (Ok line_line_is.NoIntersect) t.values)
     (cond (eqb t.number 2)
-    (two (λ a b. of_lines.Met (line_line_is.Overlapping a b))
-    (of_lines.Met line_line_is.NoIntersect) t.values)
+    (two (λ a b. Ok (line_line_is.Overlapping a b))
+    (Ok line_line_is.NoIntersect) t.values)
     (cond (eqb t.number 3)
-    (two (λ a b. of_lines.Met (line_line_is.FalseIntersect a b))
-    (of_lines.Met line_line_is.NoIntersect) t.values)
-    (of_lines.Met line_line_is.NoIntersect))))
+    (two (λ a b. Ok (line_line_is.FalseIntersect a b))
+    (Ok line_line_is.NoIntersect) t.values)
+    (Ok line_line_is.NoIntersect))))
 
-line-line-again : (a : LineLineAnswer) → line-line-back (lines.numbers_of a) ≡ a
+line-line-again : (a : Result LineLineIntr Fault) → line-line-back (lines.numbers_of a) ≡ a
 unfolding line-line-back
-line-line-again (of_lines.Refused f) = ap of_lines.Refused (fault-again f)
-line-line-again (of_lines.Met line_line_is.NoIntersect) = refl
-line-line-again (of_lines.Met (line_line_is.TrueIntersect t1 t2)) = refl
-line-line-again (of_lines.Met (line_line_is.Overlapping t0 t1)) = refl
-line-line-again (of_lines.Met (line_line_is.FalseIntersect t1 t2)) = refl
+line-line-again (Err f) = ap Err (fault-again f)
+line-line-again (Ok line_line_is.NoIntersect) = refl
+line-line-again (Ok (line_line_is.TrueIntersect t1 t2)) = refl
+line-line-again (Ok (line_line_is.Overlapping t0 t1)) = refl
+line-line-again (Ok (line_line_is.FalseIntersect t1 t2)) = refl
 
-pub line-line : (a b : LineLineAnswer) → lines.numbers_of a ≡ lines.numbers_of b → a ≡ b
+pub line-line : (a b : Result LineLineIntr Fault) → lines.numbers_of a ≡ lines.numbers_of b → a ≡ b
 line-line = same_by lines.numbers_of line-line-back line-line-again
 
 -- ---- a line and a circle
-line-circle-back : AnswerNumbers → LineCircleAnswer
+line-circle-back : AnswerNumbers → Result LineCircleIntr Fault
 line-circle-back t =
-    cond t.refused (of_line_and_circle.Refused (fault_of t))
+    cond t.refused (Err (fault_of t))
     (cond (eqb t.number 1)
-    (one (λ a. of_line_and_circle.Met (line_circle_is.TangentIntersect a))
-    (of_line_and_circle.Met line_circle_is.NoIntersect) t.values)
+    (one (λ a. Ok (line_circle_is.TangentIntersect a))
+    (Ok line_circle_is.NoIntersect) t.values)
     (cond (eqb t.number 2)
-    (two (λ a b. of_line_and_circle.Met (line_circle_is.TwoIntersects a b))
-    (of_line_and_circle.Met line_circle_is.NoIntersect) t.values)
-    (of_line_and_circle.Met line_circle_is.NoIntersect)))
+    (two (λ a b. Ok (line_circle_is.TwoIntersects a b))
+    (Ok line_circle_is.NoIntersect) t.values)
+    (Ok line_circle_is.NoIntersect)))
 
-line-circle-again : (a : LineCircleAnswer) → line-circle-back (line_and_circle.numbers_of a) ≡ a
+line-circle-again : (a : Result LineCircleIntr Fault) → line-circle-back (line_and_circle.numbers_of a) ≡ a
 unfolding line-circle-back
-line-circle-again (of_line_and_circle.Refused f) = ap of_line_and_circle.Refused (fault-again f)
-line-circle-again (of_line_and_circle.Met line_circle_is.NoIntersect) = refl
-line-circle-again (of_line_and_circle.Met (line_circle_is.TangentIntersect t0)) = refl
-line-circle-again (of_line_and_circle.Met (line_circle_is.TwoIntersects t0 t1)) = refl
+line-circle-again (Err f) = ap Err (fault-again f)
+line-circle-again (Ok line_circle_is.NoIntersect) = refl
+line-circle-again (Ok (line_circle_is.TangentIntersect t0)) = refl
+line-circle-again (Ok (line_circle_is.TwoIntersects t0 t1)) = refl
 
-pub line-circle : (a b : LineCircleAnswer) → line_and_circle.numbers_of a ≡ line_and_circle.numbers_of b → a ≡ b
+pub line-circle : (a b : Result LineCircleIntr Fault) → line_and_circle.numbers_of a ≡ line_and_circle.numbers_of b → a ≡ b
 line-circle = same_by line_and_circle.numbers_of line-circle-back line-circle-again
 
 -- ---- two circles
-circle-circle-back : AnswerNumbers → CircleCircleAnswer
+circle-circle-back : AnswerNumbers → Result CircleCircleIntr Fault
 circle-circle-back t =
-    cond t.refused (of_circles.Refused (fault_of t))
+    cond t.refused (Err (fault_of t))
     (cond (eqb t.number 1)
-    (two (λ a b. of_circles.Met (circle_circle_is.TangentIntersect (point a b)))
-    (of_circles.Met circle_circle_is.NoIntersect) t.values)
+    (two (λ a b. Ok (circle_circle_is.TangentIntersect (point a b)))
+    (Ok circle_circle_is.NoIntersect) t.values)
     (cond (eqb t.number 2)
-    (four (λ a b c d. of_circles.Met (circle_circle_is.TwoIntersects (point a b) (point c d)))
-    (of_circles.Met circle_circle_is.NoIntersect) t.values)
-    (cond (eqb t.number 3) (of_circles.Met circle_circle_is.Overlapping)
-    (of_circles.Met circle_circle_is.NoIntersect))))
+    (four (λ a b c d. Ok (circle_circle_is.TwoIntersects (point a b) (point c d)))
+    (Ok circle_circle_is.NoIntersect) t.values)
+    (cond (eqb t.number 3) (Ok circle_circle_is.Overlapping)
+    (Ok circle_circle_is.NoIntersect))))
 
-circle-circle-again : (a : CircleCircleAnswer) → circle-circle-back (circles.numbers_of a) ≡ a
+circle-circle-again : (a : Result CircleCircleIntr Fault) → circle-circle-back (circles.numbers_of a) ≡ a
 unfolding circle-circle-back
-circle-circle-again (of_circles.Refused f) = ap of_circles.Refused (fault-again f)
-circle-circle-again (of_circles.Met circle_circle_is.NoIntersect) = refl
-circle-circle-again (of_circles.Met (circle_circle_is.TangentIntersect p)) = refl
-circle-circle-again (of_circles.Met (circle_circle_is.TwoIntersects p q)) = refl
-circle-circle-again (of_circles.Met circle_circle_is.Overlapping) = refl
+circle-circle-again (Err f) = ap Err (fault-again f)
+circle-circle-again (Ok circle_circle_is.NoIntersect) = refl
+circle-circle-again (Ok (circle_circle_is.TangentIntersect p)) = refl
+circle-circle-again (Ok (circle_circle_is.TwoIntersects p q)) = refl
+circle-circle-again (Ok circle_circle_is.Overlapping) = refl
 
-pub circle-circle : (a b : CircleCircleAnswer) → circles.numbers_of a ≡ circles.numbers_of b → a ≡ b
+pub circle-circle : (a b : Result CircleCircleIntr Fault) → circles.numbers_of a ≡ circles.numbers_of b → a ≡ b
 circle-circle = same_by circles.numbers_of circle-circle-back circle-circle-again
 
 -- ---- the pair call
-pline-seg-back : AnswerNumbers → PlineSegAnswer
+pline-seg-back : AnswerNumbers → Result PlineSegIntr Fault
 pline-seg-back t =
-    cond t.refused (of_pairs.Refused (fault_of t))
-    (four (λ a b c d. of_pairs.Met (answer t.number (point a b) (point c d))) (of_pairs.Met pline_seg_is.NoIntersect) t.values)
+    cond t.refused (Err (fault_of t))
+    (four (λ a b c d. Ok (answer t.number (point a b) (point c d))) (Ok pline_seg_is.NoIntersect) t.values)
 
-pline-seg-again : (a : PlineSegAnswer) → pline-seg-back (pairs.numbers_of a) ≡ a
+pline-seg-again : (a : Result PlineSegIntr Fault) → pline-seg-back (pairs.numbers_of a) ≡ a
 unfolding pline-seg-back
-pline-seg-again (of_pairs.Refused f) = ap of_pairs.Refused (fault-again f)
-pline-seg-again (of_pairs.Met r) = ap of_pairs.Met (sym (again r))
+pline-seg-again (Err f) = ap Err (fault-again f)
+pline-seg-again (Ok r) = ap Ok (sym (again r))
 
-pub pline-seg : (a b : PlineSegAnswer) → pairs.numbers_of a ≡ pairs.numbers_of b → a ≡ b
+pub pline-seg : (a b : Result PlineSegIntr Fault) → pairs.numbers_of a ≡ pairs.numbers_of b → a ≡ b
 pline-seg = same_by pairs.numbers_of pline-seg-back pline-seg-again

@@ -3,15 +3,12 @@ ghost use Rattle.std.specs.Prelude.{◌≡◌};
 ghost use Rattle.answers.specs.Padded as padding;
 
 use super::class_and_points::class_and_points;
+use arcs::pline_seg_intr::PlineSegIntr;
 use checks::fault::Fault;
 use checks::word::word;
-use crossing::circle_circle_intersect::CircleCircleAnswer;
 use crossing::circle_circle_intr::CircleCircleIntr;
-use crossing::line_circle_intersect::LineCircleAnswer;
 use crossing::line_circle_intr::LineCircleIntr;
-use crossing::line_line_intersect::LineLineAnswer;
 use crossing::line_line_intr::LineLineIntr;
-use crossing::pline_seg_intersect::PlineSegAnswer;
 
 // A refusal and its word, or the number of the case and four values. Values that the case lacks are +0.
 #[derive(Clone, Copy)]
@@ -53,12 +50,12 @@ fn case(number: u64, a: f64, b: f64, c: f64, d: f64) -> PaddedAnswer
 }
 
 // The answer of the call on two lines.
-pub fn of_line_line(answer: LineLineAnswer) -> PaddedAnswer
+pub fn of_line_line(answer: Result<LineLineIntr, Fault>) -> PaddedAnswer
     ensures { result ≡ padding.of_line_line answer }
 {
     match answer {
-        LineLineAnswer::Refused(fault) => refusal(fault),
-        LineLineAnswer::Met(intr) => match intr {
+        Err(fault) => refusal(fault),
+        Ok(intr) => match intr {
             LineLineIntr::NoIntersect => case(0, 0.0, 0.0, 0.0, 0.0),
             LineLineIntr::TrueIntersect { seg1_t, seg2_t } => case(1, seg1_t, seg2_t, 0.0, 0.0),
             LineLineIntr::Overlapping { seg2_t0, seg2_t1 } => case(2, seg2_t0, seg2_t1, 0.0, 0.0),
@@ -68,12 +65,12 @@ pub fn of_line_line(answer: LineLineAnswer) -> PaddedAnswer
 }
 
 // The answer of the call on a line and a circle.
-pub fn of_line_circle(answer: LineCircleAnswer) -> PaddedAnswer
+pub fn of_line_circle(answer: Result<LineCircleIntr, Fault>) -> PaddedAnswer
     ensures { result ≡ padding.of_line_circle answer }
 {
     match answer {
-        LineCircleAnswer::Refused(fault) => refusal(fault),
-        LineCircleAnswer::Met(intr) => match intr {
+        Err(fault) => refusal(fault),
+        Ok(intr) => match intr {
             LineCircleIntr::NoIntersect => case(0, 0.0, 0.0, 0.0, 0.0),
             LineCircleIntr::TangentIntersect { t0 } => case(1, t0, 0.0, 0.0, 0.0),
             LineCircleIntr::TwoIntersects { t0, t1 } => case(2, t0, t1, 0.0, 0.0),
@@ -82,12 +79,12 @@ pub fn of_line_circle(answer: LineCircleAnswer) -> PaddedAnswer
 }
 
 // The answer of the call on two circles.
-pub fn of_circle_circle(answer: CircleCircleAnswer) -> PaddedAnswer
+pub fn of_circle_circle(answer: Result<CircleCircleIntr, Fault>) -> PaddedAnswer
     ensures { result ≡ padding.of_circle_circle answer }
 {
     match answer {
-        CircleCircleAnswer::Refused(fault) => refusal(fault),
-        CircleCircleAnswer::Met(intr) => match intr {
+        Err(fault) => refusal(fault),
+        Ok(intr) => match intr {
             CircleCircleIntr::NoIntersect => case(0, 0.0, 0.0, 0.0, 0.0),
             CircleCircleIntr::TangentIntersect { point } => case(1, point.x, point.y, 0.0, 0.0),
             CircleCircleIntr::TwoIntersects { point1, point2 } => {
@@ -99,12 +96,12 @@ pub fn of_circle_circle(answer: CircleCircleAnswer) -> PaddedAnswer
 }
 
 // The answer of the call on two segments.
-pub fn of_pline_seg(answer: PlineSegAnswer) -> PaddedAnswer
+pub fn of_pline_seg(answer: Result<PlineSegIntr, Fault>) -> PaddedAnswer
     ensures { result ≡ padding.of_pline_seg answer }
 {
     match answer {
-        PlineSegAnswer::Refused(fault) => refusal(fault),
-        PlineSegAnswer::Met(intr) => {
+        Err(fault) => refusal(fault),
+        Ok(intr) => {
             let m = class_and_points(intr);
             case(m.class, m.x1, m.y1, m.x2, m.y2)
         }

@@ -1,5 +1,5 @@
 -- The finding beside the Rust's test of a sweep: it is Outside exactly if the Rust's expression is false.
-use Rattle.std.specs.Prelude.{◌≡◌, refl, Bool, true, false}
+use Rattle.std.specs.Prelude.{◌≡◌, refl, false}
 use Rattle.std.proofs.Common.{sym, ap, ◌∙◌}
 use Rattle.std.proofs.lemmas.Bool.{false≢true}
 use Rattle.plane.specs.declared.vector2.Vector2.{Vector2}

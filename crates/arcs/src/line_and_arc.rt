@@ -12,13 +12,6 @@ use plane::base_math::{dist_squared, point_from_parametric};
 use plane::vector2::Vector2;
 use ranges::range::on_segment;
 
-// A point of the line that lies on the segment and in the arc's sweep, or none.
-#[derive(Clone, Copy)]
-pub enum PointInSweep {
-    Nothing,
-    At(Vector2),
-}
-
 // Two points, the first first.
 #[derive(Clone, Copy)]
 pub struct TwoPoints {
@@ -34,17 +27,17 @@ pub fn point_in_sweep(
     p1: Vector2,
     arc_geometry: ArcGeometry,
     pos_equal_eps: f64,
-) -> PointInSweep
+) -> Option<Vector2>
     ensures { result ≡ LineAndArc.point_in_sweep t (vector2.length (vector2.sub p1 p0)) p0 p1 arc_geometry pos_equal_eps }
 {
     if !on_segment(t, p1.sub(p0), pos_equal_eps) {
-        return PointInSweep::Nothing;
+        return None;
     }
     let p = point_from_parametric(p0, p1, t);
     if arc_geometry.finding(p).is_yes() {
-        return PointInSweep::At(p);
+        return Some(p);
     }
-    PointInSweep::Nothing
+    None
 }
 
 // A line that is tangent to the circle at t0. The answer's point is an end of the line if it lies on the arc, else the point at
@@ -65,7 +58,7 @@ pub fn tangent_line_arc(
         return PlineSegIntr::TangentIntersect { point: p1 };
     }
     let t0_point = point_in_sweep(t0, p0, p1, arc_geometry, pos_equal_eps);
-    if let PointInSweep::At(point) = t0_point {
+    if let Some(point) = t0_point {
         PlineSegIntr::TangentIntersect { point }
     } else {
         PlineSegIntr::NoIntersect
@@ -147,8 +140,8 @@ fn in_order(points: TwoPoints, arc_start: Vector2, u_is_line: bool) -> PlineSegI
 
 // How the arc meets a line that crosses its circle twice: it depends on which of the two points are in the sweep.
 pub fn crossings_line_arc(
-    t0_point: PointInSweep,
-    t1_point: PointInSweep,
+    t0_point: Option<Vector2>,
+    t1_point: Option<Vector2>,
     p0: Vector2,
     p1: Vector2,
     arc_start: Vector2,
@@ -157,13 +150,13 @@ pub fn crossings_line_arc(
 ) -> PlineSegIntr
     ensures { result ≡ LineAndArc.crossings_line_arc t0_point t1_point p0 p1 arc_start arc_geometry u_is_line }
 {
-    let PointInSweep::At(point1) = t0_point else {
-        let PointInSweep::At(point) = t1_point else {
+    let Some(point1) = t0_point else {
+        let Some(point) = t1_point else {
             return PlineSegIntr::NoIntersect;
         };
         return one_line_arc(point, p0, p1, arc_geometry);
     };
-    let PointInSweep::At(point2) = t1_point else {
+    let Some(point2) = t1_point else {
         return one_line_arc(point1, p0, p1, arc_geometry);
     };
     in_order(

@@ -26,8 +26,8 @@ fn same_arc(v1: PlineVertex, v2: PlineVertex, u1: PlineVertex, u2: PlineVertex) 
     let p2 = v2.pos();
     let q1 = u1.pos();
     let q2 = u2.pos();
-    (p1.eq(q1) & p2.eq(q2) & (v1.bulge == u1.bulge))
-        | (p1.eq(q2) & p2.eq(q1) & (v1.bulge == -u1.bulge))
+    ((p1 == q1) & (p2 == q2) & (v1.bulge == u1.bulge))
+        | ((p1 == q2) & (p2 == q1) & (v1.bulge == -u1.bulge))
 }
 
 // The second arc's start and end, in the direction in which the first arc runs.

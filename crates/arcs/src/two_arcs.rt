@@ -9,13 +9,6 @@ use super::pline_seg_intr::PlineSegIntr;
 use plane::base_math::dist_squared;
 use plane::vector2::Vector2;
 
-// Room for one end point: empty, or taken by a point.
-#[derive(Clone, Copy)]
-pub enum Slot {
-    Empty,
-    Taken(Vector2),
-}
-
 // Whether the point is in the sweeps of both arcs.
 fn both_sweep(arc1: ArcGeometry, arc2: ArcGeometry, point: Vector2) -> bool
     ensures { result ≡ TwoArcs.both_sweep arc1 arc2 point }
@@ -60,30 +53,30 @@ pub fn tangent_arc_arc(
 // Puts the end point into the first empty slot. It is left out if the first slot holds a point near it (the same end, found
 // from the other arc), and if no slot is empty.
 fn try_add_end_point_intr(
-    end_point_intrs: [Slot; 2],
+    end_point_intrs: [Option<Vector2>; 2],
     intr: Vector2,
     pos_equal_eps: f64,
-) -> [Slot; 2]
+) -> [Option<Vector2>; 2]
     ensures { result ≡ TwoArcs.try_add_end_point_intr end_point_intrs intr pos_equal_eps }
 {
     let mut slots = end_point_intrs;
     let first = slots[0];
     match first {
-        Slot::Empty => {
-            slots[0] = Slot::Taken(intr);
+        None => {
+            slots[0] = Some(intr);
             slots
         }
-        Slot::Taken(pt) => {
+        Some(pt) => {
             if pt.fuzzy_eq_eps(intr, pos_equal_eps) {
                 return slots;
             }
             let second = slots[1];
             match second {
-                Slot::Empty => {
-                    slots[1] = Slot::Taken(intr);
+                None => {
+                    slots[1] = Some(intr);
                     slots
                 }
-                Slot::Taken(_) => slots,
+                Some(_) => slots,
             }
         }
     }
@@ -91,11 +84,11 @@ fn try_add_end_point_intr(
 
 // The slots with the end point added if it lies on the arc.
 fn add_if_on_arc(
-    end_point_intrs: [Slot; 2],
+    end_point_intrs: [Option<Vector2>; 2],
     end: Vector2,
     arc: ArcGeometry,
     pos_equal_eps: f64,
-) -> [Slot; 2]
+) -> [Option<Vector2>; 2]
     ensures { result ≡ TwoArcs.add_if_on_arc end_point_intrs end arc pos_equal_eps }
 {
     if arc.point_lies_on_arc(end) {
@@ -113,10 +106,10 @@ pub fn collect_end_points(
     arc1: ArcGeometry,
     arc2: ArcGeometry,
     pos_equal_eps: f64,
-) -> [Slot; 2]
+) -> [Option<Vector2>; 2]
     ensures { result ≡ TwoArcs.collect_end_points v1 v2 u1 u2 arc1 arc2 pos_equal_eps }
 {
-    let none = [Slot::Empty, Slot::Empty];
+    let none = [None, None];
     let with_u1 = add_if_on_arc(none, u1, arc1, pos_equal_eps);
     let with_u2 = add_if_on_arc(with_u1, u2, arc1, pos_equal_eps);
     let with_v1 = add_if_on_arc(with_u2, v1, arc2, pos_equal_eps);
@@ -156,33 +149,42 @@ fn ends_for_both(end_pt1: Vector2, end_pt2: Vector2, point1: Vector2) -> PlineSe
 }
 
 // Both points of the circles lie on both arcs: the answer is these two, with the slots' end points in their places.
-pub fn two_in_sweep(first: Slot, second: Slot, point1: Vector2, point2: Vector2) -> PlineSegIntr
+pub fn two_in_sweep(
+    first: Option<Vector2>,
+    second: Option<Vector2>,
+    point1: Vector2,
+    point2: Vector2,
+) -> PlineSegIntr
     ensures { result ≡ TwoArcs.two_in_sweep first second point1 point2 }
 {
     match first {
-        Slot::Empty => match second {
-            Slot::Empty => PlineSegIntr::TwoIntersects { point1, point2 },
-            Slot::Taken(end_pt) => end_for_nearer(end_pt, point1, point2),
+        None => match second {
+            None => PlineSegIntr::TwoIntersects { point1, point2 },
+            Some(end_pt) => end_for_nearer(end_pt, point1, point2),
         },
-        Slot::Taken(end_pt1) => match second {
-            Slot::Empty => end_for_nearer(end_pt1, point1, point2),
-            Slot::Taken(end_pt2) => ends_for_both(end_pt1, end_pt2, point1),
+        Some(end_pt1) => match second {
+            None => end_for_nearer(end_pt1, point1, point2),
+            Some(end_pt2) => ends_for_both(end_pt1, end_pt2, point1),
         },
     }
 }
 
 // At most one point of the circles lies on both arcs: the answer is the slots' end points if there are any, else `otherwise`.
-pub fn ends_or(first: Slot, second: Slot, otherwise: PlineSegIntr) -> PlineSegIntr
+pub fn ends_or(
+    first: Option<Vector2>,
+    second: Option<Vector2>,
+    otherwise: PlineSegIntr,
+) -> PlineSegIntr
     ensures { result ≡ TwoArcs.ends_or first second otherwise }
 {
     match first {
-        Slot::Empty => match second {
-            Slot::Empty => otherwise,
-            Slot::Taken(end_pt) => PlineSegIntr::OneIntersect { point: end_pt },
+        None => match second {
+            None => otherwise,
+            Some(end_pt) => PlineSegIntr::OneIntersect { point: end_pt },
         },
-        Slot::Taken(end_pt1) => match second {
-            Slot::Empty => PlineSegIntr::OneIntersect { point: end_pt1 },
-            Slot::Taken(end_pt2) => PlineSegIntr::TwoIntersects {
+        Some(end_pt1) => match second {
+            None => PlineSegIntr::OneIntersect { point: end_pt1 },
+            Some(end_pt2) => PlineSegIntr::TwoIntersects {
                 point1: end_pt1,
                 point2: end_pt2,
             },
@@ -194,7 +196,7 @@ pub fn ends_or(first: Slot, second: Slot, otherwise: PlineSegIntr) -> PlineSegIn
 fn two_arc_arc(
     point1: Vector2,
     point2: Vector2,
-    end_point_intrs: [Slot; 2],
+    end_point_intrs: [Option<Vector2>; 2],
     arc1: ArcGeometry,
     arc2: ArcGeometry,
 ) -> PlineSegIntr
@@ -247,7 +249,7 @@ pub fn crossing_arcs(
     ensures { result ≡ TwoArcs.crossing_arcs v1 v2 u1 u2 point1 point2 arc1 arc2 pos_equal_eps }
 {
     if ends_clear(v1, v2, u1, u2, arc1, arc2) {
-        let none = [Slot::Empty, Slot::Empty];
+        let none = [None, None];
         return two_arc_arc(point1, point2, none, arc1, arc2);
     }
     let end_point_intrs = collect_end_points(v1, v2, u1, u2, arc1, arc2, pos_equal_eps);

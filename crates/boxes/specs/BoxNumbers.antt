@@ -1,7 +1,8 @@
 -- No number of a box is a NaN, an infinity or -0, if the segment's coordinates and the epsilon passed their checks. That holds
 -- for the box of a segment, for that of a group and for every number of a path's index. So no comparison of boxes meets a NaN,
 -- and the box of a group does not depend on the order in which its members' boxes are joined (GroupExact.antt).
-use Rattle.std.specs.Prelude.{◌≡◌, ◌≢◌, Bool, true, false, cond, ◌||◌, List, [], ◌∷◌, ◌++◌, ℕ, zero, suc, ◌+◌, ◌-◌, ◌*◌, ◌≤◌, ◌<◌, T, ℤ, Float}
+use Rattle.checks.specs.Checked.{Checked}
+use Rattle.std.specs.Prelude.{◌≡◌, ◌≢◌, Bool, true, false, cond, ◌||◌, List, [], ◌∷◌, ◌++◌, ℕ, zero, suc, ◌+◌, ◌-◌, ◌*◌, ◌≤◌, ◌<◌, T, ℤ, Float, Ok}
 use Rattle.std.proofs.Common.{arith, lit≤}
 use Rattle.std.specs.Float.{fin, binary64}
 use Rattle.std.specs.Float.Ieee.{low, is_nan, fits}
@@ -13,8 +14,6 @@ use Rattle.plane.specs.declared.pline_vertex.PlineVertex.{PlineVertex}
 use Rattle.plane.specs.PlineVertex as vertices
 use Rattle.plane.specs.PlineVertex.{bulge_is_zero}
 use Rattle.checks.specs.declared.fault.Place.{Place}
-use Rattle.checks.specs.declared.fault.Checked.{Checked}
-use Rattle.checks.specs.declared.fault.Checked.TheVariants.{Fine}
 use Rattle.checks.specs.Number.{is_infinite}
 use Rattle.checks.specs.Limit
 use Rattle.checks.specs.Each
@@ -122,9 +121,9 @@ points-plain v1 v2 epsilon (x1, y1) (x2, y2) fit p q b =
 -- ---- one segment: if its four coordinates and the epsilon passed their checks, at any places, its box has such numbers
 pub segment-plain : (v1 v2 : PlineVertex) (epsilon : Float) (p q r s : Place)
     → IsF64 v1.x → IsF64 v1.y → IsF64 v2.x → IsF64 v2.y → IsF64 epsilon
-    → Each.coordinate v1.x p ≡ Fine → Each.coordinate v1.y q ≡ Fine
-    → Each.coordinate v2.x r ≡ Fine → Each.coordinate v2.y s ≡ Fine
-    → Each.epsilon epsilon ≡ Fine
+    → Each.coordinate v1.x p ≡ Ok tt → Each.coordinate v1.y q ≡ Ok tt
+    → Each.coordinate v2.x r ≡ Ok tt → Each.coordinate v2.y s ≡ Ok tt
+    → Each.epsilon epsilon ≡ Ok tt
     → PlainBox (box_of v1 v2 epsilon)
 segment-plain v1 v2 epsilon p q r s x1 y1 x2 y2 fit ax ay bx by e =
     points-plain v1 v2 epsilon (x1, y1) (x2, y2) fit
@@ -183,7 +182,7 @@ numbers (b ∷ bs) p =
 -- ---- a path: if no check found a fault, the box of each of its segments and of its groups has such numbers
 module _ (f : Checked) (path : List Float) (closed : Bool) (owner : ℕ) (epsilon : Float)
     (all : AllF64 path) (fit : IsF64 epsilon)
-    (checked : check_path f path closed owner ≡ Fine) (small : Each.epsilon epsilon ≡ Fine) where
+    (checked : check_path f path closed owner ≡ Ok tt) (small : Each.epsilon epsilon ≡ Ok tt) where
   abbrev n : ℕ
   n = segment_count path closed
 

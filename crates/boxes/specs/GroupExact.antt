@@ -1,7 +1,8 @@
 -- The box of a group holds the extremes of its members' boxes exactly: each of its four numbers is that of some member, and no
 -- member's number is beyond it. For f64 without NaN, infinity and -0 these two properties leave one box only, so the order in
 -- which the members are joined is no matter.
-use Rattle.std.specs.Prelude.{◌≡◌, refl, ◌⊎◌, Bool, true, false, cond, List, T, Float}
+use Rattle.checks.specs.Checked.{Checked}
+use Rattle.std.specs.Prelude.{◌≡◌, refl, ◌⊎◌, Bool, true, false, cond, List, T, Float, Ok}
 use Rattle.std.proofs.Common.{sym, inl, inr, eq-or-lt_of_le}
 use Rattle.std.proofs.Math.Path.{subst}
 use Prim.Native.Nat.{ℕ, zero, suc, ◌+◌, ◌-◌, ◌*◌, ◌≤◌, ◌<◌}
@@ -14,8 +15,6 @@ use Rattle.floats.specs.Ops.{◌≼◌}
 use Rattle.floats.specs.F64.{min, max}
 use Rattle.plane.specs.PlineVertex.{bulge_is_zero}
 use Rattle.plane.specs.declared.pline_vertex.PlineVertex.{PlineVertex}
-use Rattle.checks.specs.declared.fault.Checked.{Checked}
-use Rattle.checks.specs.declared.fault.Checked.TheVariants.{Fine}
 use Rattle.checks.specs.Limit
 use Rattle.checks.specs.Each
 use Rattle.checks.specs.Chord.{of-points}
@@ -248,7 +247,7 @@ points-real v1 v2 epsilon p q b =
     }
 
 module _ (f : Checked) (path : List Float) (closed : Bool) (owner : ℕ) (epsilon : Float)
-    (checked : check_path f path closed owner ≡ Fine) (small : Each.epsilon epsilon ≡ Fine) where
+    (checked : check_path f path closed owner ≡ Ok tt) (small : Each.epsilon epsilon ≡ Ok tt) where
   abbrev n : ℕ
   n = segment_count path closed
 

@@ -63,11 +63,7 @@ pub fn group_end(g: usize, limit: usize) -> usize
     requires { g ≤ Path.most_segments }
     ensures { result ≡ min ((g + 1) * groups_of.group_size) limit }
 {
-    let end = (g + 1) * GROUP;
-    if end <= limit {
-        return end;
-    }
-    limit
+    ((g + 1) * GROUP).min(limit)
 }
 
 // The box of group g, if the boxes of n segments stand from box `from` on.
@@ -79,10 +75,8 @@ fn group_box(boxes: &[f64], from: usize, n: usize, g: usize) -> Box
     let start = g * GROUP;
     let end = group_end(g, n);
     let mut b = box_at(boxes, from + start);
-    let mut i = start + 1;
-    while i < end {
+    for i in start + 1..end {
         b = join(b, box_at(boxes, from + i));
-        i += 1;
     }
     b
 }
@@ -95,12 +89,9 @@ fn store_segments(path: &[f64], n: usize, epsilon: f64, from: usize, boxes: &mut
         ≡ sets boxes.old (from * index_of.floats_a_box)
         (index_of.floats_of_boxes (index_of.boxes_from (groups_of.segment_box path.now epsilon) 0 n)) }
 {
-    let mut i = 0;
-    while i < n {
+    for i in 0..n {
         let s = segments::segment_from(path, i);
-        let b = box_of(s.v1, s.v2, epsilon);
-        put_box(boxes, from + i, b);
-        i += 1;
+        put_box(boxes, from + i, box_of(s.v1, s.v2, epsilon));
     }
 }
 
@@ -112,11 +103,9 @@ pub fn store_groups(n: usize, from: usize, boxes: &mut [f64])
 {
     let groups = group_count(n);
     let behind = from + n;
-    let mut g = 0;
-    while g < groups {
+    for g in 0..groups {
         let b = group_box(boxes, from, n, g);
         put_box(boxes, behind + g, b);
-        g += 1;
     }
 }
 
@@ -139,10 +128,7 @@ pub fn copy(stored: &[f64], from: usize, count: usize, at: usize, boxes: &mut [f
         ≡ sets boxes.old (at * index_of.floats_a_box)
         (index_of.floats_of_boxes (index_of.boxes_from (Stored.boxes_on stored.now from) 0 count)) }
 {
-    let mut i = 0;
-    while i < count {
-        let b = box_at(stored, from + i);
-        put_box(boxes, at + i, b);
-        i += 1;
+    for i in 0..count {
+        put_box(boxes, at + i, box_at(stored, from + i));
     }
 }

@@ -14,12 +14,10 @@ fn next_of_each(boxes: &[f64], from: usize, b: Box, j: usize, end: usize) -> usi
     requires { (j ≤ end) × ((from + end) * index_of.floats_a_box ≤ length boxes.now) }
     ensures { result ≡ next_of.first (next_of.meets boxes.now from b) j end }
 {
-    let mut k = j;
-    while k < end {
+    for k in j..end {
         if meet(b, box_at(boxes, from + k)) {
             return k;
         }
-        k += 1;
     }
     end
 }
@@ -51,11 +49,7 @@ fn in_group(k: usize, g: usize) -> usize
     requires { g ≤ Path.most_segments }
     ensures { result ≡ next_of.in_group k g }
 {
-    let start = g * index::GROUP;
-    if k < start {
-        return start;
-    }
-    k
+    k.max(g * index::GROUP)
 }
 
 // The same as `next_meeting`, if the boxes of groups of groups stand behind those of the groups: the next group that meets b is
@@ -88,12 +82,10 @@ pub fn next_apart(boxes: &[f64], from: usize, b: Box, j: usize, end: usize) -> u
     requires { (j ≤ end) × ((from + end) * index_of.floats_a_box ≤ length boxes.now) }
     ensures { result ≡ next_of.first (next_of.apart boxes.now from b) j end }
 {
-    let mut k = j;
-    while k < end {
+    for k in j..end {
         if !meet(b, box_at(boxes, from + k)) {
             return k;
         }
-        k += 1;
     }
     end
 }

@@ -1,4 +1,5 @@
 -- The ends of handing an answer with findings over: a slice has no room, it is a refusal, or values and findings are written.
+use Rattle.std.specs.Prelude.{Err, Ok, Result}
 use Prim.Native.Nat.{ℕ, ◌<◌, ◌≤◌}
 use mathlib.Core.Path.{◌≡◌, refl, sym, ap, ◌∙◌}
 use mathlib.Core.Bool.{false}
@@ -11,15 +12,12 @@ use Rattle.checks.specs.Word.{word}
 use Rattle.checks.specs.declared.fault.Fault.{Fault}
 use Rattle.answers.specs.Padded.{of_pline_seg}
 use Rattle.answers.specs.declared.padded.PaddedAnswer.{PaddedAnswer}
-use Rattle.crossing.specs.declared.pline_seg_intersect.PlineSegAnswer.TheVariants as pairs
 use Rattle.findings.specs.Finding.{numbers_of}
-use Rattle.findings.specs.declared.reported.FindingsAnswer.{FindingsAnswer}
-use Rattle.findings.specs.declared.reported.FindingsAnswer.TheVariants.{Refused, Met}
 use Rattle.findings.specs.declared.reported.Reported.{Reported}
 use Rattle.capi.specs.Handed.{Handed, places, no_room_code, code, written}
 use Rattle.capi.specs.HandedFindings.{HandedFindings, finding_places}
 
-module _ (told : FindingsAnswer) (old : List Float) (old_findings : List ℕ) where
+module _ (told : Result Reported Fault) (old : List Float) (old_findings : List ℕ) where
   pub no_room : length old < places → HandedFindings told no_room_code old old old_findings old_findings
   no_room h = let e = lt-ltb _ _ h in record { code_is = simp e; holds = simp e; tells = simp e }
 
@@ -28,8 +26,8 @@ module _ (told : FindingsAnswer) (old : List Float) (old_findings : List ℕ) wh
   no-room-to-tell g h =
       let d = le-ltb _ _ g in let e = lt-ltb _ _ h in record { code_is = simp (d, e); holds = simp (d, e); tells = simp (d, e) }
 
-  pub refused : places ≤ length old → finding_places ≤ length old_findings → (result : FindingsAnswer) (fault : Fault) (n : ℕ)
-      → result ≡ told → result ≡ Refused fault → n ≡ word fault → HandedFindings told n old old old_findings old_findings
+  pub refused : places ≤ length old → finding_places ≤ length old_findings → (result : Result Reported Fault) (fault : Fault) (n : ℕ)
+      → result ≡ told → result ≡ Err fault → n ≡ word fault → HandedFindings told n old old old_findings old_findings
   unfolding of_pline_seg word
   refused g h result fault n is e code_is =
       let d = le-ltb (length old) places g in
@@ -54,9 +52,9 @@ module _ (told : FindingsAnswer) (old : List Float) (old_findings : List ℕ) wh
       let room : written padded old ≡ values padded = simp (le-ltb (length old) places g, e) in
       handed.holds ∙ room
 
-  pub met : places ≤ length old → finding_places ≤ length old_findings → (result : FindingsAnswer) (r : Reported)
-      (padded : PaddedAnswer) (n : ℕ) (now : List Float) (now_findings : List ℕ) → result ≡ told → result ≡ Met r
-      → padded ≡ of_pline_seg (pairs.Met r.answer) → Handed padded n old now
+  pub met : places ≤ length old → finding_places ≤ length old_findings → (result : Result Reported Fault) (r : Reported)
+      (padded : PaddedAnswer) (n : ℕ) (now : List Float) (now_findings : List ℕ) → result ≡ told → result ≡ Ok r
+      → padded ≡ of_pline_seg (Ok r.answer) → Handed padded n old now
       → now_findings ≡ sets old_findings 0 (numbers_of r.findings) → HandedFindings told n old now old_findings now_findings
   unfolding of_pline_seg values
   met g h result r padded n now now_findings is e numbers handed tells =

@@ -1,12 +1,10 @@
 -- How an import and an export go to a caller in C: a number is returned, what is told besides goes into a slice of its own, and
 -- the path or the text into the slice that the call is lent.
-use Rattle.std.specs.Prelude.{ℕ, ◌≡◌, Bool, true, false, cond, List, [], ◌∷◌, ltb, length, Float}
+use Rattle.std.specs.Prelude.{ℕ, ◌≡◌, Bool, true, false, cond, List, [], ◌∷◌, ltb, length, Float, Result, Err, Ok}
 use Rattle.std.proofs.lemmas.List.Edits.{sets}
+use Rattle.checks.specs.declared.fault.Fault.{Fault}
 use Rattle.dxf_read.specs.declared.Imported.{Imported}
-use Rattle.dxf_read.specs.declared.Imported.TheVariants as imports
 use Rattle.dxf_read.specs.Import.{ImportOutcome}
-use Rattle.dxf_write.specs.declared.Exported.{Exported}
-use Rattle.dxf_write.specs.declared.Exported.TheVariants as exports
 use Rattle.dxf_write.specs.Export.{ExportOutcome}
 use Rattle.capi.specs.Handed.{no_room_code}
 use Rattle.capi.specs.HandedListing.{Counted, refused_counts}
@@ -20,18 +18,18 @@ abbrev pub closed_word : Bool → ℕ
 closed_word true = 1
 closed_word false = 0
 
-abbrev pub of_import : Imported → Counted
-of_import (imports.Refused f) = refused_counts f
-of_import (imports.Path n closed) = record { code = 0; counts = n ∷ closed_word closed ∷ [] }
+abbrev pub of_import : Result Imported Fault → Counted
+of_import (Err f) = refused_counts f
+of_import (Ok imported) = record { code = 0; counts = imported.vertices ∷ closed_word imported.closed ∷ [] }
 
 -- ---- an export tells the number of bytes
 
 abbrev pub export_words : ℕ
 export_words = 1
 
-abbrev pub of_export : Exported → Counted
-of_export (exports.Refused f) = refused_counts f
-of_export (exports.Bytes n) = record { code = 0; counts = n ∷ [] }
+abbrev pub of_export : Result ℕ Fault → Counted
+of_export (Err f) = refused_counts f
+of_export (Ok n) = record { code = 0; counts = n ∷ [] }
 
 -- ---- handed over; nothing is done if the slice for what is told has too few words
 

@@ -1,13 +1,13 @@
 -- How a pair's answer with findings goes to a caller in C: a number is returned, four values go into the first slice and the four
 -- findings' numbers into the second.
-use Rattle.std.specs.Prelude.{ℕ, ◌≡◌, Bool, cond, ◌||◌, List, [], ◌∷◌, ltb, length, Float}
+use Rattle.findings.specs.declared.reported.Reported.{Reported}
+use Rattle.checks.specs.declared.fault.Fault.{Fault}
+use Rattle.std.specs.Prelude.{ℕ, ◌≡◌, Bool, cond, ◌||◌, List, [], ◌∷◌, ltb, length, Float, Err, Ok, Result}
 use Rattle.std.proofs.lemmas.List.Edits.{sets}
 use Rattle.answers.specs.Padded.{of_pline_seg}
 use Rattle.answers.specs.declared.padded.PaddedAnswer.{PaddedAnswer}
 use Rattle.findings.specs.Finding.{numbers_of}
 use Rattle.findings.specs.Report.{pair_answer}
-use Rattle.findings.specs.declared.reported.FindingsAnswer.{FindingsAnswer}
-use Rattle.findings.specs.declared.reported.FindingsAnswer.TheVariants.{Refused, Met}
 use Rattle.capi.specs.Handed.{places, no_room_code}
 
 -- how many findings are told
@@ -19,15 +19,15 @@ abbrev pub short : List Float → List ℕ → Bool
 short old old_findings = ltb (length old) places || ltb (length old_findings) finding_places
 
 -- class and points, as the pair call hands them over
-abbrev pub numbers : FindingsAnswer → PaddedAnswer
+abbrev pub numbers : Result Reported Fault → PaddedAnswer
 numbers told = of_pline_seg (pair_answer told)
 
 -- a refusal tells nothing
-abbrev pub findings : FindingsAnswer → List ℕ
-findings (Refused fault) = []
-findings (Met r) = numbers_of r.findings
+abbrev pub findings : Result Reported Fault → List ℕ
+findings (Err fault) = []
+findings (Ok r) = numbers_of r.findings
 
-pub record HandedFindings (told : FindingsAnswer) (returned : ℕ) (old now : List Float) (old_findings now_findings : List ℕ)
+pub record HandedFindings (told : Result Reported Fault) (returned : ℕ) (old now : List Float) (old_findings now_findings : List ℕ)
     : Type 0 where
   pub code_is : returned ≡ cond (short old old_findings) no_room_code (numbers told).number
   pub holds :

@@ -1,13 +1,10 @@
 -- How a listing, boxed or not, and a page go to a caller in C, as decided here: a number is returned, the counts go into a lent
 -- slice of their own, and the rows and the index of boxes into the slices that the call is lent.
-use Rattle.std.specs.Prelude.{ℕ, ◌≡◌, Bool, cond, List, [], ◌∷◌, ltb, length, Float}
+use Rattle.std.specs.Prelude.{ℕ, ◌≡◌, Bool, cond, List, [], ◌∷◌, ltb, length, Float, Err, Ok}
 use Rattle.std.proofs.lemmas.List.Edits.{sets}
 use Rattle.checks.specs.declared.fault.Fault.{Fault}
 use Rattle.checks.specs.Word.{word}
-use Rattle.listing_outcomes.specs.declared.answer.ListingAnswer.{ListingAnswer}
-use Rattle.listing_outcomes.specs.declared.answer.ListingAnswer.TheVariants.{Refused, Listed}
-use Rattle.listing_outcomes.specs.declared.answer.PageAnswer.{PageAnswer}
-use Rattle.listing_outcomes.specs.declared.answer.PageAnswer.TheVariants as page
+use Rattle.listing_outcomes.specs.Answer.{ListingAnswer, PageAnswer}
 use Rattle.listing_outcomes.specs.Outcome.{Outcome}
 use Rattle.listing_outcomes.specs.BoxedOutcome.{BoxedOutcome}
 use Rattle.capi.specs.Handed.{no_room_code}
@@ -26,16 +23,16 @@ abbrev pub count_places : ℕ
 count_places = 2
 
 abbrev pub listing : ListingAnswer → Counted
-listing (Refused f) = refused_counts f
-listing (Listed rows pairs) = record { code = 0; counts = rows ∷ pairs ∷ [] }
+listing (Err f) = refused_counts f
+listing (Ok listed) = record { code = 0; counts = listed.rows ∷ listed.pairs ∷ [] }
 
 -- a page: rows written, pairs passed, the next position, all pairs
 abbrev pub page_places : ℕ
 page_places = 4
 
 abbrev pub of_page : PageAnswer → Counted
-of_page (page.Refused f) = refused_counts f
-of_page (page.Paged rows pairs next all) = record { code = 0; counts = rows ∷ pairs ∷ next ∷ all ∷ [] }
+of_page (Err f) = refused_counts f
+of_page (Ok paged) = record { code = 0; counts = paged.rows ∷ paged.pairs ∷ paged.next ∷ paged.all ∷ [] }
 
 -- ---- handed over, for any kind of answer; nothing is done if the counts' slice has too few places
 pub record HandedOver {A : Type 0} (places : ℕ) (count : A → Counted) (o : Outcome A)

@@ -1,9 +1,10 @@
 -- The promise of a call for C allows one result only: two returned numbers that it allows are equal, and so are the slices
 -- afterwards.
-use Rattle.std.specs.Prelude.{ℕ, ◌≡◌, List, Float}
+use Rattle.findings.specs.declared.reported.Reported.{Reported}
+use Rattle.checks.specs.declared.fault.Fault.{Fault}
+use Rattle.std.specs.Prelude.{ℕ, ◌≡◌, List, Float, Result}
 use Rattle.std.proofs.Common.{sym, ◌∙◌}
 use Rattle.listing_outcomes.specs.Outcome.{Outcome}
-use Rattle.findings.specs.declared.reported.FindingsAnswer.{FindingsAnswer}
 use Rattle.capi.specs.Handed.{Handed}
 use Rattle.capi.specs.HandedFindings.{HandedFindings}
 use Rattle.listing_outcomes.specs.BoxedOutcome.{BoxedOutcome}
@@ -18,7 +19,7 @@ pub handed-one-result : {f : PaddedAnswer} {r s : ℕ} {old a b : List Float} �
     → (r ≡ s) × (a ≡ b)
 handed-one-result p q = (p.code_is ∙ sym q.code_is, p.holds ∙ sym q.holds)
 
-pub findings-one-result : {told : FindingsAnswer} {r s : ℕ} {old a b : List Float} {old_findings f g : List ℕ}
+pub findings-one-result : {told : (Result Reported Fault)} {r s : ℕ} {old a b : List Float} {old_findings f g : List ℕ}
     → HandedFindings told r old a old_findings f → HandedFindings told s old b old_findings g → (r ≡ s) × (a ≡ b) × (f ≡ g)
 findings-one-result p q = (p.code_is ∙ sym q.code_is, p.holds ∙ sym q.holds, p.tells ∙ sym q.tells)
 

@@ -8,6 +8,7 @@ ghost use Rattle.capi.specs.HandedMonth as handed_month;
 
 use super::hand_over::NO_ROOM;
 use super::listing::{COUNTS, hand_counts};
+use checks::call::CallError;
 use checks::word::word;
 use month::join::JoinAnswer;
 use month::mutual_counted::CountedAnswer;
@@ -20,8 +21,11 @@ pub fn hand_counted(answer: CountedAnswer, counts: &mut [u64]) -> u64
     ensures counts_after { counts.new ≡ sets counts.old 0 (handed_month.of_counted answer).counts }
 {
     match answer {
-        CountedAnswer::NoRoom => NO_ROOM,
-        CountedAnswer::Answered(listed) => hand_counts(listed, counts),
+        Err(error) => match error {
+            CallError::NoRoom => NO_ROOM,
+            CallError::Refused(fault) => word(fault),
+        },
+        Ok(listed) => hand_counts(Ok(listed), counts),
     }
 }
 
@@ -65,9 +69,11 @@ fn join_code(answer: JoinAnswer) -> u64
     ensures { result ≡ handed_month.join_code answer }
 {
     match answer {
-        JoinAnswer::NoRoom => NO_ROOM,
-        JoinAnswer::Refused(fault) => word(fault),
-        JoinAnswer::Joined => 0,
+        Err(error) => match error {
+            CallError::NoRoom => NO_ROOM,
+            CallError::Refused(fault) => word(fault),
+        },
+        Ok(()) => 0,
     }
 }
 

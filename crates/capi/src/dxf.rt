@@ -6,9 +6,10 @@ ghost use Rattle.dxf_write.specs.Export as export_of;
 ghost use Rattle.capi.specs.HandedDxf as handed;
 
 use super::hand_over::NO_ROOM;
+use checks::fault::Fault;
 use checks::word::word;
 use dxf_read::{Imported, import_dxf};
-use dxf_write::{Exported, export_dxf};
+use dxf_write::export_dxf;
 
 // how many words an import tells, and an export
 pub const IMPORT_WORDS: usize = 2;
@@ -19,24 +20,21 @@ pub const EXPORT_WORDS: usize = 1;
 fn closed_word(closed: bool) -> u64
     ensures { result ≡ handed.closed_word closed }
 {
-    if closed {
-        return 1;
-    }
-    0
+    u64::from(closed)
 }
 
 // Writes the number of vertices and whether the path is closed to the front of `told` and returns 0. A refusal writes nothing and
 // returns its word.
-pub fn hand_imported(answer: Imported, told: &mut [u64]) -> u64
+pub fn hand_imported(answer: Result<Imported, Fault>, told: &mut [u64]) -> u64
     requires { handed.import_words ≤ length told.old }
     ensures value { result ≡ (handed.of_import answer).code }
     ensures told_after { told.new ≡ sets told.old 0 (handed.of_import answer).counts }
 {
     match answer {
-        Imported::Refused(fault) => word(fault),
-        Imported::Path(n, closed) => {
-            told[0] = n as u64;
-            told[1] = closed_word(closed);
+        Err(fault) => word(fault),
+        Ok(imported) => {
+            told[0] = imported.vertices as u64;
+            told[1] = closed_word(imported.closed);
             0
         }
     }
@@ -56,14 +54,14 @@ pub extern "C" fn vj_dxf_import(text: &[u8], path: &mut [f64], told: &mut [u64])
 }
 
 // Writes the number of bytes to the front of `told` and returns 0. A refusal writes nothing and returns its word.
-pub fn hand_exported(answer: Exported, told: &mut [u64]) -> u64
+pub fn hand_exported(answer: Result<usize, Fault>, told: &mut [u64]) -> u64
     requires { handed.export_words ≤ length told.old }
     ensures value { result ≡ (handed.of_export answer).code }
     ensures told_after { told.new ≡ sets told.old 0 (handed.of_export answer).counts }
 {
     match answer {
-        Exported::Refused(fault) => word(fault),
-        Exported::Bytes(n) => {
+        Err(fault) => word(fault),
+        Ok(n) => {
             told[0] = n as u64;
             0
         }

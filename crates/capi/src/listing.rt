@@ -19,10 +19,10 @@ pub fn hand_counts(answer: ListingAnswer, counts: &mut [u64]) -> u64
     ensures counts_after { counts.new ≡ sets counts.old 0 (handed.listing answer).counts }
 {
     match answer {
-        ListingAnswer::Refused(fault) => word(fault),
-        ListingAnswer::Listed { rows, pairs } => {
-            counts[0] = rows as u64;
-            counts[1] = pairs as u64;
+        Err(fault) => word(fault),
+        Ok(listed) => {
+            counts[0] = listed.rows as u64;
+            counts[1] = listed.pairs as u64;
             0
         }
     }

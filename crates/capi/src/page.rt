@@ -19,17 +19,12 @@ pub fn hand_page(answer: PageAnswer, counts: &mut [u64]) -> u64
     ensures counts_after { counts.new ≡ sets counts.old 0 (handed.of_page answer).counts }
 {
     match answer {
-        PageAnswer::Refused(fault) => word(fault),
-        PageAnswer::Paged {
-            rows,
-            pairs,
-            next,
-            all,
-        } => {
-            counts[0] = rows as u64;
-            counts[1] = pairs as u64;
-            counts[2] = next as u64;
-            counts[3] = all as u64;
+        Err(fault) => word(fault),
+        Ok(paged) => {
+            counts[0] = paged.rows as u64;
+            counts[1] = paged.pairs as u64;
+            counts[2] = paged.next as u64;
+            counts[3] = paged.all as u64;
             0
         }
     }

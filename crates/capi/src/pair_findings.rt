@@ -9,10 +9,8 @@ ghost use Rattle.findings.specs.Report.{pline_seg_findings};
 use super::hand_over::{NO_ROOM, PLACES, hand_over};
 use answers::padded;
 use checks::word::word;
-use crossing::pline_seg_intersect::PlineSegAnswer;
 use findings::finding::Findings;
 use findings::report;
-use findings::reported::FindingsAnswer;
 use plane::pline_vertex::PlineVertex;
 
 // how many findings are told
@@ -86,12 +84,12 @@ pub extern "C" fn vj_pair_findings(
         epsilon,
     );
     match told {
-        FindingsAnswer::Refused(fault) => word(fault),
-        FindingsAnswer::Met(reported) => {
+        Err(fault) => word(fault),
+        Ok(reported) => {
             let answer = reported.answer;
             let found = reported.findings;
             hand_findings(found, findings);
-            hand_over(padded::of_pline_seg(PlineSegAnswer::Met(answer)), out)
+            hand_over(padded::of_pline_seg(Ok(answer)), out)
         }
     }
 }

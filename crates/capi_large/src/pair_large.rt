@@ -6,6 +6,7 @@ ghost use Rattle.capi_large.specs.HandedLarge as handed;
 ghost use Rattle.large_pair.specs.LargePair.{large_pair};
 
 use capi::hand_over::NO_ROOM;
+use checks::call::CallError;
 use checks::word::word;
 use large_pair::{LargePair, pair};
 use plane::pline_vertex::PlineVertex;
@@ -15,9 +16,11 @@ fn large_code(answer: LargePair) -> u64
     ensures { result ≡ handed.large_code answer }
 {
     match answer {
-        LargePair::NoRoom => NO_ROOM,
-        LargePair::Refused(fault) => word(fault),
-        LargePair::Met(count) => count as u64,
+        Err(error) => match error {
+            CallError::NoRoom => NO_ROOM,
+            CallError::Refused(fault) => word(fault),
+        },
+        Ok(count) => count as u64,
     }
 }
 

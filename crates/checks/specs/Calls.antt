@@ -1,9 +1,9 @@
 -- The checks of a whole call, for src/calls.rt: its numbers are checked in the scope's order, and the first fault is the answer.
 -- Each of the three kernels and the pair call has its list of checks, and the first fault of that list.
+use Rattle.checks.specs.Checked.{Checked}
 use Rattle.std.specs.Prelude.{List, [], ◌∷◌, ◌++◌, Float}
 use Rattle.plane.specs.declared.vector2.Vector2.{Vector2}
 use Rattle.plane.specs.declared.pline_vertex.PlineVertex.{PlineVertex}
-use Rattle.checks.specs.declared.fault.Checked.{Checked}
 use Rattle.checks.specs.Each
 use Rattle.checks.specs.Arc.{arc_chord}
 use Rattle.checks.specs.First.{first}

@@ -1,6 +1,7 @@
 -- The length of a chord is a number wherever it is checked: the coordinates of both ends have passed their own checks before. So
 -- refusal 5 never depends on a NaN, and a chord that passes is at least 2^-40. Chords.antt of `paths` says the same for a path.
-use Rattle.std.specs.Prelude.{◌≡◌, refl, ◌↔◌, true, false, ◌||◌, List, [], ◌∷◌, ◌++◌, ℕ, ◌+◌, ◌*◌, ◌^◌, ◌≤◌, T, Float}
+use Rattle.checks.specs.Checked.{Checked}
+use Rattle.std.specs.Prelude.{◌≡◌, refl, ◌↔◌, true, false, ◌||◌, List, [], ◌∷◌, ◌++◌, ℕ, ◌+◌, ◌*◌, ◌^◌, ◌≤◌, T, Float, Ok}
 use Rattle.std.proofs.Common.{sym, subst, le_trans, le_of_eq, zero-lt-suc, arith, lit≤, pow-add, pow_pos}
 use Rattle.std.proofs.Math.Logic.Iff
 use Rattle.std.specs.Float.{binary64}
@@ -16,8 +17,6 @@ use Rattle.plane.specs.PlineVertex.{pos, bulge_is_zero}
 use Rattle.plane.specs.Vector2 as vector2
 use Rattle.checks.specs.declared.fault.Item.TheVariants.{Chord}
 use Rattle.checks.specs.declared.fault.Place.{Place}
-use Rattle.checks.specs.declared.fault.Checked.{Checked}
-use Rattle.checks.specs.declared.fault.Checked.TheVariants.{Fine}
 use Rattle.checks.specs.Number.{is_infinite}
 use Rattle.checks.specs.Fault.{at}
 use Rattle.checks.specs.Each
@@ -82,17 +81,17 @@ of-points a b p q =
     of-unsigned (chord_length a b)
     (subst (λ (c : Float). Unsigned binary64 (22 + low binary64) c) (sym (sqrt-is _)) w)
 
-split : (cs ds : List Checked) → first (cs ++ ds) ≡ Fine → (first cs ≡ Fine) × (first ds ≡ Fine)
+split : (cs ds : List Checked) → first (cs ++ ds) ≡ Ok tt → (first cs ≡ Ok tt) × (first ds ≡ Ok tt)
 split cs ds e = (append-fine cs ds Iff.rfl Iff.rfl).0 e
 
 -- ---- one segment
 
 -- if its four coordinates passed their checks, at any places, its chord is a length
 pub chord-is-length : (a b : PlineVertex) (p q r s : Place)
-    → Each.coordinate a.x p ≡ Fine
-    → Each.coordinate a.y q ≡ Fine
-    → Each.coordinate b.x r ≡ Fine
-    → Each.coordinate b.y s ≡ Fine
+    → Each.coordinate a.x p ≡ Ok tt
+    → Each.coordinate a.y q ≡ Ok tt
+    → Each.coordinate b.x r ≡ Ok tt
+    → Each.coordinate b.y s ≡ Ok tt
     → Length (chord_length a b)
 chord-is-length a b p q r s ax ay bx by =
     of-points a b
@@ -100,13 +99,13 @@ chord-is-length a b p q r s ax ay bx by =
     (record { at_x = (coordinate-fine b.x r).0 bx; at_y = (coordinate-fine b.y s).0 by })
 
 -- such a length passes its own check exactly if it is at least 2^-40, and the same holds for a segment
-pub passes-when : (c : Float) (p : Place) → Length c → (Each.chord c p ≡ Fine) ↔ ((Limit.chord_least ≼ c) ≡ true)
+pub passes-when : (c : Float) (p : Place) → Length c → (Each.chord c p ≡ Ok tt) ↔ ((Limit.chord_least ≼ c) ≡ true)
 passes-when c p h =
     let real = ((neither (is_nan c) (is_infinite c)).0 h.number).0 in
     (λ e. is_true _ ((chord-fine c p).0 e real), λ e. (chord-fine c p).1 (λ r. subst T (sym e) tt))
 
 pub segment-passes-when : (a b : PlineVertex) (owner index : ℕ) → Length (chord_length a b)
-    → (arc_chord a b owner index ≡ Fine) ↔ LongIfArc a b
+    → (arc_chord a b owner index ≡ Ok tt) ↔ LongIfArc a b
 unfolding arc_chord
 segment-passes-when a b owner index h =
     let exact = unless-fine (bulge_is_zero a) (passes-when (chord_length a b) (at owner index Chord) h) in

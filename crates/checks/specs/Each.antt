@@ -1,11 +1,11 @@
 -- The checks of one number: the scope's table, number by number. p is the number's place. RefusalTable.antt says of each check
 -- exactly when it gives which refusal.
+use Rattle.checks.specs.Checked.{Checked}
 use Rattle.std.specs.Prelude.{ℕ, Bool, ◌||◌, Float}
 use Rattle.std.specs.Float.Ieee.{is_nan}
 use Rattle.floats.specs.Ops.{◌≺◌}
 use Rattle.checks.specs.declared.fault.Item.TheVariants.{Epsilon}
 use Rattle.checks.specs.declared.fault.Place.{Place}
-use Rattle.checks.specs.declared.fault.Checked.{Checked}
 use Rattle.checks.specs.Fault.{at, refuse, later}
 use Rattle.checks.specs.Number.{is_infinite, not_finite, beyond, outside, no_trace}
 use Rattle.checks.specs.Limit

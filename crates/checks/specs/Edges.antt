@@ -1,13 +1,12 @@
 -- The limits as powers of two, and the checks at each limit: the limit passes, the next float beyond it is refused, and so are a
 -- NaN and both infinities. The definitions of Each.antt compute every entry.
-use Rattle.std.specs.Prelude.{◌≡◌, refl, false, List, [], ◌∷◌, ◌++◌, ℕ, zero, suc, ◌+◌, ◌-◌, pos, negsuc, Float}
+use Rattle.checks.specs.Checked.{Checked}
+use Rattle.std.specs.Prelude.{◌≡◌, refl, false, List, [], ◌∷◌, ◌++◌, ℕ, zero, suc, ◌+◌, ◌-◌, pos, negsuc, Float, Ok}
 use Rattle.std.specs.Float.{fin, binary64}
 use Rattle.std.specs.Float.Ieee.{of_bits, is_nan, lt}
 use Rattle.floats.specs.F64
 use Rattle.checks.specs.declared.fault.Item.TheVariants.{Epsilon}
 use Rattle.checks.specs.declared.fault.Place.{Place}
-use Rattle.checks.specs.declared.fault.Checked.{Checked}
-use Rattle.checks.specs.declared.fault.Checked.TheVariants.{Fine}
 use Rattle.checks.specs.Fault.{at, bad, refuse, later}
 use Rattle.checks.specs.Number.{is_infinite, not_finite, beyond}
 use Rattle.checks.specs.Each
@@ -45,7 +44,7 @@ pub data Entry : Type 0 where
   entry : (Float → Place → Checked) → ℕ → ℕ → Entry
 
 abbrev pub answer : ℕ → Place → Checked
-answer zero p = Fine
+answer zero p = Ok tt
 answer (suc n) p = bad (suc n) p
 
 -- what the checks of the entries answer at the place p, and what they should answer

@@ -1,6 +1,7 @@
 -- The answer of a check in whole numbers: 0 if it is fine; else the scope's number of the refusal and its place (owner, index,
 -- and which number). Two answers with the same numbers are the same.
-use Rattle.std.specs.Prelude.{◌≡◌, refl, cond, List, [], ◌∷◌, ℕ, ◌<◌, eqb}
+use Rattle.checks.specs.Checked.{Checked}
+use Rattle.std.specs.Prelude.{◌≡◌, refl, cond, List, [], ◌∷◌, ℕ, ◌<◌, eqb, Err, Ok}
 use Rattle.std.proofs.Common.{sym, ap, ◌∙◌, arith}
 use Rattle.checks.specs.declared.fault.Item.{Item}
 use Rattle.checks.specs.declared.fault.Item.TheVariants.{
@@ -24,8 +25,6 @@ use Rattle.checks.specs.declared.fault.Item.TheVariants.{
   CutX,
   CutY,
 }
-use Rattle.checks.specs.declared.fault.Checked.{Checked}
-use Rattle.checks.specs.declared.fault.Checked.TheVariants.{Fine, Bad}
 use Rattle.checks.specs.Fault.{at, bad}
 
 abbrev pub item : Item → ℕ
@@ -75,8 +74,8 @@ item-below CutX = omega arith
 item-below CutY = omega arith
 
 abbrev pub fault_numbers : Checked → List ℕ
-fault_numbers Fine = 0 ∷ []
-fault_numbers (Bad f) = f.number ∷ f.place.owner ∷ f.place.index ∷ item f.place.item ∷ []
+fault_numbers (Ok _) = 0 ∷ []
+fault_numbers (Err f) = f.number ∷ f.place.owner ∷ f.place.index ∷ item f.place.item ∷ []
 
 -- ---- back from the numbers
 pub item_back : ℕ → Item
@@ -124,16 +123,16 @@ item-same CutX = refl
 item-same CutY = refl
 
 back : List ℕ → Checked
-back [] = Fine
-back (n ∷ []) = Fine
-back (n ∷ o ∷ []) = Fine
-back (n ∷ o ∷ i ∷ []) = Fine
+back [] = Ok tt
+back (n ∷ []) = Ok tt
+back (n ∷ o ∷ []) = Ok tt
+back (n ∷ o ∷ i ∷ []) = Ok tt
 back (n ∷ o ∷ i ∷ k ∷ rest) = bad n (at o i (item_back k))
 
 numbers-back : (c : Checked) → back (fault_numbers c) ≡ c
 unfolding back
-numbers-back Fine = refl
-numbers-back (Bad f) = simp item-same
+numbers-back (Ok _) = refl
+numbers-back (Err f) = simp item-same
 
 pub same_numbers : (a b : Checked) → fault_numbers a ≡ fault_numbers b → a ≡ b
 same_numbers a b e = sym (numbers-back a) ∙ ap back e ∙ numbers-back b

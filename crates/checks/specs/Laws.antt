@@ -5,6 +5,10 @@ pub mod Traces
 pub mod TraceBySum
 pub mod Chains
 pub mod Found
+pub mod Steps
+pub mod After
+pub mod Answered
+pub mod Raised
 pub mod Chord
 pub mod Lengths
 pub mod RefusalNumbers

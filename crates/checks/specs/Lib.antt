@@ -2,6 +2,7 @@
 -- and what is proved of them. A reader need not believe Workings and Laws.
 pub mod Refusal
 pub mod Limit
+pub mod Checked
 pub mod Fault
 pub mod Number
 pub mod Each

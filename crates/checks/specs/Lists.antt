@@ -1,7 +1,7 @@
 -- The checks of a point, a vertex, a path's vertex with its trace and a kernel's circle, in the scope's order. The list of a call is made of these.
+use Rattle.checks.specs.Checked.{Checked}
 use Rattle.std.specs.Prelude.{List, [], ◌∷◌, ◌++◌, ℕ, Float}
 use Rattle.checks.specs.declared.fault.Item.TheVariants.{X, Y, Bulge, Radius, CenterX, CenterY, Trace}
-use Rattle.checks.specs.declared.fault.Checked.{Checked}
 use Rattle.checks.specs.Fault.{at}
 use Rattle.checks.specs.Each
 

@@ -1,14 +1,14 @@
 -- The scope's table, for one number: which refusal each check gives, and exactly when. x is the number and p its place, which the
 -- fault has. Exactly.antt says what `Gives` means: the first test that says yes decides.
-use Rattle.std.specs.Prelude.{◌≡◌, Bool, not, ◌||◌, List, [], ◌∷◌, ℕ, Float}
-use Rattle.std.proofs.Common.{sym, ◌∙◌}
+use Rattle.std.specs.Prelude.{Bool, not, ◌||◌, [], ◌∷◌, ℕ, Float}
+use Rattle.std.proofs.Common.{sym}
 use Rattle.std.specs.Float.Ieee.{is_nan}
 use Rattle.floats.specs.Ops.{◌≺◌, ◌≻◌, f0}
 use Rattle.floats.specs.F64
 use Rattle.checks.specs.declared.fault.Item.TheVariants.{Epsilon}
 use Rattle.checks.specs.declared.fault.Place.{Place}
 use Rattle.checks.specs.Fault.{at, refuse}
-use Rattle.checks.specs.Exactly.{Test, test, Gives, tested, gives}
+use Rattle.checks.specs.Exactly.{test, Gives, gives}
 use Rattle.checks.specs.Number.{is_infinite, not_finite, beyond, is_whole, no_trace}
 use Rattle.checks.specs.Each
 use Rattle.checks.specs.Limit

@@ -1,12 +1,11 @@
 -- Which numbers are traces: the 256 whole numbers from 0 to 255, each as its f64, and -0, which has the value 0. Exactly these
 -- pass the check of a trace. It refuses a NaN with 11, an infinity with 12, and every other number with 15.
-use Rattle.std.specs.Prelude.{◌≡◌, refl, ◌↔◌, ◌⊎◌, false, List, ◌∷◌, ℕ, ◌≤◌, T, pos, Float}
+use Rattle.std.specs.Prelude.{◌≡◌, refl, ◌↔◌, ◌⊎◌, false, List, ◌∷◌, ℕ, ◌≤◌, T, pos, Float, Ok}
 use Rattle.std.proofs.Common.{sym, subst, inl, inr, arith}
 use Rattle.std.proofs.Math.Logic.Iff
 use Rattle.std.specs.Float.{binary64}
 use Rattle.std.specs.Float.Ieee.{of_int, of_bits, fits, is_nan, lt}
 use Rattle.checks.specs.declared.fault.Place.{Place}
-use Rattle.checks.specs.declared.fault.Checked.TheVariants.{Fine}
 use Rattle.checks.specs.Fault.{bad, refuse, later}
 use Rattle.checks.specs.Number.{is_infinite, is_whole, no_trace}
 use Rattle.checks.specs.Each
@@ -31,7 +30,7 @@ module _ (x : Float) (t : T (fits binary64 x)) where
   )
 
   -- the check finds it fine
-  pub passes-when : (p : Place) → (Each.trace x p ≡ Fine) ↔ IsTrace x
+  pub passes-when : (p : Place) → (Each.trace x p ≡ Ok tt) ↔ IsTrace x
   passes-when p = Iff.trans (trace-fine x p) is-trace
 
   -- the check refuses it with 15: it is finite and no trace

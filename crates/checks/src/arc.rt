@@ -11,12 +11,12 @@ pub fn arc_chord(a: PlineVertex, b: PlineVertex, owner: u64, index: u64) -> Chec
     ensures { result ≡ Arc.arc_chord a b owner index }
 {
     if a.bulge_is_zero() {
-        return Checked::Fine;
+        return Ok(());
     }
     let chord = b.pos().sub(a.pos());
     // The square of the length shows that it is long enough: no root is needed.
     if chord.length_squared() >= limit::CHORD_SQUARE {
-        return Checked::Fine;
+        return Ok(());
     }
     each::chord(chord.length(), at(owner, index, Item::Chord))
 }

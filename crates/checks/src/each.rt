@@ -2,23 +2,23 @@
 ghost use Rattle.std.specs.Prelude.{◌≡◌};
 ghost use Rattle.checks.specs.Each;
 
-use super::fault::{Checked, Item, Place, at, later, refuse};
+use super::fault::{Checked, Item, Place, at, refuse};
 use super::{limit, number, refusal};
 
 // Refusal 11 if x is a NaN, 12 if it is infinite.
 pub fn finite(x: f64, place: Place) -> Checked
     ensures { result ≡ Each.finite x place }
 {
-    let a = refuse(number::is_nan(x), refusal::NAN, place);
-    later(a, refuse(number::is_infinite(x), refusal::INFINITE, place))
+    refuse(number::is_nan(x), refusal::NAN, place)?;
+    refuse(number::is_infinite(x), refusal::INFINITE, place)
 }
 
 // Refusal 11 if x is a NaN, 12 if it is infinite, then refusal `number` if `bad`.
 fn finite_then(x: f64, bad: bool, number: u64, place: Place) -> Checked
     ensures { result ≡ Each.finite_then x bad number place }
 {
-    let a = finite(x, place);
-    later(a, refuse(bad, number, place))
+    finite(x, place)?;
+    refuse(bad, number, place)
 }
 
 // Refusal 4 if epsilon is a NaN, infinite, below 2^-40 or above 1/2. A call has one epsilon, so its place is always the same.

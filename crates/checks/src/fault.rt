@@ -47,12 +47,8 @@ pub struct Fault {
     pub place: Place,
 }
 
-// What a check answers.
-#[derive(Clone, Copy)]
-pub enum Checked {
-    Fine,
-    Bad(Fault),
-}
+// What a check answers: fine, or the fault.
+pub type Checked = Result<(), Fault>;
 
 // The place of an owner's number.
 pub fn at(owner: u64, index: u64, item: Item) -> Place
@@ -84,9 +80,9 @@ pub fn refuse(bad: bool, number: u64, place: Place) -> Checked
         place: place,
     };
     if bad {
-        return Checked::Bad(fault);
+        return Err(fault);
     }
-    Checked::Fine
+    Ok(())
 }
 
 // The first fault of two checks: the one of `earlier`, or, if that is fine, what `next` says.
@@ -94,7 +90,7 @@ pub fn later(earlier: Checked, next: Checked) -> Checked
     ensures { result ≡ fault.later earlier next }
 {
     match earlier {
-        Checked::Fine => next,
-        Checked::Bad(fault) => Checked::Bad(fault),
+        Ok(()) => next,
+        Err(fault) => Err(fault),
     }
 }

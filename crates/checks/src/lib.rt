@@ -3,6 +3,7 @@
 #![tactic(auto)]
 
 pub mod arc;
+pub mod call;
 pub mod calls;
 pub mod chain;
 pub mod each;

@@ -21,27 +21,7 @@ const INDICES: u64 = 4294967296;
 pub fn item_number(item: Item) -> u64
     ensures { result ≡ FaultNumbers.item item }
 {
-    match item {
-        Item::Epsilon => 0,
-        Item::X => 1,
-        Item::Y => 2,
-        Item::Bulge => 3,
-        Item::Radius => 4,
-        Item::CenterX => 5,
-        Item::CenterY => 6,
-        Item::Chord => 7,
-        Item::Length => 8,
-        Item::Rows => 9,
-        Item::Position => 10,
-        Item::Budget => 11,
-        Item::Boxes => 12,
-        Item::Trace => 13,
-        Item::Report => 14,
-        Item::Line => 15,
-        Item::Room => 16,
-        Item::CutX => 17,
-        Item::CutY => 18,
-    }
+    item as u64
 }
 
 // The word of a fault: bits 0 to 15 are 256 plus its number, bits 16 to 23 the item, 24 to 31 the owner, 32 to 63 the index.

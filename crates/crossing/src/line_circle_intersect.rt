@@ -1,19 +1,12 @@
-// A line segment and a circle: the answer, and the call, which checks its numbers first.
+// A line segment and a circle: the call, which checks its numbers first.
 ghost use Rattle.std.specs.Prelude.{◌≡◌};
 ghost use Rattle.crossing.specs.LineCircleIntersect;
 
 use super::line_circle;
 use super::line_circle_intr::LineCircleIntr;
 use checks::calls::check_line_circle;
-use checks::fault::{Checked, Fault};
+use checks::fault::Fault;
 use plane::vector2::Vector2;
-
-// What the call answers: how they meet, or the first fault.
-#[derive(Clone, Copy)]
-pub enum LineCircleAnswer {
-    Refused(Fault),
-    Met(LineCircleIntr),
-}
 
 // How the line from p0 to p1 meets a circle, or the refusal of the first number at fault.
 pub fn line_circle_intr(
@@ -22,18 +15,9 @@ pub fn line_circle_intr(
     radius: f64,
     circle_center: Vector2,
     epsilon: f64,
-) -> LineCircleAnswer
+) -> Result<LineCircleIntr, Fault>
     ensures { result ≡ LineCircleIntersect.line_circle_intr p0 p1 radius circle_center epsilon }
 {
-    let checked = check_line_circle(p0, p1, radius, circle_center, epsilon);
-    match checked {
-        Checked::Fine => LineCircleAnswer::Met(line_circle::line_circle(
-            p0,
-            p1,
-            radius,
-            circle_center,
-            epsilon,
-        )),
-        Checked::Bad(fault) => LineCircleAnswer::Refused(fault),
-    }
+    check_line_circle(p0, p1, radius, circle_center, epsilon)?;
+    Ok(line_circle::line_circle(p0, p1, radius, circle_center, epsilon))
 }

@@ -1,19 +1,12 @@
-// Two line segments: the answer, and the call, which checks its numbers first.
+// Two line segments: the call, which checks its numbers first.
 ghost use Rattle.std.specs.Prelude.{◌≡◌};
 ghost use Rattle.crossing.specs.LineLineIntersect;
 
 use super::line_line;
 use super::line_line_intr::LineLineIntr;
 use checks::calls::check_line_line;
-use checks::fault::{Checked, Fault};
+use checks::fault::Fault;
 use plane::vector2::Vector2;
-
-// What the call answers: how they meet, or the first fault.
-#[derive(Clone, Copy)]
-pub enum LineLineAnswer {
-    Refused(Fault),
-    Met(LineLineIntr),
-}
 
 // How the segments v1 to v2 and u1 to u2 meet, or the refusal of the first number at fault.
 pub fn line_line_intr(
@@ -22,12 +15,9 @@ pub fn line_line_intr(
     u1: Vector2,
     u2: Vector2,
     epsilon: f64,
-) -> LineLineAnswer
+) -> Result<LineLineIntr, Fault>
     ensures { result ≡ LineLineIntersect.line_line_intr v1 v2 u1 u2 epsilon }
 {
-    let checked = check_line_line(v1, v2, u1, u2, epsilon);
-    match checked {
-        Checked::Fine => LineLineAnswer::Met(line_line::line_line(v1, v2, u1, u2, epsilon)),
-        Checked::Bad(fault) => LineLineAnswer::Refused(fault),
-    }
+    check_line_line(v1, v2, u1, u2, epsilon)?;
+    Ok(line_line::line_line(v1, v2, u1, u2, epsilon))
 }

@@ -1,9 +1,8 @@
 // What a pair's kernel found, for a caller that has checked the numbers and wants more than the answer. The pair call does not use
 // it: what has one caller the compiler puts in place.
-ghost use Rattle.std.specs.Prelude.{◌≡◌};
+ghost use Rattle.std.specs.Prelude.{◌≡◌, Ok};
 ghost use Rattle.arcs.specs.Workings.Circles;
 ghost use Rattle.checks.specs.Calls;
-ghost use Rattle.checks.specs.declared.fault.Checked.TheVariants.{Fine};
 ghost use Rattle.crossing.specs.Workings.PairKernel as workings;
 
 use super::circle_circle::circle_circle;
@@ -36,7 +35,7 @@ pub fn pair_kernel(
     circle2: ArcRadiusCenter,
     pos_equal_eps: f64,
 ) -> PairKernel
-    requires pos_equal_eps_value { Calls.check_pline_seg v1 v2 u1 u2 pos_equal_eps ≡ Fine }
+    requires pos_equal_eps_value { Calls.check_pline_seg v1 v2 u1 u2 pos_equal_eps ≡ Ok tt }
     requires of_arc { Circles.OfArc v1 v2 circle1 }
     requires of_arc_2 { Circles.OfArc u1 u2 circle2 }
     ensures { result ≡ workings.pair_kernel v1 v2 circle1 u1 u2 circle2 pos_equal_eps }

@@ -2,18 +2,14 @@
 // writes the listing's text to standard output. If a read or a write fails, it says so in one text line on standard error.
 #![tactic(auto)]
 
-use answer_lines::Written;
-
 fn main(rt: HostRuntime) {
     // one byte more than an input may have: no more are read, and those behind would not change the answer (`read-enough` of
     // layout_listing/specs/ReadEnough.antt)
     let mut bytes = [0u8; layout_listing::BYTES + 1];
-    let input = streams::read_full(rt.stdin(), &mut bytes);
-    if input.failed {
+    let Ok(n) = streams::read_full(rt.stdin(), &mut bytes) else {
         let _ = eprintln!(rt; "crossings: standard input cannot be read");
         return;
-    }
-    let n = input.bytes;
+    };
     answer(&rt, &bytes[..n]);
 }
 
@@ -21,16 +17,11 @@ fn main(rt: HostRuntime) {
 // `answer-whole` of layout_listing/specs/Room.antt proves it for every input.
 fn answer(rt: &HostRuntime, input: &[u8]) {
     let mut out = [0u8; layout_listing::ROOM];
-    let written = layout_listing::list_layout(input, &mut out);
-    match written {
-        Written::Length(n) => {
-            if n <= out.len() {
-                write(rt, &out[..n]);
-                return;
-            }
+    if let Ok(n) = layout_listing::list_layout(input, &mut out) {
+        if n <= out.len() {
+            write(rt, &out[..n]);
+            return;
         }
-        Written::NoRows => {}
-        Written::NoRoom => {}
     }
     let _ = eprintln!(rt; "crossings: no room for the answer");
 }

@@ -1,10 +1,9 @@
 -- An accepted large arc's halves are accepted arcs of the old mode, and every segment of an accepted path's cut path passes the
 -- old mode's checks. The half bulge is from 1/64 to 1 in magnitude and has the sign of the arc's bulge; the cut point is in
 -- range.
-use Rattle.std.specs.Prelude.{◌≡◌, Bool, true, false, List, ℕ, ◌<◌, Float}
+use Rattle.std.specs.Prelude.{◌≡◌, Bool, true, false, List, ℕ, ◌<◌, Float, Ok}
 use Rattle.plane.specs.declared.pline_vertex.PlineVertex.{PlineVertex}
 use Rattle.checks.specs.declared.fault.Place.{Place}
-use Rattle.checks.specs.declared.fault.Checked.TheVariants.{Fine}
 use Rattle.checks.specs.Each
 use Rattle.checks.specs.Arc.{arc_chord}
 use Rattle.checks.specs.First.{first}
@@ -23,15 +22,15 @@ use Rattle.cuts.specs.Laws.HalfBulge as halves
 use Rattle.cuts.specs.Laws.Sound.{Sound, whole-sound, halves-sound, path-sound}
 
 -- ---- the half bulge
-pub half-bulge : (b : Float) (p : Place) → is_large b ≡ true → Each.large_bulge b p ≡ Fine → HalfOf b (half_bulge b)
+pub half-bulge : (b : Float) (p : Place) → is_large b ≡ true → Each.large_bulge b p ≡ Ok tt → HalfOf b (half_bulge b)
 half-bulge b p large fine = halves.half-bulge b large ((large-bulge-fine b p).0 fine)
 
 -- ---- a segment, of a path or of a pair
 -- it passes the checks of the old mode, at any place
 pub record Passes (v1 v2 : PlineVertex) : Type 0 where
-  pub start : (owner index : ℕ) → first (lists.vertex_checks v1.x v1.y v1.bulge owner index) ≡ Fine
-  pub end : (owner index : ℕ) → first (lists.point_checks v2.x v2.y owner index) ≡ Fine
-  pub arc : (owner index : ℕ) → arc_chord v1 v2 owner index ≡ Fine
+  pub start : (owner index : ℕ) → first (lists.vertex_checks v1.x v1.y v1.bulge owner index) ≡ Ok tt
+  pub end : (owner index : ℕ) → first (lists.point_checks v2.x v2.y owner index) ≡ Ok tt
+  pub arc : (owner index : ℕ) → arc_chord v1 v2 owner index ≡ Ok tt
 
 passes : (v1 v2 : PlineVertex) → Sound v1 v2 → Passes v1 v2
 passes v1 v2 s =
@@ -43,9 +42,9 @@ passes v1 v2 s =
 
 -- if its start, its end and itself pass the checks of the new mode, it passes those of the old one, or both its halves do
 module _ (v1 v2 : PlineVertex) (owner i j k : ℕ)
-    (start : first (vertex_checks v1.x v1.y v1.bulge owner i) ≡ Fine)
-    (end : first (lists.point_checks v2.x v2.y owner j) ≡ Fine)
-    (fine : first (segment_checks v1 v2 owner k) ≡ Fine) where
+    (start : first (vertex_checks v1.x v1.y v1.bulge owner i) ≡ Ok tt)
+    (end : first (lists.point_checks v2.x v2.y owner j) ≡ Ok tt)
+    (fine : first (segment_checks v1 v2 owner k) ≡ Ok tt) where
   pub whole : is_large v1.bulge ≡ false → Passes v1 v2
   whole e =
       let v = (vertex-passed v1.x v1.y owner v1.bulge i).0 start in
@@ -60,10 +59,10 @@ module _ (v1 v2 : PlineVertex) (owner i j k : ℕ)
 -- ---- a path
 -- with its trace
 pub record SegmentPasses (s : Segment) : Type 0 where
-  pub start : (owner index : ℕ) → first (lists.traced_checks s.v1.x s.v1.y s.v1.bulge s.trace owner index) ≡ Fine
+  pub start : (owner index : ℕ) → first (lists.traced_checks s.v1.x s.v1.y s.v1.bulge s.trace owner index) ≡ Ok tt
   pub passed : Passes s.v1 s.v2
 
-pub accepted : (path : List Float) (closed : Bool) (owner : ℕ) → first (large_path_checks path closed owner) ≡ Fine
+pub accepted : (path : List Float) (closed : Bool) (owner : ℕ) → first (large_path_checks path closed owner) ≡ Ok tt
     → (k : ℕ) → k < cut_count path closed → SegmentPasses (segment_from (cut_path path closed) k)
 accepted path closed owner fine k h =
     let s = path-sound path closed ((path-listed path closed owner).0 fine) k h in

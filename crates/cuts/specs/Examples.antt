@@ -1,6 +1,6 @@
 -- Worked examples, computed by the definitions: the arc from (0, 0) to (1/8, 0) with bulge 8 and with bulge -8, the bulges
 -- beside 1, the shortest chords beside 1 and at 16, and a path of two vertices. Floats are written by their bits.
-use Rattle.std.specs.Prelude.{◌≡◌, refl, true, false, List, [], ◌∷◌, Float}
+use Rattle.std.specs.Prelude.{◌≡◌, refl, true, false, List, [], ◌∷◌, Float, Ok}
 use Rattle.std.specs.Float.{binary64}
 use Rattle.std.specs.Float.Ieee.{of_bits, of_fields, odd, add, sub, mul, div, neg, lt, le, is_nan, sum, round, units, size, span, climb}
 use Rattle.floats.specs.F64
@@ -11,7 +11,6 @@ use Rattle.plane.specs.PlineVertex as vertices
 use Rattle.plane.specs.PlineVertex.{pos}
 use Rattle.plane.specs.Fuzzy.{fuzzy_eq_zero_eps}
 use Rattle.checks.specs.declared.fault.Item.TheVariants.{Chord}
-use Rattle.checks.specs.declared.fault.Checked.TheVariants.{Fine}
 use Rattle.checks.specs.Fault.{at, bad, refuse, later}
 use Rattle.checks.specs.Number.{is_infinite, beyond}
 use Rattle.checks.specs.Each
@@ -109,7 +108,7 @@ chord40 = of_bits binary64 0x3d70_0000_0000_0000
 abbrev chord43 : Float
 chord43 = of_bits binary64 0x3d40_0000_0000_0000
 
-pub short-at-one : first (segment_checks (from n1) (to chord40) 0 7) ≡ Fine
+pub short-at-one : first (segment_checks (from n1) (to chord40) 0 7) ≡ Ok tt
 unfolding segment_checks is_large arc_chord Each.chord refuse later vector2.length vector2.sub pos fuzzy_eq_zero_eps F64.abs
     F64.sqrt root_of root_at isqrt root_in add sub mul div sum round units odd size span climb lt le neg of_bits of_fields
 short-at-one = refl
@@ -121,7 +120,7 @@ unfolding segment_checks is_large half_bulge cut_point bent cut_vertex vertices.
     F64.sqrt root_of root_at isqrt root_in add sub mul div sum round units odd size span climb lt le neg of_bits of_fields
 short-above-one = refl
 
-pub short-at-16 : first (segment_checks (from (of_bits binary64 0x4030_0000_0000_0000)) (to chord43) 0 7) ≡ Fine
+pub short-at-16 : first (segment_checks (from (of_bits binary64 0x4030_0000_0000_0000)) (to chord43) 0 7) ≡ Ok tt
 unfolding segment_checks is_large half_bulge cut_point bent cut_vertex vertices.new vector2.new arc_chord
     Each.coordinate Each.finite_then Each.finite Each.chord is_nan is_infinite beyond refuse later
     vector2.length vector2.sub pos fuzzy_eq_zero_eps F64.abs

@@ -1,10 +1,10 @@
 -- The checks in the mode of large arcs, as lists in request 11's order. A bulge may be up to 16 in magnitude. Where a path's arcs
 -- are checked, an arc that is cut has four checks: the cut point's x and y, then the chords of both halves. Their place is the
 -- segment that is cut.
+use Rattle.checks.specs.Checked.{Checked}
 use Rattle.std.specs.Prelude.{Bool, cond, List, [], ◌∷◌, ◌++◌, ℕ, Float}
 use Rattle.plane.specs.declared.pline_vertex.PlineVertex.{PlineVertex}
 use Rattle.checks.specs.declared.fault.Item.TheVariants.{Bulge, Trace, CutX, CutY}
-use Rattle.checks.specs.declared.fault.Checked.{Checked}
 use Rattle.checks.specs.Fault.{at, later}
 use Rattle.checks.specs.Each
 use Rattle.checks.specs.Arc.{arc_chord}

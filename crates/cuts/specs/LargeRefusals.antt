@@ -1,7 +1,7 @@
 -- The table of refusals in the mode of large arcs: which refusal each check gives, and exactly when. Exactly.antt of the crate
 -- `checks` says what `Gives` means. A coordinate and a trace are checked as in the old mode (RefusalTable.antt there), and so
 -- is the arc of a segment that is not cut (PathRefusals.antt of `paths`).
-use Rattle.std.specs.Prelude.{◌≡◌, ◌↔◌, Bool, true, false, cond, ◌||◌, List, [], ◌∷◌, ℕ, ◌<◌, Float}
+use Rattle.std.specs.Prelude.{◌≡◌, ◌↔◌, Bool, true, false, cond, ◌||◌, List, [], ◌∷◌, ℕ, ◌<◌, Float, Err, Ok}
 use Rattle.std.specs.Float.Ieee.{is_nan}
 use Rattle.floats.specs.Ops.{◌≺◌, ◌≻◌}
 use Rattle.floats.specs.F64
@@ -9,7 +9,6 @@ use Rattle.plane.specs.declared.pline_vertex.PlineVertex.{PlineVertex}
 use Rattle.checks.specs.declared.fault.Item.TheVariants.{CutX, CutY, Chord}
 use Rattle.checks.specs.declared.fault.Place.{Place}
 use Rattle.checks.specs.declared.fault.Fault.{Fault}
-use Rattle.checks.specs.declared.fault.Checked.TheVariants.{Fine, Bad}
 use Rattle.checks.specs.Fault.{at, bad}
 use Rattle.checks.specs.Exactly.{Gives, test}
 use Rattle.checks.specs.Number.{is_infinite}
@@ -32,8 +31,8 @@ bulge b p = RefusalTable.large-bulge b p
 
 -- ---- the segment from v1 to v2, where v1 and the position of v2 have passed their checks
 module _ (v1 v2 : PlineVertex) (owner i j : ℕ)
-    (start : first (vertex_checks v1.x v1.y v1.bulge owner i) ≡ Fine)
-    (end : first (point_checks v2.x v2.y owner j) ≡ Fine) (index : ℕ) where
+    (start : first (vertex_checks v1.x v1.y v1.bulge owner i) ≡ Ok tt)
+    (end : first (point_checks v2.x v2.y owner j) ≡ Ok tt) (index : ℕ) where
   abbrev pub c : PlineVertex
   c = cut_vertex v1 v2
 
@@ -64,7 +63,7 @@ module _ (v1 v2 : PlineVertex) (owner i j : ℕ)
         (bad 2 (at owner index CutY))
         (cond ((chord_length (bent v1) c ≺ Limit.chord_least) || (chord_length c v2 ≺ Limit.chord_least))
         (bad 5 (at owner index Chord))
-        Fine))
+        (Ok tt)))
     cut-segment = laws.cut-segment v1 v2 owner i j start end index large
 
   -- a segment that is not cut has the check of the old mode alone
@@ -73,14 +72,14 @@ module _ (v1 v2 : PlineVertex) (owner i j : ℕ)
 
 -- ---- a path
 -- where its segments are checked, every vertex has passed: so what is said above holds for each segment
-pub at-segment : (numbers : List Float) (closed : Bool) (owner : ℕ) → first (all_vertices numbers owner) ≡ Fine
+pub at-segment : (numbers : List Float) (closed : Bool) (owner : ℕ) → first (all_vertices numbers owner) ≡ Ok tt
     → (i : ℕ) → i < segment_count numbers closed
     → (let s = segment_from numbers i in
-    (first (vertex_checks s.v1.x s.v1.y s.v1.bulge owner i) ≡ Fine)
-    × (first (point_checks s.v2.x s.v2.y owner (after numbers i)) ≡ Fine))
+    (first (vertex_checks s.v1.x s.v1.y s.v1.bulge owner i) ≡ Ok tt)
+    × (first (point_checks s.v2.x s.v2.y owner (after numbers i)) ≡ Ok tt))
 at-segment numbers closed owner fine i below = laws.at-segment numbers closed owner fine i below
 
 -- a path is refused with its first fault
 pub path : (numbers : List Float) (closed : Bool) (owner : ℕ) (f : Fault)
-    → (first (large_path_checks numbers closed owner) ≡ Bad f) ↔ FirstFault f (large_path_checks numbers closed owner)
+    → (first (large_path_checks numbers closed owner) ≡ Err f) ↔ FirstFault f (large_path_checks numbers closed owner)
 path numbers closed owner f = first-bad (large_path_checks numbers closed owner) f

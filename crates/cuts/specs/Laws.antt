@@ -1,6 +1,7 @@
 -- Laws that only proofs need. A reader need not believe them: they are proved.
 pub mod Fine
 pub mod Steps
+pub mod After
 pub mod Pieces
 pub mod Joined
 pub mod Places

@@ -1,12 +1,12 @@
 // The check of a path in the mode of large arcs: its vertices in order, then its segments in order. It is as that of `paths`, but
 // a bulge may be up to 16 in magnitude, and a segment that is cut is judged by its cut point and its halves.
-ghost use Rattle.std.specs.Prelude.{◌≡◌, ◌∷◌};
+ghost use Rattle.std.specs.Prelude.{◌≡◌};
 ghost use Rattle.checks.specs.First.{first};
 ghost use Rattle.cuts.specs.LargeChecks;
 ghost use Rattle.cuts.specs.Workings.Inside;
 
 use super::cut::{halve, is_large};
-use checks::fault::{Checked, Item, at, later};
+use checks::fault::{Checked, Item, at};
 use checks::number::{inside, no_trace};
 use checks::{arc, chain, each, limit};
 use paths::{path, segments};
@@ -29,124 +29,88 @@ fn vertex_inside(x: f64, y: f64, bulge: f64, trace: f64) -> bool
 fn vertices_inside(path: &[f64]) -> bool
     ensures { Inside.IfYes path.now result }
 {
-    let count = path::vertex_count(path);
-    let mut i = 0;
-    while i < count {
+    for i in 0..path::vertex_count(path) {
         let v = path::vertex(path, i);
         let trace = path::trace(path, i);
         if !vertex_inside(v.x, v.y, v.bulge, trace) {
             return false;
         }
-        i += 1;
     }
     true
 }
 
 // A vertex: x, y, then its bulge.
-pub fn vertex_after(f: Checked, x: f64, y: f64, bulge: f64, owner: u64, index: u64) -> Checked
-    ensures { result ≡ first (f ∷ LargeChecks.vertex_checks x y bulge owner index) }
+pub fn vertex(x: f64, y: f64, bulge: f64, owner: u64, index: u64) -> Checked
+    ensures { result ≡ first (LargeChecks.vertex_checks x y bulge owner index) }
 {
-    let a = chain::point_after(f, x, y, owner, index);
-    later(a, each::large_bulge(bulge, at(owner, index, Item::Bulge)))
+    chain::point(x, y, owner, index)?;
+    each::large_bulge(bulge, at(owner, index, Item::Bulge))
 }
 
 // A vertex of a path: x, y, its bulge, then its trace.
-fn traced_after(
-    f: Checked,
-    x: f64,
-    y: f64,
-    bulge: f64,
-    trace: f64,
-    owner: u64,
-    index: u64,
-) -> Checked
-    ensures { result ≡ first (f ∷ LargeChecks.traced_checks x y bulge trace owner index) }
+fn traced(x: f64, y: f64, bulge: f64, trace: f64, owner: u64, index: u64) -> Checked
+    ensures { result ≡ first (LargeChecks.traced_checks x y bulge trace owner index) }
 {
-    let a = vertex_after(f, x, y, bulge, owner, index);
-    later(a, each::trace(trace, at(owner, index, Item::Trace)))
+    vertex(x, y, bulge, owner, index)?;
+    each::trace(trace, at(owner, index, Item::Trace))
 }
 
 // A segment from v1 to v2. If it is cut: the cut point's x and y, then the chords of both halves. Else its chord, if it is an
 // arc. The place is always that of the segment itself.
-pub fn segment_after(
-    f: Checked,
-    v1: PlineVertex,
-    v2: PlineVertex,
-    owner: u64,
-    index: u64,
-) -> Checked
-    ensures { result ≡ first (f ∷ LargeChecks.segment_checks v1 v2 owner index) }
+#[tactic(auto, unfolding(checks::specs::Fault::later, crate::specs::LargeChecks::segment_checks, crate::specs::Cut::halve))]
+pub fn segment(v1: PlineVertex, v2: PlineVertex, owner: u64, index: u64) -> Checked
+    ensures { result ≡ first (LargeChecks.segment_checks v1 v2 owner index) }
 {
     if is_large(v1.bulge) {
         let h = halve(v1, v2);
         let c = h.second;
-        let a = later(f, each::coordinate(c.x, at(owner, index, Item::CutX)));
-        let b = later(a, each::coordinate(c.y, at(owner, index, Item::CutY)));
-        let d = later(b, arc::arc_chord(h.first, c, owner, index));
-        return later(d, arc::arc_chord(c, v2, owner, index));
+        each::coordinate(c.x, at(owner, index, Item::CutX))?;
+        each::coordinate(c.y, at(owner, index, Item::CutY))?;
+        arc::arc_chord(h.first, c, owner, index)?;
+        return arc::arc_chord(c, v2, owner, index);
     }
-    later(f, arc::arc_chord(v1, v2, owner, index))
+    arc::arc_chord(v1, v2, owner, index)
 }
 
-// The first fault of f and of every vertex of the path in order, vertex by vertex.
-fn find_in_vertices(f: Checked, path: &[f64], owner: u64) -> Checked
-    ensures { result ≡ LargeChecks.check_large_vertices f path.now owner }
+// The first fault of every vertex of the path in order, vertex by vertex.
+fn find_in_vertices(path: &[f64], owner: u64) -> Checked
+    ensures { result ≡ first (LargeChecks.all_vertices path.now owner) }
 {
-    let n = path::vertex_count(path);
-    let mut g = f;
-    let mut i = 0;
-    while i < n {
-        match g {
-            Checked::Fine => {}
-            Checked::Bad(fault) => {
-                return Checked::Bad(fault);
-            }
-        }
+    for i in 0..path::vertex_count(path) {
         let v = path::vertex(path, i);
         let trace = path::trace(path, i);
-        g = traced_after(g, v.x, v.y, v.bulge, trace, owner, i as u64);
-        i += 1;
+        traced(v.x, v.y, v.bulge, trace, owner, i as u64)?;
     }
-    g
+    Ok(())
 }
 
-// The first fault of f and of every vertex of the path in order. Most often there is no fault, and the quick test shows it
-// without building places.
-fn check_vertices(f: Checked, path: &[f64], owner: u64) -> Checked
-    ensures { result ≡ LargeChecks.check_large_vertices f path.now owner }
+// The first fault of every vertex of the path in order. Most often there is no fault, and the quick test shows it without building
+// places.
+fn check_vertices(path: &[f64], owner: u64) -> Checked
+    ensures { result ≡ first (LargeChecks.all_vertices path.now owner) }
 {
     if vertices_inside(path) {
-        return f;
+        return Ok(());
     }
-    find_in_vertices(f, path, owner)
+    find_in_vertices(path, owner)
 }
 
-// The first fault of f and of every segment of the path in order.
-fn check_segments(f: Checked, path: &[f64], closed: bool, owner: u64) -> Checked
-    ensures { result ≡ LargeChecks.check_large_segments f path.now closed owner }
+// The first fault of every segment of the path in order.
+fn check_segments(path: &[f64], closed: bool, owner: u64) -> Checked
+    ensures { result ≡ first (LargeChecks.all_segments path.now closed owner) }
 {
-    let n = segments::segment_count(path, closed);
-    let mut g = f;
-    let mut i = 0;
-    while i < n {
-        match g {
-            Checked::Fine => {}
-            Checked::Bad(fault) => {
-                return Checked::Bad(fault);
-            }
-        }
+    for i in 0..segments::segment_count(path, closed) {
         let s = segments::segment_from(path, i);
-        g = segment_after(g, s.v1, s.v2, owner, i as u64);
-        i += 1;
+        segment(s.v1, s.v2, owner, i as u64)?;
     }
-    g
+    Ok(())
 }
 
-// The first fault of f, of the path's vertices, and of its segments. It answers for every slice: if `shape` refuses the slice,
-// its whole vertices are checked and no segments.
-pub fn check_large_path(f: Checked, path: &[f64], closed: bool, owner: u64) -> Checked
-    ensures { result ≡ LargeChecks.check_large_path f path.now closed owner }
+// The first fault of the path's vertices, then of its segments. It answers for every slice: if `shape` refuses the slice, its whole
+// vertices are checked and no segments.
+pub fn check_large_path(path: &[f64], closed: bool, owner: u64) -> Checked
+    ensures { result ≡ first (LargeChecks.large_path_checks path.now closed owner) }
 {
-    let a = check_vertices(f, path, owner);
-    check_segments(a, path, closed, owner)
+    check_vertices(path, owner)?;
+    check_segments(path, closed, owner)
 }

@@ -45,12 +45,9 @@ pub fn cut_into(path: &[f64], closed: bool, out: &mut [f64]) -> usize
     ensures { Put (CutPath.cut_path path.now closed) out.old 0 out.new result }
 {
     let n = segments::segment_count(path, closed);
-    let count = path::vertex_count(path);
     let mut at = 0;
-    let mut i = 0;
-    while i < count {
+    for i in 0..path::vertex_count(path) {
         at = put_vertices(path, n, i, out, at);
-        i += 1;
     }
     at
 }
@@ -81,12 +78,9 @@ pub fn names_into(path: &[f64], closed: bool, names: &mut [u64]) -> usize
     requires { path_of.vertex_count path.now * 2 ≤ length names.old }
     ensures { Put (CutPath.name_words path.now closed) names.old 0 names.new result }
 {
-    let n = segments::segment_count(path, closed);
     let mut at = 0;
-    let mut i = 0;
-    while i < n {
+    for i in 0..segments::segment_count(path, closed) {
         at = put_names(path, i, names, at);
-        i += 1;
     }
     at
 }

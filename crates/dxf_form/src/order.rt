@@ -3,7 +3,7 @@ ghost use Rattle.std.specs.Prelude.{◌≡◌};
 ghost use Rattle.dxf_form.specs.Order as order;
 
 // What is due: the count; the flags; a vertex or the end; a vertex's y; its bulge, the next vertex or the end.
-#[derive(Clone, Copy)]
+#[derive(Clone, Copy, PartialEq, Eq, Debug)]
 pub enum Due {
     Count,
     Flags,
@@ -13,7 +13,7 @@ pub enum Due {
 }
 
 // What a code is for: one of the groups that count, one to be skipped, or out of place.
-#[derive(Clone, Copy)]
+#[derive(Clone, Copy, PartialEq, Eq, Debug)]
 pub enum Turn {
     Count,
     Flags,
@@ -142,11 +142,5 @@ pub fn after(due: Due, turn: Turn) -> Due
 pub fn may_end(due: Due) -> bool
     ensures { result ≡ order.may_end due }
 {
-    match due {
-        Due::Count => false,
-        Due::Flags => false,
-        Due::Vertex => true,
-        Due::Y => false,
-        Due::Bulge => true,
-    }
+    matches!(due, Due::Vertex | Due::Bulge)
 }

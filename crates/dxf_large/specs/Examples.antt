@@ -1,6 +1,6 @@
 -- Worked examples: a loop from (0, 0) to (1/8, 0) with bulge 8 is imported and exported in the mode of large arcs; the old mode
 -- refuses it, and both refuse bulge 17.
-use Rattle.std.specs.Prelude.{ℕ, zero, suc, ◌≡◌, refl, false, List, [], ◌∷◌, ◌++◌, replicate, Float}
+use Rattle.std.specs.Prelude.{ℕ, zero, suc, ◌≡◌, refl, false, List, [], ◌∷◌, ◌++◌, replicate, Float, Ok, Err}
 use Prim.Native.Char.{code}
 use Prim.Native.String.{String, len, char_at}
 use Rattle.std.specs.Float.{binary64}
@@ -27,9 +27,7 @@ use Rattle.dxf_form.specs.Numbers.{held, value}
 use Rattle.dxf_form.specs.Body.{at_last, taken, taken_all}
 use Rattle.dxf_form.specs.Workings.Reader.{read_groups, read_from, pair_of, whole_line, number_line, skip_line, line_end, signed_end}
 use Rattle.dxf_form.specs.Workings.Reader.{after_point, after_sign, digits_from, past_blanks}
-use Rattle.dxf_read.specs.Import.{ImportOutcome, import_dxf}
-use Rattle.dxf_read.specs.declared.Imported.TheVariants as Imported·
-use Rattle.dxf_write.specs.declared.Exported.TheVariants as Exported·
+use Rattle.dxf_read.specs.Import.{Path, ImportOutcome, import_dxf}
 use Rattle.dxf_write.specs.Millionths.{tested, millionths_of}
 use Rattle.dxf_write.specs.Written.{six_digits, size_bytes, number_bytes, group_bytes, vertex_bytes, vertices_bytes, body_bytes}
 use Rattle.dxf_write.specs.Export.{corner_at, bytes_of, of_texts, export_after}
@@ -69,12 +67,12 @@ room = replicate 9 n1
 
 -- a bulge beyond its limit, at vertex 0: nothing is written
 abbrev beyond_limit : ImportOutcome
-beyond_limit = record { answer = Imported·.Refused (record { number = 3; place = at 0 0 Bulge }); path = room }
+beyond_limit = record { answer = Err (record { number = 3; place = at 0 0 Bulge }); path = room }
 
 -- ---- imported uncut, and what follows stays
 
 pub loop-imported : import_large (loop_text "8") room
-    ≡ record { answer = Imported·.Path 2 false; path = loop_path ++ (n1 ∷ []) }
+    ≡ record { answer = Path 2 false; path = loop_path ++ (n1 ∷ []) }
 unfolding import_large read_groups read_from pair_of whole_line number_line skip_line line_end signed_end after_point after_sign digits_from
     past_blanks taken_all taken at_last value held of_int shape refused segment_count segment_from after vertex trace vertices.new
     of_vertex of_segment segment_checks is_large half_bulge cut_point bent cut_vertex vector2.new vector2.length vector2.sub pos
@@ -106,7 +104,7 @@ eight-refused = refl
 
 pub loop-exported : export_large loop_path false (replicate 83 46)
     ≡ record {
-      answer = Exported·.Bytes 82;
+      answer = Ok 82;
       text =
           bytes
           "90\n2\n70\n0\n10\n0.000000\n20\n0.000000\n42\n8.000000\n10\n0.125000\n20\n0.000000\n42\n0.000000\n.";

@@ -1,8 +1,8 @@
 -- What the import and the export of a drawing answer in the mode of large arcs, by request 11: as in the old mode, with the
 -- checks of that mode in the place of the path's. So a bulge may be up to 16 in magnitude. The path is imported and exported as it
 -- stands: nothing is cut, and 7 counts its vertices before any cut.
+use Rattle.checks.specs.Checked.{Checked}
 use Rattle.std.specs.Prelude.{ℕ, Bool, List, ◌∷◌, Float}
-use Rattle.checks.specs.declared.fault.Checked.{Checked}
 use Rattle.paths.specs.Shape
 use Rattle.cuts.specs.LargeChecks.{large_path_checks}
 use Rattle.dxf_read.specs.Import.{ImportOutcome, import_by}

@@ -1,8 +1,9 @@
 -- What a caller may rely on in the mode of large arcs. An import tells the text's fault; of a text that spells a body the first
 -- fault of its checks, or the path. An export answers as that of the old mode, with the other checks of the path: ExportPromise.antt
 -- of dxf_write. A refusal writes nothing, and what follows stays.
-use Rattle.std.specs.Prelude.{ℕ, ◌<◌, ◌≡◌, refl, ◌↔◌, Bool, true, false, List, ◌++◌, T, length, drop, Float}
-use Rattle.std.proofs.Common.{sym, ap, ◌∙◌, true≢false}
+use Rattle.checks.specs.Checked.{Checked}
+use Rattle.std.specs.Prelude.{ℕ, ◌<◌, ◌≡◌, ◌↔◌, Bool, true, false, List, ◌++◌, T, length, drop, Float, Result, Err, Ok}
+use Rattle.std.proofs.Common.{ap, ◌∙◌, true≢false}
 use Rattle.std.proofs.Math.Logic.Iff
 use Rattle.std.proofs.lemmas.List.Edits.{sets}
 use Rattle.std.specs.Float.{binary64}
@@ -11,8 +12,6 @@ use Rattle.float_laws.specs.Chains.{le_trans}
 use Rattle.checks.specs.declared.fault.Item.{Item}
 use Rattle.checks.specs.declared.fault.Item.TheVariants.{Room}
 use Rattle.checks.specs.declared.fault.Fault.{Fault}
-use Rattle.checks.specs.declared.fault.Checked.{Checked}
-use Rattle.checks.specs.declared.fault.Checked.TheVariants.{Fine, Bad}
 use Rattle.checks.specs.Fault.{at, whole}
 use Rattle.checks.specs.First.{first}
 use Rattle.checks.specs.FirstFault.{FirstFault, AllFine, first-bad, first_fine}
@@ -23,17 +22,13 @@ use Rattle.cuts.specs.LargeChecks.{large_path_checks}
 use Rattle.cuts.specs.Laws.Fine.{path-listed}
 use Rattle.dxf_form.specs.Refusal
 use Rattle.dxf_form.specs.Numbers.{Corner, path_of}
-use Rattle.dxf_form.specs.Form.{Group, Spells, SpellsBody, closed_by}
+use Rattle.dxf_form.specs.Form.{SpellsBody, closed_by}
 use Rattle.dxf_form.specs.Fault.{FaultAt}
-use Rattle.dxf_form.specs.Body.{Body, body_of}
-use Rattle.dxf_form.specs.Workings.Reader.{groups, read_groups}
+use Rattle.dxf_form.specs.Body.{Body}
 use Rattle.dxf_form.specs.Exactly.{fault-read, groups-read, gives-complete-body}
-use Rattle.dxf_read.specs.Import.{ImportOutcome, body_checks_by, by_checks, line_fault}
+use Rattle.dxf_read.specs.Import.{Path, body_checks_by, by_checks, line_fault}
 use Rattle.dxf_read.specs.Laws.Finishing.{fault-by}
 use Rattle.dxf_read.specs.declared.Imported.{Imported}
-use Rattle.dxf_read.specs.declared.Imported.TheVariants as Imported·
-use Rattle.dxf_write.specs.declared.Exported.{Exported}
-use Rattle.dxf_write.specs.declared.Exported.TheVariants as Exported·
 use Rattle.dxf_write.specs.Export.{bytes_of, Exports}
 use Rattle.dxf_write.specs.When.{NoText, NoRoom, Exportable}
 use Rattle.dxf_write.specs.Laws.When as when
@@ -44,7 +39,7 @@ use Rattle.dxf_large.specs.Laws.Low as low
 
 -- 20 and 21: the text's fault, and nothing is written
 pub text-fault : (text : List ℕ) (old : List Float) (number line : ℕ) → FaultAt text number line
-    → import_large text old ≡ record { answer = Imported·.Refused (line_fault number line); path = old }
+    → import_large text old ≡ record { answer = Err (line_fault number line); path = old }
 unfolding import_large
 text-fault text old number line f = fault-by large_path_checks text old ((fault-read text number line).1 f)
 
@@ -65,34 +60,34 @@ module _ (text : List ℕ) (old : List Float) (n f : ℕ) (vs : List Corner) (s 
       rw (read, c.1)
 
   -- the first fault is told
-  pub import-refused-when : (fault : Fault) → ((import_large text old).answer ≡ Imported·.Refused fault)
+  pub import-refused-when : (fault : Fault) → ((import_large text old).answer ≡ Err fault)
       ↔ FirstFault fault import_checks
   import-refused-when fault = rw by_first (Iff.trans (by (first import_checks)) (first-bad import_checks fault))
     where
-      fault-of : Imported → Fault
-      fault-of (Imported·.Path k closed) = fault
-      fault-of (Imported·.Refused g) = g
+      fault-of : Result Imported Fault → Fault
+      fault-of (Ok imported) = fault
+      fault-of (Err g) = g
 
-      tagged : Imported → Bool
-      tagged (Imported·.Path k closed) = true
-      tagged (Imported·.Refused g) = false
+      tagged : Result Imported Fault → Bool
+      tagged (Ok imported) = true
+      tagged (Err g) = false
 
-      by : (c : Checked) → ((by_checks spelt-body old c).answer ≡ Imported·.Refused fault) ↔ (c ≡ Bad fault)
-      by Fine = (λ e. absurd (true≢false (ap tagged e)), λ e. absurd (true≢false (ap is-fine e)))
+      by : (c : Checked) → ((by_checks spelt-body old c).answer ≡ Err fault) ↔ (c ≡ Err fault)
+      by (Ok _) = (λ e. absurd (true≢false (ap tagged e)), λ e. absurd (true≢false (ap is-fine e)))
         where
           is-fine : Checked → Bool
-          is-fine Fine = true
-          is-fine (Bad g) = false
-      by (Bad g) = (λ e. ap Bad (ap fault-of e), λ e. ap (λ (c : Checked). (by_checks spelt-body old c).answer) e)
+          is-fine (Ok _) = true
+          is-fine (Err g) = false
+      by (Err g) = (λ e. ap Err (ap fault-of e), λ e. ap (λ (c : Checked). (by_checks spelt-body old c).answer) e)
 
   -- and nothing is written
   pub import-refused-keeps : (fault : Fault) → FirstFault fault import_checks
-      → import_large text old ≡ record { answer = Imported·.Refused fault; path = old }
+      → import_large text old ≡ record { answer = Err fault; path = old }
   import-refused-keeps fault h = by_first ∙ ap (by_checks spelt-body old) ((first-bad import_checks fault).1 h)
 
   -- else the path stands at the front, uncut, and what follows stays
   pub imported-when : AllFine import_checks
-      → import_large text old ≡ record { answer = Imported·.Path (length vs) (closed_by f); path = sets old 0 (path_of vs) }
+      → import_large text old ≡ record { answer = Path (length vs) (closed_by f); path = sets old 0 (path_of vs) }
   imported-when h = by_first ∙ ap (by_checks spelt-body old) ((first_fine import_checks).1 h)
 
 -- ---- exports
@@ -123,42 +118,42 @@ module _ (path : List Float) (closed : Bool) (old : List ℕ) where
   export_checks = when.all_checks own path closed old
 
   -- a refusal is told exactly if it is the first
-  pub refused-when : (f : Fault) → ((export_large path closed old).answer ≡ Exported·.Refused f) ↔ FirstFault f export_checks
+  pub refused-when : (f : Fault) → ((export_large path closed old).answer ≡ Err f) ↔ FirstFault f export_checks
   unfolding export_large
   refused-when f = when.refused-after own path closed old f
 
   module _ (f64 : (k : ℕ) → T (fits binary64 (number path k))) where
     -- a number below 20 is that of one of the path's own checks
     pub own-when : (f : Fault) → f.number < 20
-        → ((export_large path closed old).answer ≡ Exported·.Refused f) ↔ FirstFault f (large_checks_of path closed)
+        → ((export_large path closed old).answer ≡ Err f) ↔ FirstFault f (large_checks_of path closed)
     own-when f few = Iff.trans (refused-when f) (when.own-after own path closed old (judged path closed) f64 f few)
 
     -- 23 at a number of vertex i: all before is fine, and no number text has that number's value
     pub no-text-when : (i : ℕ) (item : Item)
-        → ((export_large path closed old).answer ≡ Exported·.Refused (record { number = Refusal.no_text; place = at 0 i item }))
+        → ((export_large path closed old).answer ≡ Err (record { number = Refusal.no_text; place = at 0 i item }))
         ↔ NoText (large_checks_of path closed) path i item
     no-text-when i item =
         Iff.trans (refused-when _) (when.no-text-after own path closed old (judged path closed) f64 i item)
 
     -- 24: all before is fine, and the text does not fit
-    pub no-room-when : ((export_large path closed old).answer ≡ Exported·.Refused (whole Refusal.room Room))
+    pub no-room-when : ((export_large path closed old).answer ≡ Err (whole Refusal.room Room))
         ↔ NoRoom (large_checks_of path closed) path closed old
     no-room-when = Iff.trans (refused-when _) (when.no-room-after own path closed old (judged path closed) f64)
 
     -- its bytes are answered exactly if nothing is at fault
-    pub exported-when : ((export_large path closed old).answer ≡ Exported·.Bytes (length (bytes_of path closed)))
+    pub exported-when : ((export_large path closed old).answer ≡ Ok (length (bytes_of path closed)))
         ↔ Exportable (large_checks_of path closed) path closed old
     unfolding export_large
     exported-when =
         Iff.trans (when.bytes_after own path closed old) (when.fine-after own path closed old (judged path closed) f64)
 
-  module _ {r : Exported} {now : List ℕ} (x : Exports (export_large path closed old) r now) where
+  module _ {r : Result ℕ Fault} {now : List ℕ} (x : Exports (export_large path closed old) r now) where
     -- a refusal writes nothing
-    pub refused-keeps : (f : Fault) → r ≡ Exported·.Refused f → now ≡ old
+    pub refused-keeps : (f : Fault) → r ≡ Err f → now ≡ old
     unfolding export_large
     refused-keeps = when.keeps-after own path closed old x
 
     -- else the bytes stand at the front, and what follows stays
-    pub written-front : (n : ℕ) → r ≡ Exported·.Bytes n → now ≡ bytes_of path closed ++ drop n old
+    pub written-front : (n : ℕ) → r ≡ Ok n → now ≡ bytes_of path closed ++ drop n old
     unfolding export_large
     written-front = when.front-after own path closed old x

@@ -1,9 +1,8 @@
 -- With no bulge above 1 in magnitude an import and an export in the mode of large arcs are those of the old mode, refusals
 -- included.
-use Rattle.std.specs.Prelude.{ℕ, ◌<◌, ◌≡◌, refl, Bool, false, List, [], ◌∷◌, ◌++◌, length, Float}
-use Rattle.std.proofs.Common.{ap, ◌∙◌, sym}
-use Rattle.checks.specs.declared.fault.Checked.{Checked}
-use Rattle.checks.specs.First.{first}
+use Rattle.checks.specs.Checked.{Checked}
+use Rattle.std.specs.Prelude.{ℕ, ◌<◌, ◌≡◌, refl, Bool, false, List, ◌∷◌, Float}
+use Rattle.std.proofs.Common.{ap}
 use Rattle.paths.specs.Path.{vertex_count, vertex}
 use Rattle.paths.specs.Shape
 use Rattle.cuts.specs.Cut.{is_large}
@@ -12,7 +11,6 @@ use Rattle.dxf_form.specs.Form.{SpellsBody, closed_by}
 use Rattle.dxf_form.specs.Body.{body_of}
 use Rattle.dxf_form.specs.Workings.Reader.{Read, fault_at, groups, read_groups}
 use Rattle.dxf_form.specs.Exactly.{accepted}
-use Rattle.dxf_read.specs.Import as imports
 use Rattle.dxf_read.specs.Import.{import_dxf}
 use Rattle.dxf_write.specs.Export.{export_after, export_dxf}
 use Rattle.dxf_large.specs.Large.{import_large, export_large}

@@ -1,4 +1,6 @@
 -- The ends of an import: each check that refuses, and a path that is copied.
+use Rattle.std.specs.Prelude.{Err, Ok}
+use Rattle.checks.specs.Checked.{Checked}
 use Prim.Native.Nat.{ℕ, ◌+◌, ◌*◌, ◌<◌, ◌≤◌}
 use mathlib.Core.Path.{◌≡◌, refl, sym, ◌∙◌}
 use mathlib.Core.Bool.{Bool}
@@ -12,31 +14,28 @@ use lib.Ieee.{Float}
 use Rattle.checks.specs.declared.fault.Item.TheVariants.{Length, Room}
 use Rattle.checks.specs.declared.fault.Place.{Place}
 use Rattle.checks.specs.declared.fault.Fault.{Fault}
-use Rattle.checks.specs.declared.fault.Checked.{Checked}
-use Rattle.checks.specs.declared.fault.Checked.TheVariants.{Fine, Bad}
 use Rattle.checks.specs.Fault.{at, refuse, later, whole}
 use Rattle.checks.specs.Refusal as numbers
 use Rattle.checks.specs.Laws.Later.{later-fine}
 use Rattle.paths.specs.Path.{numbers_a_vertex, most_vertices}
 use Rattle.dxf_form.specs.Refusal
-use Rattle.dxf_read.specs.Import.{Imports, line_fault}
+use Rattle.dxf_read.specs.Import.{Path, Imports, line_fault}
 use Rattle.dxf_read.specs.Workings.Finishing.{counted_by, room_by, finished_by}
 use Rattle.dxf_read.specs.Laws.Finishing.{room-enough}
-use Rattle.dxf_read.specs.declared.Imported.TheVariants as Imported·
 
 -- ---- the count, by what each call says
 
 module _ (n count line : ℕ) where
-  pub count-unmet : (count ≡ n → ⊥) → (f : Fault) → f ≡ line_fault Refusal.count line → Bad f ≡ counted_by n count line
+  pub count-unmet : (count ≡ n → ⊥) → (f : Fault) → f ≡ line_fault Refusal.count line → Err f ≡ counted_by n count line
   unfolding counted_by
   count-unmet h f e = rw (ne_eqb count n h, e)
 
   module _ (met : count ≡ n) where
-    pub path-long : most_vertices < n → (f : Fault) → f ≡ whole numbers.vertices Length → Bad f ≡ counted_by n count line
+    pub path-long : most_vertices < n → (f : Fault) → f ≡ whole numbers.vertices Length → Err f ≡ counted_by n count line
     unfolding counted_by
     path-long h f e = rw (eq-eqb count n met, lt-ltb most_vertices n h, e)
 
-    pub count-fine : n ≤ most_vertices → Fine ≡ counted_by n count line
+    pub count-fine : n ≤ most_vertices → (Ok tt) ≡ counted_by n count line
     unfolding counted_by
     count-fine h = rw (eq-eqb count n met, le-ltb most_vertices n h)
 
@@ -66,16 +65,16 @@ module _ (n : ℕ) (old : List Float) (checked : Checked) (p : Place) (place : p
   unfolding room_by
   all-is = rw (← place, ← room) both
 
-  pub enough : c ≡ Fine → n * numbers_a_vertex ≤ length old
+  pub enough : c ≡ Ok tt → n * numbers_a_vertex ≤ length old
   enough e = room-enough n (length old) ((later-fine _ _).0 (sym all-is ∙ e)).1
 
   module _ (buffer : List Float) (closed : Bool) where
-    pub refused : (f : Fault) → c ≡ Bad f
-        → Imports (finished_by buffer n closed old (later checked (room_by n (length old)))) (Imported·.Refused f) old
+    pub refused : (f : Fault) → c ≡ Err f
+        → Imports (finished_by buffer n closed old (later checked (room_by n (length old)))) (Err f) old
     unfolding finished_by
     refused f e = rw (← all-is, e) (record { answer-is = refl; path-holds = refl })
 
-    pub accepted : c ≡ Fine → (now : List Float) → now ≡ sets old 0 (take (n * numbers_a_vertex) buffer)
-        → Imports (finished_by buffer n closed old (later checked (room_by n (length old)))) (Imported·.Path n closed) now
+    pub accepted : c ≡ Ok tt → (now : List Float) → now ≡ sets old 0 (take (n * numbers_a_vertex) buffer)
+        → Imports (finished_by buffer n closed old (later checked (room_by n (length old)))) (Path n closed) now
     unfolding finished_by
     accepted e now holds = rw (← all-is, e) (record { answer-is = refl; path-holds = holds })

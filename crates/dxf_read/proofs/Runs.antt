@@ -15,9 +15,12 @@ abbrev pub run : ℕ → ℕ → List ℕ → Run
 run n many rest = record { number = n; many = many; rest = rest }
 
 module _ (text : List ℕ) (n many i : ℕ) (all : Run) (inv : digits n many (drop i text) ≡ all) where
-  pub at-end : length text ≤ i → run n many (drop i text) ≡ all
+  -- nothing is left from the text's end on
+  pub at-end : length text ≤ i → run n many (drop (length text) text) ≡ all
   unfolding digits
-  at-end h = rw (drop_of_length-le text h) (rw (drop_of_length-le text h) at inv)
+  at-end h =
+      let all-over : length text ≤ length text = omega arith in
+      rw (drop_of_length-le text all-over) (rw (drop_of_length-le text h) at inv)
 
   module _ (inside : i < length text) (b : ℕ) (is : b ≡ get_or text i 0) where
     pub at_low : b < 48 → run n many (drop i text) ≡ all

@@ -1,12 +1,11 @@
 -- What an import answers, and what the lent path holds afterwards, by request 10: the text's first fault; then the count; then
 -- the path's own checks, as every call with a path makes them; and last whether the path fits. The checks of the path's numbers
 -- and arcs are a parameter, since the mode of large arcs has others.
-use Rattle.std.specs.Prelude.{ℕ, ◌≡◌, Bool, not, cond, List, [], ◌∷◌, ◌++◌, ltb, eqb, length, Float}
+use Rattle.checks.specs.Checked.{Checked}
+use Rattle.std.specs.Prelude.{ℕ, ◌≡◌, Bool, not, cond, List, [], ◌∷◌, ◌++◌, ltb, eqb, length, Float, Result, Err, Ok}
 use Rattle.std.proofs.lemmas.List.Edits.{sets}
 use Rattle.checks.specs.declared.fault.Item.TheVariants.{Line, Room}
 use Rattle.checks.specs.declared.fault.Fault.{Fault}
-use Rattle.checks.specs.declared.fault.Checked.{Checked}
-use Rattle.checks.specs.declared.fault.Checked.TheVariants.{Fine, Bad}
 use Rattle.checks.specs.Fault.{at, refuse}
 use Rattle.checks.specs.First.{first}
 use Rattle.paths.specs.Shape
@@ -17,7 +16,6 @@ use Rattle.dxf_form.specs.Form.{Group, closed_by, count_line}
 use Rattle.dxf_form.specs.Body.{Body, body_of}
 use Rattle.dxf_form.specs.Workings.Reader.{Read, fault_at, groups, read_groups}
 use Rattle.dxf_read.specs.declared.Imported.{Imported}
-use Rattle.dxf_read.specs.declared.Imported.TheVariants as Imported·
 
 -- ---- lines
 
@@ -49,21 +47,25 @@ body_checks_by own gs old =
 
 -- ---- the answer, and what the path holds
 
+-- a path that was read: so many vertices, and whether it is closed
+abbrev pub Path : ℕ → Bool → Result Imported Fault
+Path n closed = Ok (record { vertices = n; closed = closed })
+
 pub record ImportOutcome : Type 0 where
-  pub answer : Imported
+  pub answer : Result Imported Fault
   pub path : List Float
 
 abbrev pub by_checks : Body → List Float → Checked → ImportOutcome
-by_checks b old Fine =
+by_checks b old (Ok _) =
     record {
-      answer = Imported·.Path (length b.vertices) (closed_by b.flags-are);
+      answer = Path (length b.vertices) (closed_by b.flags-are);
       path = sets old 0 (path_of b.vertices);
     }
-by_checks b old (Bad f) = record { answer = Imported·.Refused f; path = old }
+by_checks b old (Err f) = record { answer = Err f; path = old }
 
 abbrev pub by_groups_by : PathChecks → List Float → Read → ImportOutcome
 by_groups_by own old (fault_at number line) =
-    record { answer = Imported·.Refused (line_fault number line); path = old }
+    record { answer = Err (line_fault number line); path = old }
 by_groups_by own old (groups gs) = by_checks (body_of gs) old (first (body_checks_by own gs old))
 
 -- with these checks of the path
@@ -75,6 +77,6 @@ import_dxf text old = import_by path_checks text old
 
 -- ---- the promise
 
-pub record Imports (o : ImportOutcome) (answer : Imported) (path : List Float) : Type 0 where
+pub record Imports (o : ImportOutcome) (answer : Result Imported Fault) (path : List Float) : Type 0 where
   pub answer-is : answer ≡ o.answer
   pub path-holds : path ≡ o.path

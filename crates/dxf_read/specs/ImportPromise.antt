@@ -1,13 +1,12 @@
 -- An import's promise allows one result only. And it is exactly this: 20 and 21 for the text's fault; of a text that spells a
 -- body 22, 7, the path's own checks and 24, in this order; else the path.
-use Rattle.std.specs.Prelude.{ℕ, ◌*◌, ◌<◌, ◌≤◌, ◌≡◌, refl, ◌↔◌, Bool, true, false, List, eqb, ltb, length, Float}
+use Rattle.checks.specs.Checked.{Checked}
+use Rattle.std.specs.Prelude.{ℕ, ◌*◌, ◌<◌, ◌≤◌, ◌≡◌, refl, ◌↔◌, Bool, true, false, List, eqb, ltb, length, Float, Result, Err, Ok}
 use Rattle.std.proofs.Common.{sym, ap, ◌∙◌, arith, ltb-true, ltb-false, eqb-true}
 use Rattle.std.proofs.lemmas.Bool.{eqb-false}
 use Rattle.std.proofs.lemmas.List.Edits.{sets}
 use Rattle.checks.specs.declared.fault.Item.TheVariants.{Length, Room}
 use Rattle.checks.specs.declared.fault.Fault.{Fault}
-use Rattle.checks.specs.declared.fault.Checked.{Checked}
-use Rattle.checks.specs.declared.fault.Checked.TheVariants.{Fine, Bad}
 use Rattle.checks.specs.Fault.{whole}
 use Rattle.checks.specs.First.{first}
 use Rattle.checks.specs.FirstFault.{FirstFault, AllFine, first-bad, first_fine}
@@ -21,36 +20,35 @@ use Rattle.dxf_form.specs.Fault.{FaultAt}
 use Rattle.dxf_form.specs.Body.{body_of}
 use Rattle.dxf_form.specs.Workings.Reader.{Read, fault_at, groups, read_groups}
 use Rattle.dxf_form.specs.Exactly.{fault-read, accepted}
-use Rattle.dxf_read.specs.Import.{ImportOutcome, Imports, import_dxf, by_checks, line_fault}
+use Rattle.dxf_read.specs.Import.{Path, ImportOutcome, Imports, import_dxf, by_checks, line_fault}
 use Rattle.dxf_read.specs.Laws.Finishing.{fault-is}
 use Rattle.dxf_read.specs.Laws.Order.{all_checks, unmet-first, long-first, own_first, room-first, none_first, spelt-import}
 use Rattle.dxf_read.specs.declared.Imported.{Imported}
-use Rattle.dxf_read.specs.declared.Imported.TheVariants.{Path, Refused}
 
 -- ---- one result only
 
-pub one-result : {o : ImportOutcome} {a b : Imported} {p q : List Float} → Imports o a p → Imports o b q → (a ≡ b) × (p ≡ q)
+pub one-result : {o : ImportOutcome} {a b : Result Imported Fault} {p q : List Float} → Imports o a p → Imports o b q → (a ≡ b) × (p ≡ q)
 one-result x y = (x.answer-is ∙ sym y.answer-is, x.path-holds ∙ sym y.path-holds)
 
 -- ---- in a caller's words
 
 -- `Tells text old answer path`: what is answered for a text, and what the lent path holds then. `old` is what it held before
-pub data Tells (text : List ℕ) (old : List Float) : Imported → List Float → Type 0 where
+pub data Tells (text : List ℕ) (old : List Float) : Result Imported Fault → List Float → Type 0 where
   -- 20, 21: the text's fault
-  text-fault : {number line : ℕ} → FaultAt text number line → Tells text old (Refused (line_fault number line)) old
+  text-fault : {number line : ℕ} → FaultAt text number line → Tells text old (Err (line_fault number line)) old
   -- the text spells a body, and 22: its count is not met
   unmet : {n f : ℕ} {vs : List Corner} (s : SpellsBody text n f vs) → (n ≡ length vs → ⊥)
-      → Tells text old (Refused (line_fault Refusal.count (count_line s.gs))) old
+      → Tells text old (Err (line_fault Refusal.count (count_line s.gs))) old
   -- 7: it has too many vertices
   too_long : {n f : ℕ} {vs : List Corner} → SpellsBody text n f vs → n ≡ length vs → most_vertices < length vs
-      → Tells text old (Refused (whole numbers.vertices Length)) old
+      → Tells text old (Err (whole numbers.vertices Length)) old
   -- the first fault of the vertices' numbers and of the arcs
   own-fault : {n f : ℕ} {vs : List Corner} {fault : Fault} → SpellsBody text n f vs → n ≡ length vs → length vs ≤ most_vertices
-      → FirstFault fault (path_checks (path_of vs) (closed_by f) 0) → Tells text old (Refused fault) old
+      → FirstFault fault (path_checks (path_of vs) (closed_by f) 0) → Tells text old (Err fault) old
   -- 24: the path does not fit
   no_room : {n f : ℕ} {vs : List Corner} → SpellsBody text n f vs → n ≡ length vs → length vs ≤ most_vertices
       → AllFine (path_checks (path_of vs) (closed_by f) 0) → length old < length vs * 4
-      → Tells text old (Refused (whole Refusal.room Room)) old
+      → Tells text old (Err (whole Refusal.room Room)) old
   -- the path: its vertices stand at the front
   imported : {n f : ℕ} {vs : List Corner} → SpellsBody text n f vs → n ≡ length vs → length vs ≤ most_vertices
       → AllFine (path_checks (path_of vs) (closed_by f) 0) → length vs * 4 ≤ length old
@@ -82,18 +80,18 @@ spelt-tells text old n f vs s =
         let met = eqb-true n (length vs) m in
         let h = ltb-true most_vertices (length vs) l in
         rw (long-first n (count_line s.gs) (closed_by f) vs old met h) (too_long s met h)
-    go true m false l (Bad fault) o short r =
+    go true m false l (Err fault) o short r =
         let met = eqb-true n (length vs) m in
         let few = ltb-false most_vertices (length vs) l in
         rw (own_first n (count_line s.gs) (closed_by f) vs old met few fault o)
         (own-fault s met few ((first-bad (path_checks (path_of vs) (closed_by f) 0) fault).0 o))
-    go true m false l Fine o true r =
+    go true m false l (Ok _) o true r =
         let met = eqb-true n (length vs) m in
         let few = ltb-false most_vertices (length vs) l in
         let h = ltb-true (length old) (length vs * 4) r in
         rw (room-first n (count_line s.gs) (closed_by f) vs old met few o h)
         (no_room s met few ((first_fine (path_checks (path_of vs) (closed_by f) 0)).0 o) h)
-    go true m false l Fine o false r =
+    go true m false l (Ok _) o false r =
         let met = eqb-true n (length vs) m in
         let few = ltb-false most_vertices (length vs) l in
         let h = ltb-false (length old) (length vs * 4) r in
@@ -115,7 +113,7 @@ abbrev spelt-by : ℕ → ℕ → List Corner → List Float → Checked → Imp
 spelt-by n f vs old c = by_checks (record { declared = n; flags-are = f; vertices = vs }) old c
 
 -- the other way
-told : (text : List ℕ) (old : List Float) {r : Imported} {now : List Float} → Tells text old r now
+told : (text : List ℕ) (old : List Float) {r : Result Imported Fault} {now : List Float} → Tells text old r now
     → import_dxf text old ≡ record { answer = r; path = now }
 told text old (text-fault {number} {line} w) = fault-is text old ((fault-read text number line).1 w)
 told text old (unmet {n} {f} {vs} s h) =
@@ -136,7 +134,7 @@ told text old (imported {n} {f} {vs} s met few h room) =
     ((first_fine (path_checks (path_of vs) (closed_by f) 0)).1 h) room)
 
 -- the promise is exactly that
-pub exactly : (text : List ℕ) (old : List Float) (r : Imported) (now : List Float)
+pub exactly : (text : List ℕ) (old : List Float) (r : Result Imported Fault) (now : List Float)
     → Imports (import_dxf text old) r now ↔ Tells text old r now
 exactly text old r now = (
   λ done. rw (done.answer-is, done.path-holds) (tells text old),
@@ -148,11 +146,11 @@ exactly text old r now = (
 
 -- ---- what follows: a refusal writes nothing, and a path is imported exactly if the text spells it and it is fine and fits
 
-pub refused-writes-nothing : (text : List ℕ) (old now : List Float) (f : Fault) → Imports (import_dxf text old) (Refused f) now
+pub refused-writes-nothing : (text : List ℕ) (old now : List Float) (f : Fault) → Imports (import_dxf text old) (Err f) now
     → now ≡ old
-refused-writes-nothing text old now f done = go ((exactly text old (Refused f) now).0 done) refl
+refused-writes-nothing text old now f done = go ((exactly text old (Err f) now).0 done) refl
   where
-    go : {r : Imported} {p : List Float} → Tells text old r p → r ≡ Refused f → p ≡ old
+    go : {r : Result Imported Fault} {p : List Float} → Tells text old r p → r ≡ Err f → p ≡ old
     go (text-fault w) e = refl
     go (unmet s h) e = refl
     go (too_long s met h) e = refl
@@ -179,15 +177,17 @@ imported-when text old n closed now = (
   λ s. from s,
 )
   where
-    to : {r : Imported} {p : List Float} → Tells text old r p → r ≡ Path n closed → SpellsPath text old n closed p
+    to : {r : Result Imported Fault} {p : List Float} → Tells text old r p → r ≡ Path n closed → SpellsPath text old n closed p
     to (text-fault w) e = let z : ◌≡◌ {A = ℕ} 0 1 = cc in absurd (omega arith)
     to (unmet s h) e = let z : ◌≡◌ {A = ℕ} 0 1 = cc in absurd (omega arith)
     to (too_long s met h) e = let z : ◌≡◌ {A = ℕ} 0 1 = cc in absurd (omega arith)
     to (own-fault s met few h) e = let z : ◌≡◌ {A = ℕ} 0 1 = cc in absurd (omega arith)
     to (no_room s met few h short) e = let z : ◌≡◌ {A = ℕ} 0 1 = cc in absurd (omega arith)
     to (imported {n = k} {f = f} {vs = vs} s met few h room) e =
-        let many : length vs ≡ n = cc in
-        let shut : closed_by f ≡ closed = cc in
+        let same : ◌≡◌ {A = Imported} (record { vertices = length vs; closed = closed_by f })
+        (record { vertices = n; closed = closed }) = cc in
+        let many = ap (λ (i : Imported). i.vertices) same in
+        let shut = ap (λ (i : Imported). i.closed) same in
         record {
           f = f;
           vs = vs;

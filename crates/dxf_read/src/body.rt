@@ -8,6 +8,7 @@ ghost use Rattle.checks.specs.Fault as faults;
 ghost use Rattle.dxf_read.specs.Workings.Finishing as finishing;
 
 use super::Imported;
+use super::fault::LineFault;
 use checks::fault::{Checked, Fault, Item, at, later, refuse, whole};
 use dxf_form::refusal;
 use paths::path::{NUMBERS, VERTICES};
@@ -35,17 +36,26 @@ pub fn line_fault(number: u64, line: u64) -> Fault
     }
 }
 
+// A fault of the text is told with its line.
+impl From<LineFault> for Fault {
+    ghost from_gives = { λ fault told. told ≡ import_of.line_fault fault.number fault.line };
+
+    fn from(fault: LineFault) -> Fault {
+        line_fault(fault.number, fault.line)
+    }
+}
+
 // The checks before those of the path: the value of 90, in this line, is the number of vertices; they are not too many.
 pub fn check_count(n: usize, count: u64, line: u64) -> Checked
     ensures { result ≡ finishing.counted_by n count line }
 {
     if count != n as u64 {
-        return Checked::Bad(line_fault(refusal::COUNT, line));
+        return Err(line_fault(refusal::COUNT, line));
     }
     if n > VERTICES {
-        return Checked::Bad(whole(checks::refusal::VERTICES, Item::Length));
+        return Err(whole(checks::refusal::VERTICES, Item::Length));
     }
-    Checked::Fine
+    Ok(())
 }
 
 // Copies the first `many` floats.
@@ -54,10 +64,8 @@ fn copy(from: &[f64], many: usize, to: &mut [f64])
     requires many_in_to { many ≤ length to.old }
     ensures { to.new ≡ sets to.old 0 (take many from.now) }
 {
-    let mut i = 0;
-    while i < many {
+    for i in 0..many {
         to[i] = from[i];
-        i += 1;
     }
 }
 
@@ -68,7 +76,7 @@ pub fn hand_over(
     closed: bool,
     checked: Checked,
     path: &mut [f64],
-) -> Imported
+) -> Result<Imported, Fault>
     requires n_le_most_vertices { n ≤ most_vertices }
     requires room_in_bounds { scanning.room ≤ length buffer.now }
     ensures { import_of.Imports
@@ -78,12 +86,10 @@ pub fn hand_over(
 {
     let end = n * NUMBERS;
     let fits = refuse(path.len() < end, refusal::ROOM, at(0, 0, Item::Room));
-    let all = later(checked, fits);
-    match all {
-        Checked::Bad(fault) => Imported::Refused(fault),
-        Checked::Fine => {
-            copy(buffer, end, path);
-            Imported::Path(n, closed)
-        }
-    }
+    later(checked, fits)?;
+    copy(buffer, end, path);
+    Ok(Imported {
+        vertices: n,
+        closed: closed,
+    })
 }

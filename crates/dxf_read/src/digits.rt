@@ -14,7 +14,7 @@ pub const TOP: u64 = 1844674407370955160;
 pub const HIGH: u64 = 18446744073709551614;
 
 // Digits: the number, how many they are, and the place after them.
-#[derive(Clone, Copy)]
+#[derive(Clone, Copy, PartialEq, Eq, Debug)]
 pub struct Run {
     pub number: u64,
     pub many: usize,
@@ -55,8 +55,7 @@ pub fn digits(text: &[u8], start: usize, before: u64) -> Run
 {
     let mut n = before;
     let mut many: usize = 0;
-    let mut i = start;
-    while i < text.len() {
+    for i in start..text.len() {
         let b = wide(text[i]);
         if b < 48 {
             return Run {
@@ -74,12 +73,11 @@ pub fn digits(text: &[u8], start: usize, before: u64) -> Run
         }
         n = grown(n, b - 48);
         many += 1;
-        i += 1;
     }
     Run {
         number: n,
         many: many,
-        next: i,
+        next: text.len(),
     }
 }
 
@@ -88,10 +86,8 @@ pub fn millionths(n: u64, many: usize) -> u64
     ensures { result ≡ kept.millionths n many }
 {
     let mut m = n;
-    let mut k = many;
-    while k < PLACES {
+    for _ in many..PLACES {
         m = grown(m, 0);
-        k += 1;
     }
     m
 }

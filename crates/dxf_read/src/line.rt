@@ -17,25 +17,19 @@ const MINUS: u64 = 45;
 
 const POINT: u64 = 46;
 
-// A whole number and the place after its line. Or there is none.
-#[derive(Clone, Copy)]
-pub enum Whole {
-    Nothing,
-    Got(u64, usize),
+// A whole number and the place after its line.
+#[derive(Clone, Copy, PartialEq, Eq, Debug)]
+pub struct Whole {
+    pub number: u64,
+    pub next: usize,
 }
 
-// A number: whether it is negative, its millionths, and the place after its line. Or there is none.
-#[derive(Clone, Copy)]
-pub enum Number {
-    Nothing,
-    Got(bool, u64, usize),
-}
-
-// The place after a line. Or the line does not end.
-#[derive(Clone, Copy)]
-pub enum Place {
-    Cut,
-    Over(usize),
+// A number: whether it is negative, its millionths, and the place after its line.
+#[derive(Clone, Copy, PartialEq, Eq, Debug)]
+pub struct Number {
+    pub negative: bool,
+    pub millionths: u64,
+    pub next: usize,
 }
 
 // The place after blanks.
@@ -49,54 +43,61 @@ fn past_blanks(text: &[u8], start: usize) -> usize
     i
 }
 
-// A code, or the value of 90 or 70.
-pub fn whole_line(text: &[u8], start: usize) -> Whole
+// A code, or the value of 90 or 70. Or there is none.
+pub fn whole_line(text: &[u8], start: usize) -> Option<Whole>
     ensures { shown_whole text.now result ≡ kept.whole_line (drop start text.now) }
 {
     let first = past_blanks(text, start);
     let run = digits::digits(text, first, 0);
     if run.many == 0 {
-        return Whole::Nothing;
+        return None;
     }
     let end = run.next;
     if byte_at(text, end) == NEWLINE {
-        return Whole::Got(run.number, end + 1);
+        return Some(Whole {
+            number: run.number,
+            next: end + 1,
+        });
     }
-    Whole::Nothing
+    None
 }
 
 // The end of a number with n millionths. No minus stands before a zero number.
-fn signed_end(text: &[u8], at: usize, negative: bool, n: u64) -> Number
+fn signed_end(text: &[u8], at: usize, negative: bool, n: u64) -> Option<Number>
     ensures { shown_number text.now result ≡ signed_end negative n (drop at text.now) }
 {
     if negative & (n == 0) {
-        return Number::Nothing;
+        return None;
     }
     if byte_at(text, at) == NEWLINE {
-        return Number::Got(negative, n, at + 1);
+        return Some(Number {
+            negative: negative,
+            millionths: n,
+            next: at + 1,
+        });
     }
-    Number::Nothing
+    None
 }
 
 // The digits after the point, and the end. n has the digits before it.
-fn after_point(text: &[u8], at: usize, negative: bool, n: u64) -> Number
+fn after_point(text: &[u8], at: usize, negative: bool, n: u64) -> Option<Number>
     ensures { shown_number text.now result ≡ kept.after_point negative n (drop at text.now) }
 {
     let run = digits::digits(text, at, n);
     let many = run.many;
     if (many == 0) | (many > PLACES) {
-        return Number::Nothing;
+        return None;
     }
     signed_end(text, run.next, negative, millionths(run.number, many))
 }
 
 // A number from its digits on.
-fn after_sign(text: &[u8], at: usize, negative: bool) -> Number
+fn after_sign(text: &[u8], at: usize, negative: bool) -> Option<Number>
     ensures { shown_number text.now result ≡ kept.after_sign negative (drop at text.now) }
 {
     let run = digits::digits(text, at, 0);
     if run.many == 0 {
-        return Number::Nothing;
+        return None;
     }
     let end = run.next;
     if byte_at(text, end) == POINT {
@@ -105,8 +106,8 @@ fn after_sign(text: &[u8], at: usize, negative: bool) -> Number
     signed_end(text, end, negative, millionths(run.number, 0))
 }
 
-// The value of 10, 20 or 42.
-pub fn number_line(text: &[u8], start: usize) -> Number
+// The value of 10, 20 or 42. Or there is none.
+pub fn number_line(text: &[u8], start: usize) -> Option<Number>
     ensures { shown_number text.now result ≡ kept.number_line (drop start text.now) }
 {
     let first = past_blanks(text, start);
@@ -116,16 +117,14 @@ pub fn number_line(text: &[u8], start: usize) -> Number
     after_sign(text, first, false)
 }
 
-// A value that is skipped.
-pub fn skip_line(text: &[u8], start: usize) -> Place
+// A value that is skipped. Or its line does not end.
+pub fn skip_line(text: &[u8], start: usize) -> Option<usize>
     ensures { shown_place text.now result ≡ skip_line (drop start text.now) }
 {
-    let mut i = start;
-    while i < text.len() {
+    for i in start..text.len() {
         if byte_at(text, i) == NEWLINE {
-            return Place::Over(i + 1);
+            return Some(i + 1);
         }
-        i += 1;
     }
-    Place::Cut
+    None
 }

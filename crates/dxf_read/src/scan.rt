@@ -2,22 +2,24 @@
 ghost use Rattle.std.specs.Prelude.{◌≤◌, length};
 ghost use Rattle.dxf_read.specs.Workings.Scanning.{room, Scanned};
 
-use super::pair::{Pair, pair_at};
-use super::state::{State, step};
+use super::fault::LineFault;
+use super::pair::pair_at;
+use super::state::step;
 use super::store::store;
 use dxf_form::order::{Due, after, may_end};
 use dxf_form::refusal;
 
-// A refusal's number and the line at fault. Or the number of vertices, the value of 90 and its line, and whether the path is
-// closed.
-#[derive(Clone, Copy)]
-pub enum Found {
-    Fault(u64, u64),
-    Body(usize, u64, u64, bool),
+// How many vertices there are; the value of 90 and its line; whether the value of 70 is odd.
+#[derive(Clone, Copy, PartialEq, Eq, Debug)]
+pub struct State {
+    pub vertices: usize,
+    pub count: u64,
+    pub count_line: u64,
+    pub closed: bool,
 }
 
-// Reads a text, and writes its vertices to the front of `out`, if they are not too many.
-pub fn scan(text: &[u8], out: &mut [f64]) -> Found
+// Reads a text, and writes its vertices to the front of `out`, if they are not too many. Answers what all groups give.
+pub fn scan(text: &[u8], out: &mut [f64]) -> Result<State, LineFault>
     requires { room ≤ length out.old }
     ensures { Scanned text.now result out.old out.new }
 {
@@ -31,22 +33,26 @@ pub fn scan(text: &[u8], out: &mut [f64]) -> Found
     let mut lines: u64 = 0;
     let mut at = 0;
     while at < text.len() {
-        let pair = pair_at(text, at, due);
-        match pair {
-            Pair::Fault(number, line) => {
-                return Found::Fault(number, lines + line);
+        let pair = match pair_at(text, at, due) {
+            Ok(pair) => pair,
+            Err(fault) => {
+                return Err(LineFault {
+                    number: fault.number,
+                    line: lines + fault.line,
+                });
             }
-            Pair::Got(turn, negative, number, next) => {
-                store(out, s.vertices, turn, negative, number);
-                s = step(s, turn, number, lines);
-                due = after(due, turn);
-                at = next;
-            }
-        }
+        };
+        store(out, s.vertices, pair);
+        s = step(s, pair, lines);
+        due = after(due, pair.turn);
+        at = pair.next;
         lines += 2;
     }
     if may_end(due) {
-        return Found::Body(s.vertices, s.count, s.count_line, s.closed);
+        return Ok(s);
     }
-    Found::Fault(refusal::GROUP, lines + 1)
+    Err(LineFault {
+        number: refusal::GROUP,
+        line: lines + 1,
+    })
 }

@@ -6,6 +6,7 @@ ghost use Rattle.paths.specs.Path.{numbers_a_vertex};
 ghost use Rattle.dxf_form.specs.Numbers as numbers;
 ghost use Rattle.dxf_read.specs.Workings.Scanning.{room, started, changed, stored};
 
+use super::pair::Pair;
 use dxf_form::order::Turn;
 use dxf_form::value::{TRACE, value};
 use paths::path::{NUMBERS, VERTICES};
@@ -42,17 +43,17 @@ fn change_last(out: &mut [f64], n: usize, k: usize, v: f64)
     out[(n - 1) * NUMBERS + k] = v;
 }
 
-// Writes what a group with this turn gives after n vertices, by the sign and the millionths of its number.
-pub fn store(out: &mut [f64], n: usize, turn: Turn, negative: bool, number: u64)
+// Writes what a group gives after n vertices, by the sign and the millionths of its number.
+pub fn store(out: &mut [f64], n: usize, pair: Pair)
     requires { room ≤ length out.old }
-    ensures { out.new ≡ stored turn (numbers.value (whole negative number)) n out.old }
+    ensures { out.new ≡ stored pair.turn (numbers.value (whole pair.negative pair.number)) n out.old }
 {
-    match turn {
+    match pair.turn {
         Turn::Count => {}
         Turn::Flags => {}
-        Turn::X => start_vertex(out, n, value(negative, number)),
-        Turn::Y => change_last(out, n, 1, value(negative, number)),
-        Turn::Bulge => change_last(out, n, 2, value(negative, number)),
+        Turn::X => start_vertex(out, n, value(pair.negative, pair.number)),
+        Turn::Y => change_last(out, n, 1, value(pair.negative, pair.number)),
+        Turn::Bulge => change_last(out, n, 2, value(pair.negative, pair.number)),
         Turn::Other => {}
         Turn::OutOfPlace => {}
     }

@@ -1,5 +1,5 @@
 -- Worked examples of an export: which floats have a text, what the text is, and what is refused.
-use Rattle.std.specs.Prelude.{◌≡◌, ℕ, zero, suc, true, false, List, [], ◌∷◌, map, pos, negsuc, refl, Float}
+use Rattle.std.specs.Prelude.{◌≡◌, ℕ, zero, suc, true, false, List, [], ◌∷◌, map, pos, negsuc, refl, Float, Err}
 use Prim.Native.Char.{code}
 use Prim.Native.String.{String, len, char_at}
 use Rattle.std.specs.Float.{nan, inf, binary64}
@@ -27,7 +27,6 @@ use Rattle.dxf_write.specs.Written.{
   body_bytes,
 }
 use Rattle.dxf_write.specs.Export.{corner_at, bytes_of, of_texts, export_after, export_dxf}
-use Rattle.dxf_write.specs.declared.Exported.TheVariants as Exported·
 
 -- the bytes of a text of ASCII characters
 abbrev bytes_from : ℕ → ℕ → String → List ℕ
@@ -110,7 +109,7 @@ one_written = refl
 -- 1/128 has no text: 23 is told before 24, with the vertex and the number, and nothing is written
 pub one-refused : export_dxf (one (float 0x3f80_0000_0000_0000)) false (bytes "too short")
     ≡ record {
-      answer = Exported·.Refused (record { number = 23; place = at 0 0 Bulge });
+      answer = Err (record { number = 23; place = at 0 0 Bulge });
       text = bytes "too short";
     }
 unfolding export_dxf export_after bytes_of corner_at of_texts refuse later Shape.shape Shape.refused paths.vertex paths.trace
@@ -122,7 +121,7 @@ one-refused = refl
 -- the text does not fit: 24, and nothing is written
 pub one-too-long : export_dxf (one (float 0x3f90_0000_0000_0000)) false (bytes "too short")
     ≡ record {
-      answer = Exported·.Refused (record { number = 24; place = at 0 0 Room });
+      answer = Err (record { number = 24; place = at 0 0 Room });
       text = bytes "too short";
     }
 unfolding export_dxf export_after bytes_of corner_at of_texts refuse later Shape.shape Shape.refused paths.vertex paths.trace

@@ -1,10 +1,10 @@
 -- What an export answers, and what the lent text holds afterwards, by request 10: the path's own checks, as every call with a
 -- path makes them; then whether each number is read back from a text; and last whether the text fits.
-use Rattle.std.specs.Prelude.{◌≡◌, ℕ, zero, suc, ◌+◌, Bool, List, [], ◌∷◌, ◌++◌, length, ℤ, pos, nat_lt, Float}
+use Rattle.checks.specs.Checked.{Checked}
+use Rattle.std.specs.Prelude.{◌≡◌, ℕ, zero, suc, ◌+◌, Bool, List, [], ◌∷◌, ◌++◌, length, ℤ, pos, nat_lt, Float, Result, Err, Ok}
 use Rattle.std.proofs.lemmas.List.Edits.{sets}
 use Rattle.checks.specs.declared.fault.Item.TheVariants.{X, Y, Bulge, Room}
-use Rattle.checks.specs.declared.fault.Checked.{Checked}
-use Rattle.checks.specs.declared.fault.Checked.TheVariants.{Fine, Bad}
+use Rattle.checks.specs.declared.fault.Fault.{Fault}
 use Rattle.checks.specs.Fault.{at, refuse}
 use Rattle.checks.specs.First.{first}
 use Rattle.paths.specs.Path.{vertex_count, vertex}
@@ -14,8 +14,6 @@ use Rattle.dxf_form.specs.Refusal
 use Rattle.dxf_form.specs.Numbers.{Corner}
 use Rattle.dxf_write.specs.Millionths.{Found, none, found, is_none, millionths_of}
 use Rattle.dxf_write.specs.Written.{body_bytes}
-use Rattle.dxf_write.specs.declared.Exported.{Exported}
-use Rattle.dxf_write.specs.declared.Exported.TheVariants as Exported·
 
 -- ---- the text of a path
 
@@ -64,12 +62,12 @@ room_check path closed old = refuse (nat_lt (length old) (length (bytes_of path 
 -- ---- the answer, and what the text holds
 
 pub record ExportOutcome : Type 0 where
-  pub answer : Exported
+  pub answer : Result ℕ Fault
   pub text : List ℕ
 
 abbrev pub by_checks : List ℕ → List ℕ → Checked → ExportOutcome
-by_checks bytes old Fine = record { answer = Exported·.Bytes (length bytes); text = sets old 0 bytes }
-by_checks bytes old (Bad f) = record { answer = Exported·.Refused f; text = old }
+by_checks bytes old (Ok _) = record { answer = Ok (length bytes); text = sets old 0 bytes }
+by_checks bytes old (Err f) = record { answer = Err f; text = old }
 
 -- after these checks
 unfoldable pub export_after : List Checked → List Float → Bool → List ℕ → ExportOutcome
@@ -85,6 +83,6 @@ export_dxf path closed old = export_after (checks_of path closed) path closed ol
 
 -- ---- the promise
 
-pub record Exports (o : ExportOutcome) (answer : Exported) (text : List ℕ) : Type 0 where
+pub record Exports (o : ExportOutcome) (answer : Result ℕ Fault) (text : List ℕ) : Type 0 where
   pub answer-is : answer ≡ o.answer
   pub text-holds : text ≡ o.text

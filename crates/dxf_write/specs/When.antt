@@ -1,10 +1,10 @@
 -- When an export answers what, in a caller's words. An export has the path's own checks first, which are given here as a list;
 -- then each number must have a text; and last the text must fit.
+use Rattle.checks.specs.Checked.{Checked}
 use Rattle.std.specs.Prelude.{◌≡◌, ℕ, ◌<◌, ◌≤◌, Bool, List, length, ℤ, Float}
 use Rattle.plane.specs.declared.pline_vertex.PlineVertex.{PlineVertex}
 use Rattle.checks.specs.declared.fault.Item.{Item}
 use Rattle.checks.specs.declared.fault.Item.TheVariants.{X, Y, Bulge}
-use Rattle.checks.specs.declared.fault.Checked.{Checked}
 use Rattle.checks.specs.FirstFault.{AllFine}
 use Rattle.paths.specs.Path.{vertex_count, vertex}
 use Rattle.dxf_form.specs.Numbers.{value}

@@ -6,6 +6,7 @@ ghost use Rattle.put_text.specs.Workings.Put.{Put};
 ghost use Rattle.dxf_write.specs.Written;
 ghost use Rattle.dxf_write.specs.Workings.Told as told;
 
+use super::millionths::{Number, Vertex};
 use dxf_form::order;
 use dxf_form::value::MILLION;
 use put_text::{put_byte, put_decimal};
@@ -41,19 +42,19 @@ fn put_size(out: &mut [u8], at: usize, n: u64) -> usize
     put_six(out, digits, n % MILLION)
 }
 
-// A number, by its sign and its millionths. 0 has no minus.
-fn put_number(out: &mut [u8], at: usize, negative: bool, n: u64) -> usize
-    requires { at + length (Written.number_bytes (whole negative n)) ≤ length out.old }
-    ensures { Put (Written.number_bytes (whole negative n)) out.old at out.new result }
+// A number. 0 has no minus.
+fn put_number(out: &mut [u8], at: usize, n: Number) -> usize
+    requires { at + length (Written.number_bytes (whole n.negative n.millionths)) ≤ length out.old }
+    ensures { Put (Written.number_bytes (whole n.negative n.millionths)) out.old at out.new result }
 {
-    if n == 0 {
-        return put_size(out, at, n);
+    if n.millionths == 0 {
+        return put_size(out, at, n.millionths);
     }
-    if negative {
+    if n.negative {
         let next = put_byte(out, at, b'-');
-        return put_size(out, next, n);
+        return put_size(out, next, n.millionths);
     }
-    put_size(out, at, n)
+    put_size(out, at, n.millionths)
 }
 
 // A line with a whole number.
@@ -74,32 +75,23 @@ pub fn put_whole_group(out: &mut [u8], at: usize, code: u64, n: u64) -> usize
     put_line(out, next, n)
 }
 
-// A group whose value is a number, by its sign and its millionths.
-fn put_number_group(out: &mut [u8], at: usize, code: u64, negative: bool, n: u64) -> usize
-    requires { at + length (Written.group_bytes code (Written.number_bytes (whole negative n))) ≤ length out.old }
-    ensures { Put (Written.group_bytes code (Written.number_bytes (whole negative n))) out.old at out.new result }
+// A group whose value is a number.
+fn put_number_group(out: &mut [u8], at: usize, code: u64, n: Number) -> usize
+    requires { at + length (Written.group_bytes code (Written.number_bytes (whole n.negative n.millionths))) ≤ length out.old }
+    ensures { Put (Written.group_bytes code (Written.number_bytes (whole n.negative n.millionths)))
+        out.old at out.new result }
 {
     let next = put_line(out, at, code);
-    let end = put_number(out, next, negative, n);
+    let end = put_number(out, next, n);
     put_byte(out, end, b'\n')
 }
 
-// The three groups of a vertex, by the signs and the millionths of x, y and the bulge.
-pub fn put_vertex(
-    out: &mut [u8],
-    at: usize,
-    x_minus: bool,
-    x: u64,
-    y_minus: bool,
-    y: u64,
-    b_minus: bool,
-    b: u64,
-) -> usize
-    requires { at + length (Written.vertex_bytes (told.corner_by x_minus x y_minus y b_minus b)) ≤ length out.old }
-    ensures { Put (Written.vertex_bytes (told.corner_by x_minus x y_minus y b_minus b))
-        out.old at out.new result }
+// The three groups of a vertex.
+pub fn put_vertex(out: &mut [u8], at: usize, v: Vertex) -> usize
+    requires { at + length (Written.vertex_bytes (told.corner_by v)) ≤ length out.old }
+    ensures { Put (Written.vertex_bytes (told.corner_by v)) out.old at out.new result }
 {
-    let y_at = put_number_group(out, at, order::X, x_minus, x);
-    let b_at = put_number_group(out, y_at, order::Y, y_minus, y);
-    put_number_group(out, b_at, order::BULGE, b_minus, b)
+    let y_at = put_number_group(out, at, order::X, v.x);
+    let b_at = put_number_group(out, y_at, order::Y, v.y);
+    put_number_group(out, b_at, order::BULGE, v.bulge)
 }

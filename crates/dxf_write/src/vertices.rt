@@ -5,26 +5,12 @@ ghost use Rattle.dxf_write.specs.Written.{vertices_bytes};
 ghost use Rattle.dxf_write.specs.Export as export;
 ghost use Rattle.dxf_write.specs.Workings.Told as told;
 
-use super::millionths::{Number, millionths};
+use super::millionths::{Vertex, millionths};
 use super::put::put_vertex;
 use super::sizes::vertex_size;
 use checks::fault::{Fault, Item, at as place_at};
 use dxf_form::refusal::NO_TEXT;
 use paths::path;
-
-// The signs and the millionths of a vertex's x, y and bulge; or the refusal of the first that has no text.
-#[derive(Clone, Copy)]
-pub enum Vertex {
-    Refused(Fault),
-    Numbers(bool, u64, bool, u64, bool, u64),
-}
-
-// How many bytes the vertices have; or the first refusal.
-#[derive(Clone, Copy)]
-pub enum Measured {
-    Refused(Fault),
-    Bytes(usize),
-}
 
 // The refusal of a number of vertex i.
 fn no_text(i: usize, item: Item) -> Fault
@@ -36,45 +22,39 @@ fn no_text(i: usize, item: Item) -> Fault
     }
 }
 
-// Vertex i.
-fn vertex_numbers(path: &[f64], i: usize) -> Vertex
+// Vertex i. Or the refusal of its first number that has no text.
+fn vertex_numbers(path: &[f64], i: usize) -> Result<Vertex, Fault>
     requires { i < vertex_count path.now }
     ensures { told.VertexTold path.now i result }
 {
     let v = path::vertex(path, i);
-    let Number::Text(x_minus, x) = millionths(v.x) else {
-        return Vertex::Refused(no_text(i, Item::X));
+    let Some(x) = millionths(v.x) else {
+        return Err(no_text(i, Item::X));
     };
-    let Number::Text(y_minus, y) = millionths(v.y) else {
-        return Vertex::Refused(no_text(i, Item::Y));
+    let Some(y) = millionths(v.y) else {
+        return Err(no_text(i, Item::Y));
     };
-    let Number::Text(b_minus, b) = millionths(v.bulge) else {
-        return Vertex::Refused(no_text(i, Item::Bulge));
+    let Some(bulge) = millionths(v.bulge) else {
+        return Err(no_text(i, Item::Bulge));
     };
-    Vertex::Numbers(x_minus, x, y_minus, y, b_minus, b)
+    Ok(Vertex {
+        x: x,
+        y: y,
+        bulge: bulge,
+    })
 }
 
-// The first pass.
-pub fn measure(path: &[f64]) -> Measured
+// The first pass: how many bytes the vertices have. Or the first refusal.
+pub fn measure(path: &[f64]) -> Result<usize, Fault>
     requires { vertex_count path.now ≤ most_vertices }
     ensures { told.MeasureTold path.now result }
 {
-    let n = path::vertex_count(path);
     let mut size = 0;
-    let mut i = 0;
-    while i < n {
-        let v = vertex_numbers(path, i);
-        match v {
-            Vertex::Refused(fault) => {
-                return Measured::Refused(fault);
-            }
-            Vertex::Numbers(x_minus, x, y_minus, y, b_minus, b) => {
-                size += vertex_size(x_minus, x, y_minus, y, b_minus, b);
-            }
-        }
-        i += 1;
+    for i in 0..path::vertex_count(path) {
+        let v = vertex_numbers(path, i)?;
+        size += vertex_size(v);
     }
-    Measured::Bytes(size)
+    Ok(size)
 }
 
 // The second pass: puts the text of the vertices from `start` on.
@@ -82,20 +62,12 @@ pub fn put_vertices(path: &[f64], out: &mut [u8], start: usize) -> usize
     requires { start + length (vertices_bytes (export.corners_of path.now)) ≤ length out.old }
     ensures { told.Written path.now out.old start out.new result }
 {
-    let n = path::vertex_count(path);
     let mut next = start;
-    let mut i = 0;
-    while i < n {
-        let v = vertex_numbers(path, i);
-        match v {
-            Vertex::Refused(_) => {
-                return next;
-            }
-            Vertex::Numbers(x_minus, x, y_minus, y, b_minus, b) => {
-                next = put_vertex(out, next, x_minus, x, y_minus, y, b_minus, b);
-            }
-        }
-        i += 1;
+    for i in 0..path::vertex_count(path) {
+        let Ok(v) = vertex_numbers(path, i) else {
+            return next;
+        };
+        next = put_vertex(out, next, v);
     }
     next
 }

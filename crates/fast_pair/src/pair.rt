@@ -1,8 +1,7 @@
 // How two segments meet, with quick tests first: for a listing, which has checked the numbers and keeps some numbers of each
 // segment; and as the pair call, which checks its numbers itself.
-ghost use Rattle.std.specs.Prelude.{true, ◌≡◌};
+ghost use Rattle.std.specs.Prelude.{true, ◌≡◌, Ok};
 ghost use Rattle.checks.specs.Calls;
-ghost use Rattle.checks.specs.declared.fault.Checked.TheVariants.{Fine};
 ghost use Rattle.crossing.specs.PlineSeg;
 ghost use Rattle.crossing.specs.PlineSegIntersect;
 ghost use Rattle.fast_pair.specs.Workings.ClearlyApart;
@@ -18,9 +17,9 @@ use super::misses::{left_misses, misses};
 use arcs::circle::circle_if_arc;
 use arcs::pline_seg_intr::PlineSegIntr;
 use checks::calls::check_pline_seg;
-use checks::fault::{Checked, later};
+use checks::fault::{Checked, Fault};
 use checks::{arc, chain, each};
-use crossing::pline_seg_intersect::{PlineSegAnswer, pline_seg_after_checks};
+use crossing::pline_seg_intersect::pline_seg_after_checks;
 use plane::pline_vertex::PlineVertex;
 
 // A quick test whether two segments are apart.
@@ -58,7 +57,7 @@ pub fn pline_seg_kept(
     u: Kept,
     pos_equal_eps: f64,
 ) -> PlineSegIntr
-    requires pos_equal_eps_value { Calls.check_pline_seg v1 v2 u1 u2 pos_equal_eps ≡ Fine }
+    requires pos_equal_eps_value { Calls.check_pline_seg v1 v2 u1 u2 pos_equal_eps ≡ Ok tt }
     requires v_value { v ≡ workings.kept_of v1 v2 pos_equal_eps }
     requires u_value { u ≡ workings.kept_of u1 u2 pos_equal_eps }
     ensures { result ≡ PlineSeg.pline_seg v1 v2 u1 u2 pos_equal_eps }
@@ -95,7 +94,7 @@ pub fn pline_seg_left(
     u: Kept,
     pos_equal_eps: f64,
 ) -> PlineSegIntr
-    requires pos_equal_eps_value { Calls.check_pline_seg v1 v2 u1 u2 pos_equal_eps ≡ Fine }
+    requires pos_equal_eps_value { Calls.check_pline_seg v1 v2 u1 u2 pos_equal_eps ≡ Ok tt }
     requires v_value { v ≡ workings.kept_of v1 v2 pos_equal_eps }
     requires u_value { u ≡ workings.kept_of u1 u2 pos_equal_eps }
     ensures { result ≡ PlineSeg.pline_seg v1 v2 u1 u2 pos_equal_eps }
@@ -136,7 +135,7 @@ pub fn pline_seg_once(
     u2: PlineVertex,
     pos_equal_eps: f64,
 ) -> PlineSegIntr
-    requires { Calls.check_pline_seg v1 v2 u1 u2 pos_equal_eps ≡ Fine }
+    requires { Calls.check_pline_seg v1 v2 u1 u2 pos_equal_eps ≡ Ok tt }
     ensures { result ≡ PlineSeg.pline_seg v1 v2 u1 u2 pos_equal_eps }
 {
     if line_pair_apart(v1, v2, u1, u2, pos_equal_eps) {
@@ -156,7 +155,7 @@ pub fn line_pair(
     u2: PlineVertex,
     pos_equal_eps: f64,
 ) -> PlineSegIntr
-    requires pos_equal_eps_value { Calls.check_pline_seg v1 v2 u1 u2 pos_equal_eps ≡ Fine }
+    requires pos_equal_eps_value { Calls.check_pline_seg v1 v2 u1 u2 pos_equal_eps ≡ Ok tt }
     requires v1_value { bulge_is_zero v1 ≡ true }
     requires u1_value { bulge_is_zero u1 ≡ true }
     ensures { result ≡ PlineSeg.pline_seg v1 v2 u1 u2 pos_equal_eps }
@@ -171,6 +170,7 @@ pub fn line_pair(
 
 // What the check of a pair's numbers finds, by the quick test first. Behind it stands the chain of `check_pline_seg` itself, for
 // the same reason as in `line_pair`: the pair call has that in place.
+#[tactic(auto, unfolding(checks::specs::Fault::later, checks::specs::Calls::check_pline_seg))]
 pub fn pair_checked(
     v1: PlineVertex,
     v2: PlineVertex,
@@ -181,15 +181,15 @@ pub fn pair_checked(
     ensures { result ≡ Calls.check_pline_seg v1 v2 u1 u2 pos_equal_eps }
 {
     if pair_fine(v1, v2, u1, u2, pos_equal_eps) {
-        return Checked::Fine;
+        return Ok(());
     }
-    let a0 = each::epsilon(pos_equal_eps);
-    let a1 = chain::vertex_after(a0, v1.x, v1.y, v1.bulge, 0, 0);
-    let a2 = chain::point_after(a1, v2.x, v2.y, 0, 1);
-    let a3 = chain::vertex_after(a2, u1.x, u1.y, u1.bulge, 1, 0);
-    let a4 = chain::point_after(a3, u2.x, u2.y, 1, 1);
-    let a5 = later(a4, arc::arc_chord(v1, v2, 0, 0));
-    later(a5, arc::arc_chord(u1, u2, 1, 0))
+    each::epsilon(pos_equal_eps)?;
+    chain::vertex(v1.x, v1.y, v1.bulge, 0, 0)?;
+    chain::point(v2.x, v2.y, 0, 1)?;
+    chain::vertex(u1.x, u1.y, u1.bulge, 1, 0)?;
+    chain::point(u2.x, u2.y, 1, 1)?;
+    arc::arc_chord(v1, v2, 0, 0)?;
+    arc::arc_chord(u1, u2, 1, 0)
 }
 
 // The pair call number by number, for numbers that the quick test leaves open. It has no quick test of the segments, so that the
@@ -200,26 +200,13 @@ fn pline_seg_by_numbers(
     u1: PlineVertex,
     u2: PlineVertex,
     pos_equal_eps: f64,
-) -> PlineSegAnswer
+) -> Result<PlineSegIntr, Fault>
     ensures { result ≡ PlineSegIntersect.pline_seg_intr v1 v2 u1 u2 pos_equal_eps }
 {
-    let checked = check_pline_seg(v1, v2, u1, u2, pos_equal_eps);
-    match checked {
-        Checked::Fine => {
-            let circle1 = circle_if_arc(v1, v2);
-            let circle2 = circle_if_arc(u1, u2);
-            PlineSegAnswer::Met(pline_seg_after_checks(
-                v1,
-                v2,
-                circle1,
-                u1,
-                u2,
-                circle2,
-                pos_equal_eps,
-            ))
-        }
-        Checked::Bad(fault) => PlineSegAnswer::Refused(fault),
-    }
+    check_pline_seg(v1, v2, u1, u2, pos_equal_eps)?;
+    let circle1 = circle_if_arc(v1, v2);
+    let circle2 = circle_if_arc(u1, u2);
+    Ok(pline_seg_after_checks(v1, v2, circle1, u1, u2, circle2, pos_equal_eps))
 }
 
 // The pair call: how the segments v1 to v2 and u1 to u2 meet, or the refusal of the first number at fault. Quick tests of its
@@ -230,11 +217,11 @@ pub fn pline_seg_intr(
     u1: PlineVertex,
     u2: PlineVertex,
     pos_equal_eps: f64,
-) -> PlineSegAnswer
+) -> Result<PlineSegIntr, Fault>
     ensures { result ≡ PlineSegIntersect.pline_seg_intr v1 v2 u1 u2 pos_equal_eps }
 {
     if pair_fine(v1, v2, u1, u2, pos_equal_eps) {
-        return PlineSegAnswer::Met(pline_seg_once(v1, v2, u1, u2, pos_equal_eps));
+        return Ok(pline_seg_once(v1, v2, u1, u2, pos_equal_eps));
     }
     pline_seg_by_numbers(v1, v2, u1, u2, pos_equal_eps)
 }

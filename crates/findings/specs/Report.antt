@@ -1,5 +1,7 @@
 -- The pair call with findings (request 7): what the pair call answers, and what is told of each computed point for each segment.
-use Rattle.std.specs.Prelude.{cond, ◌&&◌, List, [], ◌∷◌, Float}
+use Rattle.checks.specs.declared.fault.Fault.{Fault}
+use Rattle.arcs.specs.declared.pline_seg_intr.PlineSegIntr.{PlineSegIntr}
+use Rattle.std.specs.Prelude.{cond, ◌&&◌, List, [], ◌∷◌, Float, Err, Ok, Result}
 use Rattle.plane.specs.BaseMath.{point_from_parametric}
 use Rattle.plane.specs.PlineVertex.{pos, bulge_is_zero}
 use Rattle.plane.specs.declared.vector2.Vector2.{Vector2}
@@ -10,8 +12,6 @@ use Rattle.crossing.specs.LineLine.{line_line}
 use Rattle.crossing.specs.PlineSeg.{pline_seg}
 use Rattle.crossing.specs.declared.line_line_intr.LineLineIntr.{LineLineIntr}
 use Rattle.crossing.specs.declared.line_line_intr.LineLineIntr.TheVariants as lines
-use Rattle.crossing.specs.declared.pline_seg_intersect.PlineSegAnswer.{PlineSegAnswer}
-use Rattle.crossing.specs.declared.pline_seg_intersect.PlineSegAnswer.TheVariants as pairs
 use Rattle.findings.specs.Finding.{findings_of}
 use Rattle.findings.specs.LineAndArc.{line_arc_tested}
 use Rattle.findings.specs.TwoArcs.{arc_arc_computed}
@@ -20,8 +20,6 @@ use Rattle.findings.specs.declared.finding.Finding.TheVariants.{NotTested}
 use Rattle.findings.specs.declared.finding.Findings.{Findings}
 use Rattle.findings.specs.declared.finding.Tested.{Tested}
 use Rattle.findings.specs.declared.reported.Reported.{Reported}
-use Rattle.findings.specs.declared.reported.FindingsAnswer.{FindingsAnswer}
-use Rattle.findings.specs.declared.reported.FindingsAnswer.TheVariants.{Refused, Met}
 
 -- ---- the computed points, in the order of the report
 
@@ -69,11 +67,11 @@ reported v1 v2 u1 u2 pos_equal_eps =
     record { answer = pline_seg v1 v2 u1 u2 pos_equal_eps; findings = findings v1 v2 u1 u2 pos_equal_eps }
 
 -- the first fault, as the pair call's; if there is none, the pair call's answer and the findings
-unfoldable pub pline_seg_findings : PlineVertex → PlineVertex → PlineVertex → PlineVertex → Float → FindingsAnswer
+unfoldable pub pline_seg_findings : PlineVertex → PlineVertex → PlineVertex → PlineVertex → Float → Result Reported Fault
 pline_seg_findings v1 v2 u1 u2 pos_equal_eps =
-    answered Refused Met (check_pline_seg v1 v2 u1 u2 pos_equal_eps) (reported v1 v2 u1 u2 pos_equal_eps)
+    answered Err Ok (check_pline_seg v1 v2 u1 u2 pos_equal_eps) (reported v1 v2 u1 u2 pos_equal_eps)
 
 -- its answer without the findings
-abbrev pub pair_answer : FindingsAnswer → PlineSegAnswer
-pair_answer (Refused fault) = pairs.Refused fault
-pair_answer (Met r) = pairs.Met r.answer
+abbrev pub pair_answer : Result Reported Fault → Result PlineSegIntr Fault
+pair_answer (Err fault) = Err fault
+pair_answer (Ok r) = Ok r.answer

@@ -1,6 +1,6 @@
 -- The computed points of two arcs, each with what is told of it for both: pline_seg_intersect.rs 351-642, branch by branch. Read
 -- it beside `arcs/specs/TwoArcs` and `crossing/specs/ArcArc`.
-use Rattle.std.specs.Prelude.{Bool, cond, ◌&&◌, List, [], ◌∷◌, Float, get_or}
+use Rattle.std.specs.Prelude.{Bool, cond, ◌&&◌, List, [], ◌∷◌, Float, get_or, None, Option, Some}
 use Rattle.floats.specs.Ops.{◌≺◌}
 use Rattle.plane.specs.BaseMath.{dist_squared}
 use Rattle.plane.specs.PlineSeg.{seg_arc_radius_and_center}
@@ -11,8 +11,6 @@ use Rattle.plane.specs.declared.pline_seg.ArcRadiusCenter.{ArcRadiusCenter}
 use Rattle.arcs.specs.ArcGeometry.{of_segment, finding, point_lies_on_arc}
 use Rattle.arcs.specs.TwoArcs.{collect_end_points}
 use Rattle.arcs.specs.declared.arc_geometry.ArcGeometry.{ArcGeometry}
-use Rattle.arcs.specs.declared.two_arcs.Slot.{Slot}
-use Rattle.arcs.specs.declared.two_arcs.Slot.TheVariants.{Empty, Taken}
 use Rattle.crossing.specs.CircleCircle.{circle_circle}
 use Rattle.crossing.specs.declared.circle_circle_intr.CircleCircleIntr.{CircleCircleIntr}
 use Rattle.crossing.specs.declared.circle_circle_intr.CircleCircleIntr.TheVariants as circles
@@ -59,24 +57,24 @@ nearer_replaced end_pt c1 c2 =
     (record { first = c1; second = replaced c2 })
 
 -- lines 455-483: both points count
-abbrev pub both_counted : Slot → Slot → Computed → Computed → TwoComputed
-both_counted Empty Empty c1 c2 = record { first = c1; second = c2 }
-both_counted Empty (Taken end_pt) c1 c2 = nearer_replaced end_pt c1 c2
-both_counted (Taken end_pt) Empty c1 c2 = nearer_replaced end_pt c1 c2
-both_counted (Taken end_pt1) (Taken end_pt2) c1 c2 = record { first = replaced c1; second = replaced c2 }
+abbrev pub both_counted : Option Vector2 → Option Vector2 → Computed → Computed → TwoComputed
+both_counted None None c1 c2 = record { first = c1; second = c2 }
+both_counted None (Some end_pt) c1 c2 = nearer_replaced end_pt c1 c2
+both_counted (Some end_pt) None c1 c2 = nearer_replaced end_pt c1 c2
+both_counted (Some end_pt1) (Some end_pt2) c1 c2 = record { first = replaced c1; second = replaced c2 }
 
 -- lines 485-492 and 494-501: the one point that counts, whose place an end takes if there is one
-abbrev pub unless_ends : Slot → Slot → Computed → Computed
-unless_ends Empty Empty c = c
-unless_ends Empty (Taken end_pt) c = replaced c
-unless_ends (Taken end_pt) Empty c = replaced c
-unless_ends (Taken end_pt1) (Taken end_pt2) c = replaced c
+abbrev pub unless_ends : Option Vector2 → Option Vector2 → Computed → Computed
+unless_ends None None c = c
+unless_ends None (Some end_pt) c = replaced c
+unless_ends (Some end_pt) None c = replaced c
+unless_ends (Some end_pt1) (Some end_pt2) c = replaced c
 
 -- lines 452-511
-unfoldable pub two_computed : Vector2 → Vector2 → List Slot → ArcGeometry → ArcGeometry → TwoComputed
+unfoldable pub two_computed : Vector2 → Vector2 → List (Option Vector2) → ArcGeometry → ArcGeometry → TwoComputed
 two_computed point1 point2 end_point_intrs arc1 arc2 =
-    let first = get_or end_point_intrs 0 Empty in
-    let second = get_or end_point_intrs 1 Empty in
+    let first = get_or end_point_intrs 0 None in
+    let second = get_or end_point_intrs 1 None in
     let c1 = both_tested arc1 arc2 point1 in
     let c2 = both_tested arc1 arc2 point2 in
     cond (counted c1 && counted c2)

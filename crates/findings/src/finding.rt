@@ -63,19 +63,6 @@ pub struct TwoComputed {
 }
 
 impl Finding {
-    // What the test of a sweep found.
-    pub fn of_sweep(found: SweepFinding) -> Finding
-        ensures { result ≡ finding.of_sweep found }
-    {
-        match found {
-            SweepFinding::Outside => Finding::Outside,
-            SweepFinding::NearCenter => Finding::NearCenter,
-            SweepFinding::Inside => Finding::Inside,
-            SweepFinding::NearStart => Finding::NearStart,
-            SweepFinding::NearEnd => Finding::NearEnd,
-        }
-    }
-
     // Whether a rule of the sweep said yes.
     pub fn counts(self) -> bool
         ensures { result ≡ finding.counts self }
@@ -95,14 +82,21 @@ impl Finding {
     pub fn number(self) -> u64
         ensures { result ≡ finding.number self }
     {
-        match self {
-            Finding::Outside => 0,
-            Finding::NearCenter => 1,
-            Finding::Inside => 2,
-            Finding::NearStart => 3,
-            Finding::NearEnd => 4,
-            Finding::EndPoint => 5,
-            Finding::NotTested => 6,
+        self as u64
+    }
+}
+
+// What the test of a sweep found.
+impl From<SweepFinding> for Finding {
+    ghost from_gives = { λ found result. result ≡ finding.of_sweep found };
+
+    fn from(found: SweepFinding) -> Finding {
+        match found {
+            SweepFinding::Outside => Finding::Outside,
+            SweepFinding::NearCenter => Finding::NearCenter,
+            SweepFinding::Inside => Finding::Inside,
+            SweepFinding::NearStart => Finding::NearStart,
+            SweepFinding::NearEnd => Finding::NearEnd,
         }
     }
 }

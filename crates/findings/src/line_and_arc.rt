@@ -42,7 +42,7 @@ fn point_tested(
             finding: Finding::NotTested,
         };
     }
-    let finding = Finding::of_sweep(arc_geometry.finding(point));
+    let finding = Finding::from(arc_geometry.finding(point));
     Tested { point, finding }
 }
 

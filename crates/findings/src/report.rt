@@ -1,15 +1,14 @@
 // The pair call with findings: how two segments meet, and what is told of each computed point for each segment.
-ghost use Rattle.std.specs.Prelude.{◌≡◌};
+ghost use Rattle.std.specs.Prelude.{◌≡◌, Ok};
 ghost use Rattle.checks.specs.Calls;
-ghost use Rattle.checks.specs.declared.fault.Checked.TheVariants.{Fine};
 ghost use Rattle.findings.specs.Report;
 
 use super::finding::{Finding, Findings};
 use super::line_and_arc::line_arc_report;
-use super::reported::{FindingsAnswer, Reported};
+use super::reported::Reported;
 use super::two_arcs::arc_arc_report;
 use arcs::circle::circle_if_arc;
-use checks::fault::Checked;
+use checks::fault::Fault;
 use crossing::pair_kernel::{PairKernel, pair_kernel};
 use fast_pair::pair::{line_pair, pair_checked};
 use plane::pline_vertex::PlineVertex;
@@ -23,7 +22,7 @@ fn report(
     u2: PlineVertex,
     pos_equal_eps: f64,
 ) -> Reported
-    requires { Calls.check_pline_seg v1 v2 u1 u2 pos_equal_eps ≡ Fine }
+    requires { Calls.check_pline_seg v1 v2 u1 u2 pos_equal_eps ≡ Ok tt }
     ensures { result ≡ Report.reported v1 v2 u1 u2 pos_equal_eps }
 {
     let circle1 = circle_if_arc(v1, v2);
@@ -93,12 +92,9 @@ pub fn pline_seg_findings(
     u1: PlineVertex,
     u2: PlineVertex,
     pos_equal_eps: f64,
-) -> FindingsAnswer
+) -> Result<Reported, Fault>
     ensures { result ≡ Report.pline_seg_findings v1 v2 u1 u2 pos_equal_eps }
 {
-    let checked = pair_checked(v1, v2, u1, u2, pos_equal_eps);
-    match checked {
-        Checked::Fine => FindingsAnswer::Met(report(v1, v2, u1, u2, pos_equal_eps)),
-        Checked::Bad(fault) => FindingsAnswer::Refused(fault),
-    }
+    pair_checked(v1, v2, u1, u2, pos_equal_eps)?;
+    Ok(report(v1, v2, u1, u2, pos_equal_eps))
 }

@@ -9,10 +9,3 @@ pub struct Reported {
     pub answer: PlineSegIntr,
     pub findings: Findings,
 }
-
-// Both, or the first fault.
-#[derive(Clone, Copy)]
-pub enum FindingsAnswer {
-    Refused(Fault),
-    Met(Reported),
-}

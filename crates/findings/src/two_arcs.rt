@@ -1,8 +1,7 @@
 // How two arcs meet, and what is told of their computed points: pline_seg_intersect.rs, lines 351-642.
-ghost use Rattle.std.specs.Prelude.{◌≡◌};
+ghost use Rattle.std.specs.Prelude.{◌≡◌, Ok};
 ghost use Rattle.arcs.specs.Workings.Circles;
 ghost use Rattle.checks.specs.Calls;
-ghost use Rattle.checks.specs.declared.fault.Checked.TheVariants.{Fine};
 ghost use Rattle.crossing.specs.ArcArc;
 ghost use Rattle.crossing.specs.PlineSeg;
 ghost use Rattle.findings.specs.TwoArcs;
@@ -12,7 +11,7 @@ use super::finding::{Computed, Finding, Findings, TwoComputed};
 use super::reported::Reported;
 use arcs::arc_geometry::ArcGeometry;
 use arcs::pline_seg_intr::PlineSegIntr;
-use arcs::two_arcs::{Slot, collect_end_points, ends_or, two_in_sweep};
+use arcs::two_arcs::{collect_end_points, ends_or, two_in_sweep};
 use crossing::circle_circle_intr::CircleCircleIntr;
 use crossing::pline_seg_intersect::pline_seg_after_checks;
 use plane::base_math::dist_squared;
@@ -24,9 +23,9 @@ use plane::vector2::Vector2;
 fn both_tested(arc1: ArcGeometry, arc2: ArcGeometry, point: Vector2) -> Computed
     ensures { result ≡ TwoArcs.both_tested arc1 arc2 point }
 {
-    let v = Finding::of_sweep(arc1.finding(point));
+    let v = Finding::from(arc1.finding(point));
     if v.counts() {
-        let u = Finding::of_sweep(arc2.finding(point));
+        let u = Finding::from(arc2.finding(point));
         return Computed { point, v, u };
     }
     Computed {
@@ -101,20 +100,25 @@ fn nearer_replaced(end_pt: Vector2, c1: Computed, c2: Computed) -> TwoComputed
 }
 
 // Two points that count. The slots' ends take their places.
-fn both_counted(first: Slot, second: Slot, c1: Computed, c2: Computed) -> TwoComputed
+fn both_counted(
+    first: Option<Vector2>,
+    second: Option<Vector2>,
+    c1: Computed,
+    c2: Computed,
+) -> TwoComputed
     ensures { result ≡ TwoArcs.both_counted first second c1 c2 }
 {
     match first {
-        Slot::Empty => match second {
-            Slot::Empty => TwoComputed {
+        None => match second {
+            None => TwoComputed {
                 first: c1,
                 second: c2,
             },
-            Slot::Taken(end_pt) => nearer_replaced(end_pt, c1, c2),
+            Some(end_pt) => nearer_replaced(end_pt, c1, c2),
         },
-        Slot::Taken(end_pt1) => match second {
-            Slot::Empty => nearer_replaced(end_pt1, c1, c2),
-            Slot::Taken(_) => TwoComputed {
+        Some(end_pt1) => match second {
+            None => nearer_replaced(end_pt1, c1, c2),
+            Some(_) => TwoComputed {
                 first: replaced(c1),
                 second: replaced(c2),
             },
@@ -123,23 +127,28 @@ fn both_counted(first: Slot, second: Slot, c1: Computed, c2: Computed) -> TwoCom
 }
 
 // The one point that counts. An end in a slot takes its place.
-fn unless_ends(first: Slot, second: Slot, computed: Computed) -> Computed
+fn unless_ends(first: Option<Vector2>, second: Option<Vector2>, computed: Computed) -> Computed
     ensures { result ≡ TwoArcs.unless_ends first second computed }
 {
     match first {
-        Slot::Empty => match second {
-            Slot::Empty => computed,
-            Slot::Taken(_) => replaced(computed),
+        None => match second {
+            None => computed,
+            Some(_) => replaced(computed),
         },
-        Slot::Taken(_) => match second {
-            Slot::Empty => replaced(computed),
-            Slot::Taken(_) => replaced(computed),
+        Some(_) => match second {
+            None => replaced(computed),
+            Some(_) => replaced(computed),
         },
     }
 }
 
 // The two points where the circles of two arcs cross, with the slots' ends in the places of those that count.
-fn two_computed(first: Slot, second: Slot, c1: Computed, c2: Computed) -> TwoComputed
+fn two_computed(
+    first: Option<Vector2>,
+    second: Option<Vector2>,
+    c1: Computed,
+    c2: Computed,
+) -> TwoComputed
     ensures { result ≡ Answers.two_of first second c1 c2 }
 {
     let counted1 = counted(c1);
@@ -197,7 +206,12 @@ fn tangent_answer(
 }
 
 // How two arcs meet whose circles cross, from the two computed points and the slots' ends.
-fn two_answer(first: Slot, second: Slot, c1: Computed, c2: Computed) -> PlineSegIntr
+fn two_answer(
+    first: Option<Vector2>,
+    second: Option<Vector2>,
+    c1: Computed,
+    c2: Computed,
+) -> PlineSegIntr
     ensures { result ≡ Answers.two_answer first second c1 c2 }
 {
     let point1 = c1.point;
@@ -246,7 +260,7 @@ fn tangent_report(
 fn two_report(
     point1: Vector2,
     point2: Vector2,
-    end_point_intrs: [Slot; 2],
+    end_point_intrs: [Option<Vector2>; 2],
     arc1: ArcGeometry,
     arc2: ArcGeometry,
 ) -> Reported
@@ -285,7 +299,7 @@ pub fn arc_arc_report(
     circle2: ArcRadiusCenter,
     pos_equal_eps: f64,
 ) -> Reported
-    requires fine { Calls.check_pline_seg v1 v2 u1 u2 pos_equal_eps ≡ Fine }
+    requires fine { Calls.check_pline_seg v1 v2 u1 u2 pos_equal_eps ≡ Ok tt }
     requires arc_of_circle1 { Circles.OfArc v1 v2 circle1 }
     requires arc_of_circle2 { Circles.OfArc u1 u2 circle2 }
     requires pair_answer { PlineSeg.pline_seg v1 v2 u1 u2 pos_equal_eps ≡ ArcArc.arc_arc_of intr_result v1 v2 u1 u2 circle1 circle2 pos_equal_eps }

@@ -1,6 +1,6 @@
 -- Where the points of an answer come from: each is an end, or a point that was computed from a kernel's answer; and those of
 -- OverlappingArcs are ends. So a predicate of the ends and of the computed points holds of every point.
-use Rattle.std.specs.Prelude.{Bool, cond, not, ◌&&◌, ◌||◌, List, Float, get_or}
+use Rattle.std.specs.Prelude.{Bool, cond, not, ◌&&◌, ◌||◌, List, Float, get_or, None, Option, Some}
 use Rattle.std.proofs.Math.Bool.{beq, true, false}
 use Rattle.floats.specs.Ops.{◌⊗◌, ◌≺◌, f0}
 use Rattle.plane.specs.BaseMath.{dist_squared, point_from_parametric}
@@ -17,10 +17,6 @@ use Rattle.arcs.specs.OneCircle as one-circle
 use Rattle.arcs.specs.declared.arc_sweep.ArcSweep.{ArcSweep}
 use Rattle.arcs.specs.declared.arc_geometry.ArcGeometry.{ArcGeometry}
 use Rattle.arcs.specs.declared.one_circle.ArcEnds.{ArcEnds}
-use Rattle.arcs.specs.declared.two_arcs.Slot.{Slot}
-use Rattle.arcs.specs.declared.two_arcs.Slot.TheVariants.{Empty, Taken}
-use Rattle.arcs.specs.declared.line_and_arc.PointInSweep.{PointInSweep}
-use Rattle.arcs.specs.declared.line_and_arc.PointInSweep.TheVariants.{Nothing, At}
 use Rattle.arcs.specs.declared.line_and_arc.TwoPoints.{TwoPoints}
 use Rattle.arcs.specs.declared.pline_seg_intr.PlineSegIntr.{PlineSegIntr}
 use Rattle.arcs.specs.declared.pline_seg_intr.PlineSegIntr.TheVariants.{
@@ -44,9 +40,9 @@ pub data Made (P End : Vector2 → Type 0) : PlineSegIntr → Type 0 where
   arcs : {p q : Vector2} → End p → End q → Made P End (OverlappingArcs p q)
 
 -- ---- a line and an arc
-pub data Seen (P : Vector2 → Type 0) : PointInSweep → Type 0 where
-  unseen : Seen P Nothing
-  seen : {p : Vector2} → P p → Seen P (At p)
+pub data Seen (P : Vector2 → Type 0) : Option Vector2 → Type 0 where
+  unseen : Seen P None
+  seen : {p : Vector2} → P p → Seen P (Some p)
 
 pub record Both (P : Vector2 → Type 0) (points : TwoPoints) : Type 0 where
   pub first : P points.point1
@@ -85,9 +81,9 @@ module _ (P End : Vector2 → Type 0) where
   either false w z = z
 
   module _ (p0 p1 : Vector2) (a : P p0) (b : P p1) (arc : ArcGeometry) where
-    at_most_one : (found : PointInSweep) → Seen P found → Made P End (line-arc.tangent_at found)
-    at_most_one Nothing unseen = nothing
-    at_most_one (At p) (seen h) = touched h
+    at_most_one : (found : Option Vector2) → Seen P found → Made P End (line-arc.tangent_at found)
+    at_most_one None unseen = nothing
+    at_most_one (Some p) (seen h) = touched h
 
     -- lines 255-267
     pub tangent-line : (t length eps : Float) → P (point_from_parametric p0 p1 t)
@@ -111,12 +107,12 @@ module _ (P End : Vector2 → Type 0) where
         (two h.second h.first)
 
     -- lines 271-336
-    pub crossings : (first second : PointInSweep) (start : Vector2) (u_is_line : Bool) → Seen P first → Seen P second
+    pub crossings : (first second : Option Vector2) (start : Vector2) (u_is_line : Bool) → Seen P first → Seen P second
         → Made P End (line-arc.crossings_line_arc first second p0 p1 start arc u_is_line)
-    crossings Nothing Nothing start u_is_line unseen unseen = nothing
-    crossings Nothing (At q) start u_is_line unseen (seen k) = one_line q k
-    crossings (At p) Nothing start u_is_line (seen h) unseen = one_line p h
-    crossings (At p) (At q) start u_is_line (seen h) (seen k) = in-order-lem _ start u_is_line (sticky P p0 p1 a b arc p q h k)
+    crossings None None start u_is_line unseen unseen = nothing
+    crossings None (Some q) start u_is_line unseen (seen k) = one_line q k
+    crossings (Some p) None start u_is_line (seen h) unseen = one_line p h
+    crossings (Some p) (Some q) start u_is_line (seen h) (seen k) = in-order-lem _ start u_is_line (sticky P p0 p1 a b arc p q h k)
 
   -- ---- two arcs
   module _ (v1 v2 u1 u2 : Vector2) (v1-is : P v1) (v2-is : P v2) (u1-is : P u1) (u2-is : P u2) where
@@ -142,23 +138,23 @@ module _ (P End : Vector2 → Type 0) where
     for-both end1 end2 p e f = either (dist_squared end1 p ≺ dist_squared end2 p) (two e f) (two f e)
 
     -- lines 455-483
-    both-swept : (first second : Slot) (p q : Vector2) → SlotEnd P first → SlotEnd P second → P p → P q
+    both-swept : (first second : Option Vector2) (p q : Vector2) → SlotEnd P first → SlotEnd P second → P p → P q
         → Made P End (two-arcs.two_in_sweep first second p q)
-    both-swept Empty Empty p q e f h k = two h k
-    both-swept Empty (Taken end) p q e f h k = nearer end p q f h k
-    both-swept (Taken end) Empty p q e f h k = nearer end p q e h k
-    both-swept (Taken end1) (Taken end2) p q e f h k = for-both end1 end2 p e f
+    both-swept None None p q e f h k = two h k
+    both-swept None (Some end) p q e f h k = nearer end p q f h k
+    both-swept (Some end) None p q e f h k = nearer end p q e h k
+    both-swept (Some end1) (Some end2) p q e f h k = for-both end1 end2 p e f
 
     -- lines 485-510
-    ends-or : (first second : Slot) (r : PlineSegIntr) → SlotEnd P first → SlotEnd P second → Made P End r
+    ends-or : (first second : Option Vector2) (r : PlineSegIntr) → SlotEnd P first → SlotEnd P second → Made P End r
         → Made P End (two-arcs.ends_or first second r)
-    ends-or Empty Empty r e f m = m
-    ends-or Empty (Taken end) r e f m = one f
-    ends-or (Taken end) Empty r e f m = one e
-    ends-or (Taken end1) (Taken end2) r e f m = two e f
+    ends-or None None r e f m = m
+    ends-or None (Some end) r e f m = one f
+    ends-or (Some end) None r e f m = one e
+    ends-or (Some end1) (Some end2) r e f m = two e f
 
     -- lines 452-511
-    two-points : (p q : Vector2) (slots : List Slot) (arc1 arc2 : ArcGeometry) → SlotsEnd P slots → P p → P q
+    two-points : (p q : Vector2) (slots : List (Option Vector2)) (arc1 arc2 : ArcGeometry) → SlotsEnd P slots → P p → P q
         → Made P End (two-arcs.two_arc_arc p q slots arc1 arc2)
     unfolding two-arcs.two_arc_arc
     two-points p q slots arc1 arc2 s h k =
@@ -166,10 +162,10 @@ module _ (P End : Vector2 → Type 0) where
         let f = slot-end P slots 1 s in
         let p-swept = two-arcs.both_sweep arc1 arc2 p in
         let q-swept = two-arcs.both_sweep arc1 arc2 q in
-        either (p-swept && q-swept) (both-swept (get_or slots 0 Empty) (get_or slots 1 Empty) p q e f h k)
-        (either p-swept (ends-or (get_or slots 0 Empty) (get_or slots 1 Empty) (OneIntersect p) e f (one h))
-        (either q-swept (ends-or (get_or slots 0 Empty) (get_or slots 1 Empty) (OneIntersect q) e f (one k))
-        (ends-or (get_or slots 0 Empty) (get_or slots 1 Empty) NoIntersect e f nothing)))
+        either (p-swept && q-swept) (both-swept (get_or slots 0 None) (get_or slots 1 None) p q e f h k)
+        (either p-swept (ends-or (get_or slots 0 None) (get_or slots 1 None) (OneIntersect p) e f (one h))
+        (either q-swept (ends-or (get_or slots 0 None) (get_or slots 1 None) (OneIntersect q) e f (one k))
+        (ends-or (get_or slots 0 None) (get_or slots 1 None) NoIntersect e f nothing)))
 
     -- lines 419-511
     pub crossing-arcs : (p q : Vector2) (arc1 arc2 : ArcGeometry) (eps : Float) → P p → P q

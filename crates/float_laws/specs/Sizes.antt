@@ -6,7 +6,7 @@ use Rattle.std.proofs.Common.{sym, ap, ◌∙◌, subst, mul-pos, mul-le-mul, mu
 use Rattle.std.proofs.Math.Nat.{eq_of_mul-eq-mul_right, pow-succ'}
 use Rattle.std.proofs.Math.Pow.{pow-lt}
 use Rattle.std.specs.Float.{nan, inf, fin, Format}
-use Rattle.std.specs.Float.Ieee.{emax, low, up, down, unlike, round, neg, add, sub, mul, div, le}
+use Rattle.std.specs.Float.Ieee.{emax, low, up, down, unlike, round, neg, add, sub, mul, div}
 use Rattle.std.specs.Float.Ieee.Exact.{HasValue}
 use Rattle.std.specs.Float.Ieee.Fits.{down_pos}
 use Rattle.std.specs.Float.Ieee.Scale.{finite, grid, overflow}

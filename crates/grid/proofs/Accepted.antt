@@ -1,5 +1,6 @@
 -- A pair of grid lines is never refused: every number that the pair call checks is fine, so it answers how the two meet.
-use Rattle.std.specs.Prelude.{◌≡◌, refl, Bool, true, false, cond, ◌&&◌, List, ◌∷◌, ℕ, zero, suc, ◌*◌, ◌^◌, ◌≤◌, ◌<◌, T, ℤ, pos, negsuc, neg_ℤ, nat_abs, ◌*ℤ◌, Float}
+use Rattle.checks.specs.Checked.{Checked}
+use Rattle.std.specs.Prelude.{◌≡◌, refl, Bool, true, false, cond, ◌&&◌, List, ◌∷◌, ℕ, zero, suc, ◌*◌, ◌^◌, ◌≤◌, ◌<◌, T, ℤ, pos, negsuc, neg_ℤ, nat_abs, ◌*ℤ◌, Float, Err, Ok}
 use Rattle.std.proofs.Common.{sym, ◌∙◌, subst, mul-pos, mul-le-mul_right, lt_of_mul-lt-mul_right, arith, ltb→lt, lit≤}
 use Rattle.std.proofs.Math.Path.{ap}
 use Rattle.std.specs.Float.{nan, inf, fin}
@@ -14,8 +15,6 @@ use Rattle.plane.specs.PlineVertex as vertex
 use Rattle.plane.specs.PlineVertex.{bulge_is_zero}
 use Rattle.plane.specs.declared.pline_vertex.PlineVertex.{PlineVertex}
 use Rattle.checks.specs.declared.fault.Place.{Place}
-use Rattle.checks.specs.declared.fault.Checked.{Checked}
-use Rattle.checks.specs.declared.fault.Checked.TheVariants.{Fine}
 use Rattle.checks.specs.Each
 use Rattle.checks.specs.Arc.{arc_chord}
 use Rattle.checks.specs.Calls.{pline_seg_checks, check_pline_seg}
@@ -27,7 +26,6 @@ use Rattle.checks.specs.Laws.Fine.{Within, Between, epsilon-fine, coordinate-fin
 use Rattle.crossing.specs.PlineSeg.{pline_seg, process_line_line_intr}
 use Rattle.arcs.specs.declared.pline_seg_intr.PlineSegIntr.{PlineSegIntr}
 use Rattle.crossing.specs.PlineSegIntersect.{pline_seg_intr}
-use Rattle.crossing.specs.declared.pline_seg_intersect.PlineSegAnswer.TheVariants.{Refused, Met}
 use Rattle.grid.specs.Promise.{signed, Is, Epsilon, Spot, On}
 use Rattle.grid.specs.Plane.Whole.{gain, gain-neg}
 
@@ -140,7 +138,7 @@ bulge-within v t = below-near-zero v.bulge (subst (λ (x : Float). T (F64.abs v.
 
 -- ---- the pair call
 -- a check that is fine, before others that are fine
-fine : (c : Checked) (cs : List Checked) → c ≡ Fine → AllFine cs → AllFine (c ∷ cs)
+fine : (c : Checked) (cs : List Checked) → c ≡ Ok tt → AllFine cs → AllFine (c ∷ cs)
 fine c cs e h = subst (λ (d : Checked). AllFine (d ∷ cs)) (sym e) (one h)
 
 -- a vertex on the grid
@@ -150,20 +148,20 @@ on-grid v p f g cs (x, x-le, y, y-le) h =
     fine _ _ ((coordinate-fine v.x f).1 (coordinate-within v.x p.x x x-le))
     (fine _ cs ((coordinate-fine v.y g).1 (coordinate-within v.y p.y y y-le)) h)
 
-no-arc : (a b : PlineVertex) (owner index : ℕ) → T (bulge_is_zero a) → arc_chord a b owner index ≡ Fine
+no-arc : (a b : PlineVertex) (owner index : ℕ) → T (bulge_is_zero a) → arc_chord a b owner index ≡ Ok tt
 unfolding arc_chord
 no-arc a b owner index t = go (bulge_is_zero a) _ t
   where
-    go : (z : Bool) (c : Checked) → T z → cond z Fine c ≡ Fine
+    go : (z : Bool) (c : Checked) → T z → cond z (Ok tt) c ≡ Ok tt
     go true c t = refl
     go false c t = absurd t
 
 module _ (v1 v2 u1 u2 : PlineVertex) (p1 p2 q1 q2 : Spot) (e : Float) (num den : ℕ) where
   pub accepted : On v1 p1 → On v2 p2 → On u1 q1 → On u2 q2 → T (bulge_is_zero v1) → T (bulge_is_zero u1) → Epsilon e num den
-      → pline_seg_intr v1 v2 u1 u2 e ≡ Met (pline_seg v1 v2 u1 u2 e)
+      → pline_seg_intr v1 v2 u1 u2 e ≡ Ok (pline_seg v1 v2 u1 u2 e)
   unfolding pline_seg_intr check_pline_seg
   accepted at-v1 at-v2 at-u1 at-u2 line-v line-u eps =
-      ap (λ (z : Checked). answered Refused Met z (pline_seg v1 v2 u1 u2 e))
+      ap (λ (z : Checked). answered Err Ok z (pline_seg v1 v2 u1 u2 e))
       ((first_fine (pline_seg_checks v1 v2 u1 u2 e)).1
       (fine _ _ ((epsilon-fine e).1 (epsilon-between e num den eps))
       (on-grid v1 p1 _ _ _ at-v1

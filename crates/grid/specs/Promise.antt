@@ -1,6 +1,6 @@
 -- The promise on the plant's grid: no touching pair of lines is missed. It is stated over whole numbers here and proved in
 -- Proved.antt.
-use Rattle.std.specs.Prelude.{ℕ, ◌*◌, ◌≤◌, ◌<◌, ◌≡◌, ◌≢◌, ◌⊎◌, ◌↔◌, Bool, true, false, List, T, ℤ, pos, neg_ℤ, nat_abs, ◌+ℤ◌, ◌-ℤ◌, ◌*ℤ◌, ◌<ℤ◌, Float}
+use Rattle.std.specs.Prelude.{ℕ, ◌*◌, ◌≤◌, ◌<◌, ◌≡◌, ◌≢◌, ◌⊎◌, ◌↔◌, Bool, true, false, List, T, ℤ, pos, neg_ℤ, nat_abs, ◌+ℤ◌, ◌-ℤ◌, ◌*ℤ◌, ◌<ℤ◌, Float, Ok}
 use Rattle.std.specs.Float.{nan, inf, fin, binary64}
 use Rattle.std.specs.Float.Ieee.{up, down, fits}
 use Rattle.plane.specs.PlineVertex.{bulge_is_zero}
@@ -9,15 +9,14 @@ use Rattle.plane.specs.declared.pline_vertex.PlineVertex.{PlineVertex}
 use Rattle.crossing.specs.PlineSegIntersect.{pline_seg_intr}
 use Rattle.arcs.specs.declared.pline_seg_intr.PlineSegIntr.{PlineSegIntr}
 use Rattle.arcs.specs.declared.pline_seg_intr.PlineSegIntr.TheVariants.{NoIntersect, OneIntersect, OverlappingLines}
-use Rattle.crossing.specs.declared.pline_seg_intersect.PlineSegAnswer.TheVariants.{Met}
 use Rattle.paths.specs.Segments.{segment_from, segment_count}
 use Rattle.listing_pairs.specs.Traces.{one_trace}
-use Rattle.listing_outcomes.specs.declared.answer.ListingAnswer.TheVariants.{Listed}
 use Rattle.listing_calls.specs.Listing.{mutual_listing}
 use Rattle.listing_calls.specs.Boxed.{mutual_boxed}
 use Rattle.listing_calls.specs.HasRow.{HasRow}
 use Rattle.listing_calls.specs.Chain.{Lent}
 use Rattle.listing_calls.specs.ChainedCalls.{mutual_chain, mutual_end}
+use Rattle.listing_outcomes.specs.Answer.{Listed}
 
 -- ---- numbers. ℤ has the whole numbers with a sign: `pos n` is n, and `nat_abs` the size. `Is x a c` says that the float x is a /
 -- c. A finite float is m * 2 ^ e, with a minus if s is true, and 2 ^ e is up e / down e.
@@ -118,7 +117,7 @@ module _ (v1 v2 u1 u2 : Spot) where
 abbrev pub Promise : Type 0
 Promise = (v1 v2 u1 u2 : PlineVertex) (p1 p2 q1 q2 : Spot) (e : Float) (num den : ℕ)
     → On v1 p1 → On v2 p2 → On u1 q1 → On u2 q2 → T (bulge_is_zero v1) → T (bulge_is_zero u1) → Epsilon e num den
-    → (r : PlineSegIntr) × (pline_seg_intr v1 v2 u1 u2 e ≡ Met r) × Promised p1 p2 q1 q2 num den r
+    → (r : PlineSegIntr) × (pline_seg_intr v1 v2 u1 u2 e ≡ Ok r) × Promised p1 p2 q1 q2 num den r
 
 -- ---- sentence 5. Segment k of a path is a line between grid points. If two paths were listed and not refused, two such lines
 -- that share a point have a row, unless they are of one trace: request 8 passes over pairs of the same trace above 0.

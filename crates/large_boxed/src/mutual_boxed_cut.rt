@@ -1,10 +1,8 @@
 // The crossings of two paths, found by boxes, in the mode of large arcs.
-ghost use Rattle.std.specs.Prelude.{◌≡◌};
-ghost use Rattle.checks.specs.declared.fault.Checked.TheVariants.{Fine};
+ghost use Rattle.std.specs.Prelude.{◌≡◌, Ok};
 ghost use Rattle.listing_outcomes.specs.BoxedOutcome;
 ghost use Rattle.large_listings.specs.LargeListings;
 
-use checks::fault::Checked;
 use large_listings::cutting::{FLOATS, KEPT_BOXED, cut};
 use large_listings::jobs;
 use large_outcomes::listed;
@@ -22,7 +20,7 @@ fn boxed_mutual(
     indices: &mut [u64],
     points: &mut [f64],
 ) -> ListingAnswer
-    requires { LargeListings.check_mutual_large first.now first_closed second.now second_closed epsilon ≡ Fine }
+    requires { LargeListings.check_mutual_large first.now first_closed second.now second_closed epsilon ≡ Ok tt }
     ensures { BoxedOutcome.LeavesBoxed
         (LargeListings.mutual_boxed_large first.now first_closed second.now second_closed epsilon
         boxes.old
@@ -71,18 +69,15 @@ pub fn mutual_boxed_cut(
         indices.old points.old)
         result boxes.new indices.new points.new }
 {
-    let checked = jobs::check_mutual_large(first, first_closed, second, second_closed, epsilon);
-    match checked {
-        Checked::Fine => boxed_mutual(
-            first,
-            first_closed,
-            second,
-            second_closed,
-            epsilon,
-            boxes,
-            indices,
-            points,
-        ),
-        Checked::Bad(fault) => ListingAnswer::Refused(fault),
-    }
+    jobs::check_mutual_large(first, first_closed, second, second_closed, epsilon)?;
+    boxed_mutual(
+        first,
+        first_closed,
+        second,
+        second_closed,
+        epsilon,
+        boxes,
+        indices,
+        points,
+    )
 }

@@ -1,10 +1,8 @@
 // The crossings of a path with itself, found by boxes, in the mode of large arcs.
-ghost use Rattle.std.specs.Prelude.{◌≡◌};
-ghost use Rattle.checks.specs.declared.fault.Checked.TheVariants.{Fine};
+ghost use Rattle.std.specs.Prelude.{◌≡◌, Ok};
 ghost use Rattle.listing_outcomes.specs.BoxedOutcome;
 ghost use Rattle.large_listings.specs.LargeListings;
 
-use checks::fault::Checked;
 use large_listings::cutting::{FLOATS, KEPT_BOXED, cut};
 use large_listings::jobs;
 use large_outcomes::listed;
@@ -20,7 +18,7 @@ fn boxed_self(
     indices: &mut [u64],
     points: &mut [f64],
 ) -> ListingAnswer
-    requires { LargeListings.check_self_large path.now closed epsilon ≡ Fine }
+    requires { LargeListings.check_self_large path.now closed epsilon ≡ Ok tt }
     ensures { BoxedOutcome.LeavesBoxed
         (LargeListings.self_boxed_large path.now closed epsilon boxes.old
         indices.old points.old)
@@ -54,9 +52,6 @@ pub fn self_boxed_cut(
         indices.old points.old)
         result boxes.new indices.new points.new }
 {
-    let checked = jobs::check_self_large(path, closed, epsilon);
-    match checked {
-        Checked::Fine => boxed_self(path, closed, epsilon, boxes, indices, points),
-        Checked::Bad(fault) => ListingAnswer::Refused(fault),
-    }
+    jobs::check_self_large(path, closed, epsilon)?;
+    boxed_self(path, closed, epsilon, boxes, indices, points)
 }

@@ -16,8 +16,8 @@ pub fn listed_bulge(answer: ListingAnswer) -> bool
     ensures { result ≡ Answers.listed_bulge answer }
 {
     match answer {
-        ListingAnswer::Refused(fault) => fault.number == refusal::BULGE,
-        ListingAnswer::Listed { rows, pairs } => false,
+        Err(fault) => fault.number == refusal::BULGE,
+        Ok(_) => false,
     }
 }
 
@@ -26,13 +26,8 @@ pub fn paged_bulge(answer: PageAnswer) -> bool
     ensures { result ≡ Answers.paged_bulge answer }
 {
     match answer {
-        PageAnswer::Refused(fault) => fault.number == refusal::BULGE,
-        PageAnswer::Paged {
-            rows,
-            pairs,
-            next,
-            all,
-        } => false,
+        Err(fault) => fault.number == refusal::BULGE,
+        Ok(_) => false,
     }
 }
 
@@ -41,11 +36,8 @@ pub fn spread_listed(answer: ListingAnswer, indices: &mut [u64])
     requires { Answers.listed_rows answer * LargeRow.large_indices_a_row ≤ length indices.old }
     ensures { indices.new ≡ spread_of.spread spread_of.zero_halves (Answers.listed_rows answer) indices.old }
 {
-    match answer {
-        ListingAnswer::Refused(fault) => {}
-        ListingAnswer::Listed { rows, pairs } => {
-            spread_zeros(rows, indices);
-        }
+    if let Ok(counts) = answer {
+        spread_zeros(counts.rows, indices);
     }
 }
 
@@ -54,16 +46,8 @@ pub fn spread_paged(answer: PageAnswer, indices: &mut [u64])
     requires { Answers.paged_rows answer * LargeRow.large_indices_a_row ≤ length indices.old }
     ensures { indices.new ≡ spread_of.spread spread_of.zero_halves (Answers.paged_rows answer) indices.old }
 {
-    match answer {
-        PageAnswer::Refused(fault) => {}
-        PageAnswer::Paged {
-            rows,
-            pairs,
-            next,
-            all,
-        } => {
-            spread_zeros(rows, indices);
-        }
+    if let Ok(counts) = answer {
+        spread_zeros(counts.rows, indices);
     }
 }
 

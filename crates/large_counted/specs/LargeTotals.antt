@@ -1,14 +1,13 @@
 -- What a counted listing of the mode of large arcs adds, word by word. If the layout is accepted: each class total grows by the
 -- number of pairs of the cut paths of that class, by the pair's own definition, among the pairs that are not of one trace. If it
 -- is refused: one layout, and one refused with its number, which is one of the old mode's.
-use Rattle.std.specs.Prelude.{◌≡◌, Bool, ℕ, ◌+◌, ◌-◌, ◌≤◌, ◌<◌, Float, length}
+use Rattle.checks.specs.Checked.{Checked}
+use Rattle.std.specs.Prelude.{◌≡◌, Bool, ℕ, ◌+◌, ◌-◌, ◌≤◌, ◌<◌, Float, length, Err, Ok}
 use Rattle.std.proofs.Common.{sym, ◌∙◌, arith}
 use Rattle.std.proofs.Math.Path.{ap}
 use Rattle.std.proofs.Math.Bool.{true}
 use mathlib.Core.List.{List}
 use Rattle.checks.specs.declared.fault.Fault.{Fault}
-use Rattle.checks.specs.declared.fault.Checked.{Checked}
-use Rattle.checks.specs.declared.fault.Checked.TheVariants.{Fine, Bad}
 use Rattle.checks.specs.First.{first as first_fault}
 use Rattle.checks.specs.Refusal
 use Rattle.cuts.specs.CutPath.{cut_path}
@@ -16,12 +15,10 @@ use Rattle.listing_pairs.specs.declared.row.Row.{Row}
 use Rattle.listing_pairs.specs.Order.{Pair, those}
 use Rattle.listing_pairs.specs.Rows.{looked_at}
 use Rattle.listing_pairs.specs.Traces.{traced_pairs}
-use Rattle.listing_outcomes.specs.declared.answer.ListingAnswer.TheVariants.{Refused, Listed}
 use Rattle.large_outcomes.specs.LargeOutcome.{large_listed_of, large_outcome}
-use Rattle.month.specs.declared.mutual_counted.CountedAnswer.TheVariants.{Answered}
 use Rattle.month.specs.Report.{words, layouts, pairs, classes, refusals, refusal_numbers, word}
 use Rattle.month.specs.Given.{among, given}
-use Rattle.month.specs.Counted.{CountedOutcome, refused_adds, accepted_adds, adds}
+use Rattle.month.specs.Counted.{CountedOutcome, refused_adds, accepted_adds, adds, Answered}
 use Rattle.month.specs.Totals.{class_count, WithRefused}
 use Rattle.month.specs.Laws.Words.{word-plus, word_same}
 use Rattle.month.specs.Laws.Given.{Known, given_below, append, and, fine}
@@ -32,6 +29,8 @@ use Rattle.large_listings.specs.LargeListings.{mutual_numbers, mutual_large_chec
 use Rattle.large_counted.specs.LargeCounted.{mutual_large_rows, mutual_counted_large}
 use Rattle.large_listings.specs.LargeRefusals.{all}
 use Rattle.large_counted.specs.Laws.LargeGiven.{mutual-checks-known, room-known}
+use Rattle.listing_outcomes.specs.Answer.{Listed}
+use Rattle.listing_outcomes.specs.Laws.Counts.{same-pairs}
 
 module _ (first : List Float) (first_closed : Bool) (second : List Float) (second_closed : Bool) (epsilon : Float) where
   abbrev a : List Float
@@ -87,8 +86,8 @@ module _ (first : List Float) (first_closed : Bool) (second : List Float) (secon
             → k
             ≡ looked_at (mutual_large_look first first_closed second second_closed epsilon)
             (mutual_large_pairs first first_closed second second_closed)
-        go Fine e = cc
-        go (Bad g) e = absurd (kinds-differ e)
+        go (Ok _) e = sym (same-pairs e)
+        go (Err g) e = absurd (kinds-differ e)
 
     pub accepted-totals : (n looked : ℕ) → o.listing.answer ≡ Answered (Listed n looked) → WithAccepted report o.report
     unfolding mutual_counted_large
@@ -109,7 +108,7 @@ module _ (first : List Float) (first_closed : Bool) (second : List Float) (secon
         }
 
     -- ---- a refused one
-    pub refusal-given : (f : Fault) → (mutual_large first first_closed second second_closed epsilon indices points).answer ≡ Refused f
+    pub refusal-given : (f : Fault) → (mutual_large first first_closed second second_closed epsilon indices points).answer ≡ Err f
         → among f.number given ≡ true
     unfolding mutual_large large_outcome
     refusal-given f e =
@@ -123,12 +122,12 @@ module _ (first : List Float) (first_closed : Bool) (second : List Float) (secon
             → (large_listed_of (mutual_numbers first first_closed second second_closed) c rows
             (looked_at (mutual_large_look first first_closed second second_closed epsilon)
             (mutual_large_pairs first first_closed second second_closed)) indices points).answer
-            ≡ Refused f
+            ≡ Err f
             → among f.number given ≡ true
-        go Fine k e = absurd (kinds-differ (sym e))
-        go (Bad g) k e = k.known f (ap Bad (same-fault e))
+        go (Ok _) k e = absurd (kinds-differ (sym e))
+        go (Err g) k e = k.known f (ap Err (same-fault e))
 
-    pub refused-totals : (f : Fault) → o.listing.answer ≡ Answered (Refused f) → (f.number ≡ Refusal.report → ⊥)
+    pub refused-totals : (f : Fault) → o.listing.answer ≡ Answered (Err f) → (f.number ≡ Refusal.report → ⊥)
         → WithRefused f.number report o.report
     unfolding mutual_counted_large
     refused-totals f e other =

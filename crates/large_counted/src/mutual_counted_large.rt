@@ -1,7 +1,6 @@
 // The crossings of two paths in the mode of large arcs, counted in a report. The rows are counted before they are spread, while
 // their classes stand where the crate `month` reads them.
-ghost use Rattle.std.specs.Prelude.{◌≡◌, false, ◌≤◌, length};
-ghost use Rattle.checks.specs.declared.fault.Checked.TheVariants.{Fine};
+ghost use Rattle.std.specs.Prelude.{◌≡◌, false, ◌≤◌, length, Ok};
 ghost use Rattle.listing_pairs.specs.Workings.Job as JobDefs;
 ghost use Rattle.listing_pairs.specs.Workings.Keeping;
 ghost use Rattle.listing_pairs.specs.Workings.Ready;
@@ -12,7 +11,8 @@ ghost use Rattle.large_listings.specs.LargeListings;
 ghost use Rattle.large_counted.specs.LargeCounted;
 ghost use Rattle.large_counted.specs.Workings.Counting;
 
-use checks::fault::{Checked, Item, whole};
+use checks::call::CallError;
+use checks::fault::{Item, whole};
 use checks::refusal;
 use large_calls::old_answer::{listed_bulge, spread_listed, starts_large};
 use large_listings::cutting::{FLOATS, KEPT, cut};
@@ -62,16 +62,9 @@ fn list_counted(
         &mut points[..fours],
     );
     count(answer, indices, report);
-    match answer {
-        ListingAnswer::Refused(fault) => ListingAnswer::Refused(fault),
-        ListingAnswer::Listed { rows, pairs } => {
-            spread(first_names, second_names, rows, indices);
-            ListingAnswer::Listed {
-                rows: rows,
-                pairs: pairs,
-            }
-        }
-    }
+    let counts = answer?;
+    spread(first_names, second_names, counts.rows, indices);
+    Ok(counts)
 }
 
 // The listing of paths that were checked, and what it adds to a report that is not full.
@@ -85,7 +78,7 @@ fn counted_cut(
     points: &mut [f64],
     report: &mut [u64],
 ) -> ListingAnswer
-    requires epsilon_value { LargeListings.check_mutual_large first.now first_closed second.now second_closed epsilon ≡ Fine }
+    requires epsilon_value { LargeListings.check_mutual_large first.now first_closed second.now second_closed epsilon ≡ Ok tt }
     requires words_in_bounds { (report_of.words ≤ length report.old) × (report_of.full report.old ≡ false) }
     ensures { Counting.LargeAdded first.now first_closed second.now second_closed epsilon
         indices.old points.old report.old
@@ -134,7 +127,7 @@ fn counted_large(
 {
     let checked = jobs::check_mutual_large(first, first_closed, second, second_closed, epsilon);
     match checked {
-        Checked::Fine => counted_cut(
+        Ok(()) => counted_cut(
             first,
             first_closed,
             second,
@@ -144,9 +137,9 @@ fn counted_large(
             points,
             report,
         ),
-        Checked::Bad(fault) => {
-            count(ListingAnswer::Refused(fault), indices, report);
-            ListingAnswer::Refused(fault)
+        Err(fault) => {
+            count(Err(fault), indices, report);
+            Err(fault)
         }
     }
 }
@@ -226,13 +219,10 @@ pub fn mutual_counted_large(
         result indices.new points.new report.new }
 {
     if report.len() < WORDS {
-        return CountedAnswer::NoRoom;
+        return Err(CallError::NoRoom);
     }
     if full(report) {
-        return CountedAnswer::Answered(ListingAnswer::Refused(whole(
-            refusal::REPORT,
-            Item::Report,
-        )));
+        return Err(CallError::Refused(whole(refusal::REPORT, Item::Report)));
     }
     let answer = counted_listing(
         first,
@@ -244,5 +234,5 @@ pub fn mutual_counted_large(
         points,
         report,
     );
-    CountedAnswer::Answered(answer)
+    Ok(answer?)
 }

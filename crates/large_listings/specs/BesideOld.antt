@@ -1,15 +1,14 @@
 -- The rows of the mode of large arcs with halves 0 beside the rows of the old mode: the same checks, look and pairs, in slices
 -- that have room for as many rows. The answer is the same; the indices are the old ones with zeros between them, and the points
 -- are the same. NoLarge.antt says which listings these are.
-use Rattle.std.specs.Prelude.{◌≡◌, List, [], ◌∷◌, ◌++◌, ℕ, zero, suc, ◌+◌, ◌*◌, ltb, Float, take, drop}
+use Rattle.checks.specs.Checked.{Checked}
+use Rattle.std.specs.Prelude.{◌≡◌, List, [], ◌∷◌, ◌++◌, ℕ, zero, suc, ◌+◌, ◌*◌, ltb, Float, take, drop, Err, Ok}
 use Rattle.std.proofs.Math.Path.{refl, sym, ap}
 use Rattle.std.proofs.Common.{◌∙◌, arith, take_at}
 use Rattle.std.proofs.Math.ListN.{length}
 use Rattle.float_laws.specs.Stores.{flat-length}
 use Rattle.checks.specs.declared.fault.Item.TheVariants.{Rows}
 use Rattle.checks.specs.declared.fault.Fault.{Fault}
-use Rattle.checks.specs.declared.fault.Checked.{Checked}
-use Rattle.checks.specs.declared.fault.Checked.TheVariants.{Fine, Bad}
 use Rattle.checks.specs.Fault.{at, refuse}
 use Rattle.checks.specs.Refusal
 use Rattle.checks.specs.First.{first as first_fault}
@@ -18,9 +17,9 @@ use Rattle.listing_pairs.specs.declared.row.Look.{Look}
 use Rattle.listing_pairs.specs.Row.{indices_a_row, points_a_row, indices_of, points_of, numbers_of_rows}
 use Rattle.listing_pairs.specs.Order.{Pair}
 use Rattle.listing_pairs.specs.Rows.{rows_of, looked_at}
-use Rattle.listing_outcomes.specs.declared.answer.ListingAnswer.{ListingAnswer}
-use Rattle.listing_outcomes.specs.declared.answer.ListingAnswer.TheVariants.{Refused, Listed}
+use Rattle.listing_outcomes.specs.Answer.{Listed, ListingAnswer}
 use Rattle.listing_outcomes.specs.Outcome.{Outcome, overwrite, room, room_check, listed_of, outcome}
+use Rattle.listing_outcomes.specs.Laws.Counts.{same-rows}
 use Rattle.large_outcomes.specs.LargeRow.{large_indices_a_row, with_zeros, large_room}
 use Rattle.large_outcomes.specs.LargeOutcome.{large_room_check, large_listed_of, large_outcome}
 
@@ -42,7 +41,7 @@ zeros-rows : (rows : List Row) → numbers_of_rows with_zeros rows ≡ zeros_bet
 zeros-rows [] = refl
 zeros-rows (r ∷ rows) = ap (λ (l : List ℕ). r.i ∷ 0 ∷ r.j ∷ 0 ∷ r.class ∷ l) (zeros-rows rows)
 
-never : {f : Fault} {k m : ℕ} → Refused f ≡ Listed k m → ⊥
+never : {f : Fault} {k m : ℕ} → Err f ≡ Listed k m → ⊥
 never e = let z : ◌≡◌ {A = ℕ} 0 1 = cc in omega (arith, z)
 
 module _ (checks : List Checked) (look : ℕ → ℕ → Look) (ps : List Pair) (indices others : List ℕ) (points more : List Float)
@@ -62,8 +61,8 @@ module _ (checks : List Checked) (look : ℕ → ℕ → Look) (ps : List Pair) 
     where
       go : (c : Checked) → (large_listed_of with_zeros c rows (looked_at look ps) indices points).answer
           ≡ (listed_of c rows (looked_at look ps) others more).answer
-      go Fine = refl
-      go (Bad f) = refl
+      go (Ok _) = refl
+      go (Err f) = refl
 
   front : {A : Type 0} (each : Row → List A) (width : ℕ) → ((r : Row) → length (each r) ≡ width) → (old : List A) (n : ℕ)
       → n ≡ length rows → take (n * width) (overwrite old (numbers_of_rows each rows)) ≡ numbers_of_rows each rows
@@ -80,9 +79,9 @@ module _ (checks : List Checked) (look : ℕ → ℕ → Look) (ps : List Pair) 
       go : (c : Checked) → (listed_of c rows (looked_at look ps) others more).answer ≡ Listed n k
           → SameRows (large_listed_of with_zeros c rows (looked_at look ps) indices points)
           (listed_of c rows (looked_at look ps) others more) n
-      go (Bad f) e = absurd (never e)
-      go Fine e =
-          let count : n ≡ length rows = cc in
+      go (Err f) e = absurd (never e)
+      go (Ok _) e =
+          let count : n ≡ length rows = sym (same-rows e) in
           record {
             indices =
                 front with_zeros large_indices_a_row (λ r. refl) indices n count

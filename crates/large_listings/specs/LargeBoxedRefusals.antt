@@ -1,10 +1,9 @@
 -- When exactly a boxed listing of the mode of large arcs refuses: with the fault f, number and place, if and only if f is the
 -- first fault of its checks in order, with 17 and 8 as the last. It lists if and only if every check passes. A refusal leaves all
 -- three slices unchanged.
-use Rattle.std.specs.Prelude.{◌≡◌, refl, Bool, List, [], ◌∷◌, ◌++◌, ℕ, ◌+◌, Float, length}
+use Rattle.checks.specs.Checked.{Checked}
+use Rattle.std.specs.Prelude.{◌≡◌, refl, Bool, List, [], ◌∷◌, ◌++◌, ℕ, ◌+◌, Float, length, Err, Ok}
 use Rattle.std.proofs.Common.{sym}
-use Rattle.checks.specs.declared.fault.Checked.{Checked}
-use Rattle.checks.specs.declared.fault.Checked.TheVariants.{Fine, Bad}
 use Rattle.checks.specs.First.{first as first_fault}
 use Rattle.checks.specs.Answered.{answered}
 use Rattle.checks.specs.ExactlyWhen.{ExactlyWhen, exactly-when}
@@ -15,7 +14,6 @@ use Rattle.listing_pairs.specs.declared.row.Look.{Look}
 use Rattle.listing_pairs.specs.Order.{Pair}
 use Rattle.listing_pairs.specs.Rows.{rows_of, looked_at}
 use Rattle.listing_pairs.specs.Boxed.{boxed_pairs}
-use Rattle.listing_outcomes.specs.declared.answer.ListingAnswer.TheVariants.{Refused}
 use Rattle.listing_outcomes.specs.BoxedOutcome.{BoxedOutcome, index_check}
 use Rattle.listing_calls.specs.Refusals.{Counts, counted, distinct}
 use Rattle.listing_calls.specs.BoxedRefusals.{BoxedUntouched, floats-of-index, floats-of-two}
@@ -58,19 +56,19 @@ module _ (numbers : Row → List ℕ) (checks : List Checked) (f : ℕ → ℕ �
   abbrev of : Checked → BoxedOutcome
   of c = large_boxed_of numbers c (rows_of f ps) (looked_at f ps) idx boxes indices points
 
-  same : (c : Checked) → answered Refused counted c boxed_counts ≡ (of c).listing.answer
-  same Fine = refl
-  same (Bad fault) = refl
+  same : (c : Checked) → answered Err counted c boxed_counts ≡ (of c).listing.answer
+  same (Ok _) = refl
+  same (Err fault) = refl
 
   boxed-when :
-      ExactlyWhen Refused counted (large_boxed_outcome numbers checks f ps idx boxes indices points).listing.answer
+      ExactlyWhen Err counted (large_boxed_outcome numbers checks f ps idx boxes indices points).listing.answer
       boxed_checks boxed_counts
   unfolding large_boxed_outcome
-  boxed-when = rw (← same (first_fault boxed_checks)) (exactly-when Refused counted distinct boxed_checks boxed_counts)
+  boxed-when = rw (← same (first_fault boxed_checks)) (exactly-when Err counted distinct boxed_checks boxed_counts)
 
   left_alone : (c : Checked) → BoxedUntouched (of c) boxes indices points
-  left_alone Fine = record { as-found = λ f e. absurd (distinct.kinds f boxed_counts (sym e)) }
-  left_alone (Bad fault) = record { as-found = λ f e. (refl, refl, refl) }
+  left_alone (Ok _) = record { as-found = λ f e. absurd (distinct.kinds f boxed_counts (sym e)) }
+  left_alone (Err fault) = record { as-found = λ f e. (refl, refl, refl) }
 
   boxed-untouched : BoxedUntouched (large_boxed_outcome numbers checks f ps idx boxes indices points) boxes indices points
   unfolding large_boxed_outcome
@@ -97,7 +95,7 @@ module _ (first : List Float) (first_closed : Bool) (second : List Float) (secon
   both = mutual_large_index first first_closed second second_closed epsilon
 
   pub mutual-boxed-large-when :
-      ExactlyWhen Refused counted
+      ExactlyWhen Err counted
       (mutual_boxed_large first first_closed second second_closed epsilon boxes indices points).listing.answer
       (boxed_checks five these looks meeting both boxes indices points)
       (boxed_counts five these looks meeting both boxes indices points)
@@ -124,7 +122,7 @@ module _ (path : List Float) (closed : Bool) (epsilon : Float) (boxes : List Flo
   one = index (cut_path path closed) epsilon (cut_count path closed)
 
   pub self-boxed-large-when :
-      ExactlyWhen Refused counted (self_boxed_large path closed epsilon boxes indices points).listing.answer
+      ExactlyWhen Err counted (self_boxed_large path closed epsilon boxes indices points).listing.answer
       (boxed_checks (self_numbers path closed) its own-looks own_meeting one boxes indices points)
       (boxed_counts (self_numbers path closed) its own-looks own_meeting one boxes indices points)
   unfolding self_boxed_large

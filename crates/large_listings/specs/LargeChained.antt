@@ -1,16 +1,15 @@
 -- What a chain of pages gives in the mode of large arcs, for any sequence of pairs and any list of budgets and lent slices: if no
 -- call was refused, its joined rows are those of the pairs from its first position to its last. Each call before the end passes
 -- at least one pair, so a chain that stops at the end has no more calls than there are pairs.
-use Rattle.std.specs.Prelude.{◌≡◌, refl, Bool, true, false, List, [], ◌∷◌, ◌++◌, ℕ, ◌+◌, ◌-◌, ◌*◌, ◌≤◌, ◌<◌, Float, length, take, drop}
+use Rattle.checks.specs.Checked.{Checked}
+use Rattle.std.specs.Prelude.{◌≡◌, refl, Bool, true, false, List, [], ◌∷◌, ◌++◌, ℕ, ◌+◌, ◌-◌, ◌*◌, ◌≤◌, ◌<◌, Float, length, take, drop, Err, Ok}
 use Rattle.std.proofs.Common.{sym, ap, ◌∙◌, true≢false, arith, length-append, take_all}
-use Rattle.checks.specs.declared.fault.Checked.{Checked}
 use Rattle.listing_pairs.specs.declared.row.Row.{Row}
 use Rattle.listing_pairs.specs.declared.row.Look.{Look}
 use Rattle.listing_pairs.specs.Order.{Pair}
 use Rattle.listing_pairs.specs.Row.{points_of, numbers_of_rows}
 use Rattle.listing_pairs.specs.Rows.{rows_of}
-use Rattle.listing_outcomes.specs.declared.answer.PageAnswer.{PageAnswer}
-use Rattle.listing_outcomes.specs.declared.answer.PageAnswer.TheVariants.{Refused, Paged}
+use Rattle.listing_outcomes.specs.Answer.{PageAnswer}
 use Rattle.listing_outcomes.specs.Outcome.{Outcome}
 use Rattle.listing_calls.specs.Chain.{Lent, Joined, no_call, BeforeEnd, Before, between}
 use Rattle.listing_calls.specs.Laws.Chains.{next-within, goes_on, its-count, passes, rows_join, numbers-join}
@@ -71,11 +70,11 @@ module _ (numbers : Row → List ℕ) (wide : (r : Row) → length (numbers r) �
       → (large_joined a (pages position l).indices (pages position l).points rest).refused ≡ false
       → ((next : ℕ) → (rest next).refused ≡ false → LargeChained numbers look ps next (rest next))
       → LargeChained numbers look ps position (large_joined a (pages position l).indices (pages position l).points rest)
-  one-call position l rest (Refused n) e fine more = absurd (true≢false fine)
-  one-call position l rest (Paged rows pairs next all) e fine more =
+  one-call position l rest (Err n) e fine more = absurd (true≢false fine)
+  one-call position l rest (Ok counts) e fine more =
       let c = as_called numbers wide checks look ps position l.budget l.indices l.points e in
-      let m = more next fine in
-      let on : position ≤ next = omega (arith, goes_on c) in
+      let m = more counts.next fine in
+      let on : position ≤ counts.next = omega (arith, goes_on c) in
       record {
         forward = omega (arith, on, m.forward);
         within = λ h. m.within (next-within c);
@@ -85,19 +84,19 @@ module _ (numbers : Row → List ℕ) (wide : (r : Row) → length (numbers r) �
               arith,
               its-count c,
               m.rows,
-              ap length (rows_join look position next (rest next).next ps on m.forward),
-              length-append (rows_of look (between position next ps)) (rows_of look (between next (rest next).next ps)),
+              ap length (rows_join look position counts.next (rest counts.next).next ps on m.forward),
+              length-append (rows_of look (between position counts.next ps)) (rows_of look (between counts.next (rest counts.next).next ps)),
             );
         indices =
-            ap (λ (l : List ℕ). l ++ (rest next).indices)
+            ap (λ (l : List ℕ). l ++ (rest counts.next).indices)
             (read-large numbers wide checks look ps position l.budget l.indices l.points e)
-            ∙ ap (λ (l : List ℕ). numbers_of_rows numbers (rows_of look (between position next ps)) ++ l) m.indices
-            ∙ sym (numbers-join numbers look position next (rest next).next ps on m.forward);
+            ∙ ap (λ (l : List ℕ). numbers_of_rows numbers (rows_of look (between position counts.next ps)) ++ l) m.indices
+            ∙ sym (numbers-join numbers look position counts.next (rest counts.next).next ps on m.forward);
         points =
-            ap (λ (l : List Float). l ++ (rest next).points)
+            ap (λ (l : List Float). l ++ (rest counts.next).points)
             (read-points numbers wide checks look ps position l.budget l.indices l.points e)
-            ∙ ap (λ (l : List Float). numbers_of_rows points_of (rows_of look (between position next ps)) ++ l) m.points
-            ∙ sym (numbers-join points_of look position next (rest next).next ps on m.forward);
+            ∙ ap (λ (l : List Float). numbers_of_rows points_of (rows_of look (between position counts.next ps)) ++ l) m.points
+            ∙ sym (numbers-join points_of look position counts.next (rest counts.next).next ps on m.forward);
       }
 
   -- a chain that is not refused joins to the rows of the pairs between its first position and its last
@@ -127,10 +126,10 @@ module _ (numbers : Row → List ℕ) (wide : (r : Row) → length (numbers r) �
       → (large_joined a (pages position l).indices (pages position l).points rest).refused ≡ false
       → ((next : ℕ) → Rest next → (rest next).refused ≡ false → calls ≤ (rest next).pairs)
       → calls + 1 ≤ (large_joined a (pages position l).indices (pages position l).points rest).pairs
-  one-counts position l calls rest Rest (Refused n) e before early fine more = absurd (true≢false fine)
-  one-counts position l calls rest Rest (Paged rows pairs next all) e before early fine more =
+  one-counts position l calls rest Rest (Err n) e before early fine more = absurd (true≢false fine)
+  one-counts position l calls rest Rest (Ok counts) e before early fine more =
       let c = as_called numbers wide checks look ps position l.budget l.indices l.points e in
-      omega (arith, passes c before, more next early fine)
+      omega (arith, passes c before, more counts.next early fine)
 
   pub few-calls : (lents : List Lent) (position : ℕ) → Before (length ps) pages position lents
       → (large_chain pages position lents).refused ≡ false → length lents ≤ (large_chain pages position lents).pairs

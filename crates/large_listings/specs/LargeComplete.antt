@@ -1,11 +1,10 @@
 -- No row is left out in the mode of large arcs: if two paths were listed, every pair of segments of the cut paths that meets, in
 -- any class except NoIntersect, and is not of one trace has a row with both names. In a boxed listing this holds for every such
 -- pair whose boxes meet.
-use Rattle.std.specs.Prelude.{◌≡◌, Bool, true, false, List, ℕ, ◌<◌, Float, length}
-use Rattle.std.proofs.Common.{zero-le, arith}
+use Rattle.checks.specs.Checked.{Checked}
+use Rattle.std.specs.Prelude.{◌≡◌, Bool, true, false, List, ℕ, ◌<◌, Float, length, Err, Ok}
+use Rattle.std.proofs.Common.{zero-le, arith, sym}
 use Rattle.checks.specs.declared.fault.Fault.{Fault}
-use Rattle.checks.specs.declared.fault.Checked.{Checked}
-use Rattle.checks.specs.declared.fault.Checked.TheVariants.{Fine, Bad}
 use Rattle.checks.specs.First.{first as first_fault}
 use Rattle.arcs.specs.declared.pline_seg_intr.PlineSegIntr.{PlineSegIntr}
 use Rattle.crossing.specs.PlineSegIntr.{class_of}
@@ -19,7 +18,6 @@ use Rattle.listing_pairs.specs.Rows.{rows_of, looked_at}
 use Rattle.listing_pairs.specs.Look.{traced_look}
 use Rattle.listing_pairs.specs.Traces.{one_trace}
 use Rattle.listing_pairs.specs.Boxed.{boxes_meet, boxed_pairs}
-use Rattle.listing_outcomes.specs.declared.answer.ListingAnswer.TheVariants.{Refused, Listed}
 use Rattle.listing_calls.specs.Complete.{pair_of, makes}
 use Rattle.listing_calls.specs.Laws.Complete.{Within, pairs-have, those-have, row-of-pair}
 use Rattle.large_outcomes.specs.LargeRow.{large_indices_of}
@@ -36,8 +34,10 @@ use Rattle.large_listings.specs.LargeRefusals.{all}
 use Rattle.large_listings.specs.LargeBoxedRefusals.{boxed_checks}
 use Rattle.large_listings.specs.HasLargeRow.{HasLargeRow}
 use Rattle.large_listings.specs.Laws.LargeComplete.{large-row-in-slice}
+use Rattle.listing_outcomes.specs.Answer.{Listed}
+use Rattle.listing_outcomes.specs.Laws.Counts.{same-rows}
 
-never : {f : Fault} {k m : ℕ} → Refused f ≡ Listed k m → ⊥
+never : {f : Fault} {k m : ℕ} → Err f ≡ Listed k m → ⊥
 never e = let z : ◌≡◌ {A = ℕ} 0 1 = cc in omega (arith, z)
 
 -- a pair of the sequence that makes a row has it, for any names and any `look`
@@ -51,9 +51,9 @@ listed-row-of names others found f ps indices points rows pairs i j met e here m
     go : (c : Checked)
         → (let o = large_listed_of (large_indices_of names others) c (rows_of f ps) (looked_at f ps) indices points in
         o.answer ≡ Listed rows pairs → HasLargeRow rows o.indices (names i) (others j))
-    go (Bad fault) e = absurd (never e)
-    go Fine e =
-        let count : rows ≡ length (rows_of f ps) = cc in
+    go (Err fault) e = absurd (never e)
+    go (Ok _) e =
+        let count : rows ≡ length (rows_of f ps) = sym (same-rows e) in
         let w = row-of-pair f (record { i = i; j = j }) ps (row i j met) here made in
         let stands = large-row-in-slice names others (row i j met) (rows_of f ps) indices w in
         record { k = length w.before; written = omega (arith, stands.0, count); at = stands.1 }

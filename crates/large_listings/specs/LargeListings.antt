@@ -1,8 +1,8 @@
 -- The listings, pages and boxed listings of the mode of large arcs, by request 11: the old ones over the cut paths, with rows
 -- that name the old segments and their halves. Their checks are those of the paths before the cut, so 6 and 7 count those
 -- vertices.
+use Rattle.checks.specs.Checked.{Checked}
 use Rattle.std.specs.Prelude.{Bool, List, [], ◌∷◌, ◌++◌, ℕ, Float}
-use Rattle.checks.specs.declared.fault.Checked.{Checked}
 use Rattle.checks.specs.Each
 use Rattle.checks.specs.First.{first as first_fault}
 use Rattle.paths.specs.Shape.{shape}
@@ -15,8 +15,7 @@ use Rattle.listing_pairs.specs.Order.{Pair, mutual_pairs, self_pairs}
 use Rattle.listing_pairs.specs.Look.{traced_look, self_look_of}
 use Rattle.listing_pairs.specs.Traces.{traced}
 use Rattle.listing_pairs.specs.Boxed.{boxed_pairs}
-use Rattle.listing_outcomes.specs.declared.answer.ListingAnswer.{ListingAnswer}
-use Rattle.listing_outcomes.specs.declared.answer.PageAnswer.{PageAnswer}
+use Rattle.listing_outcomes.specs.Answer.{ListingAnswer, PageAnswer}
 use Rattle.listing_outcomes.specs.Outcome.{Outcome}
 use Rattle.listing_outcomes.specs.BoxedOutcome.{BoxedOutcome}
 use Rattle.large_outcomes.specs.LargeRow.{large_indices_of}

@@ -1,12 +1,11 @@
 -- When exactly a page of the mode of large arcs is refused: with number n if and only if the first fault of its checks in order,
 -- with 13, 14 and 8 as the last, has that number. It is answered if and only if every check passes. A refusal leaves both slices
 -- unchanged.
-use Rattle.std.specs.Prelude.{◌≡◌, refl, Bool, ◌↔◌, ◌≢◌, List, [], ◌∷◌, ◌++◌, ℕ, ◌+◌, Float, length, drop}
+use Rattle.checks.specs.Checked.{Checked}
+use Rattle.std.specs.Prelude.{◌≡◌, refl, Bool, ◌↔◌, ◌≢◌, List, [], ◌∷◌, ◌++◌, ℕ, ◌+◌, Float, length, drop, Err, Ok}
 use Rattle.std.proofs.Common.{sym}
 use borrow.Author.Tests.{eqb-true, eqb-false, eq-eqb, ne_eqb}
 use Rattle.checks.specs.declared.fault.Item.TheVariants.{Rows}
-use Rattle.checks.specs.declared.fault.Checked.{Checked}
-use Rattle.checks.specs.declared.fault.Checked.TheVariants.{Fine, Bad}
 use Rattle.checks.specs.Fault.{at, bad}
 use Rattle.checks.specs.First.{first as first_fault}
 use Rattle.checks.specs.Answered.{answered}
@@ -15,7 +14,6 @@ use Rattle.listing_pairs.specs.declared.row.Row.{Row}
 use Rattle.listing_pairs.specs.declared.row.Look.{Look}
 use Rattle.listing_pairs.specs.Order.{Pair}
 use Rattle.listing_pairs.specs.Page.{Page, page}
-use Rattle.listing_outcomes.specs.declared.answer.PageAnswer.TheVariants.{Refused}
 use Rattle.listing_calls.specs.PageRefusals.{PageCounts, paging, PageUntouched, refused-iff, fine-iff}
 use Rattle.large_outcomes.specs.LargeRow.{large_room}
 use Rattle.large_outcomes.specs.LargeOutcome.{large_row_check, large_limits, large_paged_of, large_page_outcome}
@@ -38,11 +36,11 @@ module _ (indices : List ℕ) (points : List Float) where
   unfolding large_row_check
   no_row = refused-iff 8 _ _ (eqb-true (large_room indices points) 0, eq-eqb (large_room indices points) 0)
 
-  pub row_fine : (large_row_check indices points ≡ Fine) ↔ (large_room indices points ≢ 0)
+  pub row_fine : (large_row_check indices points ≡ Ok tt) ↔ (large_room indices points ≢ 0)
   unfolding large_row_check
   row_fine = fine-iff 8 _ _ (eqb-false (large_room indices points) 0, ne_eqb (large_room indices points) 0)
 
-distinct : Distinct Refused paging
+distinct : Distinct Err paging
 distinct = record { faults = λ f g e. cc; kinds = λ f i e. no_number cc }
 
 -- ---- any page
@@ -64,19 +62,19 @@ module _ (numbers : Row → List ℕ) (checks : List Checked) (f : ℕ → ℕ �
       }
 
   same : (c : Checked)
-      → answered Refused paging c page_counts ≡ (large_paged_of numbers c on_page position (length ps) indices points).answer
-  same Fine = refl
-  same (Bad fault) = refl
+      → answered Err paging c page_counts ≡ (large_paged_of numbers c on_page position (length ps) indices points).answer
+  same (Ok _) = refl
+  same (Err fault) = refl
 
   page-when :
-      ExactlyWhen Refused paging (large_page_outcome numbers checks f ps position budget indices points).answer
+      ExactlyWhen Err paging (large_page_outcome numbers checks f ps position budget indices points).answer
       all_checks page_counts
   unfolding large_page_outcome
-  page-when = rw (← same (first_fault all_checks)) (exactly-when Refused paging distinct all_checks page_counts)
+  page-when = rw (← same (first_fault all_checks)) (exactly-when Err paging distinct all_checks page_counts)
 
   left_alone : (c : Checked) → PageUntouched (large_paged_of numbers c on_page position (length ps) indices points) indices points
-  left_alone Fine = record { as-found = λ f e. absurd (distinct.kinds f page_counts (sym e)) }
-  left_alone (Bad fault) = record { as-found = λ f e. (refl, refl) }
+  left_alone (Ok _) = record { as-found = λ f e. absurd (distinct.kinds f page_counts (sym e)) }
+  left_alone (Err fault) = record { as-found = λ f e. (refl, refl) }
 
   page-untouched : PageUntouched (large_page_outcome numbers checks f ps position budget indices points) indices points
   unfolding large_page_outcome
@@ -98,7 +96,7 @@ module _ (first : List Float) (first_closed : Bool) (second : List Float) (secon
   five = mutual_numbers first first_closed second second_closed
 
   pub mutual-page-large-when :
-      ExactlyWhen Refused paging
+      ExactlyWhen Err paging
       (mutual_page_large first first_closed second second_closed epsilon position budget indices points).answer
       (these ++ large_limits position (length (mutual_large_pairs first first_closed second second_closed)) budget indices points)
       (page_counts five these looks pairs position budget indices points)
@@ -123,7 +121,7 @@ module _ (path : List Float) (closed : Bool) (epsilon : Float) (position budget 
   own = self_large_pairs path closed
 
   pub self-page-large-when :
-      ExactlyWhen Refused paging (self_page_large path closed epsilon position budget indices points).answer
+      ExactlyWhen Err paging (self_page_large path closed epsilon position budget indices points).answer
       (its ++ large_limits position (length (self_large_pairs path closed)) budget indices points)
       (page_counts (self_numbers path closed) its own-looks own position budget indices points)
   unfolding self_page_large

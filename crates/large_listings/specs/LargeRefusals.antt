@@ -2,12 +2,11 @@
 -- fault of their checks in order, with 8 as the last, by the room for rows of five. They list if and only if every check passes.
 -- A refusal leaves both slices unchanged. LargeRefusals.antt of the crate `cuts` says of each check of a path when it finds which
 -- fault.
-use Rattle.std.specs.Prelude.{◌≡◌, refl, Bool, ◌↔◌, List, [], ◌∷◌, ◌++◌, ℕ, ◌<◌, ◌≤◌, Float, length}
+use Rattle.checks.specs.Checked.{Checked}
+use Rattle.std.specs.Prelude.{◌≡◌, refl, Bool, ◌↔◌, List, [], ◌∷◌, ◌++◌, ℕ, ◌<◌, ◌≤◌, Float, length, Err, Ok}
 use Rattle.std.proofs.Common.{sym}
 use borrow.Author.Tests.{ltb-true, ltb-false, lt-ltb, le-ltb}
 use Rattle.checks.specs.declared.fault.Item.TheVariants.{Rows}
-use Rattle.checks.specs.declared.fault.Checked.{Checked}
-use Rattle.checks.specs.declared.fault.Checked.TheVariants.{Fine, Bad}
 use Rattle.checks.specs.Fault.{at, bad}
 use Rattle.checks.specs.First.{first as first_fault}
 use Rattle.checks.specs.Answered.{answered}
@@ -16,7 +15,6 @@ use Rattle.listing_pairs.specs.declared.row.Row.{Row}
 use Rattle.listing_pairs.specs.declared.row.Look.{Look}
 use Rattle.listing_pairs.specs.Order.{Pair}
 use Rattle.listing_pairs.specs.Rows.{rows_of, looked_at}
-use Rattle.listing_outcomes.specs.declared.answer.ListingAnswer.TheVariants.{Refused}
 use Rattle.listing_calls.specs.Refusals.{Counts, counted, Untouched, distinct}
 use Rattle.listing_calls.specs.PageRefusals.{refused-iff, fine-iff}
 use Rattle.large_outcomes.specs.LargeRow.{large_room}
@@ -42,7 +40,7 @@ module _ (rows : List Row) (indices : List ℕ) (points : List Float) where
       refused-iff 8 _ _
       (ltb-true (large_room indices points) (length rows), lt-ltb (large_room indices points) (length rows))
 
-  pub all_fit : (large_room_check rows indices points ≡ Fine) ↔ (length rows ≤ large_room indices points)
+  pub all_fit : (large_room_check rows indices points ≡ Ok tt) ↔ (length rows ≤ large_room indices points)
   unfolding large_room_check
   all_fit =
       fine-iff 8 _ _
@@ -58,17 +56,17 @@ module _ (numbers : Row → List ℕ) (checks : List Checked) (f : ℕ → ℕ �
   counts = record { rows = length (rows_of f ps); pairs = looked_at f ps }
 
   same : (c : Checked)
-      → answered Refused counted c counts ≡ (large_listed_of numbers c (rows_of f ps) (looked_at f ps) indices points).answer
-  same Fine = refl
-  same (Bad fault) = refl
+      → answered Err counted c counts ≡ (large_listed_of numbers c (rows_of f ps) (looked_at f ps) indices points).answer
+  same (Ok _) = refl
+  same (Err fault) = refl
 
-  large-when : ExactlyWhen Refused counted (large_outcome numbers checks f ps indices points).answer all counts
+  large-when : ExactlyWhen Err counted (large_outcome numbers checks f ps indices points).answer all counts
   unfolding large_outcome
-  large-when = rw (← same (first_fault all)) (exactly-when Refused counted distinct all counts)
+  large-when = rw (← same (first_fault all)) (exactly-when Err counted distinct all counts)
 
   left_alone : (c : Checked) → Untouched (large_listed_of numbers c (rows_of f ps) (looked_at f ps) indices points) indices points
-  left_alone Fine = record { as-found = λ f e. absurd (distinct.kinds f counts (sym e)) }
-  left_alone (Bad fault) = record { as-found = λ f e. (refl, refl) }
+  left_alone (Ok _) = record { as-found = λ f e. absurd (distinct.kinds f counts (sym e)) }
+  left_alone (Err fault) = record { as-found = λ f e. (refl, refl) }
 
   large-untouched : Untouched (large_outcome numbers checks f ps indices points) indices points
   unfolding large_outcome
@@ -90,7 +88,7 @@ module _ (first : List Float) (first_closed : Bool) (second : List Float) (secon
   five = mutual_numbers first first_closed second second_closed
 
   pub mutual-large-when :
-      ExactlyWhen Refused counted (mutual_large first first_closed second second_closed epsilon indices points).answer
+      ExactlyWhen Err counted (mutual_large first first_closed second second_closed epsilon indices points).answer
       (all five these looks between indices points) (counts five these looks between indices points)
   unfolding mutual_large
   mutual-large-when = large-when five these looks between indices points
@@ -111,7 +109,7 @@ module _ (path : List Float) (closed : Bool) (epsilon : Float) (indices : List �
   own = self_large_pairs path closed
 
   pub self-large-when :
-      ExactlyWhen Refused counted (self_large path closed epsilon indices points).answer
+      ExactlyWhen Err counted (self_large path closed epsilon indices points).answer
       (all (self_numbers path closed) its own-looks own indices points)
       (counts (self_numbers path closed) its own-looks own indices points)
   unfolding self_large

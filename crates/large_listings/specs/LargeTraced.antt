@@ -1,12 +1,12 @@
 -- The rule of traces in the mode of large arcs: each listing is the listing of the cut paths' pairs kept to those not of one
 -- trace, with its count. Both halves of an arc have its trace. A page's rows are those of the pairs that it passed, kept in the
 -- same way; its positions are those of all pairs.
+use Rattle.checks.specs.Checked.{Checked}
 use Rattle.std.specs.Prelude.{◌≡◌, refl, Bool, Float, length, take}
 use Rattle.std.proofs.Common.{sym, ◌∙◌}
 use Rattle.std.proofs.Math.Path.{ap}
 use mathlib.Core.List.{List, [], ◌∷◌, ◌++◌}
 use Prim.Native.Nat.{ℕ, ◌+◌, ◌*◌}
-use Rattle.checks.specs.declared.fault.Checked.{Checked}
 use Rattle.checks.specs.First.{first as first_fault}
 use Rattle.cuts.specs.CutPath.{cut_path, cut_count}
 use Rattle.boxes.specs.Index.{index}
@@ -19,8 +19,7 @@ use Rattle.listing_pairs.specs.Look.{look, self_look_of}
 use Rattle.listing_pairs.specs.Traces.{traced, traced_pairs}
 use Rattle.listing_pairs.specs.TracedListing.{traced-rows, traced-looked}
 use Rattle.listing_pairs.specs.Boxed.{boxed_pairs}
-use Rattle.listing_outcomes.specs.declared.answer.ListingAnswer.{ListingAnswer}
-use Rattle.listing_outcomes.specs.declared.answer.PageAnswer.TheVariants.{Paged}
+use Rattle.listing_outcomes.specs.Answer.{ListingAnswer, Paged}
 use Rattle.listing_outcomes.specs.Outcome.{Outcome}
 use Rattle.listing_outcomes.specs.BoxedOutcome.{BoxedOutcome, index_check}
 use Rattle.listing_calls.specs.Chain.{between}

@@ -1,9 +1,9 @@
 -- With no bulge above 1 in magnitude the mode of large arcs is the old mode with halves 0. Each listing has the old mode's
 -- checks, look and pairs, and writes the old indices with zeros between them (`with_zeros`). BesideOld.antt reads that beside a
 -- call of the old mode. Paths of broken length, which both modes refuse with 6, are left aside.
+use Rattle.checks.specs.Checked.{Checked}
 use Rattle.std.specs.Prelude.{◌≡◌, refl, Bool, false, List, [], ◌∷◌, ◌++◌, ℕ, ◌+◌, ◌*◌, ◌<◌, Float, length}
 use Rattle.std.proofs.Common.{sym, ap, ◌∙◌, arith}
-use Rattle.checks.specs.declared.fault.Checked.{Checked}
 use Rattle.checks.specs.Each
 use Rattle.paths.specs.Path.{vertex_count, vertex}
 use Rattle.paths.specs.Shape.{shape}
@@ -22,8 +22,7 @@ use Rattle.listing_pairs.specs.Rows.{rows_of}
 use Rattle.listing_pairs.specs.Look.{self_look_of, traced_look, traced_self_look}
 use Rattle.listing_pairs.specs.Traces.{traced}
 use Rattle.listing_pairs.specs.Boxed.{boxes_meet, boxed_pairs}
-use Rattle.listing_outcomes.specs.declared.answer.ListingAnswer.{ListingAnswer}
-use Rattle.listing_outcomes.specs.declared.answer.PageAnswer.{PageAnswer}
+use Rattle.listing_outcomes.specs.Answer.{ListingAnswer, PageAnswer}
 use Rattle.listing_outcomes.specs.Outcome.{Outcome}
 use Rattle.listing_outcomes.specs.BoxedOutcome.{BoxedOutcome}
 use Rattle.listing_calls.specs.Listing.{mutual_checks, self_checks}

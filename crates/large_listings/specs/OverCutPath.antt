@@ -3,11 +3,10 @@
 -- writes these rows, each with the names of its segments. A boxed listing does so for the pairs whose boxes meet, and writes the
 -- cut paths' index. The cut path may have more vertices than a call takes, so this is said of rows and not of a call. LargeTraced
 -- says it of a page.
-use Rattle.std.specs.Prelude.{◌≡◌, refl, Bool, List, [], ◌∷◌, ◌++◌, ℕ, ◌+◌, ◌-◌, ◌*◌, Float, length}
-use Rattle.std.proofs.Common.{ap, ◌∙◌, arith}
+use Rattle.checks.specs.Checked.{Checked}
+use Rattle.std.specs.Prelude.{◌≡◌, refl, Bool, List, [], ◌∷◌, ◌++◌, ℕ, ◌+◌, ◌-◌, ◌*◌, Float, length, Err, Ok}
+use Rattle.std.proofs.Common.{ap, ◌∙◌, arith, sym}
 use Rattle.checks.specs.declared.fault.Fault.{Fault}
-use Rattle.checks.specs.declared.fault.Checked.{Checked}
-use Rattle.checks.specs.declared.fault.Checked.TheVariants.{Fine, Bad}
 use Rattle.checks.specs.First.{first as first_fault}
 use Rattle.cuts.specs.CutPath.{cut_path, cut_count, name_at}
 use Rattle.boxes.specs.Index.{index}
@@ -18,10 +17,10 @@ use Rattle.listing_pairs.specs.Rows.{rows_of, looked_at}
 use Rattle.listing_pairs.specs.Look.{traced_look, self_look_of}
 use Rattle.listing_pairs.specs.Traces.{traced}
 use Rattle.listing_pairs.specs.Boxed.{boxed_pairs}
-use Rattle.listing_outcomes.specs.declared.answer.ListingAnswer.{ListingAnswer}
-use Rattle.listing_outcomes.specs.declared.answer.ListingAnswer.TheVariants.{Refused, Listed}
+use Rattle.listing_outcomes.specs.Answer.{Listed, ListingAnswer}
 use Rattle.listing_outcomes.specs.Outcome.{Outcome, overwrite}
 use Rattle.listing_outcomes.specs.BoxedOutcome.{index_check}
+use Rattle.listing_outcomes.specs.Laws.Counts.{same-rows, same-pairs}
 use Rattle.month.specs.Laws.Pairs.{mutual-length}
 use Rattle.large_outcomes.specs.LargeRow.{large_indices_of}
 use Rattle.large_outcomes.specs.LargeOutcome.{
@@ -47,7 +46,7 @@ use Rattle.large_listings.specs.LargeListings.{
   self_boxed_large,
 }
 
-never : {f : Fault} {k m : ℕ} → Refused f ≡ Listed k m → ⊥
+never : {f : Fault} {k m : ℕ} → Err f ≡ Listed k m → ⊥
 never e = let z : ◌≡◌ {A = ℕ} 0 1 = cc in omega (arith, z)
 
 -- the listing wrote these rows, by these five numbers, after it looked at so many pairs
@@ -61,9 +60,9 @@ pub record Renamed (numbers : Row → List ℕ) (rows : List Row) (looked : ℕ)
 renamed : (numbers : Row → List ℕ) (rows : List Row) (looked : ℕ) (c : Checked) (indices : List ℕ) (points : List Float) (n k : ℕ)
     → (large_listed_of numbers c rows looked indices points).answer ≡ Listed n k
     → Renamed numbers rows looked (large_listed_of numbers c rows looked indices points) indices points n k
-renamed numbers rows looked (Bad f) indices points n k e = absurd (never e)
-renamed numbers rows looked Fine indices points n k e =
-    record { row_count = cc; pair-count = cc; its-indices = refl; its-points = refl }
+renamed numbers rows looked (Err f) indices points n k e = absurd (never e)
+renamed numbers rows looked (Ok _) indices points n k e =
+    record { row_count = sym (same-rows e); pair-count = sym (same-pairs e); its-indices = refl; its-points = refl }
 
 -- the same of a boxed listing, which also wrote this index
 boxed-renamed : (numbers : Row → List ℕ) (rows : List Row) (looked : ℕ) (c : Checked) (idx boxes : List Float) (indices : List ℕ)
@@ -71,9 +70,9 @@ boxed-renamed : (numbers : Row → List ℕ) (rows : List Row) (looked : ℕ) (c
     → (large_boxed_of numbers c rows looked idx boxes indices points).listing.answer ≡ Listed n k
     → Renamed numbers rows looked (large_boxed_of numbers c rows looked idx boxes indices points).listing indices points n k
     × ((large_boxed_of numbers c rows looked idx boxes indices points).boxes ≡ overwrite boxes idx)
-boxed-renamed numbers rows looked (Bad f) idx boxes indices points n k e = absurd (never e)
-boxed-renamed numbers rows looked Fine idx boxes indices points n k e =
-    (renamed numbers rows looked Fine indices points n k e, refl)
+boxed-renamed numbers rows looked (Err f) idx boxes indices points n k e = absurd (never e)
+boxed-renamed numbers rows looked (Ok _) idx boxes indices points n k e =
+    (renamed numbers rows looked (Ok tt) indices points n k e, refl)
 
 -- ---- two paths
 module _ (first : List Float) (first_closed : Bool) (second : List Float) (second_closed : Bool) (epsilon : Float) where

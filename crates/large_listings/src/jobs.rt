@@ -4,12 +4,13 @@ ghost use Rattle.large_listings.specs.LargeListings;
 ghost use Rattle.large_listings.specs.Workings.Jobs;
 
 use checks::each;
-use checks::fault::{Checked, later};
+use checks::fault::Checked;
 use cuts::check::check_large_path;
 use listing_pairs::order::Job;
 use paths::shape;
 
 // The first fault, in this order: epsilon, both paths' lengths, the first path's vertices and segments, then the second's.
+#[tactic(auto, unfolding(checks::specs::Fault::later, crate::specs::LargeListings::check_mutual_large))]
 pub fn check_mutual_large(
     first: &[f64],
     first_closed: bool,
@@ -19,20 +20,20 @@ pub fn check_mutual_large(
 ) -> Checked
     ensures { result ≡ LargeListings.check_mutual_large first.now first_closed second.now second_closed epsilon }
 {
-    let a0 = each::epsilon(epsilon);
-    let a1 = later(a0, shape::shape(first, 0));
-    let a2 = later(a1, shape::shape(second, 1));
-    let a3 = check_large_path(a2, first, first_closed, 0);
-    check_large_path(a3, second, second_closed, 1)
+    each::epsilon(epsilon)?;
+    shape::shape(first, 0)?;
+    shape::shape(second, 1)?;
+    check_large_path(first, first_closed, 0)?;
+    check_large_path(second, second_closed, 1)
 }
 
 // The first fault, in this order: epsilon, the path's length, its vertices, its segments.
 pub fn check_self_large(path: &[f64], closed: bool, epsilon: f64) -> Checked
     ensures { result ≡ LargeListings.check_self_large path.now closed epsilon }
 {
-    let a0 = each::epsilon(epsilon);
-    let a1 = later(a0, shape::shape(path, 0));
-    check_large_path(a1, path, closed, 0)
+    each::epsilon(epsilon)?;
+    shape::shape(path, 0)?;
+    check_large_path(path, closed, 0)
 }
 
 // Every one of n segments with every one of m; in a boxed listing those whose boxes meet.

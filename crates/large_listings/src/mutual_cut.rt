@@ -1,12 +1,10 @@
 // The crossings of two paths, in the mode of large arcs.
-ghost use Rattle.std.specs.Prelude.{◌≡◌};
-ghost use Rattle.checks.specs.declared.fault.Checked.TheVariants.{Fine};
+ghost use Rattle.std.specs.Prelude.{◌≡◌, Ok};
 ghost use Rattle.listing_outcomes.specs.Outcome;
 ghost use Rattle.large_listings.specs.LargeListings;
 
 use super::cutting::{FLOATS, KEPT, cut};
 use super::jobs;
-use checks::fault::Checked;
 use large_outcomes::listed;
 use listing_outcomes::answer::ListingAnswer;
 use paths::path;
@@ -21,7 +19,7 @@ fn list_mutual(
     indices: &mut [u64],
     points: &mut [f64],
 ) -> ListingAnswer
-    requires { LargeListings.check_mutual_large first.now first_closed second.now second_closed epsilon ≡ Fine }
+    requires { LargeListings.check_mutual_large first.now first_closed second.now second_closed epsilon ≡ Ok tt }
     ensures { Outcome.Leaves
         (LargeListings.mutual_large first.now first_closed second.now second_closed epsilon
         indices.old points.old)
@@ -66,17 +64,14 @@ pub fn mutual_cut(
         indices.old points.old)
         result indices.new points.new }
 {
-    let checked = jobs::check_mutual_large(first, first_closed, second, second_closed, epsilon);
-    match checked {
-        Checked::Fine => list_mutual(
-            first,
-            first_closed,
-            second,
-            second_closed,
-            epsilon,
-            indices,
-            points,
-        ),
-        Checked::Bad(fault) => ListingAnswer::Refused(fault),
-    }
+    jobs::check_mutual_large(first, first_closed, second, second_closed, epsilon)?;
+    list_mutual(
+        first,
+        first_closed,
+        second,
+        second_closed,
+        epsilon,
+        indices,
+        points,
+    )
 }

@@ -1,12 +1,10 @@
 // A page of the crossings of two paths, in the mode of large arcs.
-ghost use Rattle.std.specs.Prelude.{◌≡◌};
-ghost use Rattle.checks.specs.declared.fault.Checked.TheVariants.{Fine};
+ghost use Rattle.std.specs.Prelude.{◌≡◌, Ok};
 ghost use Rattle.listing_outcomes.specs.Outcome;
 ghost use Rattle.large_listings.specs.LargeListings;
 
 use super::cutting::{FLOATS, KEPT, cut};
 use super::jobs;
-use checks::fault::Checked;
 use large_outcomes::listed;
 use listing_outcomes::answer::PageAnswer;
 use paths::path;
@@ -23,7 +21,7 @@ fn page_mutual(
     indices: &mut [u64],
     points: &mut [f64],
 ) -> PageAnswer
-    requires { LargeListings.check_mutual_large first.now first_closed second.now second_closed epsilon ≡ Fine }
+    requires { LargeListings.check_mutual_large first.now first_closed second.now second_closed epsilon ≡ Ok tt }
     ensures { Outcome.Leaves
         (LargeListings.mutual_page_large first.now first_closed
         second.now second_closed epsilon position budget
@@ -75,19 +73,16 @@ pub fn mutual_page_cut(
         indices.old points.old)
         result indices.new points.new }
 {
-    let checked = jobs::check_mutual_large(first, first_closed, second, second_closed, epsilon);
-    match checked {
-        Checked::Fine => page_mutual(
-            first,
-            first_closed,
-            second,
-            second_closed,
-            epsilon,
-            position,
-            budget,
-            indices,
-            points,
-        ),
-        Checked::Bad(fault) => PageAnswer::Refused(fault),
-    }
+    jobs::check_mutual_large(first, first_closed, second, second_closed, epsilon)?;
+    page_mutual(
+        first,
+        first_closed,
+        second,
+        second_closed,
+        epsilon,
+        position,
+        budget,
+        indices,
+        points,
+    )
 }

@@ -1,12 +1,10 @@
 // The crossings of a path with itself, in the mode of large arcs.
-ghost use Rattle.std.specs.Prelude.{◌≡◌};
-ghost use Rattle.checks.specs.declared.fault.Checked.TheVariants.{Fine};
+ghost use Rattle.std.specs.Prelude.{◌≡◌, Ok};
 ghost use Rattle.listing_outcomes.specs.Outcome;
 ghost use Rattle.large_listings.specs.LargeListings;
 
 use super::cutting::{FLOATS, KEPT, cut};
 use super::jobs;
-use checks::fault::Checked;
 use large_outcomes::listed;
 use listing_outcomes::answer::ListingAnswer;
 use paths::path;
@@ -19,7 +17,7 @@ fn list_self(
     indices: &mut [u64],
     points: &mut [f64],
 ) -> ListingAnswer
-    requires { LargeListings.check_self_large path.now closed epsilon ≡ Fine }
+    requires { LargeListings.check_self_large path.now closed epsilon ≡ Ok tt }
     ensures { Outcome.Leaves
         (LargeListings.self_large path.now closed epsilon
         indices.old points.old)
@@ -53,9 +51,6 @@ pub fn self_cut(
         indices.old points.old)
         result indices.new points.new }
 {
-    let checked = jobs::check_self_large(path, closed, epsilon);
-    match checked {
-        Checked::Fine => list_self(path, closed, epsilon, indices, points),
-        Checked::Bad(fault) => ListingAnswer::Refused(fault),
-    }
+    jobs::check_self_large(path, closed, epsilon)?;
+    list_self(path, closed, epsilon, indices, points)
 }

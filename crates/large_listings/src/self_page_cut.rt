@@ -1,12 +1,10 @@
 // A page of the crossings of a path with itself, in the mode of large arcs.
-ghost use Rattle.std.specs.Prelude.{◌≡◌};
-ghost use Rattle.checks.specs.declared.fault.Checked.TheVariants.{Fine};
+ghost use Rattle.std.specs.Prelude.{◌≡◌, Ok};
 ghost use Rattle.listing_outcomes.specs.Outcome;
 ghost use Rattle.large_listings.specs.LargeListings;
 
 use super::cutting::{FLOATS, KEPT, cut};
 use super::jobs;
-use checks::fault::Checked;
 use large_outcomes::listed;
 use listing_outcomes::answer::PageAnswer;
 use paths::path;
@@ -21,7 +19,7 @@ fn page_self(
     indices: &mut [u64],
     points: &mut [f64],
 ) -> PageAnswer
-    requires { LargeListings.check_self_large path.now closed epsilon ≡ Fine }
+    requires { LargeListings.check_self_large path.now closed epsilon ≡ Ok tt }
     ensures { Outcome.Leaves
         (LargeListings.self_page_large path.now closed epsilon position budget
         indices.old points.old)
@@ -57,9 +55,6 @@ pub fn self_page_cut(
         indices.old points.old)
         result indices.new points.new }
 {
-    let checked = jobs::check_self_large(path, closed, epsilon);
-    match checked {
-        Checked::Fine => page_self(path, closed, epsilon, position, budget, indices, points),
-        Checked::Bad(fault) => PageAnswer::Refused(fault),
-    }
+    jobs::check_self_large(path, closed, epsilon)?;
+    page_self(path, closed, epsilon, position, budget, indices, points)
 }

@@ -1,11 +1,10 @@
 -- What a listing, a page and a boxed listing of any sequence of pairs answer in the mode of large arcs, and what they leave in
 -- the slices. They are those of Outcome, PageOutcome and BoxedOutcome of the crate `listing_outcomes`, with the same refusals in
 -- the same order; but a row has five whole numbers, so 8 counts rows of five. `numbers` says which five.
-use Rattle.std.specs.Prelude.{List, [], ◌∷◌, ◌++◌, ℕ, ◌+◌, ltb, eqb, length, drop, Float}
+use Rattle.checks.specs.Checked.{Checked}
+use Rattle.std.specs.Prelude.{List, [], ◌∷◌, ◌++◌, ℕ, ◌+◌, ltb, eqb, length, drop, Float, Err, Ok}
 use Rattle.checks.specs.declared.fault.Item.TheVariants.{Rows}
 use Rattle.checks.specs.declared.fault.Fault.{Fault}
-use Rattle.checks.specs.declared.fault.Checked.{Checked}
-use Rattle.checks.specs.declared.fault.Checked.TheVariants.{Fine, Bad}
 use Rattle.checks.specs.Fault.{at, refuse}
 use Rattle.checks.specs.Refusal
 use Rattle.checks.specs.First.{first as first_fault}
@@ -15,10 +14,7 @@ use Rattle.listing_pairs.specs.Row.{points_of, numbers_of_rows}
 use Rattle.listing_pairs.specs.Order.{Pair}
 use Rattle.listing_pairs.specs.Rows.{rows_of, looked_at}
 use Rattle.listing_pairs.specs.Page.{Page, page}
-use Rattle.listing_outcomes.specs.declared.answer.ListingAnswer.{ListingAnswer}
-use Rattle.listing_outcomes.specs.declared.answer.ListingAnswer.TheVariants.{Refused, Listed}
-use Rattle.listing_outcomes.specs.declared.answer.PageAnswer.{PageAnswer}
-use Rattle.listing_outcomes.specs.declared.answer.PageAnswer.TheVariants as page_answer
+use Rattle.listing_outcomes.specs.Answer.{Listed, ListingAnswer, PageAnswer, Paged}
 use Rattle.listing_outcomes.specs.Outcome.{Outcome, overwrite}
 use Rattle.listing_outcomes.specs.PageOutcome.{position_check, budget_check}
 use Rattle.listing_outcomes.specs.BoxedOutcome.{BoxedOutcome, index_check, boxes_after}
@@ -27,9 +23,9 @@ use Rattle.large_outcomes.specs.LargeRow.{large_room}
 -- The outcome by the first fault, if there is one: a refusal leaves both slices unchanged. Otherwise the call has its answer, and
 -- its rows are written.
 abbrev pub large_of : {A : Type 0} → (Row → List ℕ) → (Fault → A) → Checked → A → List Row → List ℕ → List Float → Outcome A
-large_of numbers refused (Bad fault) answer rows indices points =
+large_of numbers refused (Err fault) answer rows indices points =
     record { answer = refused fault; indices = indices; points = points }
-large_of numbers refused Fine answer rows indices points =
+large_of numbers refused (Ok _) answer rows indices points =
     record {
       answer = answer;
       indices = overwrite indices (numbers_of_rows numbers rows);
@@ -43,7 +39,7 @@ large_room_check rows indices points = refuse (ltb (large_room indices points) (
 
 abbrev pub large_listed_of : (Row → List ℕ) → Checked → List Row → ℕ → List ℕ → List Float → Outcome ListingAnswer
 large_listed_of numbers found rows pairs indices points =
-    large_of numbers Refused found (Listed (length rows) pairs) rows indices points
+    large_of numbers Err found (Listed (length rows) pairs) rows indices points
 
 -- the given checks in order, then 8
 unfoldable pub large_outcome :
@@ -65,8 +61,8 @@ large_limits position all budget indices points =
 
 abbrev pub large_paged_of : (Row → List ℕ) → Checked → Page → ℕ → ℕ → List ℕ → List Float → Outcome PageAnswer
 large_paged_of numbers found q position all indices points =
-    large_of numbers page_answer.Refused found
-    (page_answer.Paged (length q.rows) q.passed (position + q.passed) all) q.rows indices points
+    large_of numbers Err found
+    (Paged (length q.rows) q.passed (position + q.passed) all) q.rows indices points
 
 -- the given checks in order, then 13, 14 and 8
 unfoldable pub large_page_outcome :

@@ -42,24 +42,16 @@ pub fn list_large(
     let room = large_row_room(indices.len(), points.len());
     let threes = room * row::INDICES;
     let fours = room * row::POINTS;
-    let answer = buffer::list_in(
+    let counts = buffer::list_in(
         first,
         second,
         job,
         kept,
         &mut indices[..threes],
         &mut points[..fours],
-    );
-    match answer {
-        ListingAnswer::Refused(fault) => ListingAnswer::Refused(fault),
-        ListingAnswer::Listed { rows, pairs } => {
-            spread(first_names, second_names, rows, indices);
-            ListingAnswer::Listed {
-                rows: rows,
-                pairs: pairs,
-            }
-        }
-    }
+    )?;
+    spread(first_names, second_names, counts.rows, indices);
+    Ok(counts)
 }
 
 // The page of a job from a position on. If the position is beyond the end, if there is no budget, or if no whole row fits, it is
@@ -89,7 +81,7 @@ pub fn page_large(
     let room = large_row_room(indices.len(), points.len());
     let threes = room * row::INDICES;
     let fours = room * row::POINTS;
-    let answer = page::page_in(
+    let counts = page::page_in(
         first,
         second,
         job,
@@ -98,24 +90,9 @@ pub fn page_large(
         kept,
         &mut indices[..threes],
         &mut points[..fours],
-    );
-    match answer {
-        PageAnswer::Refused(fault) => PageAnswer::Refused(fault),
-        PageAnswer::Paged {
-            rows,
-            pairs,
-            next,
-            all,
-        } => {
-            spread(first_names, second_names, rows, indices);
-            PageAnswer::Paged {
-                rows: rows,
-                pairs: pairs,
-                next: next,
-                all: all,
-            }
-        }
-    }
+    )?;
+    spread(first_names, second_names, counts.rows, indices);
+    Ok(counts)
 }
 
 // The listing of a boxed job, and its index. If the index does not fit, the answer is refusal 17; if it has more rows than fit,
@@ -145,7 +122,7 @@ pub fn list_boxed_large(
     let room = large_row_room(indices.len(), points.len());
     let threes = room * row::INDICES;
     let fours = room * row::POINTS;
-    let answer = boxed::boxed_in(
+    let counts = boxed::boxed_in(
         first,
         second,
         job,
@@ -153,15 +130,7 @@ pub fn list_boxed_large(
         boxes,
         &mut indices[..threes],
         &mut points[..fours],
-    );
-    match answer {
-        ListingAnswer::Refused(fault) => ListingAnswer::Refused(fault),
-        ListingAnswer::Listed { rows, pairs } => {
-            spread(first_names, second_names, rows, indices);
-            ListingAnswer::Listed {
-                rows: rows,
-                pairs: pairs,
-            }
-        }
-    }
+    )?;
+    spread(first_names, second_names, counts.rows, indices);
+    Ok(counts)
 }

@@ -42,9 +42,7 @@ pub fn spread(first: &[u64], second: &[u64], rows: usize, indices: &mut [u64])
     ensures { indices.new
         ≡ spread_of.spread (spread_of.by_names first.now second.now) rows indices.old }
 {
-    let mut k = rows;
-    while k > 0 {
-        k -= 1;
+    for k in (0..rows).rev() {
         let a = k * row::INDICES;
         let i = name_of(first, indices[a]);
         let j = name_of(second, indices[a + 1]);
@@ -72,9 +70,7 @@ pub fn spread_zeros(rows: usize, indices: &mut [u64])
     requires { rows * LargeRow.large_indices_a_row ≤ length indices.old }
     ensures { indices.new ≡ spread_of.spread spread_of.zero_halves rows indices.old }
 {
-    let mut k = rows;
-    while k > 0 {
-        k -= 1;
+    for k in (0..rows).rev() {
         let a = k * row::INDICES;
         let i = indices[a];
         let j = indices[a + 1];

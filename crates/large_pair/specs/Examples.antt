@@ -1,7 +1,7 @@
 -- A worked example, computed by the definitions: the loop from (0, 0) to (1/8, 0) with bulge 8, and the line from (-1, -1/4) to
 -- (1, -1/4), epsilon 1e-5. All numbers pass, and each half of the loop meets the line in one point. Floats are written by their
 -- bits.
-use Rattle.std.specs.Prelude.{◌≡◌, refl, List, [], ◌∷◌, ℕ, Float}
+use Rattle.std.specs.Prelude.{◌≡◌, refl, List, [], ◌∷◌, ℕ, Float, Ok}
 use Rattle.std.specs.Int.Count.{count_trailing_zeros}
 use Rattle.std.specs.Float.{binary64}
 use Rattle.std.specs.Float.Ieee.{add, sub, mul, div, neg, sum, round, units, odd, size, span, climb, lt, le, eq, is_nan, of_bits, of_fields}
@@ -13,7 +13,6 @@ use Rattle.plane.specs.PlineVertex as vertices
 use Rattle.plane.specs.Fuzzy as fuzzy
 use Rattle.plane.specs.BaseMath as base_math
 use Rattle.plane.specs.PlineSeg as seg
-use Rattle.checks.specs.declared.fault.Checked.TheVariants.{Fine}
 use Rattle.checks.specs.Fault.{refuse, later}
 use Rattle.checks.specs.First.{first}
 use Rattle.checks.specs.Number.{is_infinite, not_finite, beyond}
@@ -66,7 +65,7 @@ line1 = vertex m1 mquarter n0
 abbrev line2 : PlineVertex
 line2 = vertex n1 mquarter n0
 
-pub all-fine : first (large_pair_checks loop1 loop2 line1 line2 eps) ≡ Fine
+pub all-fine : first (large_pair_checks loop1 loop2 line1 line2 eps) ≡ Ok tt
 unfolding
     segment_checks is_large half_bulge cut_point bent cut_vertex vertices.new vector2.new vertices.pos vector2.sub vector2.length
     fuzzy.fuzzy_eq_zero_eps arc_chord refuse later is_infinite not_finite beyond

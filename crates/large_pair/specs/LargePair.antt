@@ -1,11 +1,10 @@
 -- How two segments meet in the mode of large arcs, by request 11: each segment is itself or its two halves, and the pair's own
 -- definition is asked of each part of the first with each part of the second. The first segment's parts are outermost.
-use Rattle.std.specs.Prelude.{ℕ, ◌*◌, ◌≡◌, cond, ◌||◌, List, [], ◌∷◌, ◌++◌, ltb, length, Float}
+use Rattle.checks.specs.Checked.{Checked}
+use Rattle.std.specs.Prelude.{ℕ, ◌*◌, ◌≡◌, cond, ◌||◌, List, [], ◌∷◌, ◌++◌, ltb, length, Float, Err, Ok, Result as Answer}
 use Rattle.std.proofs.lemmas.List.Edits.{sets}
 use Rattle.float_laws.specs.Flat.{flat}
 use Rattle.plane.specs.declared.pline_vertex.PlineVertex.{PlineVertex}
-use Rattle.checks.specs.declared.fault.Checked.{Checked}
-use Rattle.checks.specs.declared.fault.Checked.TheVariants.{Fine, Bad}
 use Rattle.checks.specs.Each
 use Rattle.checks.specs.First.{first}
 use Rattle.checks.specs.Lists.{point_checks}
@@ -14,8 +13,9 @@ use Rattle.crossing.specs.PlineSeg.{pline_seg}
 use Rattle.crossing.specs.PlineSegIntr.{class_of, point1_of, point2_of}
 use Rattle.cuts.specs.Cut.{is_large, bent, cut_vertex}
 use Rattle.cuts.specs.LargeChecks.{vertex_checks, segment_checks}
-use Rattle.large_pair.specs.declared.LargePair.{LargePair}
-use Rattle.large_pair.specs.declared.LargePair.TheVariants as LargePair·
+use Rattle.checks.specs.declared.call.CallError.TheVariants.{NoRoom, Refused}
+use Rattle.checks.specs.declared.call.CallError.{CallError}
+use Rattle.checks.specs.declared.fault.Fault.{Fault}
 
 -- ---- the checks, in the pair call's order: all numbers, then the arcs
 abbrev pub large_pair_checks : PlineVertex → PlineVertex → PlineVertex → PlineVertex → Float → List Checked
@@ -76,6 +76,13 @@ floats_of r = (point1_of r.met).x ∷ (point1_of r.met).y ∷ (point2_of r.met).
 abbrev pub most_results : ℕ
 most_results = 4
 
+-- how many results there are, or why none
+abbrev pub LargePair : Type 0
+LargePair = Answer ℕ CallError
+
+abbrev pub refusal : Fault → LargePair
+refusal fault = Err (Refused fault)
+
 pub record LargeOutcome : Type 0 where
   pub answer : LargePair
   pub results : List ℕ
@@ -83,11 +90,11 @@ pub record LargeOutcome : Type 0 where
 
 -- a refusal leaves both slices unchanged; otherwise the results are written to the front
 abbrev pub by_checks : Checked → List Result → List ℕ → List Float → LargeOutcome
-by_checks (Bad fault) found results points =
-    record { answer = LargePair·.Refused fault; results = results; points = points }
-by_checks Fine found results points =
+by_checks (Err fault) found results points =
+    record { answer = Err (Refused fault); results = results; points = points }
+by_checks (Ok _) found results points =
     record {
-      answer = LargePair·.Met (length found);
+      answer = Ok (length found);
       results = sets results 0 (flat words_of found);
       points = sets points 0 (flat floats_of found);
     }
@@ -96,7 +103,7 @@ unfoldable pub large_pair :
     PlineVertex → PlineVertex → PlineVertex → PlineVertex → Float → List ℕ → List Float → LargeOutcome
 large_pair v1 v2 u1 u2 pos_equal_eps results points =
     cond (ltb (length results) (most_results * words_a_result) || ltb (length points) (most_results * floats_a_result))
-    (record { answer = LargePair·.NoRoom; results = results; points = points })
+    (record { answer = Err NoRoom; results = results; points = points })
     (by_checks (first (large_pair_checks v1 v2 u1 u2 pos_equal_eps)) (results_of v1 v2 u1 u2 pos_equal_eps) results points)
 
 pub record LeavesLarge (o : LargeOutcome) (answer : LargePair) (results : List ℕ) (points : List Float) : Type 0 where

@@ -1,8 +1,7 @@
 -- The promise of the call allows one result only: two answers that it allows are equal, and so are the slices afterwards.
 use Rattle.std.specs.Prelude.{ℕ, ◌≡◌, List, Float}
 use Rattle.std.proofs.Common.{sym, ◌∙◌}
-use Rattle.large_pair.specs.declared.LargePair.{LargePair}
-use Rattle.large_pair.specs.LargePair.{LargeOutcome, LeavesLarge}
+use Rattle.large_pair.specs.LargePair.{LargeOutcome, LeavesLarge, LargePair}
 
 pub large-one-result : {o : LargeOutcome} {a b : LargePair} {r s : List ℕ} {p q : List Float}
     → LeavesLarge o a r p → LeavesLarge o b s q → (a ≡ b) × (r ≡ s) × (p ≡ q)

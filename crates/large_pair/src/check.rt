@@ -8,7 +8,6 @@ ghost use Rattle.large_pair.specs.Workings.PartsFine;
 use checks::fault::Checked;
 use checks::number::inside;
 use checks::{chain, each, limit};
-use cuts::check::{segment_after, vertex_after};
 use cuts::cut::{Halves, is_large};
 use fast_pair::all_fine::{epsilon_fine, segment_fine};
 use plane::pline_vertex::PlineVertex;
@@ -27,6 +26,7 @@ fn parts_fine(v1: PlineVertex, v2: PlineVertex, h: Halves) -> bool
 
 // The first fault of a pair's numbers, number by number: epsilon; v1, v2, u1 and u2, each x before y, and the bulge of v1 and of
 // u1 after its y; then the segments v and u, each by its cut point and the chords of its halves, or by its own chord.
+#[tactic(auto, unfolding(checks::specs::Fault::later))]
 fn check_large_pair(
     v1: PlineVertex,
     v2: PlineVertex,
@@ -36,13 +36,13 @@ fn check_large_pair(
 ) -> Checked
     ensures { result ≡ first (large_pair_checks v1 v2 u1 u2 pos_equal_eps) }
 {
-    let a0 = each::epsilon(pos_equal_eps);
-    let a1 = vertex_after(a0, v1.x, v1.y, v1.bulge, 0, 0);
-    let a2 = chain::point_after(a1, v2.x, v2.y, 0, 1);
-    let a3 = vertex_after(a2, u1.x, u1.y, u1.bulge, 1, 0);
-    let a4 = chain::point_after(a3, u2.x, u2.y, 1, 1);
-    let a5 = segment_after(a4, v1, v2, 0, 0);
-    segment_after(a5, u1, u2, 1, 0)
+    each::epsilon(pos_equal_eps)?;
+    cuts::check::vertex(v1.x, v1.y, v1.bulge, 0, 0)?;
+    chain::point(v2.x, v2.y, 0, 1)?;
+    cuts::check::vertex(u1.x, u1.y, u1.bulge, 1, 0)?;
+    chain::point(u2.x, u2.y, 1, 1)?;
+    cuts::check::segment(v1, v2, 0, 0)?;
+    cuts::check::segment(u1, u2, 1, 0)
 }
 
 // The first fault of a pair's numbers, by a quick test first; v and u are where the parts of the segments start.
@@ -60,7 +60,7 @@ pub fn large_checked(
     ensures { result ≡ first (large_pair_checks v1 v2 u1 u2 pos_equal_eps) }
 {
     if epsilon_fine(pos_equal_eps) & (parts_fine(v1, v2, v) & parts_fine(u1, u2, u)) {
-        return Checked::Fine;
+        return Ok(());
     }
     check_large_pair(v1, v2, u1, u2, pos_equal_eps)
 }

@@ -6,7 +6,7 @@ use super::LargePair;
 use super::check::large_checked;
 use super::put::{put_result, put_results};
 use super::starts::starts;
-use checks::fault::Checked;
+use checks::call::CallError;
 use fast_pair::all_fine::pair_fine;
 use fast_pair::pair::pline_seg_once;
 use plane::pline_vertex::PlineVertex;
@@ -32,23 +32,19 @@ pub fn pline_seg_large(
         result results.new points.new }
 {
     if results.len() < RESULTS {
-        return LargePair::NoRoom;
+        return Err(CallError::NoRoom);
     }
     if points.len() < POINTS {
-        return LargePair::NoRoom;
+        return Err(CallError::NoRoom);
     }
     if pair_fine(v1, v2, u1, u2, pos_equal_eps) {
         let met = pline_seg_once(v1, v2, u1, u2, pos_equal_eps);
         put_result(0, 0, met, 0, results, points);
-        return LargePair::Met(1);
+        return Ok(1);
     }
     let v = starts(v1, v2);
     let u = starts(u1, u2);
-    match large_checked(v1, v2, v, u1, u2, u, pos_equal_eps) {
-        Checked::Bad(fault) => LargePair::Refused(fault),
-        Checked::Fine => {
-            let count = put_results(v1, v2, v, u1, u2, u, pos_equal_eps, results, points);
-            LargePair::Met(count)
-        }
-    }
+    large_checked(v1, v2, v, u1, u2, u, pos_equal_eps)?;
+    let count = put_results(v1, v2, v, u1, u2, u, pos_equal_eps, results, points);
+    Ok(count)
 }

@@ -1,9 +1,8 @@
 // The results of a pair, written one after the other: each part of the first segment with each part of the second.
-ghost use Rattle.std.specs.Prelude.{◌+◌, ◌*◌, ◌<◌, ◌≤◌, ◌≡◌, ◌++◌, length};
+ghost use Rattle.std.specs.Prelude.{◌+◌, ◌*◌, ◌<◌, ◌≤◌, ◌≡◌, ◌++◌, length, Ok};
 ghost use Rattle.std.proofs.lemmas.List.Edits.{sets};
 ghost use Rattle.arcs.specs.Workings.Circles.{circle_if_arc};
 ghost use Rattle.checks.specs.First.{first};
-ghost use Rattle.checks.specs.declared.fault.Checked.TheVariants.{Fine};
 ghost use Rattle.large_pair.specs.LargePair as large;
 ghost use Rattle.large_pair.specs.Workings.Pieces as pieces;
 ghost use Rattle.large_pair.specs.Workings.Starts as starts;
@@ -131,7 +130,7 @@ pub fn put_results(
     requires points_room { large.most_results * large.floats_a_result ≤ length points.old }
     requires v_starts { v ≡ starts.starts v1 v2 }
     requires u_starts { u ≡ starts.starts u1 u2 }
-    requires fine { first (large.large_pair_checks v1 v2 u1 u2 eps) ≡ Fine }
+    requires fine { first (large.large_pair_checks v1 v2 u1 u2 eps) ≡ Ok tt }
     ensures { pieces.Stored (large.results_of v1 v2 u1 u2 eps) result
         results.old results.new points.old points.new }
 {

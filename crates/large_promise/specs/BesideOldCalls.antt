@@ -7,8 +7,7 @@ use Rattle.std.proofs.Common.{◌∙◌, sym}
 use Rattle.paths.specs.Segments.{segment_count}
 use Rattle.listing_pairs.specs.Order.{mutual_pairs, self_pairs}
 use Rattle.listing_pairs.specs.Look.{traced_look, traced_self_look}
-use Rattle.listing_outcomes.specs.declared.answer.ListingAnswer.{ListingAnswer}
-use Rattle.listing_outcomes.specs.declared.answer.ListingAnswer.TheVariants.{Listed}
+use Rattle.listing_outcomes.specs.Answer.{Listed, ListingAnswer}
 use Rattle.listing_outcomes.specs.Outcome.{Outcome, room}
 use Rattle.listing_calls.specs.Listing.{mutual_checks, mutual_listing, self_checks, self_listing}
 use Rattle.large_outcomes.specs.LargeRow.{large_room}

@@ -1,12 +1,11 @@
 -- Chains of pages of the mode of large arcs beside the listing, as ChainedCalls.antt of the crate `listing_calls` has it for the
 -- old mode: calls from position 0 to the end, none refused, join to the listing's rows, as read from its slices, and pass all
 -- pairs of the cut paths. No row is left out of the joined rows. A call at the end gives nothing.
-use Rattle.std.specs.Prelude.{◌≡◌, refl, Bool, false, List, [], ◌∷◌, ◌++◌, ℕ, ◌+◌, ◌-◌, ◌*◌, ◌<◌, Float, length, take, drop}
+use Rattle.checks.specs.Checked.{Checked}
+use Rattle.std.specs.Prelude.{◌≡◌, refl, Bool, false, List, [], ◌∷◌, ◌++◌, ℕ, ◌+◌, ◌-◌, ◌*◌, ◌<◌, Float, length, take, drop, Err, Ok}
 use Rattle.std.proofs.Common.{sym, ap, ◌∙◌, arith, length-drop, take_at}
 use Rattle.float_laws.specs.Stores.{flat-length}
 use Rattle.checks.specs.declared.fault.Fault.{Fault}
-use Rattle.checks.specs.declared.fault.Checked.{Checked}
-use Rattle.checks.specs.declared.fault.Checked.TheVariants.{Fine, Bad}
 use Rattle.checks.specs.First.{first as first_fault}
 use Rattle.arcs.specs.declared.pline_seg_intr.PlineSegIntr.{PlineSegIntr}
 use Rattle.crossing.specs.PlineSegIntr.{class_of}
@@ -19,11 +18,9 @@ use Rattle.listing_pairs.specs.Row.{points_a_row, points_of, numbers_of_rows, ro
 use Rattle.listing_pairs.specs.Rows.{rows_of, looked_at}
 use Rattle.listing_pairs.specs.Traces.{one_trace, traced_pairs}
 use Rattle.listing_loop.specs.Laws.Pages.{joins}
-use Rattle.listing_outcomes.specs.declared.answer.ListingAnswer.{ListingAnswer}
-use Rattle.listing_outcomes.specs.declared.answer.ListingAnswer.TheVariants.{Refused, Listed}
-use Rattle.listing_outcomes.specs.declared.answer.PageAnswer.{PageAnswer}
-use Rattle.listing_outcomes.specs.declared.answer.PageAnswer.TheVariants.{Paged}
+use Rattle.listing_outcomes.specs.Answer.{Listed, ListingAnswer, PageAnswer, Paged}
 use Rattle.listing_outcomes.specs.Outcome.{Outcome, overwrite, room}
+use Rattle.listing_outcomes.specs.Laws.Counts.{same-rows, same-pairs}
 use Rattle.listing_calls.specs.Chain.{Lent, Joined, between}
 use Rattle.listing_calls.specs.ChainedCalls.{mutual-looked, self-looked}
 use Rattle.listing_calls.specs.Complete.{pair_of, makes}
@@ -59,7 +56,7 @@ pub record LargeSameAs (o : Outcome ListingAnswer) (all kept : List Pair) (rows 
   pub indices : j.indices ≡ take (rows * large_indices_a_row) o.indices
   pub points : j.points ≡ take (rows * points_a_row) o.points
 
-never : {f : Fault} {k m : ℕ} → Refused f ≡ Listed k m → ⊥
+never : {f : Fault} {k m : ℕ} → Err f ≡ Listed k m → ⊥
 never e = let z : ◌≡◌ {A = ℕ} 0 1 = cc in omega (arith, z)
 
 module _ (names others : ℕ → Name) (f : ℕ → ℕ → Look) (ps : List Pair) (j : Joined)
@@ -91,10 +88,10 @@ module _ (names others : ℕ → Name) (f : ℕ → ℕ → Look) (ps : List Pai
     same-checked : (c : Checked) {rows pairs : ℕ}
         → (large_listed_of five c (rows_of f ps) (looked_at f ps) indices points).answer ≡ Listed rows pairs
         → LargeSameAs (large_listed_of five c (rows_of f ps) (looked_at f ps) indices points) ps kept rows pairs j
-    same-checked (Bad fault) e = absurd (never e)
-    same-checked Fine {rows} {pairs} e =
-        let rows_are : rows ≡ length (rows_of f ps) = cc in
-        let pairs-are : pairs ≡ looked_at f ps = cc in
+    same-checked (Err fault) e = absurd (never e)
+    same-checked (Ok _) {rows} {pairs} e =
+        let rows_are : rows ≡ length (rows_of f ps) = sym (same-rows e) in
+        let pairs-are : pairs ≡ looked_at f ps = sym (same-pairs e) in
         record {
           row_count = w.rows ∙ sym rows_are;
           passed-count = w.pairs;

@@ -1,10 +1,9 @@
 -- When exactly a counted listing of the mode of large arcs refuses, and what it leaves then, as Refusals.antt of the crate
 -- `month` has it for the old mode: 19 comes before all other checks, and all other refusals are the listing's.
-use Rattle.std.specs.Prelude.{◌≡◌, refl, Bool, true, ◌↔◌, ◌⊎◌, List, ◌∷◌, ℕ, ◌≤◌, ◌<◌, Float, length}
+use Rattle.checks.specs.Checked.{Checked}
+use Rattle.std.specs.Prelude.{◌≡◌, refl, Bool, true, ◌↔◌, ◌⊎◌, List, ◌∷◌, ℕ, ◌≤◌, ◌<◌, Float, length, Err, Ok}
 use Rattle.checks.specs.declared.fault.Item.TheVariants.{Report}
 use Rattle.checks.specs.declared.fault.Fault.{Fault}
-use Rattle.checks.specs.declared.fault.Checked.{Checked}
-use Rattle.checks.specs.declared.fault.Checked.TheVariants.{Fine, Bad}
 use Rattle.checks.specs.Fault.{whole}
 use Rattle.checks.specs.First.{first as first_fault}
 use Rattle.checks.specs.Answered.{answered}
@@ -14,12 +13,11 @@ use Rattle.listing_pairs.specs.declared.row.Row.{Row}
 use Rattle.listing_pairs.specs.declared.row.Look.{Look}
 use Rattle.listing_pairs.specs.Order.{Pair}
 use Rattle.listing_pairs.specs.Rows.{rows_of, looked_at}
-use Rattle.listing_outcomes.specs.declared.answer.ListingAnswer.{ListingAnswer}
-use Rattle.listing_outcomes.specs.declared.answer.ListingAnswer.TheVariants.{Refused}
+use Rattle.listing_outcomes.specs.Answer.{ListingAnswer}
 use Rattle.listing_outcomes.specs.Outcome.{Outcome}
+use Rattle.checks.specs.declared.call.CallError.TheVariants.{NoRoom}
 use Rattle.listing_calls.specs.Refusals as listings
 use Rattle.large_outcomes.specs.LargeOutcome.{large_listed_of, large_outcome}
-use Rattle.month.specs.declared.mutual_counted.CountedAnswer.TheVariants.{NoRoom}
 use Rattle.month.specs.Report.{words, layouts, most_layouts, word, full}
 use Rattle.month.specs.Counted.{unchanged, report_check}
 use Rattle.month.specs.Refusals.{TooLarge, full-when, refused_with, accepted}
@@ -52,22 +50,22 @@ module _ (first : List Float) (first_closed : Bool) (second : List Float) (secon
 
   -- no room, before everything
   pub large-no-room-when :
-      ((mutual_counted_large first first_closed second second_closed epsilon indices points report).listing.answer ≡ NoRoom)
+      ((mutual_counted_large first first_closed second second_closed epsilon indices points report).listing.answer ≡ Err NoRoom)
       ↔ (length report < words)
   unfolding mutual_counted_large
   large-no-room-when = laws.no-room-when listing rows indices points report
 
   pub large-no-room-leaves : length report < words
       → mutual_counted_large first first_closed second second_closed epsilon indices points report
-      ≡ unchanged NoRoom indices points report
+      ≡ unchanged (Err NoRoom) indices points report
   unfolding mutual_counted_large
   large-no-room-leaves = no-room-is listing rows indices points report
 
   -- the listing answers by its first fault
   by-fault : (c : Checked) → (large_listed_of five c (rows_of f ps) (looked_at f ps) indices points).answer
-      ≡ answered Refused listings.counted c (large.counts five checks f ps indices points)
-  by-fault Fine = refl
-  by-fault (Bad g) = refl
+      ≡ answered Err listings.counted c (large.counts five checks f ps indices points)
+  by-fault (Ok _) = refl
+  by-fault (Err g) = refl
 
   module _ (long : words ≤ length report) where
     -- 19: its answer, and all that it leaves
@@ -101,7 +99,7 @@ module _ (first : List Float) (first_closed : Bool) (second : List Float) (secon
   pub large-refused-by : (g : Fault)
       → (mutual_counted_large first first_closed second second_closed epsilon indices points report).listing.answer ≡ refused_with g
       → (g ≡ whole Refusal.report Report)
-      ⊎ ((mutual_large first first_closed second second_closed epsilon indices points).answer ≡ Refused g)
+      ⊎ ((mutual_large first first_closed second second_closed epsilon indices points).answer ≡ Err g)
   unfolding mutual_counted_large
   large-refused-by = laws.refused-by listing rows indices points report
 

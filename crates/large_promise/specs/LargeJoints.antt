@@ -12,7 +12,6 @@ use Rattle.listing_pairs.specs.Row.{row}
 use Rattle.listing_pairs.specs.Order.{Pair}
 use Rattle.listing_pairs.specs.Traces.{one_trace}
 use Rattle.listing_pairs.specs.Boxed.{boxes_meet, boxed_pairs}
-use Rattle.listing_outcomes.specs.declared.answer.ListingAnswer.TheVariants.{Listed}
 use Rattle.listing_calls.specs.Complete.{pair_of}
 use Rattle.listing_calls.specs.Joints as joints
 use Rattle.listing_calls.specs.Laws.Complete.{those-have}
@@ -29,6 +28,7 @@ use Rattle.large_listings.specs.LargeRefusals.{all}
 use Rattle.large_listings.specs.LargeBoxedRefusals.{boxed_checks}
 use Rattle.large_listings.specs.HasLargeRow.{HasLargeRow}
 use Rattle.large_listings.specs.LargeComplete.{listed-row-of}
+use Rattle.listing_outcomes.specs.Answer.{Listed}
 
 -- ---- segments i and j of the cut path
 module _ (path : List Float) (closed : Bool) (epsilon : Float) (i j : ℕ) where

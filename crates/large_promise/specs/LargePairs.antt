@@ -7,10 +7,10 @@ use Rattle.cuts.specs.CutPath.{cut_path, cut_count}
 use Rattle.listing_pairs.specs.Order.{along, pairs_from, self_pairs}
 use Rattle.listing_pairs.specs.Laws.Order.{along-length}
 use Rattle.listing_pairs.specs.Traces.{traced_pairs}
-use Rattle.listing_outcomes.specs.declared.answer.ListingAnswer.TheVariants.{Listed}
 use Rattle.listing_calls.specs.ChainedCalls.{mutual-looked, self-looked}
 use Rattle.large_listings.specs.LargeListings.{mutual_large_pairs, mutual_large, self_large_pairs, self_large}
 use Rattle.large_listings.specs.OverCutPath.{mutual-renamed, self-renamed}
+use Rattle.listing_outcomes.specs.Answer.{Listed}
 
 from-there : (n i k : ℕ) → i + k ≡ n → 2 * length (pairs_from (λ i. i + 1) (λ i. n) i (i + 1) k) + k ≡ k * k
 from-there n i zero e = omega arith

@@ -7,7 +7,6 @@ use Rattle.paths.specs.Segments.{segment_count}
 use Rattle.cuts.specs.CutPath.{name}
 use Rattle.listing_pairs.specs.declared.row.Row.{Row}
 use Rattle.listing_pairs.specs.declared.row.Look.TheVariants.{Made}
-use Rattle.listing_outcomes.specs.declared.answer.ListingAnswer.TheVariants.{Listed}
 use Rattle.listing_calls.specs.Chain.{Lent}
 use Rattle.large_listings.specs.LargeListings.{mutual_large, mutual_boxed_large, self_large_look}
 use Rattle.large_listings.specs.LargeChained.{mutual_large_chain}
@@ -16,6 +15,7 @@ use Rattle.grid.specs.Promise.{Spot, Epsilon, Share, ShareMore, GridLine, OtherT
 use Rattle.grid.specs.Joints.{Neighbours}
 use Rattle.large_promise.specs.Places.{Stands}
 use Rattle.large_promise.specs.LargeChainedCalls.{mutual_large_end}
+use Rattle.listing_outcomes.specs.Answer.{Listed}
 
 abbrev pub LargeListingPromise : Type 0
 LargeListingPromise = (first : List Float) (closed : Bool) (second : List Float) (closed' : Bool) (e : Float) (num den : ℕ)

@@ -2,11 +2,11 @@
 -- Run.antt of the crate `month` says what a run is, and what it is compared with.
 use Rattle.std.specs.Prelude.{Bool, cond, List, ℕ}
 use Rattle.cuts.specs.CutPath.{cut_path, cut_count}
-use Rattle.listing_outcomes.specs.declared.answer.ListingAnswer.{ListingAnswer}
 use Rattle.month.specs.Run.{Layout, pairs_between}
 use Rattle.month.specs.Run as old
 use Rattle.large_listings.specs.LargeListings.{mutual_large}
 use Rattle.large_counted.specs.LargeCounted.{mutual_counted_large}
+use Rattle.listing_outcomes.specs.Answer.{ListingAnswer}
 
 -- ---- a layout of the mode of large arcs
 -- the report after it

@@ -2,7 +2,7 @@
 -- for the old mode. The six classes sum to the pairs of all accepted layouts, worked out from the segments and traces of their
 -- paths, cut where the mode says so; a refused layout adds only to the layouts and to its refusal's word. The join of two runs,
 -- if it is not refused, is what one run over both would have given.
-use Rattle.std.specs.Prelude.{◌≡◌, refl, Bool, true, false, cond, List, ◌++◌, ℕ, ◌≤◌, length, drop}
+use Rattle.std.specs.Prelude.{◌≡◌, refl, Bool, true, false, cond, List, ◌++◌, ℕ, ◌≤◌, length, drop, Err, Ok}
 use Rattle.std.proofs.Common.{ap, mul-le-mul, arith}
 use Rattle.checks.specs.declared.fault.Fault.{Fault}
 use Rattle.cuts.specs.CutPath.{cut_path, cut_count}
@@ -12,10 +12,8 @@ use Rattle.listing_pairs.specs.declared.row.Look.{Look}
 use Rattle.listing_pairs.specs.Order.{Pair}
 use Rattle.listing_pairs.specs.Rows.{looked_at}
 use Rattle.listing_loop.specs.Laws.Pages.{few-looked}
-use Rattle.listing_outcomes.specs.declared.answer.ListingAnswer.{ListingAnswer}
-use Rattle.listing_outcomes.specs.declared.answer.ListingAnswer.TheVariants.{Refused, Listed}
+use Rattle.listing_outcomes.specs.Answer.{Listed, ListingAnswer}
 use Rattle.listing_outcomes.specs.Outcome.{Outcome}
-use Rattle.month.specs.declared.join.JoinAnswer.TheVariants.{Joined}
 use Rattle.month.specs.Report.{words, most_added, fresh, word, full, plus}
 use Rattle.month.specs.Counted.{CountedOutcome, accepted_adds, adds}
 use Rattle.month.specs.Join.{join}
@@ -69,9 +67,9 @@ module _ (l : Layout) where
   small = go (answer_large l) refl
     where
       go : (a : ListingAnswer) → answer_large l ≡ a → Adds (adds a (large_rows l))
-      go (Refused g) e = refused-small g.number
-      go (Listed n k) e =
-          accepted-small (large_rows l) k (omega (arith, looked n k e, rows-looked f ps)) (omega (arith, looked n k e, few-pairs))
+      go (Err g) e = refused-small g.number
+      go (Ok counts) e =
+          accepted-small (large_rows l) counts.pairs (omega (arith, looked counts.rows counts.pairs e, rows-looked f ps)) (omega (arith, looked counts.rows counts.pairs e, few-pairs))
 
 large-kind : Kind after_large answer_large large_rows pairs_of_large
 unfolding mutual_counted_large
@@ -130,7 +128,7 @@ mode-kind =
     its-small l true = small l
     its-small l false = old-kind.small l
 
-    known : (l : Layout) (b : Bool) (g : Fault) → cond b (answer_large l) (old.answer l) ≡ Refused g
+    known : (l : Layout) (b : Bool) (g : Fault) → cond b (answer_large l) (old.answer l) ≡ Err g
         → among g.number given ≡ true
     known l true = large-kind.known l
     known l false = old-kind.known l
@@ -150,6 +148,6 @@ pub after-mode-run : (ls : List ModeLayout) → AfterRunOf answer pairs_of ls (r
 after-mode-run ls = after-run-of mode-kind ls
 
 pub join-of-mode-runs : (ks ls : List ModeLayout)
-    → (join (run fresh ks) (run fresh ls)).answer ≡ Joined
+    → (join (run fresh ks) (run fresh ls)).answer ≡ Ok tt
     → (join (run fresh ks) (run fresh ls)).into ≡ run fresh (ks ++ ls)
 join-of-mode-runs ks ls = join-of-runs-of mode-kind ks ls

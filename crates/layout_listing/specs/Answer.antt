@@ -1,20 +1,19 @@
 -- The answer of the program `crossings` to its input, which is the text line "packed" and then the bytes of a packed file:
 -- "refused 16" if the first seven bytes are not that line; else "refused 18" if the rest breaks the packed form; else the listing
 -- of the layout's two paths, both open, with epsilon 1/1024 and room for 512 rows.
-use Rattle.std.specs.Prelude.{ℕ, ◌+◌, ◌*◌, Bool, true, false, cond, List, [], ◌∷◌, eqb, ltb, Float, length, replicate, drop}
+use Rattle.std.specs.Prelude.{ℕ, ◌+◌, ◌*◌, Bool, true, false, cond, List, [], ◌∷◌, eqb, ltb, Float, length, replicate, drop, Result, Err, Ok}
 use Rattle.std.specs.Float.{binary64}
 use Rattle.std.specs.Float.Ieee.{of_bits}
 use Rattle.layouts.specs.Numbers.{path_of}
 use Rattle.layout_packed.specs.Limits.{packed_bytes}
 use Rattle.layout_packed.specs.Read.{refusal}
 use Rattle.layout_packed.specs.Workings.Reader.{Unpacked, broken_at, layout, reads_packed}
-use Rattle.answer_lines.specs.declared.Written.{Written}
+use Rattle.answer_lines.specs.declared.WriteError.{WriteError}
 use Rattle.answer_lines.specs.Lines.{refused_text, answer_text}
 use Rattle.answer_lines.specs.Sizes.{room_for}
 use Rattle.answer_lines.specs.Written.{Lines}
 use Rattle.listing_pairs.specs.Row.{indices_a_row, points_a_row}
-use Rattle.listing_outcomes.specs.declared.answer.ListingAnswer.{ListingAnswer}
-use Rattle.listing_outcomes.specs.declared.answer.ListingAnswer.TheVariants.{Refused, Listed}
+use Rattle.listing_outcomes.specs.Answer.{ListingAnswer}
 use Rattle.listing_outcomes.specs.Outcome.{Outcome}
 use Rattle.listing_calls.specs.Listing.{mutual_listing}
 
@@ -38,8 +37,8 @@ listing first second = mutual_listing first false second false epsilon no_indice
 
 -- the text lines of an answer
 abbrev pub lines_of : ListingAnswer → List ℕ → List Float → List ℕ
-lines_of (Refused f) indices points = refused_text f.number
-lines_of (Listed rows pairs) indices points = answer_text pairs rows indices points
+lines_of (Err f) indices points = refused_text f.number
+lines_of (Ok counts) indices points = answer_text counts.pairs counts.rows indices points
 
 unfoldable pub lines_for : List Float → List Float → List ℕ
 lines_for first second = let o = listing first second in lines_of o.answer o.indices o.points
@@ -80,11 +79,11 @@ input_bytes = length first_line + packed_bytes
 abbrev pub room : ℕ
 room = room_for most_rows
 
-abbrev pub LinesFor : List Float → List Float → Written → List ℕ → List ℕ → Type 0
+abbrev pub LinesFor : List Float → List Float → Result ℕ WriteError → List ℕ → List ℕ → Type 0
 LinesFor first second r old now = Lines false (ltb (length old) room) (lines_for first second) r old now
 
-abbrev pub FileAnswer : List ℕ → Written → List ℕ → List ℕ → Type 0
+abbrev pub FileAnswer : List ℕ → Result ℕ WriteError → List ℕ → List ℕ → Type 0
 FileAnswer file r old now = Lines false (ltb (length old) room) (answer_of (reads_packed file)) r old now
 
-abbrev pub AnswerTo : List ℕ → Written → List ℕ → List ℕ → Type 0
+abbrev pub AnswerTo : List ℕ → Result ℕ WriteError → List ℕ → List ℕ → Type 0
 AnswerTo input r old now = Lines false (ltb (length old) room) (answer_to input) r old now

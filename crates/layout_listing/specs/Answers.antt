@@ -1,7 +1,7 @@
 -- Which answer an input gets, exactly. 16 if and only if its first seven bytes are not the line "packed"; else 18 if and only if
 -- the bytes after the line are no layout's packed form; else the text lines of that layout's listing, which may be refused with 5
 -- or 8, and with nothing else. So no input is refused with 10.
-use Rattle.std.specs.Prelude.{ℕ, ◌≡◌, refl, ◌↔◌, ◌⊎◌, Bool, true, false, List, ◌++◌, length, take, drop}
+use Rattle.std.specs.Prelude.{ℕ, ◌≡◌, refl, ◌↔◌, ◌⊎◌, Bool, true, false, List, ◌++◌, length, take, drop, Err, Ok}
 use Rattle.std.proofs.Common.{sym, ap, ◌∙◌, subst, inl, inr, true≢false, arith, take-append-drop}
 use Rattle.std.proofs.lemmas.Bool.{eqb-false}
 use Rattle.std.proofs.Math.Seq.{take-append_seam, drop-append_seam}
@@ -13,12 +13,11 @@ use Rattle.layout_packed.specs.Exactly.{packed-reads, read-is-packed, refused-no
 use Rattle.layout_packed.specs.Workings.Reader.{Unpacked, broken_at, layout, reads_packed}
 use Rattle.answer_lines.specs.Lines.{refused_text}
 use Rattle.checks.specs.Refusal
-use Rattle.listing_outcomes.specs.declared.answer.ListingAnswer.{ListingAnswer}
-use Rattle.listing_outcomes.specs.declared.answer.ListingAnswer.TheVariants.{Refused, Listed}
 use Rattle.layout_listing.specs.Answer.{listing, lines_of, lines_for, answer_of, first_line, line_missing, begins, answer_to}
 use Rattle.layout_listing.specs.Laws.Begins.{begins-line, first-bytes}
 use Rattle.layout_listing.specs.Laws.Apart.{refused-apart, listed-apart}
 use Rattle.layout_listing.specs.Laws.Passed.{five-or-eight}
+use Rattle.listing_outcomes.specs.Answer.{ListingAnswer}
 
 -- ---- the first line: the test says yes exactly if the first bytes are the line
 
@@ -67,9 +66,9 @@ lines-refused l w n e = go (listing (path_of l.first) (path_of l.second)).answer
     go : (a : ListingAnswer) → (listing (path_of l.first) (path_of l.second)).answer ≡ a
         → (let o = listing (path_of l.first) (path_of l.second) in lines_of a o.indices o.points) ≡ refused_text n
         → (n ≡ Refusal.chord) ⊎ (n ≡ Refusal.rows)
-    go (Refused f) is e =
+    go (Err f) is e =
         subst (λ (k : ℕ). (k ≡ Refusal.chord) ⊎ (k ≡ Refusal.rows)) (refused-apart f.number n e) (five-or-eight l w f is)
-    go (Listed rows pairs) is e = absurd (listed-apart n pairs rows _ _ (sym e))
+    go (Ok counts) is e = absurd (listed-apart n counts.pairs counts.rows _ _ (sym e))
 
 -- ---- exactly when
 

@@ -5,12 +5,11 @@
 ghost use Rattle.std.specs.Prelude.{◌≡◌, ◌≤◌, length};
 ghost use Rattle.layout_listing.specs.Answer.{begins, room, LinesFor, FileAnswer, AnswerTo};
 
-use answer_lines::{LINE, Written, write_answer, write_refusal};
+use answer_lines::{LINE, WriteError, write_answer, write_refusal};
 use layout_packed::limits::BYTES as FILE;
-use layout_packed::{Unpacking, read_packed};
+use layout_packed::{UnpackError, read_packed};
 use layouts::limits;
 use listing_calls::mutual_listing::mutual_listing;
-use listing_outcomes::answer::ListingAnswer;
 use listing_pairs::row;
 
 // epsilon: 1/1024
@@ -32,11 +31,11 @@ pub const BYTES: usize = FIRST + FILE;
 pub const ROOM: usize = (ROWS + 1) * LINE;
 
 // Writes the text lines of the listing of two open paths to the front of `out`, and answers how many bytes they have.
-fn list_paths(first: &[f64], second: &[f64], out: &mut [u8]) -> Written
+fn list_paths(first: &[f64], second: &[f64], out: &mut [u8]) -> Result<usize, WriteError>
     ensures { LinesFor first.now second.now result out.old out.new }
 {
     if out.len() < ROOM {
-        return Written::NoRoom;
+        return Err(WriteError::NoRoom);
     }
     let mut indices = [0u64; ROWS * row::INDICES];
     let mut points = [0.0f64; ROWS * row::POINTS];
@@ -50,8 +49,8 @@ fn list_paths(first: &[f64], second: &[f64], out: &mut [u8]) -> Written
         &mut points,
     );
     match listed {
-        ListingAnswer::Refused(fault) => write_refusal(fault.number, out),
-        ListingAnswer::Listed { rows, pairs } => write_answer(pairs, rows, &indices, &points, out),
+        Err(fault) => write_refusal(fault.number, out),
+        Ok(counts) => write_answer(counts.pairs, counts.rows, &indices, &points, out),
     }
 }
 
@@ -62,18 +61,16 @@ fn begins_with(bytes: &[u8], line: &[u8]) -> bool
     if bytes.len() < line.len() {
         return false;
     }
-    let mut i = 0;
-    while i < line.len() {
-        if bytes[i] != line[i] {
+    for (i, b) in line.iter().enumerate() {
+        if bytes[i] != *b {
             return false;
         }
-        i += 1;
     }
     true
 }
 
 // Writes the answer to a packed file to the front of `out`, and answers how many bytes it has.
-fn list_file(file: &[u8], out: &mut [u8]) -> Written
+fn list_file(file: &[u8], out: &mut [u8]) -> Result<usize, WriteError>
     requires { room ≤ length out.old }
     ensures { FileAnswer file.now result out.old out.new }
 {
@@ -81,23 +78,23 @@ fn list_file(file: &[u8], out: &mut [u8]) -> Written
     let mut second = [0.0f64; limits::ROOM];
     let read = read_packed(file, &mut first, &mut second);
     match read {
-        Unpacking::Counts(n, m) => {
-            let a = n * limits::NUMBERS;
-            let b = m * limits::NUMBERS;
+        Ok(counts) => {
+            let a = counts.first * limits::NUMBERS;
+            let b = counts.second * limits::NUMBERS;
             list_paths(&first[..a], &second[..b], out)
         }
-        Unpacking::Refused(n, _) => write_refusal(n, out),
-        Unpacking::NoRoom => Written::NoRoom,
+        Err(UnpackError::Refused(n, _)) => write_refusal(n, out),
+        Err(UnpackError::NoRoom) => Err(WriteError::NoRoom),
     }
 }
 
 // Writes the answer to the program's input to the front of `out`, and answers how many bytes it has. If `out` lacks the room for
 // the longest answer, nothing is written.
-pub fn list_layout(input: &[u8], out: &mut [u8]) -> Written
+pub fn list_layout(input: &[u8], out: &mut [u8]) -> Result<usize, WriteError>
     ensures { AnswerTo input.now result out.old out.new }
 {
     if out.len() < ROOM {
-        return Written::NoRoom;
+        return Err(WriteError::NoRoom);
     }
     if begins_with(input, b"packed\n") {
         return list_file(&input[FIRST..], out);

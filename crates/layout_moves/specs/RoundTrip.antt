@@ -1,6 +1,6 @@
 -- Byte for byte, in a caller's words: what `pack_layout` has written, `unpack_layout` writes back as the same text; and what
 -- `unpack_layout` has written, `pack_layout` writes back as the same file.
-use Rattle.std.specs.Prelude.{ℕ, ◌≤◌, ◌≡◌, List, ltb, length, drop, take}
+use Rattle.std.specs.Prelude.{ℕ, ◌≤◌, ◌≡◌, List, ltb, length, drop, take, Result, Ok}
 use Rattle.std.proofs.Common.{sym, ap, ◌∙◌}
 use Rattle.std.proofs.Math.Seq.{take-append_seam}
 use Rattle.layout_text.specs.Long.{text-long}
@@ -11,13 +11,12 @@ use Rattle.layout_moves.specs.Moves.{Given, bytes, Moves, PackLayout, UnpackLayo
 use Rattle.layout_moves.specs.BackAndForth.{Moving, pack-is, unpack-is, back_and_forth}
 use Rattle.layout_moves.specs.MovePromise.{Whole, whole}
 use Rattle.layout_moves.specs.Laws.Given.{to-bytes}
-use Rattle.layout_moves.specs.declared.Moved.{Moved}
-use Rattle.layout_moves.specs.declared.Moved.TheVariants as Moved·
+use Rattle.layout_moves.specs.declared.MoveError.{MoveError}
 
 -- ---- the bytes that are counted are the front of the slice, and they are those given
 
-front : {room n : ℕ} {given : Given} {r : Moved} {old now : List ℕ} → Moves room given r old now → room ≤ length old
-    → ((b : List ℕ) → given ≡ bytes b → length b ≤ room) → r ≡ Moved·.Length n → given ≡ bytes (take n now)
+front : {room n : ℕ} {given : Given} {r : Result ℕ MoveError} {old now : List ℕ} → Moves room given r old now → room ≤ length old
+    → ((b : List ℕ) → given ≡ bytes b → length b ≤ room) → r ≡ Ok n → given ≡ bytes (take n now)
 front {room} {n} {given} {r} {old} {now} m enough short e =
     let told = to-bytes (ltb (length old) room) given (sym m.answer-is ∙ e) in
     let b = told.0 in
@@ -33,15 +32,15 @@ file-short m = rw m.file-is (longest m.l m.within)
 
 -- ---- there and back
 
-module _ {r s : Moved} {old now old2 now2 : List ℕ} {n : ℕ} where
-  pub packed-and-back : {text : List ℕ} → PackLayout text r old now → packed_sizes.longest ≤ length old → r ≡ Moved·.Length n
+module _ {r s : Result ℕ MoveError} {old now old2 now2 : List ℕ} {n : ℕ} where
+  pub packed-and-back : {text : List ℕ} → PackLayout text r old now → packed_sizes.longest ≤ length old → r ≡ Ok n
       → UnpackLayout (take n now) s old2 now2 → text_sizes.longest ≤ length old2
       → Whole text s old2 now2
   packed-and-back {text} m enough e back enough2 =
       let is = front m enough (λ b i. file-short (pack-is text b i)) e in
       whole back enough2 text ((back_and_forth text (take n now)).0 is) (text-short (pack-is text (take n now) is))
 
-  pub unpacked-and-back : {file : List ℕ} → UnpackLayout file r old now → text_sizes.longest ≤ length old → r ≡ Moved·.Length n
+  pub unpacked-and-back : {file : List ℕ} → UnpackLayout file r old now → text_sizes.longest ≤ length old → r ≡ Ok n
       → PackLayout (take n now) s old2 now2 → packed_sizes.longest ≤ length old2
       → Whole file s old2 now2
   unpacked-and-back {file} m enough e back enough2 =

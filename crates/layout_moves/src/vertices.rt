@@ -18,19 +18,12 @@ pub fn pack_vertices(text: &[u8], start: usize, n: u64, out: &mut [u8], to: usiz
 {
     let mut at = start;
     let mut next = to;
-    let mut i: u64 = 0;
-    while i < n {
-        let v = text_vertex::vertex(text, at);
-        match v {
-            text_vertex::Corner::Broken => {
-                return next;
-            }
-            text_vertex::Corner::At(x_minus, x, y_minus, y, b_minus, b, after) => {
-                next = packed_put::put_vertex(out, next, x_minus, x, y_minus, y, b_minus, b);
-                at = after;
-            }
-        }
-        i += 1;
+    for _ in 0..n {
+        let Some(v) = text_vertex::vertex(text, at) else {
+            return next;
+        };
+        next = packed_put::put_vertex(out, next, v.corner);
+        at = v.next;
     }
     next
 }
@@ -43,19 +36,12 @@ pub fn unpack_vertices(bytes: &[u8], start: usize, n: u64, out: &mut [u8], to: u
 {
     let mut at = start;
     let mut next = to;
-    let mut i: u64 = 0;
-    while i < n {
-        let v = packed_vertex::vertex(bytes, at);
-        match v {
-            packed_vertex::Corner::Fault(_) => {
-                return next;
-            }
-            packed_vertex::Corner::At(x_minus, x, y_minus, y, b_minus, b, after) => {
-                next = text_put::put_vertex(out, next, x_minus, x, y_minus, y, b_minus, b);
-                at = after;
-            }
-        }
-        i += 1;
+    for _ in 0..n {
+        let Ok(v) = packed_vertex::vertex(bytes, at) else {
+            return next;
+        };
+        next = text_put::put_vertex(out, next, v.corner);
+        at = v.next;
     }
     next
 }

@@ -1,56 +1,55 @@
 -- A vertex, number by number, and one turn of a loop over vertices: the vertex at hand, then those left.
 use Prim.Native.Nat.{ℕ, suc, ◌+◌, ◌-◌, ◌≤◌, ◌<◌}
 use mathlib.Core.Path.{◌≡◌, refl, ap, ◌∙◌}
-use mathlib.Core.Bool.{Bool}
 use mathlib.Core.List.{List, [], ◌∷◌}
 use native.Mathlib.Omega.{arith}
 use lib.ListN.{drop, set}
 use lib.Seq.{sets}
 use lib.Ieee.{Float}
 use Rattle.layouts.specs.Limits.{numbers_a_vertex}
-use Rattle.layouts.specs.Layout.{Vertex, whole, whole_vertex}
+use Rattle.std.specs.Prelude.{Option, Some, None, Result, Ok, Err}
+use Rattle.layouts.specs.Layout.{Vertex, signed, whole_vertex}
 use Rattle.layouts.specs.Numbers.{coordinate, bulge, trace, path_of}
 use Rattle.layout_packed.specs.Limits as written
 use Rattle.layout_packed.specs.Workings.Reader.{Got, fault, got, and_then, Skipped, stuck, over, passed}
-use Rattle.layout_packed.specs.Workings.Reader.{number_from, negative, size, meant, vertex_from, vertices_from}
+use Rattle.layout_packed.specs.Workings.Reader.{number_from, meant, vertex_from, vertices_from}
 use Rattle.layout_packed.specs.Workings.Shown.{shown_number, shown_vertex, Filled}
 use Rattle.layout_packed.specs.Laws.Said.{no_number, a-number, no-vertex, a-vertex}
 use Rattle.layout_packed.specs.Laws.Said.{vertices-end, vertices-fault, vertices-more}
 use Rattle.layout_packed.specs.declared.number.Number.{Number}
-use Rattle.layout_packed.specs.declared.number.Number.TheVariants as Number·
-use Rattle.layout_packed.specs.declared.vertex.Corner.{Corner}
-use Rattle.layout_packed.specs.declared.vertex.Corner.TheVariants as Corner·
+use Rattle.layout_packed.specs.declared.Fault.{Fault}
+use Rattle.layouts.specs.declared.vertex.Signed.{Signed}
+use Rattle.layouts.specs.declared.vertex.Reading.{Reading}
 
 -- ---- a vertex, by what each call says of its numbers
 
-module _ (bytes t : List ℕ) (start : ℕ) (x : Number)
+module _ (bytes t : List ℕ) (start : ℕ) (x : Option Number)
     (x-is : shown_number bytes start x ≡ number_from written.coordinate start t) where
-  pub no-x : x ≡ Number·.Fault → fault start ≡ vertex_from start t
+  pub no-x : x ≡ None → fault start ≡ vertex_from start t
   unfolding vertex_from
   no-x e = simp (no_number bytes start x-is e)
 
-  module _ (x-n after-x : ℕ) (x-whole : x ≡ Number·.Whole x-n after-x) (y : Number)
-      (y-is : shown_number bytes after-x y ≡ number_from written.coordinate after-x (drop after-x bytes)) where
-    pub no-y : y ≡ Number·.Fault → fault after-x ≡ vertex_from start t
+  module _ (x-n : Number) (x-whole : x ≡ Some x-n) (y : Option Number)
+      (y-is : shown_number bytes x-n.next y ≡ number_from written.coordinate x-n.next (drop x-n.next bytes)) where
+    pub no-y : y ≡ None → fault x-n.next ≡ vertex_from start t
     unfolding vertex_from
-    no-y e = simp (a-number bytes start x-is x-whole, no_number bytes after-x y-is e)
+    no-y e = simp (a-number bytes start x-is x-whole, no_number bytes x-n.next y-is e)
 
-    module _ (y-n after-y : ℕ) (y-whole : y ≡ Number·.Whole y-n after-y) (b : Number)
-        (b-is : shown_number bytes after-y b ≡ number_from written.bulge after-y (drop after-y bytes)) where
-      pub no-b : b ≡ Number·.Fault → fault after-y ≡ vertex_from start t
+    module _ (y-n : Number) (y-whole : y ≡ Some y-n) (b : Option Number)
+        (b-is : shown_number bytes y-n.next b ≡ number_from written.bulge y-n.next (drop y-n.next bytes)) where
+      pub no-b : b ≡ None → fault y-n.next ≡ vertex_from start t
       unfolding vertex_from
-      no-b e = simp (a-number bytes start x-is x-whole, a-number bytes after-x y-is y-whole, no_number bytes after-y b-is e)
+      no-b e = simp (a-number bytes start x-is x-whole, a-number bytes x-n.next y-is y-whole, no_number bytes y-n.next b-is e)
 
-      pub all_three : (b-n after-b : ℕ) → b ≡ Number·.Whole b-n after-b → (x-minus y-minus b-minus : Bool) (vx vy vb : ℕ)
-          → x-minus ≡ negative x-n → vx ≡ size x-n → y-minus ≡ negative y-n → vy ≡ size y-n → b-minus ≡ negative b-n
-          → vb ≡ size b-n
-          → got (whole_vertex x-minus vx y-minus vy b-minus vb) after-b (drop after-b bytes) ≡ vertex_from start t
-      unfolding vertex_from meant
-      all_three b-n after-b e x-minus y-minus b-minus vx vy vb x1 x2 y1 y2 b1 b2 =
+      pub all_three : (b-n : Number) → b ≡ Some b-n → (vx vy vb : Signed)
+          → signed vx ≡ meant x-n.value → signed vy ≡ meant y-n.value → signed vb ≡ meant b-n.value
+          → got (record { x = signed vx; y = signed vy; bulge = signed vb }) b-n.next (drop b-n.next bytes) ≡ vertex_from start t
+      unfolding vertex_from
+      all_three b-n e vx vy vb ex ey eb =
           let x-got = a-number bytes start x-is x-whole in
-          let y-got = a-number bytes after-x y-is y-whole in
-          let b-got = a-number bytes after-y b-is e in
-          simp (x-got, y-got, b-got, x1, x2, y1, y2, b1, b2)
+          let y-got = a-number bytes x-n.next y-is y-whole in
+          let b-got = a-number bytes y-n.next b-is e in
+          simp (x-got, y-got, b-got, ← ex, ← ey, ← eb)
 
 -- ---- passing them: `all` is what is left after all vertices, and i of n are passed
 
@@ -62,14 +61,13 @@ module _ (bytes : List ℕ) (n i at : ℕ) (all : Skipped) (inv : passed (vertic
   pub pass-end : n ≤ i → over at (drop at bytes) ≡ all
   pass-end h = rw (vertices-end n i at _ h) at inv
 
-  module _ (inside : i < n) (r : Corner) (is : shown_vertex bytes r ≡ vertex_from at (drop at bytes)) where
-    pub pass-fault : (k : ℕ) → r ≡ Corner·.Fault k → stuck k ≡ all
-    pass-fault k e = rw (vertices-fault n i at _ inside (no-vertex bytes is e)) at inv
+  module _ (inside : i < n) (r : Result Reading Fault) (is : shown_vertex bytes r ≡ vertex_from at (drop at bytes)) where
+    pub pass-fault : (f : Fault) → r ≡ Err f → stuck f.offset ≡ all
+    pass-fault f e = rw (vertices-fault n i at _ inside (no-vertex bytes is e)) at inv
 
-    pub pass-vertex : (x-minus y-minus b-minus : Bool) (x y b next : ℕ) → r ≡ Corner·.At x-minus x y-minus y b-minus b next
-        → passed (vertices_from (n - (i + 1)) next (drop next bytes)) ≡ all
-    pass-vertex x-minus y-minus b-minus x y b next e =
-        after-passed (whole_vertex x-minus x y-minus y b-minus b) (vertices_from (n - (i + 1)) next (drop next bytes))
+    pub pass-vertex : (v : Reading) → r ≡ Ok v → passed (vertices_from (n - (i + 1)) v.next (drop v.next bytes)) ≡ all
+    pass-vertex v e =
+        after-passed (whole_vertex v.corner) (vertices_from (n - (i + 1)) v.next (drop v.next bytes))
         ∙ rw (vertices-more n i at _ inside (a-vertex bytes is e)) at inv
 
 -- ---- writing them
@@ -103,22 +101,22 @@ module _ (bytes : List ℕ) (n i at : ℕ) (all : Stored) (old : List Float) (k 
   pub store-end : n ≤ i → holds old ≡ all
   store-end h = rw (vertices-end n i at _ h) at inv
 
-  module _ (inside : i < n) (r : Corner) (is : shown_vertex bytes r ≡ vertex_from at (drop at bytes)) where
-    pub store-fault : (place : ℕ) → r ≡ Corner·.Fault place → gone ≡ all
-    store-fault place e = rw (vertices-fault n i at _ inside (no-vertex bytes is e)) at inv
+  module _ (inside : i < n) (r : Result Reading Fault) (is : shown_vertex bytes r ≡ vertex_from at (drop at bytes)) where
+    pub store-fault : (f : Fault) → r ≡ Err f → gone ≡ all
+    store-fault f e = rw (vertices-fault n i at _ inside (no-vertex bytes is e)) at inv
 
-    pub store-vertex : (x-minus y-minus b-minus : Bool) (x y b next : ℕ) → r ≡ Corner·.At x-minus x y-minus y b-minus b next
-        → (vx vy vb vt : Float) → vx ≡ coordinate (whole x-minus x) → vy ≡ coordinate (whole y-minus y)
-        → vb ≡ bulge (whole b-minus b) → vt ≡ trace
-        → stored (vertices_from (n - (i + 1)) next (drop next bytes))
+    pub store-vertex : (v : Reading) → r ≡ Ok v → (vx vy vb vt : Float)
+        → vx ≡ coordinate (signed v.corner.x) → vy ≡ coordinate (signed v.corner.y) → vb ≡ bulge (signed v.corner.bulge)
+        → vt ≡ trace
+        → stored (vertices_from (n - (i + 1)) v.next (drop v.next bytes))
         (set (set (set (set old k vx) (k + 1) vy) (k + 2) vb) (k + 3) vt) (k + numbers_a_vertex)
         ≡ all
-    store-vertex x-minus y-minus b-minus x y b next e vx vy vb vt ex ey eb et =
-        let v = whole_vertex x-minus x y-minus y b-minus b in
+    store-vertex v e vx vy vb vt ex ey eb et =
+        let vertex = whole_vertex v.corner in
         let four : k + numbers_a_vertex ≡ suc (suc (suc (suc k))) = omega arith in
-        let written : set (set (set (set old k vx) (k + 1) vy) (k + 2) vb) (k + 3) vt ≡ sets old k (path_of (v ∷ [])) =
+        let written : set (set (set (set old k vx) (k + 1) vy) (k + 2) vb) (k + 3) vt ≡ sets old k (path_of (vertex ∷ [])) =
         four-set old k vx vy vb vt ∙ rw (ex, ey, eb, et) in
-        rw (written, four) (after-stored v (vertices_from (n - (i + 1)) next (drop next bytes)) old k)
+        rw (written, four) (after-stored vertex (vertices_from (n - (i + 1)) v.next (drop v.next bytes)) old k)
         ∙ rw (vertices-more n i at _ inside (a-vertex bytes is e)) at inv
 
 pub filled-fault : (h : Got (List Vertex)) (old now : List Float) → gone ≡ stored h old 0 → Filled h old now

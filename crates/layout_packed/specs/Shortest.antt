@@ -1,7 +1,7 @@
 -- The groups of n are the shortest form of n, and there is only one such: they give n again, whatever other groups give n are no
 -- fewer, and none that are as few are others.
-use Rattle.std.specs.Prelude.{ℕ, zero, suc, ◌+◌, ◌*◌, ◌-◌, ◌/◌, ◌%◌, ◌≤◌, ◌<◌, ◌≡◌, refl, List, [], ◌∷◌, length}
-use Rattle.std.proofs.Common.{sym, ap, ◌∙◌, arith}
+use Rattle.std.specs.Prelude.{ℕ, zero, suc, ◌+◌, ◌*◌, ◌%◌, ◌≤◌, ◌<◌, ◌≡◌, List, [], ◌∷◌, length}
+use Rattle.std.proofs.Common.{ap, arith}
 use Rattle.layout_packed.specs.Groups.{groups_of}
 use Rattle.layout_packed.specs.Laws.Groups.{groups-small, groups-large, groups-more, by-groups}
 use Rattle.layout_packed.specs.Laws.Put.{groups-one}

@@ -5,33 +5,36 @@ ghost use Rattle.layout_packed.specs.Limits as written;
 ghost use Rattle.layout_packed.specs.Workings.Reader.{number_from, more_from};
 ghost use Rattle.layout_packed.specs.Workings.Shown.{shown_number};
 
-// A number and the place after it. Or there is none within its range in the shortest form: a fault at the place where it starts.
+// A number and the place after it.
 #[derive(Clone, Copy)]
-pub enum Number {
-    Fault,
-    Whole(u64, usize),
+pub struct Number {
+    pub value: u64,
+    pub next: usize,
 }
 
-// The number that starts at `start`.
-pub(crate) fn number_at(bytes: &[u8], start: usize, most: u64) -> Number
+// The number that starts at `start`. None if there is none within its range in the shortest form.
+pub(crate) fn number_at(bytes: &[u8], start: usize, most: u64) -> Option<Number>
     requires { most ≤ written.coordinate }
     ensures { shown_number bytes.now start result ≡ number_from most start (drop start bytes.now) }
 {
     if bytes.len() <= start {
-        return Number::Fault;
+        return None;
     }
     let b = wide(bytes[start]);
     if b < 128 {
         if b > most {
-            return Number::Fault;
+            return None;
         }
-        return Number::Whole(b, start + 1);
+        return Some(Number {
+            value: b,
+            next: start + 1,
+        });
     }
     more(bytes, start, most, b - 128)
 }
 
 // The same number, of which the first group is `low`, and more follow.
-fn more(bytes: &[u8], start: usize, most: u64, low: u64) -> Number
+fn more(bytes: &[u8], start: usize, most: u64, low: u64) -> Option<Number>
     requires most_le_coordinate { most ≤ written.coordinate }
     requires low_bound { low < 128 }
     requires start_in_bounds { start < length bytes.now }
@@ -40,27 +43,28 @@ fn more(bytes: &[u8], start: usize, most: u64, low: u64) -> Number
 {
     let mut n = low;
     let mut scale: u64 = 128;
-    let mut i = start + 1;
-    while i < bytes.len() {
+    for i in start + 1..bytes.len() {
         if scale > most {
-            return Number::Fault;
+            return None;
         }
         let b = wide(bytes[i]);
         if b < 128 {
             if b == 0 {
-                return Number::Fault;
+                return None;
             }
             let sum = n + b * scale;
             if sum > most {
-                return Number::Fault;
+                return None;
             }
-            return Number::Whole(sum, i + 1);
+            return Some(Number {
+                value: sum,
+                next: i + 1,
+            });
         }
         n = n + (b - 128) * scale;
         scale = scale * 128;
-        i += 1;
     }
-    Number::Fault
+    None
 }
 
 fn wide(b: u8) -> u64

@@ -9,6 +9,7 @@ use borrow.Author.Tests.{le-ltb, lt-ltb}
 use lib.ListN.{length, drop, drop_of_length-le}
 use lib.Seq.{drop-cons}
 use lib.IntN.{ℤ, pos}
+use Rattle.std.specs.Prelude.{Option, Some, None}
 use Rattle.layouts.specs.Limits as limit
 use Rattle.layouts.specs.Layout.{Vertex, whole}
 use Rattle.layouts.specs.Laws.Whole.{size-whole}
@@ -19,9 +20,7 @@ use Rattle.layout_text.specs.Workings.Shown.{shown_number, shown_place, Fitting}
 use Rattle.layout_text.specs.Laws.Sound.{count-spelt}
 use Rattle.layout_text.specs.Laws.Said.{a-number}
 use Rattle.layout_text.specs.declared.number.Number.{Number}
-use Rattle.layout_text.specs.declared.number.Number.TheVariants as Number·
-use Rattle.layout_text.specs.declared.vertex.Place.{Place}
-use Rattle.layout_text.specs.declared.vertex.Place.TheVariants as Place·
+use Rattle.layouts.specs.declared.shape.Shape.{Shape}
 
 -- ---- a count has no minus
 
@@ -37,10 +36,10 @@ count-is most end known t negative n rest e =
     let plain : whole negative n ≡ pos n = s.2 ∙ ap pos sized in
     record { is = e ∙ ap (λ (z : ℤ). got z rest) plain; within = subst (λ (k : ℕ). k ≤ most) sized s.1 }
 
-pub counted : (text : List ℕ) {most end : ℕ} {t : List ℕ} {r : Number} → end < other → shown_number text r ≡ count_of most end t
-    → {negative : Bool} {n next : ℕ} → r ≡ Number·.Whole negative n next → Count most end n t (drop next text)
-counted text {most} {end} {t} known is {negative} {n} {next} e =
-    count-is most end known t negative n (drop next text) (a-number text is e)
+pub counted : (text : List ℕ) {most end : ℕ} {t : List ℕ} {r : Option Number} → end < other
+    → shown_number text r ≡ count_of most end t → {n : Number} → r ≡ Some n → Count most end n.value.magnitude t (drop n.next text)
+counted text {most} {end} {t} known is {n} e =
+    count-is most end known t n.value.negative n.value.magnitude (drop n.next text) (a-number text is e)
 
 -- ---- places
 
@@ -56,12 +55,12 @@ over-got : {A : Type 0} (g : Got A) {rest : List ℕ} → passed g ≡ over rest
 over-got nothing e = let z : ◌≡◌ {A = ℕ} 0 1 = cc in absurd (omega arith)
 over-got (got a r) {rest} e = let same : r ≡ rest = cc in record { a = a; is = rw same }
 
-module _ (text : List ℕ) {g : Got (List Vertex)} {r : Place} (is : shown_place text r ≡ passed g) where
-  pub no_place : r ≡ Place·.Broken → g ≡ nothing
+module _ (text : List ℕ) {g : Got (List Vertex)} {r : Option ℕ} (is : shown_place text r ≡ passed g) where
+  pub no_place : r ≡ None → g ≡ nothing
   unfolding shown_place
   no_place e = stuck-nothing g (sym is ∙ ap (shown_place text) e)
 
-  pub a-place : {next : ℕ} → r ≡ Place·.At next → Over g (drop next text)
+  pub a-place : {next : ℕ} → r ≡ Some next → Over g (drop next text)
   unfolding shown_place
   a-place e = over-got g (sym is ∙ ap (shown_place text) e)
 
@@ -83,6 +82,19 @@ module _ (text : List ℕ) where
     pub counts : Counts n m first
     pub one : Over (vertices_of n (drop first text)) (drop second text)
     pub two : Over (vertices_of m (drop second text)) (drop at text)
+
+  -- both counts, by what the calls said of them
+  pub counts-of : length text ≤ bytes → {r s : Option Number} {n m : Number}
+      → shown_number text r ≡ count_of limit.vertices space text → r ≡ Some n
+      → shown_number text s ≡ count_of limit.vertices newline (drop n.next text) → s ≡ Some m
+      → Counts n.value.magnitude m.value.magnitude m.next
+  counts-of h {n = n} n-is n-read m-is m-read =
+      record {
+        after-n = n.next;
+        short = h;
+        n-is = counted text (omega arith) n-is n-read;
+        m-is = counted text (omega arith) m-is m-read;
+      }
 
   module _ (short : length text ≤ bytes) where
     lines-missing : lines_of text ≡ nothing → reads text ≡ broken
@@ -107,7 +119,7 @@ module _ (text : List ℕ) where
     unfolding lines_of
     no_second one e = lines-missing c.short (rw (c.n-is.is, c.m-is.is, one.is, e))
 
-  module _ {n m first second at : ℕ} (p : Paths n m first second at) where
+  module _ {shape : Shape} {at : ℕ} (p : Paths shape.n shape.m shape.first shape.second at) where
     lines-there : lines_of text ≡ got (record { first = p.one.a; second = p.two.a }) (drop at text)
     unfolding lines_of
     lines-there = rw (p.counts.n-is.is, p.counts.m-is.is, p.one.is, p.two.is)
@@ -116,7 +128,7 @@ module _ (text : List ℕ) where
     unfolding reads
     text-left h = rw (le-ltb _ _ p.counts.short, lines-there, drop-cons text at 0 h)
 
-    pub text-over : length text ≤ at → Fitting text n m first second
+    pub text-over : length text ≤ at → Fitting text shape
     unfolding reads
     text-over h =
         let none = drop_of_length-le text h in

@@ -1,70 +1,81 @@
-// Numbers in a text. `end` is the kind of the byte that must follow a number; that byte is read too.
+// Numbers in a text. `end` is the kind of the byte that must follow a number; that byte is read too. A function here answers none
+// if there is no such number.
 ghost use Rattle.std.specs.Prelude.{◌≡◌, true, false, ◌≤◌, ◌<◌, drop};
 ghost use Rattle.layouts.specs.Limits as limit;
 ghost use Rattle.layout_text.specs.Workings.Reader.{digits_of, positive_of, zero_of, count_of, whole_of, other};
 ghost use Rattle.layout_text.specs.Workings.Shown.{shown_number};
 
 use super::bytes;
+use layouts::vertex::Signed;
 
-// A whole number: whether it is negative, its magnitude, and the place after it. Or there is none.
+// A whole number, and the place after it.
 #[derive(Clone, Copy)]
-pub enum Number {
-    Broken,
-    Whole(bool, u64, usize),
+pub struct Number {
+    pub value: Signed,
+    pub next: usize,
 }
 
 // The digits from `start` up to the byte `end`.
-fn digits(text: &[u8], start: usize, negative: bool, most: u64, end: u64) -> Number
+fn digits(text: &[u8], start: usize, negative: bool, most: u64, end: u64) -> Option<Number>
     requires { most ≤ limit.coordinate }
     ensures { shown_number text.now result ≡ digits_of negative most end 0 (drop start text.now) }
 {
     let mut n: u64 = 0;
-    let mut i = start;
-    while i < text.len() {
+    for i in start..text.len() {
         let k = bytes::kind(text[i]);
         if k > 9 {
             if k == end {
-                return Number::Whole(negative, n, i + 1);
+                let value = Signed {
+                    negative,
+                    magnitude: n,
+                };
+                return Some(Number { value, next: i + 1 });
             }
-            return Number::Broken;
+            return None;
         }
         n = n * 10 + k;
         if n > most {
-            return Number::Broken;
+            return None;
         }
-        i += 1;
     }
-    Number::Broken
+    None
 }
 
 // A number above 0.
-fn positive(text: &[u8], start: usize, negative: bool, most: u64, end: u64) -> Number
+fn positive(text: &[u8], start: usize, negative: bool, most: u64, end: u64) -> Option<Number>
     requires { most ≤ limit.coordinate }
     ensures { shown_number text.now result ≡ positive_of negative most end (drop start text.now) }
 {
     let k = bytes::kind_at(text, start);
     if k == 0 {
-        return Number::Broken;
+        return None;
     }
     if k > 9 {
-        return Number::Broken;
+        return None;
     }
     digits(text, start, negative, most, end)
 }
 
 // The number 0, whose digit has been read.
-fn zero(text: &[u8], start: usize, end: u64) -> Number
+fn zero(text: &[u8], start: usize, end: u64) -> Option<Number>
     requires { end < other }
     ensures { shown_number text.now result ≡ zero_of end (drop start text.now) }
 {
     if bytes::kind_at(text, start) == end {
-        return Number::Whole(false, 0, start + 1);
+        let value = Signed {
+            negative: false,
+            magnitude: 0,
+        };
+        return Some(Number {
+            value,
+            next: start + 1,
+        });
     }
-    Number::Broken
+    None
 }
 
 // A number without a minus.
-pub fn count(text: &[u8], start: usize, most: u64, end: u64) -> Number
+pub fn count(text: &[u8], start: usize, most: u64, end: u64) -> Option<Number>
     requires most_le_coordinate { most ≤ limit.coordinate }
     requires end_lt_other { end < other }
     ensures { shown_number text.now result ≡ count_of most end (drop start text.now) }
@@ -76,7 +87,7 @@ pub fn count(text: &[u8], start: usize, most: u64, end: u64) -> Number
 }
 
 // A number with or without a minus.
-pub fn whole(text: &[u8], start: usize, most: u64, end: u64) -> Number
+pub fn whole(text: &[u8], start: usize, most: u64, end: u64) -> Option<Number>
     requires most_le_coordinate { most ≤ limit.coordinate }
     requires end_lt_other { end < other }
     ensures { shown_number text.now result ≡ whole_of most end (drop start text.now) }

@@ -1,40 +1,28 @@
 // Reads a whole text once before anything is written.
 ghost use Rattle.layout_text.specs.Workings.Shown.{Shaped};
 
-use super::number::Number;
-use super::vertex::Place;
 use super::{BYTES, bytes, number, vertex};
 use layouts::limits;
+use layouts::shape::Shape;
 
-// The two counts and where each path's vertices start. Or the text breaks its form.
-#[derive(Clone, Copy)]
-pub enum Shape {
-    Broken,
-    Fits(u64, u64, usize, usize),
-}
-
-// The shape of a text, before its vertices are written.
-pub fn shape_of(text: &[u8]) -> Shape
+// The shape of a text, before its vertices are written. None if the text breaks its form.
+pub fn shape_of(text: &[u8]) -> Option<Shape>
     ensures { Shaped text.now result }
 {
     if text.len() > BYTES {
-        return Shape::Broken;
+        return None;
     }
-    let Number::Whole(_, n, after_n) = number::count(text, 0, limits::VERTICES, bytes::SPACE) else {
-        return Shape::Broken;
-    };
-    let Number::Whole(_, m, first) = number::count(text, after_n, limits::VERTICES, bytes::NEWLINE)
-    else {
-        return Shape::Broken;
-    };
-    let Place::At(second) = vertex::skip(text, first, n) else {
-        return Shape::Broken;
-    };
-    let Place::At(end) = vertex::skip(text, second, m) else {
-        return Shape::Broken;
-    };
+    let n = number::count(text, 0, limits::VERTICES, bytes::SPACE)?;
+    let m = number::count(text, n.next, limits::VERTICES, bytes::NEWLINE)?;
+    let second = vertex::skip(text, m.next, n.value.magnitude)?;
+    let end = vertex::skip(text, second, m.value.magnitude)?;
     if end < text.len() {
-        return Shape::Broken;
+        return None;
     }
-    Shape::Fits(n, m, first, second)
+    Some(Shape {
+        n: n.value.magnitude,
+        m: m.value.magnitude,
+        first: m.next,
+        second,
+    })
 }

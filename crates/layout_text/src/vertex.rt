@@ -3,72 +3,35 @@ ghost use Rattle.std.specs.Prelude.{◌≡◌, drop};
 ghost use Rattle.layout_text.specs.Workings.Reader.{vertex_of, vertices_of, passed};
 ghost use Rattle.layout_text.specs.Workings.Shown.{shown_vertex, shown_place};
 
-use super::number::Number;
 use super::{bytes, number};
 use layouts::limits;
+use layouts::vertex::{Corner, Reading};
 
-// A vertex: the sign (whether it is negative) and the magnitude of x, y and the bulge, and the place after it. Or there is none.
-#[derive(Clone, Copy)]
-pub enum Corner {
-    Broken,
-    At(bool, u64, bool, u64, bool, u64, usize),
-}
-
-// A place in the text. Or the text breaks its form before it.
-#[derive(Clone, Copy)]
-pub enum Place {
-    Broken,
-    At(usize),
-}
-
-// The vertex whose text line starts at `start`.
-pub fn vertex(text: &[u8], start: usize) -> Corner
+// The vertex whose text line starts at `start`. None if there is no such line.
+pub fn vertex(text: &[u8], start: usize) -> Option<Reading>
     ensures { shown_vertex text.now result ≡ vertex_of (drop start text.now) }
 {
-    let Number::Whole(x_minus, x, after_x) = number::whole(
-        text,
-        start,
-        limits::COORDINATE,
-        bytes::SPACE,
-    ) else {
-        return Corner::Broken;
+    let x = number::whole(text, start, limits::COORDINATE, bytes::SPACE)?;
+    let y = number::whole(text, x.next, limits::COORDINATE, bytes::SPACE)?;
+    let b = number::whole(text, y.next, limits::BULGE, bytes::NEWLINE)?;
+    let corner = Corner {
+        x: x.value,
+        y: y.value,
+        bulge: b.value,
     };
-    let Number::Whole(y_minus, y, after_y) = number::whole(
-        text,
-        after_x,
-        limits::COORDINATE,
-        bytes::SPACE,
-    ) else {
-        return Corner::Broken;
-    };
-    let Number::Whole(b_minus, b, after_b) = number::whole(
-        text,
-        after_y,
-        limits::BULGE,
-        bytes::NEWLINE,
-    ) else {
-        return Corner::Broken;
-    };
-    Corner::At(x_minus, x, y_minus, y, b_minus, b, after_b)
+    Some(Reading {
+        corner,
+        next: b.next,
+    })
 }
 
-// The place after n vertices.
-pub(crate) fn skip(text: &[u8], start: usize, n: u64) -> Place
+// The place after n vertices. None if the text breaks its form before it.
+pub(crate) fn skip(text: &[u8], start: usize, n: u64) -> Option<usize>
     ensures { shown_place text.now result ≡ passed (vertices_of n (drop start text.now)) }
 {
     let mut at = start;
-    let mut i: u64 = 0;
-    while i < n {
-        let v = vertex(text, at);
-        match v {
-            Corner::Broken => {
-                return Place::Broken;
-            }
-            Corner::At(_, _, _, _, _, _, next) => {
-                at = next;
-            }
-        }
-        i += 1;
+    for _ in 0..n {
+        at = vertex(text, at)?.next;
     }
-    Place::At(at)
+    Some(at)
 }

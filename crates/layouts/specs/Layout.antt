@@ -1,6 +1,8 @@
 -- A layout of the scope's programs: two paths, whose vertices are whole numbers. It does not say how a layout is stored.
 use Rattle.std.specs.Prelude.{ℕ, suc, ◌≤◌, Bool, true, false, List, [], ◌∷◌, length, ℤ, pos, negsuc, neg_ℤ}
 use Rattle.layouts.specs.Limits as limit
+use Rattle.layouts.specs.declared.vertex.Signed.{Signed}
+use Rattle.layouts.specs.declared.vertex.Corner.{Corner}
 
 -- x, y, and the bulge in 65,536ths
 pub record Vertex : Type 0 where
@@ -24,9 +26,13 @@ abbrev pub whole : Bool → ℕ → ℤ
 whole false n = pos n
 whole true n = neg_ℤ (pos n)
 
--- the vertex with these signs and magnitudes
-abbrev pub whole_vertex : Bool → ℕ → Bool → ℕ → Bool → ℕ → Vertex
-whole_vertex x-minus x y-minus y b-minus b = record { x = whole x-minus x; y = whole y-minus y; bulge = whole b-minus b }
+-- the whole number that the code has as its sign and its magnitude
+abbrev pub signed : Signed → ℤ
+signed n = whole n.negative n.magnitude
+
+-- and the vertex of three of them
+abbrev pub whole_vertex : Corner → Vertex
+whole_vertex v = record { x = signed v.x; y = signed v.y; bulge = signed v.bulge }
 
 -- ---- the limits
 

@@ -1,12 +1,11 @@
 -- When exactly a boxed listing refuses: with the fault f, number and place, if and only if f is the first fault of its checks in
 -- order, with 17 and 8 as the last. It lists if and only if every check passes. A refusal leaves all three slices unchanged.
-use Rattle.std.specs.Prelude.{◌≡◌, refl, Bool, ◌↔◌, List, [], ◌∷◌, ◌++◌, ℕ, ◌+◌, ◌<◌, ◌≤◌, ltb, Float, length}
+use Rattle.checks.specs.Checked.{Checked}
+use Rattle.std.specs.Prelude.{◌≡◌, refl, Bool, ◌↔◌, List, [], ◌∷◌, ◌++◌, ℕ, ◌+◌, ◌<◌, ◌≤◌, ltb, Float, length, Err, Ok}
 use Rattle.std.proofs.Common.{sym, arith, length-append}
 use borrow.Author.Tests.{ltb-true, ltb-false, lt-ltb, le-ltb}
 use Rattle.checks.specs.declared.fault.Item.TheVariants.{Boxes}
 use Rattle.checks.specs.declared.fault.Fault.{Fault}
-use Rattle.checks.specs.declared.fault.Checked.{Checked}
-use Rattle.checks.specs.declared.fault.Checked.TheVariants.{Fine, Bad}
 use Rattle.checks.specs.Fault.{at, bad}
 use Rattle.checks.specs.First.{first as first_fault}
 use Rattle.checks.specs.Answered.{answered}
@@ -20,7 +19,6 @@ use Rattle.listing_pairs.specs.Order.{Pair, mutual_pairs, self_pairs}
 use Rattle.listing_pairs.specs.Rows.{rows_of, looked_at}
 use Rattle.listing_pairs.specs.Look.{traced_look, traced_self_look}
 use Rattle.listing_pairs.specs.Boxed.{boxed_pairs}
-use Rattle.listing_outcomes.specs.declared.answer.ListingAnswer.TheVariants.{Refused}
 use Rattle.listing_outcomes.specs.Outcome.{room_check}
 use Rattle.listing_outcomes.specs.BoxedOutcome.{BoxedOutcome, index_check, boxed_of, boxed_outcome}
 use Rattle.listing_calls.specs.Listing.{mutual_checks, self_checks}
@@ -34,7 +32,7 @@ module _ (idx boxes : List Float) where
   unfolding index_check
   no_index = refused-iff 17 _ _ (ltb-true (length boxes) (length idx), lt-ltb (length boxes) (length idx))
 
-  pub index-fine : (index_check idx boxes ≡ Fine) ↔ (length idx ≤ length boxes)
+  pub index-fine : (index_check idx boxes ≡ Ok tt) ↔ (length idx ≤ length boxes)
   unfolding index_check
   index-fine = fine-iff 17 _ _ (ltb-false (length boxes) (length idx), le-ltb (length boxes) (length idx))
 
@@ -55,7 +53,7 @@ floats-of-two first second epsilon n m =
 
 -- what a refusal leaves
 pub record BoxedUntouched (o : BoxedOutcome) (boxes : List Float) (indices : List ℕ) (points : List Float) : Type 0 where
-  pub as-found : (f : Fault) → o.listing.answer ≡ Refused f
+  pub as-found : (f : Fault) → o.listing.answer ≡ Err f
       → (o.boxes ≡ boxes) × (o.listing.indices ≡ indices) × (o.listing.points ≡ points)
 
 -- ---- any boxed listing
@@ -70,18 +68,18 @@ module _ (checks : List Checked) (f : ℕ → ℕ → Look) (ps : List Pair) (id
   abbrev of : Checked → BoxedOutcome
   of c = boxed_of c (rows_of f ps) (looked_at f ps) idx boxes indices points
 
-  same : (c : Checked) → answered Refused counted c boxed_counts ≡ (of c).listing.answer
-  same Fine = refl
-  same (Bad fault) = refl
+  same : (c : Checked) → answered Err counted c boxed_counts ≡ (of c).listing.answer
+  same (Ok _) = refl
+  same (Err fault) = refl
 
   boxed-when :
-      ExactlyWhen Refused counted (boxed_outcome checks f ps idx boxes indices points).listing.answer boxed_checks boxed_counts
+      ExactlyWhen Err counted (boxed_outcome checks f ps idx boxes indices points).listing.answer boxed_checks boxed_counts
   unfolding boxed_outcome
-  boxed-when = rw (← same (first_fault boxed_checks)) (exactly-when Refused counted distinct boxed_checks boxed_counts)
+  boxed-when = rw (← same (first_fault boxed_checks)) (exactly-when Err counted distinct boxed_checks boxed_counts)
 
   left_alone : (c : Checked) → BoxedUntouched (of c) boxes indices points
-  left_alone Fine = record { as-found = λ f e. absurd (distinct.kinds f boxed_counts (sym e)) }
-  left_alone (Bad fault) = record { as-found = λ f e. (refl, refl, refl) }
+  left_alone (Ok _) = record { as-found = λ f e. absurd (distinct.kinds f boxed_counts (sym e)) }
+  left_alone (Err fault) = record { as-found = λ f e. (refl, refl, refl) }
 
   boxed-untouched : BoxedUntouched (boxed_outcome checks f ps idx boxes indices points) boxes indices points
   unfolding boxed_outcome
@@ -101,7 +99,7 @@ module _ (first : List Float) (first_closed : Bool) (second : List Float) (secon
       index first epsilon (segment_count first first_closed) ++ index second epsilon (segment_count second second_closed)
 
   pub mutual-boxed-when :
-      ExactlyWhen Refused counted
+      ExactlyWhen Err counted
       (mutual_boxed first first_closed second second_closed epsilon boxes indices points).listing.answer
       (boxed_checks (mutual_checks first first_closed second second_closed epsilon) (traced_look first second epsilon) meeting both_indices
       boxes indices points)
@@ -123,7 +121,7 @@ module _ (path : List Float) (closed : Bool) (epsilon : Float) (boxes : List Flo
   own_index = index path epsilon (segment_count path closed)
 
   pub self-boxed-when :
-      ExactlyWhen Refused counted (self_boxed path closed epsilon boxes indices points).listing.answer
+      ExactlyWhen Err counted (self_boxed path closed epsilon boxes indices points).listing.answer
       (boxed_checks (self_checks path closed epsilon) (traced_self_look path closed epsilon) own_meeting own_index boxes indices points)
       (boxed_counts (self_checks path closed epsilon) (traced_self_look path closed epsilon) own_meeting own_index boxes indices points)
   unfolding self_boxed

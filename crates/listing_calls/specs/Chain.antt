@@ -1,10 +1,9 @@
 -- A chain of pages: calls one after the other, each at the position that the one before answered. The rows of a call are read
 -- from its lent slices, as its answer says how many they are, and joined to those of the calls before it.
-use Rattle.std.specs.Prelude.{Bool, true, false, List, [], ◌∷◌, ◌++◌, ℕ, ◌+◌, ◌-◌, ◌*◌, ◌<◌, Float, take, drop}
+use Rattle.std.specs.Prelude.{Bool, true, false, List, [], ◌∷◌, ◌++◌, ℕ, ◌+◌, ◌-◌, ◌*◌, ◌<◌, Float, take, drop, Err, Ok}
 use Rattle.listing_pairs.specs.Order.{Pair}
 use Rattle.listing_pairs.specs.Row.{indices_a_row, points_a_row}
-use Rattle.listing_outcomes.specs.declared.answer.PageAnswer.{PageAnswer}
-use Rattle.listing_outcomes.specs.declared.answer.PageAnswer.TheVariants.{Refused, Paged}
+use Rattle.listing_outcomes.specs.Answer.{PageAnswer}
 use Rattle.listing_outcomes.specs.Outcome.{Outcome}
 
 -- what a caller lends to one call: its budget, and the slices as they are then
@@ -29,16 +28,16 @@ no_call position = record { refused = false; next = position; rows = 0; pairs = 
 
 -- a call by its answer and what its slices hold after it, and then the rest of the chain from the next position on
 abbrev pub joined : PageAnswer → List ℕ → List Float → (ℕ → Joined) → Joined
-joined (Refused n) indices points rest = record { refused = true; next = 0; rows = 0; pairs = 0; indices = []; points = [] }
-joined (Paged rows pairs next all) indices points rest =
-    let more = rest next in
+joined (Err n) indices points rest = record { refused = true; next = 0; rows = 0; pairs = 0; indices = []; points = [] }
+joined (Ok counts) indices points rest =
+    let more = rest counts.next in
     record {
       refused = more.refused;
       next = more.next;
-      rows = rows + more.rows;
-      pairs = pairs + more.pairs;
-      indices = take (rows * indices_a_row) indices ++ more.indices;
-      points = take (rows * points_a_row) points ++ more.points;
+      rows = counts.rows + more.rows;
+      pairs = counts.pairs + more.pairs;
+      indices = take (counts.rows * indices_a_row) indices ++ more.indices;
+      points = take (counts.rows * points_a_row) points ++ more.points;
     }
 
 -- the chain of as many calls as there are lent things; `call` says what a call at a position leaves
@@ -49,8 +48,8 @@ chain call position (l ∷ more) =
 
 -- every call of the chain is made before the end, which is as many pairs as there are
 abbrev pub BeforeEnd : PageAnswer → (ℕ → Type 0) → Type 0
-BeforeEnd (Refused n) rest = Unit {0}
-BeforeEnd (Paged rows pairs next all) rest = rest next
+BeforeEnd (Err n) rest = Unit {0}
+BeforeEnd (Ok counts) rest = rest counts.next
 
 abbrev pub Before : ℕ → (ℕ → Lent → Outcome PageAnswer) → ℕ → List Lent → Type 0
 Before end call position [] = Unit {0}

@@ -1,9 +1,9 @@
 -- What a chain of pages gives, for any sequence of pairs and any list of budgets and lent slices: if no call was refused, its
 -- joined rows are those of the pairs from its first position to its last. Each call before the end passes at least one pair, so
 -- a chain that stops at the end has no more calls than there are pairs; and a call at the end gives nothing.
-use Rattle.std.specs.Prelude.{◌≡◌, refl, true, false, List, [], ◌∷◌, ◌++◌, ℕ, ◌+◌, ◌-◌, ◌*◌, ◌≤◌, ◌<◌, Float, length, take, drop}
+use Rattle.checks.specs.Checked.{Checked}
+use Rattle.std.specs.Prelude.{◌≡◌, refl, true, false, List, [], ◌∷◌, ◌++◌, ℕ, ◌+◌, ◌-◌, ◌*◌, ◌≤◌, ◌<◌, Float, length, take, drop, Err, Ok}
 use Rattle.std.proofs.Common.{sym, ap, ◌∙◌, true≢false, arith, length-append, length-drop, take_all}
-use Rattle.checks.specs.declared.fault.Checked.{Checked}
 use Rattle.listing_pairs.specs.declared.row.Row.{Row}
 use Rattle.listing_pairs.specs.declared.row.Look.{Look}
 use Rattle.listing_pairs.specs.Order.{Pair}
@@ -11,8 +11,7 @@ use Rattle.listing_pairs.specs.Row.{indices_a_row, points_a_row, indices_of, poi
 use Rattle.listing_pairs.specs.Rows.{rows_of}
 use Rattle.listing_pairs.specs.Page.{page}
 use Rattle.listing_loop.specs.Laws.Pages.{joins}
-use Rattle.listing_outcomes.specs.declared.answer.PageAnswer.{PageAnswer}
-use Rattle.listing_outcomes.specs.declared.answer.PageAnswer.TheVariants.{Refused, Paged}
+use Rattle.listing_outcomes.specs.Answer.{PageAnswer, Paged}
 use Rattle.listing_outcomes.specs.Outcome.{Outcome, room}
 use Rattle.listing_outcomes.specs.PageOutcome.{page_outcome}
 use Rattle.listing_calls.specs.Chain.{Lent, Joined, no_call, joined, chain, BeforeEnd, Before, between}
@@ -68,11 +67,11 @@ module _ (checks : List Checked) (look : ℕ → ℕ → Look) (ps : List Pair) 
       → (joined a (pages position l).indices (pages position l).points rest).refused ≡ false
       → ((next : ℕ) → (rest next).refused ≡ false → Chained look ps next (rest next))
       → Chained look ps position (joined a (pages position l).indices (pages position l).points rest)
-  one-call position l rest (Refused n) e fine more = absurd (true≢false fine)
-  one-call position l rest (Paged rows pairs next all) e fine more =
+  one-call position l rest (Err n) e fine more = absurd (true≢false fine)
+  one-call position l rest (Ok counts) e fine more =
       let c = called checks look ps position l.budget l.indices l.points e in
-      let m = more next fine in
-      let on : position ≤ next = omega (arith, goes_on c) in
+      let m = more counts.next fine in
+      let on : position ≤ counts.next = omega (arith, goes_on c) in
       record {
         forward = omega (arith, on, m.forward);
         within = λ h. m.within (next-within c);
@@ -82,17 +81,17 @@ module _ (checks : List Checked) (look : ℕ → ℕ → Look) (ps : List Pair) 
               arith,
               its-count c,
               m.rows,
-              ap length (rows_join look position next (rest next).next ps on m.forward),
-              length-append (rows_of look (between position next ps)) (rows_of look (between next (rest next).next ps)),
+              ap length (rows_join look position counts.next (rest counts.next).next ps on m.forward),
+              length-append (rows_of look (between position counts.next ps)) (rows_of look (between counts.next (rest counts.next).next ps)),
             );
         indices =
-            ap (λ (l : List ℕ). l ++ (rest next).indices) (read-indices c)
-            ∙ ap (λ (l : List ℕ). numbers_of_rows indices_of (rows_of look (between position next ps)) ++ l) m.indices
-            ∙ sym (numbers-join indices_of look position next (rest next).next ps on m.forward);
+            ap (λ (l : List ℕ). l ++ (rest counts.next).indices) (read-indices c)
+            ∙ ap (λ (l : List ℕ). numbers_of_rows indices_of (rows_of look (between position counts.next ps)) ++ l) m.indices
+            ∙ sym (numbers-join indices_of look position counts.next (rest counts.next).next ps on m.forward);
         points =
-            ap (λ (l : List Float). l ++ (rest next).points) (read-points c)
-            ∙ ap (λ (l : List Float). numbers_of_rows points_of (rows_of look (between position next ps)) ++ l) m.points
-            ∙ sym (numbers-join points_of look position next (rest next).next ps on m.forward);
+            ap (λ (l : List Float). l ++ (rest counts.next).points) (read-points c)
+            ∙ ap (λ (l : List Float). numbers_of_rows points_of (rows_of look (between position counts.next ps)) ++ l) m.points
+            ∙ sym (numbers-join points_of look position counts.next (rest counts.next).next ps on m.forward);
       }
 
   -- a chain that is not refused joins to the rows of the pairs between its first position and its last
@@ -145,9 +144,9 @@ module _ (checks : List Checked) (look : ℕ → ℕ → Look) (ps : List Pair) 
       → (joined a (pages position l).indices (pages position l).points rest).refused ≡ false
       → ((next : ℕ) → Rest next → (rest next).refused ≡ false → calls ≤ (rest next).pairs)
       → calls + 1 ≤ (joined a (pages position l).indices (pages position l).points rest).pairs
-  one-counts position l calls rest Rest (Refused n) e before early fine more = absurd (true≢false fine)
-  one-counts position l calls rest Rest (Paged rows pairs next all) e before early fine more =
-      omega (arith, goes-forward position l e before, more next early fine)
+  one-counts position l calls rest Rest (Err n) e before early fine more = absurd (true≢false fine)
+  one-counts position l calls rest Rest (Ok counts) e before early fine more =
+      omega (arith, goes-forward position l e before, more counts.next early fine)
 
   pub few-calls : (lents : List Lent) (position : ℕ) → Before (length ps) pages position lents
       → (chain pages position lents).refused ≡ false → length lents ≤ (chain pages position lents).pairs

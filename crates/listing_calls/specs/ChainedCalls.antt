@@ -1,11 +1,10 @@
 -- Chains of `mutual_page` and of `self_page` beside the listing: calls from position 0 to the end, none refused, join to the
 -- listing's rows, as read from its slices, and pass all pairs of the order. The listing looks at those of them that are not of one
 -- trace. No row is left out of the joined rows either.
-use Rattle.std.specs.Prelude.{◌≡◌, refl, Bool, true, false, cond, List, [], ◌∷◌, ◌++◌, ℕ, zero, suc, ◌+◌, ◌*◌, ◌<◌, Float, length, take, drop}
+use Rattle.checks.specs.Checked.{Checked}
+use Rattle.std.specs.Prelude.{◌≡◌, refl, Bool, true, false, cond, List, [], ◌∷◌, ◌++◌, ℕ, zero, suc, ◌+◌, ◌*◌, ◌<◌, Float, length, take, drop, Err, Ok}
 use Rattle.std.proofs.Common.{sym, ap, ◌∙◌, zero-le, arith, take_at}
 use Rattle.checks.specs.declared.fault.Fault.{Fault}
-use Rattle.checks.specs.declared.fault.Checked.{Checked}
-use Rattle.checks.specs.declared.fault.Checked.TheVariants.{Fine, Bad}
 use Rattle.checks.specs.First.{first as first_fault}
 use Rattle.arcs.specs.declared.pline_seg_intr.PlineSegIntr.{PlineSegIntr}
 use Rattle.crossing.specs.PlineSegIntr.{class_of}
@@ -21,10 +20,9 @@ use Rattle.listing_pairs.specs.Traces.{one_trace, traced, traced_pairs}
 use Rattle.listing_pairs.specs.TracedListing.{traced-looked}
 use Rattle.listing_pairs.specs.Neighbours.{at_joint}
 use Rattle.float_laws.specs.Stores.{flat-length}
-use Rattle.listing_outcomes.specs.declared.answer.ListingAnswer.{ListingAnswer}
-use Rattle.listing_outcomes.specs.declared.answer.ListingAnswer.TheVariants.{Refused, Listed}
-use Rattle.listing_outcomes.specs.declared.answer.PageAnswer.{PageAnswer}
+use Rattle.listing_outcomes.specs.Answer.{Listed, ListingAnswer, PageAnswer}
 use Rattle.listing_outcomes.specs.Outcome.{Outcome, overwrite, room_check, listed_of, outcome}
+use Rattle.listing_outcomes.specs.Laws.Counts.{same-rows, same-pairs}
 use Rattle.listing_calls.specs.Listing.{mutual_checks, mutual_listing, self_checks, self_listing}
 use Rattle.listing_calls.specs.Pages.{mutual_page, self_page}
 use Rattle.listing_calls.specs.HasRow.{HasRow}
@@ -90,7 +88,7 @@ self-looked n path closed epsilon ps =
     traced-looked path path (self_look_of n path closed epsilon) ps
     ∙ all-looked (self_look_of n path closed epsilon) (looks-at-own n path closed epsilon) (traced_pairs path path ps)
 
-listed-never : {f : Fault} {k m : ℕ} → Refused f ≡ Listed k m → ⊥
+listed-never : {f : Fault} {k m : ℕ} → Err f ≡ Listed k m → ⊥
 listed-never e = let z : ◌≡◌ {A = ℕ} 0 1 = cc in omega (arith, z)
 
 module _ (f : ℕ → ℕ → Look) (ps kept : List Pair) (seen : looked_at f ps ≡ length kept) (checks : List Checked) (j : Joined)
@@ -106,10 +104,10 @@ module _ (f : ℕ → ℕ → Look) (ps kept : List Pair) (seen : looked_at f ps
   same-checked : (c : Checked) {rows pairs : ℕ}
       → (listed_of c (rows_of f ps) (looked_at f ps) indices points).answer ≡ Listed rows pairs
       → SameAs (listed_of c (rows_of f ps) (looked_at f ps) indices points) ps kept rows pairs j
-  same-checked (Bad fault) e = absurd (listed-never e)
-  same-checked Fine {rows} {pairs} e =
-      let rows_are : rows ≡ length (rows_of f ps) = cc in
-      let pairs-are : pairs ≡ looked_at f ps = cc in
+  same-checked (Err fault) e = absurd (listed-never e)
+  same-checked (Ok _) {rows} {pairs} e =
+      let rows_are : rows ≡ length (rows_of f ps) = sym (same-rows e) in
+      let pairs-are : pairs ≡ looked_at f ps = sym (same-pairs e) in
       record {
         row_count = w.rows ∙ sym rows_are;
         passed-count = w.pairs;

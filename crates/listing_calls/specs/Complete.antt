@@ -1,10 +1,9 @@
 -- No row is left out: if two paths were listed, every pair of their segments that meets, in any class except NoIntersect, and is
 -- not of one trace has a row with its indices. In a boxed listing this holds for every such pair whose boxes meet.
-use Rattle.std.specs.Prelude.{◌≡◌, refl, Bool, true, false, List, ◌++◌, ℕ, zero, suc, ◌<◌, Float, length}
-use Rattle.std.proofs.Common.{◌∙◌, zero-le, arith}
+use Rattle.checks.specs.Checked.{Checked}
+use Rattle.std.specs.Prelude.{◌≡◌, refl, Bool, true, false, List, ◌++◌, ℕ, zero, suc, ◌<◌, Float, length, Err, Ok}
+use Rattle.std.proofs.Common.{◌∙◌, zero-le, arith, sym}
 use Rattle.checks.specs.declared.fault.Fault.{Fault}
-use Rattle.checks.specs.declared.fault.Checked.{Checked}
-use Rattle.checks.specs.declared.fault.Checked.TheVariants.{Fine, Bad}
 use Rattle.checks.specs.First.{first as first_fault}
 use Rattle.crossing.specs.PlineSeg.{pline_seg}
 use Rattle.crossing.specs.PlineSegIntr.{class_of}
@@ -21,9 +20,10 @@ use Rattle.listing_pairs.specs.Look.{look, traced_look}
 use Rattle.listing_pairs.specs.Traces.{one_trace}
 use Rattle.listing_pairs.specs.TracedListing.{not-of-one}
 use Rattle.listing_pairs.specs.Boxed.{boxes_meet, boxed_pairs}
-use Rattle.listing_outcomes.specs.declared.answer.ListingAnswer.TheVariants.{Refused, Listed}
+use Rattle.listing_outcomes.specs.Answer.{Listed}
 use Rattle.listing_outcomes.specs.Outcome.{overwrite, listed_of, outcome}
 use Rattle.listing_outcomes.specs.BoxedOutcome.{boxed_outcome}
+use Rattle.listing_outcomes.specs.Laws.Counts.{same-rows}
 use Rattle.listing_calls.specs.Listing.{mutual_checks, mutual_listing}
 use Rattle.listing_calls.specs.Refusals.{all}
 use Rattle.listing_calls.specs.BoxedRefusals.{boxed_checks}
@@ -38,7 +38,7 @@ pair_of first second epsilon i j =
     let u = segment_from second j in
     pline_seg v.v1 v.v2 u.v1 u.v2 epsilon
 
-never : {f : Fault} {k m : ℕ} → Refused f ≡ Listed k m → ⊥
+never : {f : Fault} {k m : ℕ} → Err f ≡ Listed k m → ⊥
 never e = let z : ◌≡◌ {A = ℕ} 0 1 = cc in omega (arith, z)
 
 -- a pair that meets makes a row, if it is looked at
@@ -63,8 +63,8 @@ makes first second epsilon i j h other =
 listed-is : (c : Checked) (rows : List Row) (looked n m : ℕ) (old : List ℕ) (points : List Float)
     → (listed_of c rows looked old points).answer ≡ Listed n m
     → (n ≡ length rows) × ((listed_of c rows looked old points).indices ≡ overwrite old (numbers_of_rows indices_of rows))
-listed-is Fine rows looked n m old points e = (cc, refl)
-listed-is (Bad fault) rows looked n m old points e = absurd (never e)
+listed-is (Ok _) rows looked n m old points e = (sym (same-rows e), refl)
+listed-is (Err fault) rows looked n m old points e = absurd (never e)
 
 -- a pair of the sequence that makes a row has it, for any `look`
 pub listed-row-of : (found : Checked) (f : ℕ → ℕ → Look) (ps : List Pair) (indices : List ℕ) (points : List Float)

@@ -32,7 +32,7 @@ use Rattle.listing_pairs.specs.Look.{self_look_of, traced_self_look}
 use Rattle.listing_pairs.specs.Traces.{one_trace, traced}
 use Rattle.listing_pairs.specs.Boxed.{boxes_meet, boxed_pairs}
 use Rattle.listing_pairs.specs.Neighbours.{shared_vertices, near_some, only_at, at_joint}
-use Rattle.listing_outcomes.specs.declared.answer.ListingAnswer.TheVariants.{Listed}
+use Rattle.listing_outcomes.specs.Answer.{Listed}
 use Rattle.listing_outcomes.specs.Outcome.{outcome}
 use Rattle.listing_outcomes.specs.BoxedOutcome.{boxed_outcome}
 use Rattle.listing_calls.specs.Listing.{self_checks, self_listing}

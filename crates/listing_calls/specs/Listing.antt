@@ -1,6 +1,6 @@
 -- The listings of this crate, `mutual_listing` and `self_listing`: their checks in order, and the outcome of their pairs.
+use Rattle.checks.specs.Checked.{Checked}
 use Rattle.std.specs.Prelude.{Bool, List, [], ◌∷◌, ◌++◌, ℕ, Float}
-use Rattle.checks.specs.declared.fault.Checked.{Checked}
 use Rattle.checks.specs.Each
 use Rattle.checks.specs.First.{first as first_fault}
 use Rattle.paths.specs.Shape.{shape}
@@ -8,7 +8,7 @@ use Rattle.paths.specs.Segments.{segment_count}
 use Rattle.paths.specs.Check.{path_checks}
 use Rattle.listing_pairs.specs.Order.{mutual_pairs, self_pairs}
 use Rattle.listing_pairs.specs.Look.{traced_look, traced_self_look}
-use Rattle.listing_outcomes.specs.declared.answer.ListingAnswer.{ListingAnswer}
+use Rattle.listing_outcomes.specs.Answer.{ListingAnswer}
 use Rattle.listing_outcomes.specs.Outcome.{Outcome, outcome}
 
 -- ---- two paths

@@ -1,13 +1,12 @@
 -- When exactly a page is refused: with number n if and only if the first fault of its checks in order, with 13, 14 and 8 as the
 -- last, has that number. It is answered if and only if every check passes. A refusal leaves both slices unchanged.
-use Rattle.std.specs.Prelude.{◌≡◌, refl, Bool, true, false, ◌↔◌, ◌≢◌, List, [], ◌∷◌, ◌++◌, ℕ, ◌+◌, ◌<◌, ◌≤◌, ltb, eqb, Float, length, drop}
+use Rattle.checks.specs.Checked.{Checked}
+use Rattle.std.specs.Prelude.{◌≡◌, refl, Bool, true, false, ◌↔◌, ◌≢◌, List, [], ◌∷◌, ◌++◌, ℕ, ◌+◌, ◌<◌, ◌≤◌, ltb, eqb, Float, length, drop, Err, Ok}
 use Rattle.std.proofs.Common.{sym, inl, inr}
 use Rattle.std.proofs.Math.Logic.Iff
 use borrow.Author.Tests.{ltb-true, ltb-false, lt-ltb, le-ltb, eqb-true, eqb-false, eq-eqb, ne_eqb}
 use Rattle.checks.specs.declared.fault.Item.TheVariants.{Rows, Position, Budget}
 use Rattle.checks.specs.declared.fault.Fault.{Fault}
-use Rattle.checks.specs.declared.fault.Checked.{Checked}
-use Rattle.checks.specs.declared.fault.Checked.TheVariants.{Fine, Bad}
 use Rattle.checks.specs.declared.fault.Place.{Place}
 use Rattle.checks.specs.Fault.{at, bad, refuse}
 use Rattle.checks.specs.First.{first as first_fault}
@@ -20,8 +19,7 @@ use Rattle.listing_pairs.specs.declared.row.Look.{Look}
 use Rattle.listing_pairs.specs.Order.{Pair, mutual_pairs, self_pairs}
 use Rattle.listing_pairs.specs.Page.{Page, page}
 use Rattle.listing_pairs.specs.Look.{traced_look, traced_self_look}
-use Rattle.listing_outcomes.specs.declared.answer.PageAnswer.{PageAnswer}
-use Rattle.listing_outcomes.specs.declared.answer.PageAnswer.TheVariants.{Refused, Paged}
+use Rattle.listing_outcomes.specs.Answer.{PageAnswer, Paged}
 use Rattle.listing_outcomes.specs.Outcome.{Outcome, room}
 use Rattle.listing_outcomes.specs.PageOutcome.{position_check, budget_check, row_check, limits, paged_of, page_outcome}
 use Rattle.listing_calls.specs.Listing.{mutual_checks, self_checks}
@@ -37,7 +35,7 @@ module _ (n : ℕ) (p : Place) (says : Bool) where
       Iff.trans (one.refused n)
       (Iff.trans (λ h. elim h [ inl here ↦ here.0 | inr after ↦ absurd after.1 ], λ e. inl (e, refl)) c)
 
-  pub fine-iff : {C : Type 0} → (says ≡ false) ↔ C → (refuse says n p ≡ Fine) ↔ C
+  pub fine-iff : {C : Type 0} → (says ≡ false) ↔ C → (refuse says n p ≡ Ok tt) ↔ C
   fine-iff c = Iff.trans one.fine (Iff.trans (λ h. h.0, λ e. (e, tt)) c)
 
 -- ---- 13: exactly if the position is beyond the end
@@ -46,7 +44,7 @@ module _ (position all : ℕ) where
   unfolding position_check
   beyond-end = refused-iff 13 _ _ (ltb-true all position, lt-ltb all position)
 
-  pub position-fine : (position_check position all ≡ Fine) ↔ (position ≤ all)
+  pub position-fine : (position_check position all ≡ Ok tt) ↔ (position ≤ all)
   unfolding position_check
   position-fine = fine-iff 13 _ _ (ltb-false all position, le-ltb all position)
 
@@ -56,7 +54,7 @@ module _ (budget : ℕ) where
   unfolding budget_check
   no-budget = refused-iff 14 _ _ (eqb-true budget 0, eq-eqb budget 0)
 
-  pub budget-fine : (budget_check budget ≡ Fine) ↔ (budget ≢ 0)
+  pub budget-fine : (budget_check budget ≡ Ok tt) ↔ (budget ≢ 0)
   unfolding budget_check
   budget-fine = fine-iff 14 _ _ (eqb-false budget 0, ne_eqb budget 0)
 
@@ -66,7 +64,7 @@ module _ (indices : List ℕ) (points : List Float) where
   unfolding row_check
   no_row = refused-iff 8 _ _ (eqb-true (room indices points) 0, eq-eqb (room indices points) 0)
 
-  pub row_fine : (row_check indices points ≡ Fine) ↔ (room indices points ≢ 0)
+  pub row_fine : (row_check indices points ≡ Ok tt) ↔ (room indices points ≢ 0)
   unfolding row_check
   row_fine = fine-iff 8 _ _ (eqb-false (room indices points) 0, ne_eqb (room indices points) 0)
 
@@ -82,9 +80,9 @@ paging c = Paged c.rows c.pairs c.next c.all
 
 -- what a refusal leaves
 pub record PageUntouched (o : Outcome PageAnswer) (indices : List ℕ) (points : List Float) : Type 0 where
-  pub as-found : (f : Fault) → o.answer ≡ Refused f → (o.indices ≡ indices) × (o.points ≡ points)
+  pub as-found : (f : Fault) → o.answer ≡ Err f → (o.indices ≡ indices) × (o.points ≡ points)
 
-distinct : Distinct Refused paging
+distinct : Distinct Err paging
 distinct = record { faults = λ f g e. cc; kinds = λ f i e. no_number cc }
 
 -- ---- any page
@@ -106,17 +104,17 @@ module _ (checks : List Checked) (f : ℕ → ℕ → Look) (ps : List Pair) (po
       }
 
   same : (c : Checked)
-      → answered Refused paging c page_counts ≡ (paged_of c on_page position (length ps) indices points).answer
-  same Fine = refl
-  same (Bad fault) = refl
+      → answered Err paging c page_counts ≡ (paged_of c on_page position (length ps) indices points).answer
+  same (Ok _) = refl
+  same (Err fault) = refl
 
-  page-when : ExactlyWhen Refused paging (page_outcome checks f ps position budget indices points).answer all_checks page_counts
+  page-when : ExactlyWhen Err paging (page_outcome checks f ps position budget indices points).answer all_checks page_counts
   unfolding page_outcome
-  page-when = rw (← same (first_fault all_checks)) (exactly-when Refused paging distinct all_checks page_counts)
+  page-when = rw (← same (first_fault all_checks)) (exactly-when Err paging distinct all_checks page_counts)
 
   left_alone : (c : Checked) → PageUntouched (paged_of c on_page position (length ps) indices points) indices points
-  left_alone Fine = record { as-found = λ f e. absurd (distinct.kinds f page_counts (sym e)) }
-  left_alone (Bad fault) = record { as-found = λ f e. (refl, refl) }
+  left_alone (Ok _) = record { as-found = λ f e. absurd (distinct.kinds f page_counts (sym e)) }
+  left_alone (Err fault) = record { as-found = λ f e. (refl, refl) }
 
   page-untouched : PageUntouched (page_outcome checks f ps position budget indices points) indices points
   unfolding page_outcome
@@ -132,7 +130,7 @@ module _ (first : List Float) (first_closed : Bool) (second : List Float) (secon
   these = mutual_checks first first_closed second second_closed epsilon
 
   pub mutual-page-when :
-      ExactlyWhen Refused paging
+      ExactlyWhen Err paging
       (mutual_page first first_closed second second_closed epsilon position budget indices points).answer
       (mutual_checks first first_closed second second_closed epsilon ++ limits position
       (length (mutual_pairs (segment_count first first_closed) (segment_count second second_closed))) budget indices points)
@@ -152,7 +150,7 @@ module _ (path : List Float) (closed : Bool) (epsilon : Float) (position budget 
   own = self_pairs (segment_count path closed)
 
   pub self-page-when :
-      ExactlyWhen Refused paging (self_page path closed epsilon position budget indices points).answer
+      ExactlyWhen Err paging (self_page path closed epsilon position budget indices points).answer
       (self_checks path closed epsilon ++ limits position (length (self_pairs (segment_count path closed))) budget
       indices points)
       (page_counts (self_checks path closed epsilon) (traced_self_look path closed epsilon) own position budget indices points)

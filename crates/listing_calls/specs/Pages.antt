@@ -4,7 +4,7 @@ use Rattle.std.specs.Prelude.{Bool, List, ℕ, Float}
 use Rattle.paths.specs.Segments.{segment_count}
 use Rattle.listing_pairs.specs.Order.{mutual_pairs, self_pairs}
 use Rattle.listing_pairs.specs.Look.{traced_look, traced_self_look}
-use Rattle.listing_outcomes.specs.declared.answer.PageAnswer.{PageAnswer}
+use Rattle.listing_outcomes.specs.Answer.{PageAnswer}
 use Rattle.listing_outcomes.specs.Outcome.{Outcome}
 use Rattle.listing_outcomes.specs.PageOutcome.{page_outcome}
 use Rattle.listing_calls.specs.Listing.{mutual_checks, self_checks}

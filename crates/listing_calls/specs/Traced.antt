@@ -1,12 +1,12 @@
 -- The rule of traces, for each listing: it is the listing of the pairs kept to those not of one trace, with its count. A page is
 -- the page of the pairs that it passed, kept in the same way; its positions are those of all pairs. If all traces of a path are
 -- 0, each listing is what it is without the rule. TracedListing.antt of the crate `listing_pairs` has the rule for any `look`.
+use Rattle.checks.specs.Checked.{Checked}
 use Rattle.std.specs.Prelude.{◌≡◌, Bool, Float, length, take}
 use Rattle.std.proofs.Math.Path.{ap}
 use Rattle.std.proofs.Common.{◌∙◌}
 use mathlib.Core.List.{List, [], ◌∷◌, ◌++◌}
 use Prim.Native.Nat.{ℕ, ◌+◌, ◌*◌}
-use Rattle.checks.specs.declared.fault.Checked.{Checked}
 use Rattle.checks.specs.First.{first as first_fault}
 use Rattle.paths.specs.Segments.{segment_count}
 use Rattle.boxes.specs.Index.{index}
@@ -19,8 +19,7 @@ use Rattle.listing_pairs.specs.Look.{look, self_look}
 use Rattle.listing_pairs.specs.Traces.{traced, traced_pairs}
 use Rattle.listing_pairs.specs.TracedListing.{AllZero, traced-rows, traced-looked, all-zero}
 use Rattle.listing_pairs.specs.Boxed.{boxed_pairs}
-use Rattle.listing_outcomes.specs.declared.answer.ListingAnswer.{ListingAnswer}
-use Rattle.listing_outcomes.specs.declared.answer.PageAnswer.TheVariants.{Paged}
+use Rattle.listing_outcomes.specs.Answer.{ListingAnswer, Paged}
 use Rattle.listing_outcomes.specs.Outcome.{Outcome, room_check, listed_of, outcome}
 use Rattle.listing_outcomes.specs.PageOutcome.{page_outcome}
 use Rattle.listing_outcomes.specs.BoxedOutcome.{BoxedOutcome, index_check, boxed_of, boxed_outcome}

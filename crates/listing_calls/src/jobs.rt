@@ -4,11 +4,12 @@ ghost use Rattle.listing_calls.specs.Listing;
 ghost use Rattle.listing_calls.specs.Workings.Jobs;
 
 use checks::each;
-use checks::fault::{Checked, later};
+use checks::fault::Checked;
 use listing_pairs::order::Job;
 use paths::{check, segments, shape};
 
 // The first fault, in this order: epsilon, both paths' lengths, the first path's vertices and arcs, then the second's.
+#[tactic(auto, unfolding(checks::specs::Fault::later, crate::specs::Listing::check_mutual))]
 pub(crate) fn check_mutual(
     first: &[f64],
     first_closed: bool,
@@ -18,20 +19,20 @@ pub(crate) fn check_mutual(
 ) -> Checked
     ensures { result ≡ Listing.check_mutual first.now first_closed second.now second_closed epsilon }
 {
-    let a0 = each::epsilon(epsilon);
-    let a1 = later(a0, shape::shape(first, 0));
-    let a2 = later(a1, shape::shape(second, 1));
-    let a3 = check::check_path(a2, first, first_closed, 0);
-    check::check_path(a3, second, second_closed, 1)
+    each::epsilon(epsilon)?;
+    shape::shape(first, 0)?;
+    shape::shape(second, 1)?;
+    check::check_path(first, first_closed, 0)?;
+    check::check_path(second, second_closed, 1)
 }
 
 // The first fault, in this order: epsilon, the path's length, its vertices, its arcs.
 pub(crate) fn check_self(path: &[f64], closed: bool, epsilon: f64) -> Checked
     ensures { result ≡ Listing.check_self path.now closed epsilon }
 {
-    let a0 = each::epsilon(epsilon);
-    let a1 = later(a0, shape::shape(path, 0));
-    check::check_path(a1, path, closed, 0)
+    each::epsilon(epsilon)?;
+    shape::shape(path, 0)?;
+    check::check_path(path, closed, 0)
 }
 
 // Every segment of the first path with every segment of the second; in a boxed listing those whose boxes meet.

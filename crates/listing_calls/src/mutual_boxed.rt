@@ -3,7 +3,6 @@ ghost use Rattle.listing_outcomes.specs.BoxedOutcome;
 ghost use Rattle.listing_calls.specs.Boxed;
 
 use super::jobs;
-use checks::fault::Checked;
 use listing_outcomes::answer::ListingAnswer;
 use listing_outcomes::boxed;
 
@@ -23,12 +22,7 @@ pub fn mutual_boxed(
         boxes.old indices.old points.old)
         result boxes.new indices.new points.new }
 {
-    let checked = jobs::check_mutual(first, first_closed, second, second_closed, epsilon);
-    match checked {
-        Checked::Fine => {
-            let job = jobs::mutual_job(first, first_closed, second, second_closed, true, epsilon);
-            boxed::list_boxed(first, second, job, boxes, indices, points)
-        }
-        Checked::Bad(fault) => ListingAnswer::Refused(fault),
-    }
+    jobs::check_mutual(first, first_closed, second, second_closed, epsilon)?;
+    let job = jobs::mutual_job(first, first_closed, second, second_closed, true, epsilon);
+    boxed::list_boxed(first, second, job, boxes, indices, points)
 }

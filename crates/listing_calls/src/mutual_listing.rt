@@ -3,7 +3,6 @@ ghost use Rattle.listing_outcomes.specs.Outcome;
 ghost use Rattle.listing_calls.specs.Listing;
 
 use super::jobs;
-use checks::fault::Checked;
 use listing_outcomes::answer::ListingAnswer;
 use listing_outcomes::buffer;
 
@@ -22,12 +21,7 @@ pub fn mutual_listing(
         indices.old points.old)
         result indices.new points.new }
 {
-    let checked = jobs::check_mutual(first, first_closed, second, second_closed, epsilon);
-    match checked {
-        Checked::Fine => {
-            let job = jobs::mutual_job(first, first_closed, second, second_closed, false, epsilon);
-            buffer::list(first, second, job, indices, points)
-        }
-        Checked::Bad(fault) => ListingAnswer::Refused(fault),
-    }
+    jobs::check_mutual(first, first_closed, second, second_closed, epsilon)?;
+    let job = jobs::mutual_job(first, first_closed, second, second_closed, false, epsilon);
+    buffer::list(first, second, job, indices, points)
 }

@@ -3,7 +3,6 @@ ghost use Rattle.listing_outcomes.specs.Outcome;
 ghost use Rattle.listing_calls.specs.Pages;
 
 use super::jobs;
-use checks::fault::Checked;
 use listing_outcomes::answer::PageAnswer;
 use listing_outcomes::page;
 
@@ -24,12 +23,7 @@ pub fn mutual_page(
         position budget indices.old points.old)
         result indices.new points.new }
 {
-    let checked = jobs::check_mutual(first, first_closed, second, second_closed, epsilon);
-    match checked {
-        Checked::Fine => {
-            let job = jobs::mutual_job(first, first_closed, second, second_closed, false, epsilon);
-            page::page(first, second, job, position, budget, indices, points)
-        }
-        Checked::Bad(fault) => PageAnswer::Refused(fault),
-    }
+    jobs::check_mutual(first, first_closed, second, second_closed, epsilon)?;
+    let job = jobs::mutual_job(first, first_closed, second, second_closed, false, epsilon);
+    page::page(first, second, job, position, budget, indices, points)
 }

@@ -3,7 +3,6 @@ ghost use Rattle.listing_outcomes.specs.BoxedOutcome;
 ghost use Rattle.listing_calls.specs.Boxed;
 
 use super::jobs;
-use checks::fault::Checked;
 use listing_outcomes::answer::ListingAnswer;
 use listing_outcomes::boxed;
 
@@ -20,12 +19,7 @@ pub fn self_boxed(
         (Boxed.self_boxed path.now closed epsilon boxes.old indices.old points.old)
         result boxes.new indices.new points.new }
 {
-    let checked = jobs::check_self(path, closed, epsilon);
-    match checked {
-        Checked::Fine => {
-            let job = jobs::self_job(path, closed, true, epsilon);
-            boxed::list_boxed(path, path, job, boxes, indices, points)
-        }
-        Checked::Bad(fault) => ListingAnswer::Refused(fault),
-    }
+    jobs::check_self(path, closed, epsilon)?;
+    let job = jobs::self_job(path, closed, true, epsilon);
+    boxed::list_boxed(path, path, job, boxes, indices, points)
 }

@@ -3,7 +3,6 @@ ghost use Rattle.listing_outcomes.specs.Outcome;
 ghost use Rattle.listing_calls.specs.Listing;
 
 use super::jobs;
-use checks::fault::Checked;
 use listing_outcomes::answer::ListingAnswer;
 use listing_outcomes::buffer;
 
@@ -19,12 +18,7 @@ pub fn self_listing(
     ensures { Outcome.Leaves (Listing.self_listing path.now closed epsilon indices.old points.old)
         result indices.new points.new }
 {
-    let checked = jobs::check_self(path, closed, epsilon);
-    match checked {
-        Checked::Fine => {
-            let job = jobs::self_job(path, closed, false, epsilon);
-            buffer::list(path, path, job, indices, points)
-        }
-        Checked::Bad(fault) => ListingAnswer::Refused(fault),
-    }
+    jobs::check_self(path, closed, epsilon)?;
+    let job = jobs::self_job(path, closed, false, epsilon);
+    buffer::list(path, path, job, indices, points)
 }

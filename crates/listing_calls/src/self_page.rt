@@ -3,7 +3,6 @@ ghost use Rattle.listing_outcomes.specs.Outcome;
 ghost use Rattle.listing_calls.specs.Pages;
 
 use super::jobs;
-use checks::fault::Checked;
 use listing_outcomes::answer::PageAnswer;
 use listing_outcomes::page;
 
@@ -22,12 +21,7 @@ pub fn self_page(
         (Pages.self_page path.now closed epsilon position budget indices.old points.old)
         result indices.new points.new }
 {
-    let checked = jobs::check_self(path, closed, epsilon);
-    match checked {
-        Checked::Fine => {
-            let job = jobs::self_job(path, closed, false, epsilon);
-            page::page(path, path, job, position, budget, indices, points)
-        }
-        Checked::Bad(fault) => PageAnswer::Refused(fault),
-    }
+    jobs::check_self(path, closed, epsilon)?;
+    let job = jobs::self_job(path, closed, false, epsilon);
+    page::page(path, path, job, position, budget, indices, points)
 }

@@ -91,12 +91,11 @@ pub fn fill(
         result.ended marks.old marks.new }
 {
     let grain = grain_of(job.n, job.m, marks.len());
-    let mut i = part.i;
     let mut j = part.j;
     let mut rows = part.rows;
     let mut budget = part.budget;
     let mut looked = 0;
-    while i < job.n {
+    for i in part.i..job.n {
         let v = segments::segment_from(first, i);
         let v_kept = kept_of(v.v1, v.v2, job.epsilon);
         let v_box = box_for(v, v_kept, job);
@@ -135,14 +134,13 @@ pub fn fill(
                 ended: false,
             };
         }
-        i += 1;
-        j = order::from(job, i);
+        j = order::from(job, i + 1);
     }
     Filling {
         rows: rows,
         passed: part.budget - budget,
         looked: looked,
-        i: i,
+        i: job.n,
         j: j,
         ended: true,
     }

@@ -1,9 +1,8 @@
 -- What a boxed listing of any sequence of pairs answers, and what it leaves in the slices: a listing's refusals with 17 before
 -- the last, its rows, and the index of boxes.
-use Rattle.std.specs.Prelude.{◌≡◌, List, [], ◌∷◌, ◌++◌, ℕ, ltb, length, Float}
+use Rattle.checks.specs.Checked.{Checked}
+use Rattle.std.specs.Prelude.{◌≡◌, List, [], ◌∷◌, ◌++◌, ℕ, ltb, length, Float, Err, Ok}
 use Rattle.checks.specs.declared.fault.Item.TheVariants.{Boxes}
-use Rattle.checks.specs.declared.fault.Checked.{Checked}
-use Rattle.checks.specs.declared.fault.Checked.TheVariants.{Fine, Bad}
 use Rattle.checks.specs.Fault.{at, refuse}
 use Rattle.checks.specs.Refusal
 use Rattle.checks.specs.First.{first as first_fault}
@@ -11,7 +10,7 @@ use Rattle.listing_pairs.specs.declared.row.Row.{Row}
 use Rattle.listing_pairs.specs.declared.row.Look.{Look}
 use Rattle.listing_pairs.specs.Order.{Pair}
 use Rattle.listing_pairs.specs.Rows.{rows_of, looked_at}
-use Rattle.listing_outcomes.specs.declared.answer.ListingAnswer.{ListingAnswer}
+use Rattle.listing_outcomes.specs.Answer.{ListingAnswer}
 use Rattle.listing_outcomes.specs.Outcome.{Outcome, Leaves, overwrite, room_check, listed_of}
 
 -- the outcome of a listing, and what the slice that is lent for the index holds after the call
@@ -30,8 +29,8 @@ index_check index boxes = refuse (ltb (length boxes) (length index)) Refusal.box
 
 -- a refusal leaves the slice unchanged; otherwise the index is written
 abbrev pub boxes_after : Checked → List Float → List Float → List Float
-boxes_after (Bad fault) index boxes = boxes
-boxes_after Fine index boxes = overwrite boxes index
+boxes_after (Err fault) index boxes = boxes
+boxes_after (Ok _) index boxes = overwrite boxes index
 
 -- what it answers by its first fault, with these rows, so many pairs looked at, and this index
 abbrev pub boxed_of : Checked → List Row → ℕ → List Float → List Float → List ℕ → List Float → BoxedOutcome

@@ -2,7 +2,7 @@
 -- the slices after them.
 use Rattle.std.specs.Prelude.{ℕ, ◌≡◌, List, Float}
 use Rattle.std.proofs.Common.{sym, ◌∙◌}
-use Rattle.listing_outcomes.specs.declared.answer.ListingAnswer.{ListingAnswer}
+use Rattle.listing_outcomes.specs.Answer.{ListingAnswer}
 use Rattle.listing_outcomes.specs.Outcome.{Outcome, Leaves}
 use Rattle.listing_outcomes.specs.BoxedOutcome.{BoxedOutcome, LeavesBoxed}
 

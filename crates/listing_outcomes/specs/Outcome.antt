@@ -1,10 +1,9 @@
 -- What a listing of any sequence of pairs answers, and what it leaves in the slices: its refusals in order, with 8 as the last,
 -- its rows, and how many pairs are looked at. What a call leaves is said for any kind of answer: a page has another.
-use Rattle.std.specs.Prelude.{◌≡◌, List, [], ◌∷◌, ◌++◌, ℕ, ◌/◌, min, ltb, length, drop, Float}
+use Rattle.checks.specs.Checked.{Checked}
+use Rattle.std.specs.Prelude.{◌≡◌, List, [], ◌∷◌, ◌++◌, ℕ, ◌/◌, min, ltb, length, drop, Float, Err, Ok}
 use Rattle.checks.specs.declared.fault.Item.TheVariants.{Rows}
 use Rattle.checks.specs.declared.fault.Fault.{Fault}
-use Rattle.checks.specs.declared.fault.Checked.{Checked}
-use Rattle.checks.specs.declared.fault.Checked.TheVariants.{Fine, Bad}
 use Rattle.checks.specs.Fault.{at, refuse}
 use Rattle.checks.specs.Refusal
 use Rattle.checks.specs.First.{first as first_fault}
@@ -13,8 +12,7 @@ use Rattle.listing_pairs.specs.declared.row.Look.{Look}
 use Rattle.listing_pairs.specs.Row.{indices_a_row, points_a_row, indices_of, points_of, numbers_of_rows}
 use Rattle.listing_pairs.specs.Order.{Pair}
 use Rattle.listing_pairs.specs.Rows.{rows_of, looked_at}
-use Rattle.listing_outcomes.specs.declared.answer.ListingAnswer.{ListingAnswer}
-use Rattle.listing_outcomes.specs.declared.answer.ListingAnswer.TheVariants.{Refused, Listed}
+use Rattle.listing_outcomes.specs.Answer.{Listed, ListingAnswer}
 
 -- an answer, and what the two lent slices hold after the call
 pub record Outcome (A : Type 0) : Type 0 where
@@ -42,9 +40,9 @@ room indices points = row_room (length indices) (length points)
 -- The outcome by the first fault, if there is one: a refusal leaves both slices unchanged. Otherwise the call
 -- has its answer, and its rows are written.
 abbrev pub outcome_of : {A : Type 0} → (Fault → A) → Checked → A → List Row → List ℕ → List Float → Outcome A
-outcome_of refused (Bad fault) answer rows indices points =
+outcome_of refused (Err fault) answer rows indices points =
     record { answer = refused fault; indices = indices; points = points }
-outcome_of refused Fine answer rows indices points =
+outcome_of refused (Ok _) answer rows indices points =
     record {
       answer = answer;
       indices = overwrite indices (numbers_of_rows indices_of rows);
@@ -58,7 +56,7 @@ room_check rows indices points = refuse (ltb (room indices points) (length rows)
 
 -- what it answers by its first fault, with these rows and so many pairs looked at
 abbrev pub listed_of : Checked → List Row → ℕ → List ℕ → List Float → Outcome ListingAnswer
-listed_of found rows pairs indices points = outcome_of Refused found (Listed (length rows) pairs) rows indices points
+listed_of found rows pairs indices points = outcome_of Err found (Listed (length rows) pairs) rows indices points
 
 -- the listing of a sequence of pairs: the given checks in order, then 8
 unfoldable pub outcome : List Checked → (ℕ → ℕ → Look) → List Pair → List ℕ → List Float → Outcome ListingAnswer

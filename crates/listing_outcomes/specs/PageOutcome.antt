@@ -1,16 +1,15 @@
 -- What a page of any sequence of pairs answers, and what it leaves in the slices: its refusals in order, its rows, how many
 -- pairs it passed, the position after them, and how many pairs there are in all.
-use Rattle.std.specs.Prelude.{List, [], ◌∷◌, ◌++◌, ℕ, ◌+◌, eqb, ltb, length, drop, Float}
+use Rattle.checks.specs.Checked.{Checked}
+use Rattle.std.specs.Prelude.{List, [], ◌∷◌, ◌++◌, ℕ, ◌+◌, eqb, ltb, length, drop, Float, Err}
 use Rattle.checks.specs.declared.fault.Item.TheVariants.{Rows, Position, Budget}
-use Rattle.checks.specs.declared.fault.Checked.{Checked}
 use Rattle.checks.specs.Fault.{at, refuse}
 use Rattle.checks.specs.Refusal
 use Rattle.checks.specs.First.{first as first_fault}
 use Rattle.listing_pairs.specs.declared.row.Look.{Look}
 use Rattle.listing_pairs.specs.Order.{Pair}
 use Rattle.listing_pairs.specs.Page.{Page, page}
-use Rattle.listing_outcomes.specs.declared.answer.PageAnswer.{PageAnswer}
-use Rattle.listing_outcomes.specs.declared.answer.PageAnswer.TheVariants.{Refused, Paged}
+use Rattle.listing_outcomes.specs.Answer.{PageAnswer, Paged}
 use Rattle.listing_outcomes.specs.Outcome.{Outcome, outcome_of, room}
 
 -- 13: the position is beyond the end, which is as many pairs as there are
@@ -33,7 +32,7 @@ limits position all budget indices points =
 -- what it answers by its first fault, if it starts at this position of so many pairs in all
 abbrev pub paged_of : Checked → Page → ℕ → ℕ → List ℕ → List Float → Outcome PageAnswer
 paged_of found q position all indices points =
-    outcome_of Refused found (Paged (length q.rows) q.passed (position + q.passed) all) q.rows indices points
+    outcome_of Err found (Paged (length q.rows) q.passed (position + q.passed) all) q.rows indices points
 
 -- the page of a sequence of pairs: the given checks in order, then 13, 14 and 8
 unfoldable pub page_outcome : List Checked → (ℕ → ℕ → Look) → List Pair → ℕ → ℕ → List ℕ → List Float → Outcome PageAnswer

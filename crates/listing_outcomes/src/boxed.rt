@@ -79,17 +79,9 @@ fn list_by_boxes(
     tracks::keep_traces(second, job.m, kept);
     keeping::keep(second, 0, job.m, job.epsilon, kept);
     keeping::keep_boxes(second, job.m, job.epsilon, kept);
-    let answer = list_kept(first, second, kept, job, indices, points);
-    match answer {
-        ListingAnswer::Refused(fault) => ListingAnswer::Refused(fault),
-        ListingAnswer::Listed { rows, pairs } => {
-            store_index(first, second, kept, job, boxes);
-            ListingAnswer::Listed {
-                rows: rows,
-                pairs: pairs,
-            }
-        }
-    }
+    let counts = list_kept(first, second, kept, job, indices, points)?;
+    store_index(first, second, kept, job, boxes);
+    Ok(counts)
 }
 
 // The listing of a boxed job, and its index. If the index does not fit, the answer is refusal 17; if it has more rows than fit,
@@ -114,7 +106,7 @@ pub fn boxed_in(
     ensures kept_len_unchanged { length kept.new ≡ length kept.old }
 {
     if boxes.len() < floats_for(job) {
-        return ListingAnswer::Refused(whole(refusal::BOXES, Item::Boxes));
+        return Err(whole(refusal::BOXES, Item::Boxes));
     }
     list_by_boxes(first, second, job, kept, boxes, indices, points)
 }

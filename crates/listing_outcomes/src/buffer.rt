@@ -9,7 +9,7 @@ ghost use Rattle.listing_outcomes.specs.Outcome;
 ghost use Rattle.listing_outcomes.specs.Workings.Outcome as outcome_of;
 ghost use Rattle.std.specs.Prelude.{◌≤◌, ◌<◌, ◌*◌, length, ◌≡◌, true, false};
 
-use super::answer::ListingAnswer;
+use super::answer::{Counts, ListingAnswer};
 use super::room::row_room;
 use checks::fault::{Item, whole};
 use checks::refusal;
@@ -108,12 +108,12 @@ fn list_behind(
         let more = fill(
             first, second, kept, sides, job, recalling, behind, &mut marks, indices, points,
         );
-        return ListingAnswer::Listed {
+        return Ok(Counts {
             rows: more.rows,
             pairs: held.looked + more.looked,
-        };
+        });
     }
-    ListingAnswer::Refused(whole(refusal::ROWS, Item::Rows))
+    Err(whole(refusal::ROWS, Item::Rows))
 }
 
 // The listing of a job. A buffer holds its rows back until it is known that all fit.
@@ -168,13 +168,13 @@ fn list_held_back(
     );
     if held.ended {
         rows::copy_rows(&held_indices, &held_points, held.rows, indices, points);
-        return ListingAnswer::Listed {
+        return Ok(Counts {
             rows: held.rows,
             pairs: held.looked,
-        };
+        });
     }
     if room <= ROWS {
-        return ListingAnswer::Refused(whole(refusal::ROWS, Item::Rows));
+        return Err(whole(refusal::ROWS, Item::Rows));
     }
     list_behind(
         first,
@@ -231,10 +231,10 @@ fn list_by(
         let all = fill(
             first, second, kept, sides, job, how, whole, &mut none, indices, points,
         );
-        return ListingAnswer::Listed {
+        return Ok(Counts {
             rows: all.rows,
             pairs: all.looked,
-        };
+        });
     }
     list_held_back(
         first, second, kept, sides, sieved, job, room, indices, points,

@@ -11,7 +11,7 @@ ghost use Rattle.listing_loop.specs.Workings.Filling as filling;
 ghost use Rattle.listing_outcomes.specs.Outcome;
 ghost use Rattle.listing_outcomes.specs.Workings.PageOutcome as outcome_of;
 
-use super::answer::PageAnswer;
+use super::answer::{PageAnswer, PageCounts};
 use super::room::row_room;
 use checks::fault::{Item, whole};
 use checks::refusal;
@@ -87,25 +87,25 @@ pub fn page_in(
 {
     let all = order::count(job);
     if position > all {
-        return PageAnswer::Refused(whole(refusal::POSITION, Item::Position));
+        return Err(whole(refusal::POSITION, Item::Position));
     }
     if budget == 0 {
-        return PageAnswer::Refused(whole(refusal::BUDGET, Item::Budget));
+        return Err(whole(refusal::BUDGET, Item::Budget));
     }
     let room = row_room(indices.len(), points.len());
     if room == 0 {
-        return PageAnswer::Refused(whole(refusal::ROWS, Item::Rows));
+        return Err(whole(refusal::ROWS, Item::Rows));
     }
     let spot = order::locate(job, position);
     let filled = fill_from(
         first, second, job, spot, room, budget, kept, indices, points,
     );
-    PageAnswer::Paged {
+    Ok(PageCounts {
         rows: filled.rows,
         pairs: filled.passed,
         next: position + filled.passed,
-        all: all,
-    }
+        all,
+    })
 }
 
 // The same of a job whose second path has no more segments than a path has vertices.

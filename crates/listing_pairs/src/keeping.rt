@@ -30,8 +30,7 @@ pub fn keep(path: &[f64], from: usize, to: usize, epsilon: f64, kept: &mut [f64]
     requires to_bound_2 { (to ≤ Path.most_segments) × (Keeping.floats_before to ≤ length kept.old) }
     ensures { kept.new ≡ Keeping.keep path.now from to epsilon kept.old }
 {
-    let mut j = from;
-    while j < to {
+    for j in from..to {
         let s = segments::segment_from(path, j);
         let k = kept_of(s.v1, s.v2, epsilon);
         let at = j * NUMBERS;
@@ -39,7 +38,6 @@ pub fn keep(path: &[f64], from: usize, to: usize, epsilon: f64, kept: &mut [f64]
         kept[at + 1] = k.center_x_or_root;
         kept[at + 2] = k.center_y_or_zero;
         kept[at + 3] = k.chord_or_zero;
-        j += 1;
     }
 }
 
@@ -52,13 +50,11 @@ fn keep_segment_boxes(path: &[f64], n: usize, epsilon: f64, kept: &mut [f64])
         ≡ sets kept.old (Keeping.boxes_kept n * index_of.floats_a_box)
         (index_of.floats_of_boxes (index_of.boxes_from (groups_of.segment_box path.now epsilon) 0 n)) }
 {
-    let mut j = 0;
-    while j < n {
+    for j in 0..n {
         let s = segments::segment_from(path, j);
         let k = kept_at(kept, j);
         let b = box_with(s.v1, s.v2, k.chord_or_zero, epsilon);
         index::put_box(kept, FRONT + n + j, b);
-        j += 1;
     }
 }
 

@@ -51,10 +51,8 @@ pub fn count(job: Job) -> usize
     ensures { result ≡ Position.count job }
 {
     let mut sum = 0;
-    let mut i = 0;
-    while i < job.n {
+    for i in 0..job.n {
         sum += pairs_at(job, i);
-        i += 1;
     }
     sum
 }
@@ -65,8 +63,7 @@ pub fn locate(job: Job, position: usize) -> Spot
     ensures { result ≡ Position.locate job position }
 {
     let mut rest = position;
-    let mut i = 0;
-    while i < job.n {
+    for i in 0..job.n {
         let here = pairs_at(job, i);
         if rest < here {
             return Spot {
@@ -75,10 +72,9 @@ pub fn locate(job: Job, position: usize) -> Spot
             };
         }
         rest -= here;
-        i += 1;
     }
     Spot {
-        i: i,
-        j: from(job, i),
+        i: job.n,
+        j: from(job, job.n),
     }
 }

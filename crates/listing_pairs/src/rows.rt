@@ -26,30 +26,6 @@ pub fn put_row(write: bool, indices: &mut [u64], points: &mut [f64], k: usize, r
     }
 }
 
-// Copies the first n of the numbers to the front.
-fn copy_indices(from: &[u64], n: usize, to: &mut [u64])
-    requires { (n ≤ length from.now) × (n ≤ length to.old) }
-    ensures { to.new ≡ paste to.old 0 from.now n }
-{
-    let mut k = 0;
-    while k < n {
-        to[k] = from[k];
-        k += 1;
-    }
-}
-
-// Copies the first n of the floats to the front.
-fn copy_points(from: &[f64], n: usize, to: &mut [f64])
-    requires { (n ≤ length from.now) × (n ≤ length to.old) }
-    ensures { to.new ≡ paste to.old 0 from.now n }
-{
-    let mut k = 0;
-    while k < n {
-        to[k] = from[k];
-        k += 1;
-    }
-}
-
 // Copies the first n rows of one pair of slices to the front of another.
 pub fn copy_rows(
     from_indices: &[u64],
@@ -63,6 +39,8 @@ pub fn copy_rows(
     ensures indices_after { indices.new ≡ paste indices.old 0 from_indices.now (n * RowDefs.indices_a_row) }
     ensures points_after { points.new ≡ paste points.old 0 from_points.now (n * RowDefs.points_a_row) }
 {
-    copy_indices(from_indices, n * row::INDICES, indices);
-    copy_points(from_points, n * row::POINTS, points);
+    let numbers = n * row::INDICES;
+    indices[..numbers].copy_from_slice(&from_indices[..numbers]);
+    let floats = n * row::POINTS;
+    points[..floats].copy_from_slice(&from_points[..floats]);
 }

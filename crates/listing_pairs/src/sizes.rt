@@ -6,28 +6,19 @@ ghost use Rattle.listing_pairs.specs.Workings.Reached;
 pub fn lesser(a: usize, b: usize) -> usize
     ensures { result ≡ min a b }
 {
-    if a <= b {
-        return a;
-    }
-    b
+    a.min(b)
 }
 
 // The larger of two.
 pub fn greater(a: usize, b: usize) -> usize
     ensures { result ≡ Reached.greater a b }
 {
-    if a <= b {
-        return b;
-    }
-    a
+    a.max(b)
 }
 
 // a less b, and 0 if b is the larger.
 pub fn less(a: usize, b: usize) -> usize
     ensures { result ≡ a - b }
 {
-    if a <= b {
-        return 0;
-    }
-    a - b
+    a.saturating_sub(b)
 }

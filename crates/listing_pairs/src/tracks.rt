@@ -18,12 +18,10 @@ pub fn next_other(path: &[f64], trace: f64, j: usize, end: usize) -> usize
     requires { (j ≤ end) × (end ≤ Path.vertex_count path.now) }
     ensures { result ≡ Next.first (tracks.other path.now trace) j end }
 {
-    let mut k = j;
-    while k < end {
+    for k in j..end {
         if !(trace == path::trace(path, k)) {
             return k;
         }
-        k += 1;
     }
     end
 }
@@ -57,10 +55,8 @@ pub fn keep_traces(path: &[f64], n: usize, kept: &mut [f64])
 {
     let from = n * keeping::NUMBERS;
     let count = index::group_count(n);
-    let mut g = 0;
-    while g < count {
+    for g in 0..count {
         kept[from + g] = group_trace(path, n, g);
-        g += 1;
     }
 }
 

@@ -1,9 +1,8 @@
 -- A counted listing, by request 9: the mutual listing, which also adds to a report. 19 comes before all other checks.
-use Rattle.std.specs.Prelude.{◌≡◌, Bool, cond, List, [], ◌∷◌, ℕ, ◌+◌, ◌-◌, eqb, ltb, Float, length, set}
+use Rattle.checks.specs.Checked.{Checked}
+use Rattle.std.specs.Prelude.{◌≡◌, Bool, cond, List, [], ◌∷◌, ℕ, ◌+◌, ◌-◌, eqb, ltb, Float, length, set, Err, Ok, Result}
 use Rattle.std.proofs.lemmas.List.Edits.{sets}
 use Rattle.checks.specs.declared.fault.Item.TheVariants.{Report}
-use Rattle.checks.specs.declared.fault.Checked.{Checked}
-use Rattle.checks.specs.declared.fault.Checked.TheVariants.{Fine, Bad}
 use Rattle.checks.specs.Fault.{at, refuse}
 use Rattle.checks.specs.Refusal
 use Rattle.paths.specs.Segments.{segment_count}
@@ -11,12 +10,12 @@ use Rattle.listing_pairs.specs.declared.row.Row.{Row}
 use Rattle.listing_pairs.specs.Order.{mutual_pairs}
 use Rattle.listing_pairs.specs.Rows.{rows_of}
 use Rattle.listing_pairs.specs.Look.{traced_look}
-use Rattle.listing_outcomes.specs.declared.answer.ListingAnswer.{ListingAnswer}
-use Rattle.listing_outcomes.specs.declared.answer.ListingAnswer.TheVariants.{Refused, Listed}
+use Rattle.listing_outcomes.specs.Answer.{ListingAnswer}
 use Rattle.listing_outcomes.specs.Outcome.{Outcome, Leaves}
+use Rattle.listing_outcomes.specs.declared.answer.Counts.{Counts}
+use Rattle.checks.specs.declared.call.CallError.{CallError}
+use Rattle.checks.specs.declared.call.CallError.TheVariants.{NoRoom, Refused}
 use Rattle.listing_calls.specs.Listing.{mutual_listing}
-use Rattle.month.specs.declared.mutual_counted.CountedAnswer.{CountedAnswer}
-use Rattle.month.specs.declared.mutual_counted.CountedAnswer.TheVariants.{NoRoom, Answered}
 use Rattle.month.specs.Report.{words, layouts, refusals, fresh, full, plus}
 
 -- ---- what a listing adds
@@ -41,10 +40,19 @@ accepted_adds rows looked =
 
 -- by the listing's answer; these are its rows
 abbrev pub adds : ListingAnswer → List Row → List ℕ
-adds (Refused fault) rows = refused_adds fault.number
-adds (Listed count looked) rows = accepted_adds rows looked
+adds (Err fault) rows = refused_adds fault.number
+adds (Ok counts) rows = accepted_adds rows counts.pairs
 
 -- ---- what a counted listing answers and leaves
+-- its counts, or why there are none
+abbrev pub CountedAnswer : Type 0
+CountedAnswer = Result Counts CallError
+
+-- what the listing answered
+abbrev pub Answered : ListingAnswer → CountedAnswer
+Answered (Err fault) = Err (Refused fault)
+Answered (Ok counts) = Ok counts
+
 pub record CountedOutcome : Type 0 where
   pub listing : Outcome CountedAnswer
   pub report : List ℕ
@@ -73,14 +81,14 @@ report_check report = refuse (full report) Refusal.report (at 0 0 Report)
 
 -- by the check of the report: a fault there leaves everything unchanged, and is counted nowhere
 abbrev pub counted_of : Checked → Outcome ListingAnswer → List Row → List ℕ → List Float → List ℕ → CountedOutcome
-counted_of (Bad fault) listing rows indices points report = unchanged (Answered (Refused fault)) indices points report
-counted_of Fine listing rows indices points report = counted listing rows report
+counted_of (Err fault) listing rows indices points report = unchanged (Answered (Err fault)) indices points report
+counted_of (Ok _) listing rows indices points report = counted listing rows report
 
 -- any listing, with its rows: no room if the report has too few words; then 19; then the listing
 abbrev pub counted_listing : Outcome ListingAnswer → List Row → List ℕ → List Float → List ℕ → CountedOutcome
 counted_listing listing rows indices points report =
     cond (ltb (length report) words)
-    (unchanged NoRoom indices points report)
+    (unchanged (Err NoRoom) indices points report)
     (counted_of (report_check report) listing rows indices points report)
 
 -- ---- two paths

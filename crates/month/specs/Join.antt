@@ -1,13 +1,16 @@
 -- One report added to another, by request 9: 19 exactly if there would be too many layouts, or a sum does not fit 64 bits.
-use Rattle.std.specs.Prelude.{◌≡◌, Bool, cond, ◌||◌, List, ℕ, ◌+◌, ltb, length, take}
+use Rattle.checks.specs.Checked.{Checked}
+use Rattle.std.specs.Prelude.{◌≡◌, Bool, cond, ◌||◌, List, ℕ, ◌+◌, ltb, length, take, Err, Ok, Result}
 use Rattle.checks.specs.declared.fault.Item.TheVariants.{Report}
-use Rattle.checks.specs.declared.fault.Checked.{Checked}
-use Rattle.checks.specs.declared.fault.Checked.TheVariants.{Fine, Bad}
 use Rattle.checks.specs.Fault.{at, refuse}
 use Rattle.checks.specs.Refusal
-use Rattle.month.specs.declared.join.JoinAnswer.{JoinAnswer}
-use Rattle.month.specs.declared.join.JoinAnswer.TheVariants.{NoRoom, Refused, Joined}
 use Rattle.month.specs.Report.{words, layouts, most_layouts, largest, word, some_above, plus}
+use Rattle.checks.specs.declared.call.CallError.TheVariants.{NoRoom, Refused}
+use Rattle.checks.specs.declared.call.CallError.{CallError}
+
+-- the sums are there, or why not
+abbrev pub JoinAnswer : Type 0
+JoinAnswer = Result (Unit {0}) CallError
 
 -- an answer, and what the first report holds after the call
 pub record JoinOutcome : Type 0 where
@@ -31,12 +34,12 @@ join_check into other = refuse (too_much into other) Refusal.report (at 0 0 Repo
 
 -- by the first fault, if there is one: a refusal leaves the report unchanged
 abbrev pub joined_of : Checked → List ℕ → List ℕ → JoinOutcome
-joined_of (Bad fault) into other = record { answer = Refused fault; into = into }
-joined_of Fine into other = record { answer = Joined; into = plus into (take words other) }
+joined_of (Err fault) into other = record { answer = Err (Refused fault); into = into }
+joined_of (Ok _) into other = record { answer = Ok tt; into = plus into (take words other) }
 
 -- no room if one of the two slices has fewer words than a report
 unfoldable pub join : List ℕ → List ℕ → JoinOutcome
 join into other =
     cond (ltb (length into) words || ltb (length other) words)
-    (record { answer = NoRoom; into = into })
+    (record { answer = Err NoRoom; into = into })
     (joined_of (join_check into other) into other)

@@ -1,20 +1,19 @@
 -- The join of two runs from zeros, if it is not refused, is what one run over both would have given.
-use Rattle.std.specs.Prelude.{◌≡◌, cond, List, ◌++◌, ℕ, ◌+◌, ◌≤◌, length, take}
+use Rattle.std.specs.Prelude.{◌≡◌, cond, List, ◌++◌, ℕ, ◌+◌, ◌≤◌, length, take, Ok}
 use Rattle.std.proofs.Common.{sym, ap, ◌∙◌, arith, take_all}
 use Rattle.listing_pairs.specs.declared.row.Row.{Row}
-use Rattle.listing_outcomes.specs.declared.answer.ListingAnswer.{ListingAnswer}
-use Rattle.month.specs.declared.join.JoinAnswer.TheVariants.{Joined}
 use Rattle.month.specs.Report.{words, layouts, most_layouts, fresh, word, plus}
 use Rattle.month.specs.Join.{join}
 use Rattle.month.specs.Run.{Layout, run_of, run, counted}
 use Rattle.month.specs.Laws.Joins.{joined-told, take-both}
 use Rattle.month.specs.Laws.Runs.{Kind, total, length-total, total-append, run_is, grown-total}
 use Rattle.month.specs.Laws.RunWords.{old-kind}
+use Rattle.listing_outcomes.specs.Answer.{ListingAnswer}
 
 -- for layouts of any kind
 pub join-of-runs-of : {L : Type 0} {after : List ℕ → L → List ℕ} {answer : L → ListingAnswer} {rows : L → List Row}
     {pairs_of : L → ℕ} (kind : Kind after answer rows pairs_of) (ks ls : List L)
-    → (join (run_of after fresh ks) (run_of after fresh ls)).answer ≡ Joined
+    → (join (run_of after fresh ks) (run_of after fresh ls)).answer ≡ Ok tt
     → (join (run_of after fresh ks) (run_of after fresh ls)).into ≡ run_of after fresh (ks ++ ls)
 join-of-runs-of {after = after} {answer = answer} {rows = rows} kind ks ls e =
     let told = joined-told (run_of after fresh ks) (run_of after fresh ls) e in
@@ -41,6 +40,6 @@ join-of-runs-of {after = after} {answer = answer} {rows = rows} kind ks ls e =
 
 -- for the old mode's
 pub join-of-runs : (ks ls : List Layout)
-    → (join (run fresh ks) (run fresh ls)).answer ≡ Joined
+    → (join (run fresh ks) (run fresh ls)).answer ≡ Ok tt
     → (join (run fresh ks) (run fresh ls)).into ≡ run fresh (ks ++ ls)
 join-of-runs ks ls = join-of-runs-of old-kind ks ls

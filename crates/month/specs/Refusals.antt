@@ -1,12 +1,11 @@
 -- When exactly a counted listing and a join refuse, and what they leave then. 19 comes before all other checks of a counted
 -- listing: exactly if the report has 10,000 layouts or more, or one of its words 1 to 39 is too large. It leaves everything
 -- unchanged, whatever the paths, epsilon and slices are. All other refusals are the listing's.
-use Rattle.std.specs.Prelude.{◌≡◌, refl, Bool, true, ◌↔◌, ◌⊎◌, List, ◌∷◌, ℕ, ◌+◌, ◌≤◌, ◌<◌, Float, length}
+use Rattle.checks.specs.Checked.{Checked}
+use Rattle.std.specs.Prelude.{◌≡◌, refl, Bool, true, ◌↔◌, ◌⊎◌, List, ◌∷◌, ℕ, ◌+◌, ◌≤◌, ◌<◌, Float, length, Err, Ok}
 use Rattle.std.proofs.Common.{inl, inr}
 use Rattle.checks.specs.declared.fault.Item.TheVariants.{Report}
 use Rattle.checks.specs.declared.fault.Fault.{Fault}
-use Rattle.checks.specs.declared.fault.Checked.{Checked}
-use Rattle.checks.specs.declared.fault.Checked.TheVariants.{Fine, Bad}
 use Rattle.checks.specs.Fault.{whole}
 use Rattle.checks.specs.Refusal
 use Rattle.checks.specs.First.{first as first_fault}
@@ -15,16 +14,13 @@ use Rattle.checks.specs.ExactlyWhen.{ExactlyWhen}
 use Rattle.listing_pairs.specs.declared.row.Row.{Row}
 use Rattle.listing_pairs.specs.Look.{traced_look}
 use Rattle.listing_pairs.specs.Rows.{rows_of, looked_at}
-use Rattle.listing_outcomes.specs.declared.answer.ListingAnswer.{ListingAnswer}
-use Rattle.listing_outcomes.specs.declared.answer.ListingAnswer.TheVariants.{Refused}
+use Rattle.listing_outcomes.specs.Answer.{ListingAnswer}
 use Rattle.listing_outcomes.specs.Outcome.{Outcome, listed_of, outcome}
+use Rattle.checks.specs.declared.call.CallError.TheVariants.{NoRoom, Refused}
 use Rattle.listing_calls.specs.Listing.{mutual_checks, mutual_listing}
 use Rattle.listing_calls.specs.Refusals as listings
-use Rattle.month.specs.declared.join.JoinAnswer.TheVariants as joins
-use Rattle.month.specs.declared.mutual_counted.CountedAnswer.{CountedAnswer}
-use Rattle.month.specs.declared.mutual_counted.CountedAnswer.TheVariants.{NoRoom, Answered}
 use Rattle.month.specs.Report.{words, layouts, pairs, most_layouts, largest, most_held, word, full}
-use Rattle.month.specs.Counted.{unchanged, report_check, mutual_rows, mutual_counted}
+use Rattle.month.specs.Counted.{unchanged, report_check, mutual_rows, mutual_counted, CountedAnswer, Answered}
 use Rattle.month.specs.Join.{join}
 use Rattle.month.specs.Laws.Cases.{no-room-is, full_is}
 use Rattle.month.specs.Laws.Listings.{mutual-given}
@@ -55,7 +51,7 @@ full-when report long = (to, from)
 
 -- ---- a counted listing
 abbrev pub refused_with : Fault → CountedAnswer
-refused_with f = Answered (Refused f)
+refused_with f = Answered (Err f)
 
 abbrev pub accepted : listings.Counts → CountedAnswer
 accepted c = Answered (listings.counted c)
@@ -73,19 +69,19 @@ module _ (first : List Float) (first_closed : Bool) (second : List Float) (secon
       → (let f = traced_look first second epsilon in
       let ps = listings.between first first_closed second second_closed epsilon indices points in
       (listed_of c (rows_of f ps) (looked_at f ps) indices points).answer
-      ≡ answered Refused listings.counted c
+      ≡ answered Err listings.counted c
       (listings.counts (mutual_checks first first_closed second second_closed epsilon) f ps indices points))
-  by-fault Fine = refl
-  by-fault (Bad f) = refl
+  by-fault (Ok _) = refl
+  by-fault (Err f) = refl
 
   -- no room, before everything
-  pub no-room-when : ((mutual_counted first first_closed second second_closed epsilon indices points report).listing.answer ≡ NoRoom)
+  pub no-room-when : ((mutual_counted first first_closed second second_closed epsilon indices points report).listing.answer ≡ Err NoRoom)
       ↔ (length report < words)
   unfolding mutual_counted
   no-room-when = laws.no-room-when listing rows indices points report
 
   pub no-room-leaves : length report < words
-      → mutual_counted first first_closed second second_closed epsilon indices points report ≡ unchanged NoRoom indices points report
+      → mutual_counted first first_closed second second_closed epsilon indices points report ≡ unchanged (Err NoRoom) indices points report
   unfolding mutual_counted
   no-room-leaves = no-room-is listing rows indices points report
 
@@ -128,7 +124,7 @@ module _ (first : List Float) (first_closed : Bool) (second : List Float) (secon
   pub refused-by : (f : Fault)
       → (mutual_counted first first_closed second second_closed epsilon indices points report).listing.answer ≡ refused_with f
       → (f ≡ whole Refusal.report Report)
-      ⊎ ((mutual_listing first first_closed second second_closed epsilon indices points).answer ≡ Refused f)
+      ⊎ ((mutual_listing first first_closed second second_closed epsilon indices points).answer ≡ Err f)
   unfolding mutual_counted
   refused-by = laws.refused-by listing rows indices points report
 
@@ -150,15 +146,15 @@ pub record NoFit (into other : List ℕ) : Type 0 where
   pub above : largest < word into k + word other k
 
 module _ (into other : List ℕ) where
-  pub join-no-room-when : ((join into other).answer ≡ joins.NoRoom) ↔ ((length into < words) ⊎ (length other < words))
+  pub join-no-room-when : ((join into other).answer ≡ Err NoRoom) ↔ ((length into < words) ⊎ (length other < words))
   join-no-room-when = laws.join-no-room-when into other
 
   module _ (long : words ≤ length into) (long-other : words ≤ length other) where
-    pub join-refused-when : ((join into other).answer ≡ joins.Refused (whole Refusal.report Report))
+    pub join-refused-when : ((join into other).answer ≡ Err (Refused (whole Refusal.report Report)))
         ↔ ((most_layouts < word into layouts + word other layouts) ⊎ NoFit into other)
     join-refused-when = (to, from)
       where
-        to : (join into other).answer ≡ joins.Refused (whole Refusal.report Report)
+        to : (join into other).answer ≡ Err (Refused (whole Refusal.report Report))
             → (most_layouts < word into layouts + word other layouts) ⊎ NoFit into other
         to e =
             elim (laws.much-by into other long long-other (laws.join-refused into other long long-other _ e)) [
@@ -167,16 +163,16 @@ module _ (into other : List ℕ) where
             ]
 
         from : (most_layouts < word into layouts + word other layouts) ⊎ NoFit into other
-            → (join into other).answer ≡ joins.Refused (whole Refusal.report Report)
+            → (join into other).answer ≡ Err (Refused (whole Refusal.report Report))
         from (inl many) = laws.join-much into other long long-other (laws.much-layouts into other many)
         from (inr w) =
             laws.join-much into other long long-other
             (laws.much-word into other long long-other w.k w.below w.above)
 
   -- it refuses with nothing else
-  pub join-else : (f : Fault) → (join into other).answer ≡ joins.Refused f → f ≡ whole Refusal.report Report
+  pub join-else : (f : Fault) → (join into other).answer ≡ Err (Refused f) → f ≡ whole Refusal.report Report
   join-else f e = laws.join-fault into other f e
 
   -- only a join changes the first report
-  pub join-leaves : ((join into other).answer ≡ joins.Joined → ⊥) → (join into other).into ≡ into
+  pub join-leaves : ((join into other).answer ≡ Ok tt → ⊥) → (join into other).into ≡ into
   join-leaves = laws.join-leaves into other

@@ -1,14 +1,13 @@
 -- A run: one layout after the other, counted in one report. `run_of`, `counted` and `sum_of` are of layouts of any kind: so a run of
 -- the mode of large arcs, or of both modes, is described by the same words.
-use Rattle.std.specs.Prelude.{Bool, cond, List, [], ◌∷◌, ℕ, ◌+◌, ◌-◌, ◌*◌, eqb, Float, length, take}
+use Rattle.std.specs.Prelude.{Bool, cond, List, [], ◌∷◌, ℕ, ◌+◌, ◌-◌, ◌*◌, eqb, Float, length, take, Err, Ok}
 use Rattle.paths.specs.Segments.{segment_count}
 use Rattle.listing_pairs.specs.Order.{mutual_pairs, those}
 use Rattle.listing_pairs.specs.Traces.{one_trace}
-use Rattle.listing_outcomes.specs.declared.answer.ListingAnswer.{ListingAnswer}
-use Rattle.listing_outcomes.specs.declared.answer.ListingAnswer.TheVariants.{Refused, Listed}
 use Rattle.listing_calls.specs.Listing.{mutual_listing}
 use Rattle.month.specs.Report.{classes, most_layouts, word}
 use Rattle.month.specs.Counted.{mutual_counted}
+use Rattle.listing_outcomes.specs.Answer.{ListingAnswer}
 
 -- what a call is given: two paths, epsilon, and the lent slices for the rows
 pub record Layout : Type 0 where
@@ -45,16 +44,16 @@ answer l =
 
 -- 1 if it is accepted; 1 if it is refused; 1 if it is refused with n
 abbrev pub accepted : ListingAnswer → ℕ
-accepted (Refused f) = 0
-accepted (Listed rows looked) = 1
+accepted (Err f) = 0
+accepted (Ok counts) = 1
 
 abbrev pub refused : ListingAnswer → ℕ
-refused (Refused f) = 1
-refused (Listed rows looked) = 0
+refused (Err f) = 1
+refused (Ok counts) = 0
 
 abbrev pub refused_with : ℕ → ListingAnswer → ℕ
-refused_with n (Refused f) = cond (eqb f.number n) 1 0
-refused_with n (Listed rows looked) = 0
+refused_with n (Err f) = cond (eqb f.number n) 1 0
+refused_with n (Ok counts) = 0
 
 -- the sum of words; the sum of a report's six classes
 abbrev pub sum_words : List ℕ → ℕ
@@ -67,8 +66,8 @@ six_classes w =
 
 -- this number if it is accepted, else 0
 abbrev pub if_accepted : ListingAnswer → ℕ → ℕ
-if_accepted (Refused f) n = 0
-if_accepted (Listed rows looked) n = n
+if_accepted (Err f) n = 0
+if_accepted (Ok counts) n = n
 
 -- the pairs of two paths of n and of m segments: n * m, less those of one trace above 0
 abbrev pub pairs_between : List Float → List Float → ℕ → ℕ → ℕ

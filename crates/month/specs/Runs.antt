@@ -5,7 +5,6 @@ use Rattle.std.specs.Prelude.{◌≡◌, false, List, ℕ, ◌+◌, ◌≤◌, �
 use Rattle.std.proofs.Common.{sym, ap, ◌∙◌, arith, length-take, take_all}
 use Rattle.std.proofs.Math.Seq.{slice}
 use Rattle.listing_pairs.specs.declared.row.Row.{Row}
-use Rattle.listing_outcomes.specs.declared.answer.ListingAnswer.{ListingAnswer}
 use Rattle.month.specs.Report.{
   words,
   layouts,
@@ -24,6 +23,7 @@ use Rattle.month.specs.Given.{among, given}
 use Rattle.month.specs.Run.{Layout, run_of, run, counted, answer, accepted, refused, refused_with, if_accepted}
 use Rattle.month.specs.Run.{pairs_of, sum_of, sum_words, six_classes}
 use Rattle.month.specs.Laws.Runs.{Kind, total, word_total, length-total, run_is, grown-total, never-large, full-grown}
+use Rattle.listing_outcomes.specs.Answer.{ListingAnswer}
 use Rattle.month.specs.Laws.RunWords.{
   six-total,
   refused-total,

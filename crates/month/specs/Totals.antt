@@ -1,7 +1,7 @@
 -- What a counted listing adds, word by word. If the layout is accepted: each class total grows by the number of pairs of that
 -- class, by the pair's own definition, among the pairs that are not of one trace. If it is refused: one layout, and one refused
 -- with its number. Words behind the 40 are unchanged.
-use Rattle.std.specs.Prelude.{◌≡◌, Bool, ℕ, ◌+◌, ◌≤◌, ◌<◌, eqb, Float, length, drop}
+use Rattle.std.specs.Prelude.{◌≡◌, Bool, ℕ, ◌+◌, ◌≤◌, ◌<◌, eqb, Float, length, drop, Err}
 use Rattle.std.proofs.Math.Path.{ap}
 use Rattle.std.proofs.Common.{◌∙◌, arith}
 use mathlib.Core.List.{List}
@@ -11,16 +11,15 @@ use Rattle.crossing.specs.PlineSegIntr.{class_of}
 use Rattle.paths.specs.Segments.{segment_count}
 use Rattle.listing_pairs.specs.Order.{Pair, mutual_pairs, those}
 use Rattle.listing_pairs.specs.Traces.{traced_pairs}
-use Rattle.listing_outcomes.specs.declared.answer.ListingAnswer.TheVariants.{Refused, Listed}
 use Rattle.listing_calls.specs.Listing.{mutual_listing}
 use Rattle.listing_calls.specs.Complete.{pair_of}
-use Rattle.month.specs.declared.mutual_counted.CountedAnswer.TheVariants.{Answered}
 use Rattle.month.specs.Report.{words, layouts, pairs, classes, refusals, refusal_numbers, word}
-use Rattle.month.specs.Counted.{refused_adds, accepted_adds, mutual_rows, mutual_counted}
+use Rattle.month.specs.Counted.{refused_adds, accepted_adds, mutual_rows, mutual_counted, Answered}
 use Rattle.month.specs.Laws.Words.{word-plus, word_same}
 use Rattle.month.specs.Laws.Given.{given_below}
 use Rattle.month.specs.Laws.Listings.{mutual-counts, mutual-given}
 use Rattle.month.specs.Laws.Cases.{told-listed, told-refused}
+use Rattle.listing_outcomes.specs.Answer.{Listed}
 use Rattle.month.specs.Laws.Added.{
   accepted-adds,
   refused-layout,
@@ -91,7 +90,7 @@ module _ (first : List Float) (first_closed : Bool) (second : List Float) (secon
 
   -- ---- a refused one
   pub refused-totals : (f : Fault)
-      → (mutual_counted first first_closed second second_closed epsilon indices points report).listing.answer ≡ Answered (Refused f)
+      → (mutual_counted first first_closed second second_closed epsilon indices points report).listing.answer ≡ Answered (Err f)
       → (f.number ≡ Refusal.report → ⊥)
       → WithRefused f.number report (mutual_counted first first_closed second second_closed epsilon indices points report).report
   unfolding mutual_counted

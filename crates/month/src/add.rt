@@ -11,9 +11,7 @@ pub(crate) fn add_words(into: &mut [u64], other: &[u64])
     requires all_fit { Sums.AllFit into.old other.now }
     ensures { into.new ≡ report_of.plus into.old (take report_of.words other.now) }
 {
-    let mut k = 0;
-    while k < WORDS {
+    for k in 0..WORDS {
         into[k] += other[k];
-        k += 1;
     }
 }

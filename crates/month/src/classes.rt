@@ -10,10 +10,7 @@ use listing_pairs::row;
 fn one_if(a: u64, b: u64) -> usize
     ensures { result ≡ Counted.one_if (eqb a b) }
 {
-    if a == b {
-        return 1;
-    }
-    0
+    usize::from(a == b)
 }
 
 // How many of the first rows of the slice have this class: the third number of each row.
@@ -22,10 +19,8 @@ pub(crate) fn count_class(indices: &[u64], rows: usize, class: u64) -> usize
     ensures { result ≡ Written.in_rows class rows indices.now }
 {
     let mut found = 0;
-    let mut k = 0;
-    while k < rows {
+    for k in 0..rows {
         found += one_if(indices[k * row::INDICES + 2], class);
-        k += 1;
     }
     found
 }

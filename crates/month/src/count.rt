@@ -50,12 +50,12 @@ pub fn count(answer: ListingAnswer, indices: &[u64], report: &mut [u64])
     ensures { report.new ≡ report_of.plus report.old (Written.adds_by answer indices.now) }
 {
     match answer {
-        ListingAnswer::Refused(fault) => {
+        Err(fault) => {
             let adds = refused_adds(fault.number);
             add_words(report, &adds);
         }
-        ListingAnswer::Listed { rows, pairs } => {
-            let adds = listed_adds(rows, pairs, indices);
+        Ok(counts) => {
+            let adds = listed_adds(counts.rows, counts.pairs, indices);
             add_words(report, &adds);
         }
     }

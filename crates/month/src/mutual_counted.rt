@@ -3,18 +3,15 @@ ghost use Rattle.month.specs.Counted;
 
 use super::count::count;
 use super::report::{WORDS, full};
+use checks::call::CallError;
 use checks::fault::{Item, whole};
 use checks::refusal;
 use listing_calls::mutual_listing::mutual_listing;
-use listing_outcomes::answer::ListingAnswer;
+use listing_outcomes::answer::Counts;
 
-#[derive(Clone, Copy)]
-pub enum CountedAnswer {
-    // The report has fewer words than a report has. Nothing is changed, and nothing was looked at.
-    NoRoom,
-    // What the listing answered, or 19 if the report is full.
-    Answered(ListingAnswer),
-}
+// What the listing answered, or 19 if the report is full. Or the report has fewer words than a report has: then nothing is changed,
+// and nothing was looked at.
+pub type CountedAnswer = Result<Counts, CallError>;
 
 // Lists as `mutual_listing` does, and adds to the report. If the report is full, it answers 19 and changes nothing.
 pub fn mutual_counted(
@@ -33,13 +30,10 @@ pub fn mutual_counted(
         result indices.new points.new report.new }
 {
     if report.len() < WORDS {
-        return CountedAnswer::NoRoom;
+        return Err(CallError::NoRoom);
     }
     if full(report) {
-        return CountedAnswer::Answered(ListingAnswer::Refused(whole(
-            refusal::REPORT,
-            Item::Report,
-        )));
+        return Err(CallError::Refused(whole(refusal::REPORT, Item::Report)));
     }
     let answer = mutual_listing(
         first,
@@ -51,5 +45,5 @@ pub fn mutual_counted(
         points,
     );
     count(answer, indices, report);
-    CountedAnswer::Answered(answer)
+    Ok(answer?)
 }

@@ -1,5 +1,5 @@
 // What the words of a report count, and whether a report is full. specs/Report.antt has the same numbers.
-ghost use Rattle.std.specs.Prelude.{◌≡◌, ◌≤◌, length};
+ghost use Rattle.std.specs.Prelude.{◌≡◌, ◌≤◌, ltb, length};
 ghost use Rattle.month.specs.Report as report_of;
 
 // how many words a report has
@@ -29,20 +29,17 @@ pub const LARGEST: u64 = 18446744073709551615;
 // a word above this might not hold what a layout adds
 pub const MOST_HELD: u64 = LARGEST - MOST_ADDED;
 
+// Whether a word might not hold what a layout adds.
+fn too_large(word: u64) -> bool
+    ensures { result ≡ ltb report_of.most_held word }
+{
+    word > MOST_HELD
+}
+
 // Whether no layout can be added: there are as many layouts as there may be, or another word is too large.
 pub fn full(report: &[u64]) -> bool
     requires { report_of.words ≤ length report.now }
     ensures { result ≡ report_of.full report.now }
 {
-    if report[LAYOUTS] >= MOST_LAYOUTS {
-        return true;
-    }
-    let mut k = PAIRS;
-    while k < WORDS {
-        if report[k] > MOST_HELD {
-            return true;
-        }
-        k += 1;
-    }
-    false
+    report[LAYOUTS] >= MOST_LAYOUTS || report[PAIRS..WORDS].iter().any(|word| too_large(*word))
 }

@@ -3,19 +3,17 @@
 // line on standard error.
 #![tactic(auto)]
 
-use answer_lines::{LINE, Written};
-use layout_moves::Moved;
+use answer_lines::LINE;
+use layout_moves::MoveError;
 use layout_packed::limits::LONGEST;
 
 fn main(rt: HostRuntime) {
     // one byte more than a text may have, so that a longer text is noticed
     let mut text = [0u8; layout_text::BYTES + 1];
-    let input = streams::read_full(rt.stdin(), &mut text);
-    if input.failed {
+    let Ok(n) = streams::read_full(rt.stdin(), &mut text) else {
         let _ = eprintln!(rt; "pack: standard input cannot be read");
         return;
-    }
-    let n = input.bytes;
+    };
     answer(&rt, &text[..n]);
 }
 
@@ -23,20 +21,16 @@ fn main(rt: HostRuntime) {
 // the end of this function is never reached: `pack-answers` of layout_moves/specs/PackPromise.antt proves it for every text.
 fn answer(rt: &HostRuntime, text: &[u8]) {
     let mut out = [0u8; LONGEST];
-    let moved = layout_moves::pack_layout(text, &mut out);
-    match moved {
-        Moved::Length(n) => {
-            if n <= out.len() {
-                write(rt, &out[..n]);
-                return;
-            }
+    match layout_moves::pack_layout(text, &mut out) {
+        Ok(n) if n <= out.len() => {
+            write(rt, &out[..n]);
+            return;
         }
-        Moved::Refused(number) => {
+        Err(MoveError::Refused(number)) => {
             refuse(rt, number);
             return;
         }
-        Moved::RefusedAt(_, _) => {}
-        Moved::NoRoom => {}
+        _ => {}
     }
     let _ = eprintln!(rt; "pack: no room for the packed form");
 }
@@ -44,15 +38,10 @@ fn answer(rt: &HostRuntime, text: &[u8]) {
 // Writes the text line of a refusal to standard error.
 fn refuse(rt: &HostRuntime, number: u64) {
     let mut line = [0u8; LINE];
-    let written = answer_lines::write_refusal(number, &mut line);
-    match written {
-        Written::Length(n) => {
-            if n <= line.len() {
-                let _ = rt.stderr().write_all(&line[..n]);
-            }
+    if let Ok(n) = answer_lines::write_refusal(number, &mut line) {
+        if n <= line.len() {
+            let _ = rt.stderr().write_all(&line[..n]);
         }
-        Written::NoRows => {}
-        Written::NoRoom => {}
     }
 }
 

@@ -1,6 +1,6 @@
 -- The check of a path's numbers, as lists of checks in the scope's order.
+use Rattle.checks.specs.Checked.{Checked}
 use Rattle.std.specs.Prelude.{Bool, List, [], ◌∷◌, ◌++◌, ℕ, zero, suc, ◌+◌, Float}
-use Rattle.checks.specs.declared.fault.Checked.{Checked}
 use Rattle.checks.specs.Fault.{later}
 use Rattle.checks.specs.First.{first}
 use Rattle.checks.specs.Lists as lists

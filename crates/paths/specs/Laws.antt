@@ -2,5 +2,6 @@
 pub mod Segments
 pub mod Along
 pub mod Steps
+pub mod After
 pub mod Fine
 pub mod RefusalNumbers

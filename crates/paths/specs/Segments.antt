@@ -1,8 +1,6 @@
 -- The segments of a lent path, by the scope; their traces, by request 8.
-use Rattle.std.specs.Prelude.{Bool, cond, List, ℕ, ◌+◌, ◌-◌, ltb, Float}
+use Rattle.std.specs.Prelude.{Bool, cond, List, ℕ, ◌+◌, ◌-◌, ltb, Float, None, Option, Some}
 use Rattle.paths.specs.declared.path.Segment.{Segment}
-use Rattle.paths.specs.declared.path.SegmentAt.{SegmentAt}
-use Rattle.paths.specs.declared.path.SegmentAt.TheVariants.{Nothing, At}
 use Rattle.paths.specs.Path.{vertex_count, vertex, trace}
 use Rattle.paths.specs.Shape.{refused}
 
@@ -28,5 +26,5 @@ unfoldable pub segment_from : List Float → ℕ → Segment
 segment_from path i = record { v1 = vertex path i; v2 = vertex path (after path i); trace = trace path i }
 
 -- segment i, or none
-unfoldable pub segment : List Float → Bool → ℕ → SegmentAt
-segment path closed i = cond (ltb i (segment_count path closed)) (At (segment_from path i)) Nothing
+unfoldable pub segment : List Float → Bool → ℕ → Option Segment
+segment path closed i = cond (ltb i (segment_count path closed)) (Some (segment_from path i)) None

@@ -1,8 +1,8 @@
 -- The scope's refusals 6 and 7: the check of a lent slice before those of its numbers. The place of the fault is the path,
 -- `Length`.
+use Rattle.checks.specs.Checked.{Checked}
 use Rattle.std.specs.Prelude.{Bool, not, ◌||◌, List, ℕ, ◌%◌, eqb, ltb, length, Float}
 use Rattle.checks.specs.declared.fault.Item.TheVariants.{Length}
-use Rattle.checks.specs.declared.fault.Checked.{Checked}
 use Rattle.checks.specs.Fault.{at, refuse, later}
 use Rattle.checks.specs.Refusal
 use Rattle.paths.specs.Path.{numbers_a_vertex, most_vertices, vertex_count}

@@ -22,13 +22,6 @@ pub struct Segment {
     pub trace: f64,
 }
 
-// A segment, or that there is none.
-#[derive(Clone, Copy)]
-pub enum SegmentAt {
-    Nothing,
-    At(Segment),
-}
-
 // How many whole vertices the slice has.
 pub fn vertex_count(path: &[f64]) -> usize
     ensures { result ≡ Path.vertex_count path.now }

@@ -3,7 +3,7 @@ ghost use Rattle.std.specs.Prelude.{◌≡◌, ◌<◌};
 ghost use Rattle.paths.specs.Path;
 ghost use Rattle.paths.specs.Segments;
 
-use super::path::{Segment, SegmentAt};
+use super::path::Segment;
 use super::{path, shape};
 
 // How many segments the path has: of n vertices, n - 1 if it is open and n if it is closed; none if n is below 2.
@@ -46,11 +46,11 @@ pub fn segment_from(path: &[f64], i: usize) -> Segment
 }
 
 // Segment i of the path, or none if i is no segment's index. The last segment of a closed path runs back to vertex 0.
-pub fn segment(path: &[f64], closed: bool, i: usize) -> SegmentAt
+pub fn segment(path: &[f64], closed: bool, i: usize) -> Option<Segment>
     ensures { result ≡ Segments.segment path.now closed i }
 {
     if i < segment_count(path, closed) {
-        return SegmentAt::At(segment_from(path, i));
+        return Some(segment_from(path, i));
     }
-    SegmentAt::Nothing
+    None
 }

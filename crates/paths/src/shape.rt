@@ -3,7 +3,7 @@ ghost use Rattle.std.specs.Prelude.{◌≡◌};
 ghost use Rattle.paths.specs.Shape;
 
 use super::path;
-use checks::fault::{Checked, Item, Place, later, refuse};
+use checks::fault::{Checked, Item, Place, refuse};
 use checks::refusal;
 
 // Whether the length of the slice is no multiple of 4.
@@ -37,8 +37,6 @@ pub fn shape(path: &[f64], owner: u64) -> Checked
         index: 0,
         item: Item::Length,
     };
-    later(
-        refuse(broken(path), refusal::PATH_LENGTH, place),
-        refuse(too_long(path), refusal::VERTICES, place),
-    )
+    refuse(broken(path), refusal::PATH_LENGTH, place)?;
+    refuse(too_long(path), refusal::VERTICES, place)
 }

@@ -2,8 +2,8 @@
 ghost use Rattle.std.specs.Prelude.{◌≡◌};
 ghost use Rattle.paths.specs.View;
 
-use super::path::SegmentAt;
 use super::segments;
+use crate::path::Segment;
 
 #[derive(Clone, Copy)]
 pub struct PathView<'a> {
@@ -26,7 +26,7 @@ pub fn segment_count<'a>(view: PathView<'a>) -> usize
 }
 
 // Segment i of the viewed path, or none if i is no segment's index.
-pub fn segment<'a>(view: PathView<'a>, i: usize) -> SegmentAt
+pub fn segment<'a>(view: PathView<'a>, i: usize) -> Option<Segment>
     ensures { result ≡ View.segment view.entry i }
 {
     segments::segment(view.vertices, view.closed, i)

@@ -4,7 +4,8 @@ ghost use Rattle.plane.specs.Vector2 as vector2;
 
 use super::fuzzy;
 
-#[derive(Clone, Copy)]
+// Two are equal if they are exactly the same position. Zeros of either sign are equal.
+#[derive(Clone, Copy, PartialEq)]
 pub struct Vector2 {
     pub x: f64,
     pub y: f64,
@@ -91,12 +92,5 @@ impl Vector2 {
         ensures { result ≡ vector2.fuzzy_eq_eps self other eps }
     {
         fuzzy::fuzzy_eq_eps(self.x, other.x, eps) & fuzzy::fuzzy_eq_eps(self.y, other.y, eps)
-    }
-
-    // Whether the two are exactly the same position. Zeros of either sign are equal.
-    pub fn eq(self, other: Vector2) -> bool
-        ensures { result ≡ vector2.eq self other }
-    {
-        (self.x == other.x) & (self.y == other.y)
     }
 }

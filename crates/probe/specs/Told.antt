@@ -1,16 +1,17 @@
 -- The moves of a layout and the reader of packed files for C: the answer as a word, and two numbers told in a lent slice. If that
 -- slice has no place for two numbers, nothing is looked at, and every slice stays as found.
-use Rattle.std.specs.Prelude.{ℕ, ◌≡◌, Bool, cond, List, [], ◌∷◌, ltb, length, Float}
+use Rattle.std.specs.Prelude.{ℕ, ◌≡◌, Bool, cond, List, [], ◌∷◌, ltb, length, Float, Result, Ok, Err}
 use Rattle.std.proofs.lemmas.List.Edits.{sets}
 use Rattle.layout_text.specs.Sizes as text_sizes
 use Rattle.layout_packed.specs.Limits as packed_sizes
 use Rattle.layout_packed.specs.Read as reading
 use Rattle.layout_packed.specs.Workings.Reader.{reads_packed}
-use Rattle.layout_packed.specs.declared.Unpacking.{Unpacking}
-use Rattle.layout_packed.specs.declared.Unpacking.TheVariants as Unpacking·
+use Rattle.layout_packed.specs.declared.Counts.{Counts}
+use Rattle.layout_packed.specs.declared.UnpackError.{UnpackError}
+use Rattle.layout_packed.specs.declared.UnpackError.TheVariants as UnpackError·
 use Rattle.layout_moves.specs.Moves.{Given, pack, unpack, answer_of, held_of}
-use Rattle.layout_moves.specs.declared.Moved.{Moved}
-use Rattle.layout_moves.specs.declared.Moved.TheVariants as Moved·
+use Rattle.layout_moves.specs.declared.MoveError.{MoveError}
+use Rattle.layout_moves.specs.declared.MoveError.TheVariants as MoveError·
 
 -- the word if a lent slice is too small
 abbrev pub no_room : ℕ
@@ -26,16 +27,16 @@ pub data Telling : Type 0 where
   quiet : ℕ → Telling
   tells : ℕ → ℕ → ℕ → Telling
 
-abbrev pub of_moved : Moved → Telling
-of_moved (Moved·.Length n) = tells 0 n 0
-of_moved (Moved·.Refused number) = quiet number
-of_moved (Moved·.RefusedAt number place) = tells number place 0
-of_moved Moved·.NoRoom = quiet no_room
+abbrev pub of_moved : Result ℕ MoveError → Telling
+of_moved (Ok n) = tells 0 n 0
+of_moved (Err (MoveError·.Refused number)) = quiet number
+of_moved (Err (MoveError·.RefusedAt number place)) = tells number place 0
+of_moved (Err MoveError·.NoRoom) = quiet no_room
 
-abbrev pub of_unpacking : Unpacking → Telling
-of_unpacking (Unpacking·.Counts n m) = tells 0 n m
-of_unpacking (Unpacking·.Refused number place) = tells number place 0
-of_unpacking Unpacking·.NoRoom = quiet no_room
+abbrev pub of_unpacking : Result Counts UnpackError → Telling
+of_unpacking (Ok counts) = tells 0 counts.first counts.second
+of_unpacking (Err (UnpackError·.Refused number place)) = tells number place 0
+of_unpacking (Err UnpackError·.NoRoom) = quiet no_room
 
 abbrev pub word_of : Telling → ℕ
 word_of (quiet word) = word
@@ -55,8 +56,8 @@ abbrev pub too_few : List ℕ → Bool
 too_few told = ltb (length told) places
 
 -- a move, as layout_moves/specs/Moves.antt has it
-abbrev pub moved_of : ℕ → Given → List ℕ → Moved
-moved_of room given old = cond (ltb (length old) room) Moved·.NoRoom (answer_of given)
+abbrev pub moved_of : ℕ → Given → List ℕ → Result ℕ MoveError
+moved_of room given old = cond (ltb (length old) room) (Err MoveError·.NoRoom) (answer_of given)
 
 abbrev pub left_of : ℕ → Given → List ℕ → List ℕ
 left_of room given old = cond (ltb (length old) room) old (held_of given old)
@@ -73,8 +74,8 @@ abbrev pub UnpackTold : List ℕ → ℕ → List ℕ → List ℕ → List ℕ 
 UnpackTold file = MoveTold text_sizes.longest (unpack file)
 
 -- the reader, as layout_packed/specs/Read.antt has it
-abbrev pub read_of : List ℕ → List Float → List Float → Unpacking
-read_of bytes first second = cond (reading.roomless first second) Unpacking·.NoRoom (reading.answer_of (reads_packed bytes))
+abbrev pub read_of : List ℕ → List Float → List Float → Result Counts UnpackError
+read_of bytes first second = cond (reading.roomless first second) (Err UnpackError·.NoRoom) (reading.answer_of (reads_packed bytes))
 
 abbrev pub first_of : List ℕ → List Float → List Float → List Float
 first_of bytes first second = cond (reading.roomless first second) first (reading.first_of (reads_packed bytes) first)

@@ -6,10 +6,10 @@ ghost use Rattle.std.specs.Prelude.{◌≡◌, ◌≤◌, length};
 ghost use Rattle.probe.specs.Told.{places, of_moved, of_unpacking, Told, PackTold, UnpackTold, ReadTold};
 ghost use Rattle.probe.specs.Listed.{bytes_of, ListTold};
 
-use answer_lines::Written;
+use answer_lines::WriteError;
 use layout_listing::list_layout;
-use layout_moves::{Moved, pack_layout, unpack_layout};
-use layout_packed::{Unpacking, read_packed};
+use layout_moves::{MoveError, pack_layout, unpack_layout};
+use layout_packed::{Counts, UnpackError, read_packed};
 
 const NO_ROOM: u64 = 512;
 
@@ -55,43 +55,43 @@ pub extern "C" fn vjp_read_packed(
 }
 
 // The answer of a move.
-fn tell_moved(moved: Moved, told: &mut [u64]) -> u64
+fn tell_moved(moved: Result<usize, MoveError>, told: &mut [u64]) -> u64
     requires { places ≤ length told.old }
     ensures { Told (of_moved moved) result told.old told.new }
 {
     match moved {
-        Moved::Length(n) => {
+        Ok(n) => {
             told[0] = n as u64;
             told[1] = 0;
             0
         }
-        Moved::Refused(number) => number,
-        Moved::RefusedAt(number, place) => {
+        Err(MoveError::Refused(number)) => number,
+        Err(MoveError::RefusedAt(number, place)) => {
             told[0] = place as u64;
             told[1] = 0;
             number
         }
-        Moved::NoRoom => NO_ROOM,
+        Err(MoveError::NoRoom) => NO_ROOM,
     }
 }
 
 // The answer of the reader.
-fn tell_read(read: Unpacking, told: &mut [u64]) -> u64
+fn tell_read(read: Result<Counts, UnpackError>, told: &mut [u64]) -> u64
     requires { places ≤ length told.old }
     ensures { Told (of_unpacking read) result told.old told.new }
 {
     match read {
-        Unpacking::Counts(n, m) => {
-            told[0] = n as u64;
-            told[1] = m as u64;
+        Ok(counts) => {
+            told[0] = counts.first as u64;
+            told[1] = counts.second as u64;
             0
         }
-        Unpacking::Refused(number, place) => {
+        Err(UnpackError::Refused(number, place)) => {
             told[0] = place as u64;
             told[1] = 0;
             number
         }
-        Unpacking::NoRoom => NO_ROOM,
+        Err(UnpackError::NoRoom) => NO_ROOM,
     }
 }
 
@@ -103,12 +103,8 @@ pub extern "C" fn vjp_list_layout(input: &[u8], out: &mut [u8]) -> usize
     bytes_of(list_layout(input, out))
 }
 
-fn bytes_of(written: Written) -> usize
+fn bytes_of(written: Result<usize, WriteError>) -> usize
     ensures { result ≡ bytes_of written }
 {
-    match written {
-        Written::Length(n) => n,
-        Written::NoRows => 0,
-        Written::NoRoom => 0,
-    }
+    written.unwrap_or(0)
 }

@@ -4,7 +4,7 @@ ghost use Rattle.std.specs.Prelude.{[], ◌∷◌};
 ghost use Rattle.paths.specs.SegmentNumbers;
 ghost use Rattle.probe.specs.Numbers.{Given, of_vector};
 
-use paths::path::SegmentAt;
+use paths::path::Segment;
 use plane::vector2::Vector2;
 
 pub fn two(a: f64, b: f64, out: &mut [f64]) -> usize
@@ -53,12 +53,12 @@ pub fn vector(v: Vector2, out: &mut [f64]) -> usize
 }
 
 // A segment's first vertex, its second, then its trace. If there is no segment, no number is written.
-pub fn segment(at: SegmentAt, out: &mut [f64]) -> usize
+pub fn segment(at: Option<Segment>, out: &mut [f64]) -> usize
     ensures { Given (SegmentNumbers.segment_numbers at) result out.old out.new }
 {
     match at {
-        SegmentAt::Nothing => 0,
-        SegmentAt::At(s) => {
+        None => 0,
+        Some(s) => {
             let v1 = s.v1;
             let v2 = s.v2;
             part(&[v1.x, v1.y, v1.bulge, v2.x, v2.y, v2.bulge, s.trace], out)

@@ -73,5 +73,5 @@ pub extern "C" fn vjp_vector_fuzzy_eq_eps(x1: f64, y1: f64, x2: f64, y2: f64, ep
 pub extern "C" fn vjp_vector_eq(x1: f64, y1: f64, x2: f64, y2: f64) -> bool
     ensures { result ≡ vector2.eq (point x1 y1) (point x2 y2) }
 {
-    Vector2 { x: x1, y: y1 }.eq(Vector2 { x: x2, y: y2 })
+    Vector2 { x: x1, y: y1 } == Vector2 { x: x2, y: y2 }
 }

@@ -2,7 +2,7 @@
 ghost use Rattle.std.specs.Prelude.{◌≡◌};
 ghost use Rattle.paths.specs.View;
 
-use paths::path::SegmentAt;
+use paths::path::Segment;
 use paths::view;
 
 pub fn segment_count(path: &[f64], closed: bool) -> usize
@@ -11,7 +11,7 @@ pub fn segment_count(path: &[f64], closed: bool) -> usize
     view::segment_count(view::view_of(path, closed))
 }
 
-pub fn segment(path: &[f64], closed: bool, i: usize) -> SegmentAt
+pub fn segment(path: &[f64], closed: bool, i: usize) -> Option<Segment>
     ensures { result ≡ View.segment (View.view_of path.entry closed) i }
 {
     view::segment(view::view_of(path, closed), i)

@@ -21,12 +21,10 @@ pub fn put_word(out: &mut [u8], at: usize, word: &[u8]) -> usize
     requires { at + length word.now ≤ length out.old }
     ensures { Put word.now out.old at out.new result }
 {
-    let mut i = 0;
-    while i < word.len() {
-        out[at + i] = word[i];
-        i += 1;
+    for (i, b) in word.iter().enumerate() {
+        out[at + i] = *b;
     }
-    at + i
+    at + word.len()
 }
 
 // A number in decimal digits, at most 20 of them.

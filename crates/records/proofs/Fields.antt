@@ -1,4 +1,5 @@
 -- One turn of the loop over the fields of a text line.
+use Rattle.std.specs.Prelude.{Option, ℕ}
 use Prim.Native.Nat.{ℕ, suc, ◌+◌, ◌*◌, ◌-◌, ◌≤◌, ◌<◌}
 use mathlib.Core.Path.{◌≡◌}
 use mathlib.Core.Bool.{Bool, true, false}
@@ -8,7 +9,6 @@ use native.Mathlib.Nat.{sub-eq-zero_of_le}
 use borrow.Author.Tests.{eq-eqb, ne_eqb}
 use lib.ListN.{get_or}
 use Rattle.records.specs.Text.{field_digits, field_bytes, after_of, field_at, fields_from, is_number}
-use Rattle.records.specs.declared.text.Field.{Field}
 
 -- what is left from field i on: this field, then the rest
 left : (n i : ℕ) → i < n → n - i ≡ suc (n - (i + 1))
@@ -25,7 +25,7 @@ module _ (n : ℕ) (body : List ℕ) (i : ℕ) (all : Bool) (inv : fields_from n
     unfolding fields_from
     at_other h = rw (left n i inside, ← after_is, ne_eqb _ _ h) at inv
 
-    module _ (ends : get_or body (i * field_bytes + field_digits) 0 ≡ after) (field : Field) (field_is : field ≡ field_at body i)
+    module _ (ends : get_or body (i * field_bytes + field_digits) 0 ≡ after) (field : Option ℕ) (field_is : field ≡ field_at body i)
         (said : Bool) (said-is : said ≡ is_number field) where
       pub at-broken : said ≡ false → false ≡ all
       unfolding fields_from

@@ -1,4 +1,5 @@
 -- One turn of the loop that reads a field: what is left of it is nothing, or a first byte and what is left after that.
+use Rattle.std.specs.Prelude.{None, Option, Some, ℕ}
 use Prim.Native.Nat.{ℕ, ◌+◌, ◌*◌, ◌%◌, ◌^◌, ◌≤◌, ◌<◌}
 use mathlib.Core.Path.{◌≡◌}
 use mathlib.Core.List.{List}
@@ -7,12 +8,10 @@ use borrow.Author.Tests.{lt-ltb, le-ltb}
 use lib.ListN.{length, drop, get_or, drop_of_length-le}
 use lib.Seq.{drop-cons}
 use Rattle.records.specs.Text.{digit_of, spelt}
-use Rattle.records.specs.declared.text.Field.{Field}
-use Rattle.records.specs.declared.text.Field.TheVariants.{Number, Broken}
 
 -- `all` is what the whole field spells; d is what the call said of the byte at i
-module _ (text : List ℕ) (n i : ℕ) (all : Field) (inv : spelt n (drop i text) ≡ all) where
-  pub at-end : length text ≤ i → Number n ≡ all
+module _ (text : List ℕ) (n i : ℕ) (all : Option ℕ) (inv : spelt n (drop i text) ≡ all) where
+  pub at-end : length text ≤ i → Some n ≡ all
   unfolding spelt
   at-end h = rw (drop_of_length-le) at inv
 
@@ -21,6 +20,6 @@ module _ (text : List ℕ) (n i : ℕ) (all : Field) (inv : spelt n (drop i text
     unfolding spelt
     at-digit h = rw (add-one, is) (rw (drop-cons text i 0 inside, ← is, le-ltb _ _ h, is) at inv)
 
-    pub at_other : 15 < d → Broken ≡ all
+    pub at_other : 15 < d → None ≡ all
     unfolding spelt
     at_other h = rw (drop-cons text i 0 inside, ← is, lt-ltb _ _ h) at inv

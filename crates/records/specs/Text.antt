@@ -1,9 +1,7 @@
 -- The meaning of a recorded list's text, byte by byte.
-use Rattle.std.specs.Prelude.{ℕ, zero, suc, ◌+◌, ◌*◌, ◌-◌, ◌%◌, ◌^◌, Bool, true, false, cond, List, [], ◌∷◌, ltb, eqb, length, get_or, take, drop, Float}
+use Rattle.std.specs.Prelude.{ℕ, zero, suc, ◌+◌, ◌*◌, ◌-◌, ◌%◌, ◌^◌, Bool, true, false, cond, List, [], ◌∷◌, ltb, eqb, length, get_or, take, drop, Float, None, Option, Some}
 use Rattle.std.specs.Float.{binary64}
 use Rattle.std.specs.Float.Ieee.{of_bits}
-use Rattle.records.specs.declared.text.Field.{Field}
-use Rattle.records.specs.declared.text.Field.TheVariants as Field·
 
 -- ---- how long a text line is
 
@@ -30,12 +28,12 @@ digit_of b =
     16)))
 
 -- the value of the digits of n followed by those of the text; only the last sixteen digits count
-unfoldable pub spelt : ℕ → List ℕ → Field
-spelt n [] = Field·.Number n
-spelt n (b ∷ rest) = cond (ltb 15 (digit_of b)) Field·.Broken (spelt (n % 2 ^ 60 * 16 + digit_of b) rest)
+unfoldable pub spelt : ℕ → List ℕ → Option ℕ
+spelt n [] = Some n
+spelt n (b ∷ rest) = cond (ltb 15 (digit_of b)) None (spelt (n % 2 ^ 60 * 16 + digit_of b) rest)
 
 -- the value of a field
-abbrev pub word_of : List ℕ → Field
+abbrev pub word_of : List ℕ → Option ℕ
 word_of text = spelt 0 text
 
 -- ---- a text line
@@ -51,14 +49,14 @@ unfoldable pub after_of : ℕ → ℕ → ℕ
 after_of n i = cond (eqb (i + 1) n) 10 32
 
 -- field i of a text: its digits, without what stands after them
-unfoldable pub field_at : List ℕ → ℕ → Field
+unfoldable pub field_at : List ℕ → ℕ → Option ℕ
 field_at body i =
     let at = i * field_bytes in
-    cond (ltb (length body) (at + field_digits)) Field·.Broken (word_of (take field_digits (drop at body)))
+    cond (ltb (length body) (at + field_digits)) None (word_of (take field_digits (drop at body)))
 
-unfoldable pub is_number : Field → Bool
-is_number (Field·.Number x) = true
-is_number Field·.Broken = false
+unfoldable pub is_number : Option ℕ → Bool
+is_number (Some x) = true
+is_number None = false
 
 -- the last k of n fields, from field i on, are numbers, each followed by the right byte
 unfoldable pub fields_from : ℕ → List ℕ → ℕ → ℕ → Bool
@@ -73,9 +71,9 @@ is_line n body = cond (eqb (length body) (n * field_bytes)) (fields_from n body 
 
 -- ---- the numbers of a text line, as patterns and as numbers
 
-unfoldable pub value_of : Field → ℕ
-value_of (Field·.Number x) = x
-value_of Field·.Broken = 0
+unfoldable pub value_of : Option ℕ → ℕ
+value_of (Some x) = x
+value_of None = 0
 
 abbrev pub value_at : List ℕ → ℕ → ℕ
 value_at body i = value_of (field_at body i)

@@ -8,13 +8,6 @@ ghost use Rattle.records.specs.Text.{value_at, number_at};
 
 use super::{DIGITS, FIELD};
 
-// The value of a field of hex digits. Or a byte of it is no digit.
-#[derive(Clone, Copy)]
-pub enum Field {
-    Number(u64),
-    Broken,
-}
-
 // A call's name of four letters and the space after it, as one number.
 pub fn name(head: &[u8; 5]) -> u64
     ensures { result ≡ name_of head.now }
@@ -32,14 +25,11 @@ pub fn is_line(body: &[u8], n: usize) -> bool
     if body.len() != n * FIELD {
         return false;
     }
-    let mut i = 0;
-    while i < n {
+    for i in 0..n {
         if body[i * FIELD + DIGITS] != after(n, i) {
             return false;
         }
-        if is_number(field_at(body, i)) {
-            i += 1;
-        } else {
+        if !is_number(field_at(body, i)) {
             return false;
         }
     }
@@ -57,26 +47,23 @@ fn after(n: usize, i: usize) -> u8
     b' '
 }
 
-// Field i of a text.
-fn field_at(body: &[u8], i: usize) -> Field
+// Field i of a text. None if it is broken.
+fn field_at(body: &[u8], i: usize) -> Option<u64>
     requires { i < most_numbers }
     ensures { result ≡ field_at body.now i }
 {
     let at = i * FIELD;
     let end = at + DIGITS;
     if body.len() < end {
-        return Field::Broken;
+        return None;
     }
     word(&body[at..end])
 }
 
-fn is_number(f: Field) -> bool
+fn is_number(f: Option<u64>) -> bool
     ensures { result ≡ is_number f }
 {
-    match f {
-        Field::Number(_) => true,
-        Field::Broken => false,
-    }
+    f.is_some()
 }
 
 // The number of field i as a pattern; 0 if the field is broken.
@@ -84,11 +71,7 @@ pub fn value(body: &[u8], i: usize) -> u64
     requires { i < most_numbers }
     ensures { result ≡ value_at body.now i }
 {
-    let f = field_at(body, i);
-    match f {
-        Field::Number(x) => x,
-        Field::Broken => 0,
-    }
+    field_at(body, i).unwrap_or(0)
 }
 
 // The number of field i. Each NaN's pattern gives a NaN.
@@ -110,21 +93,19 @@ pub fn is_nan(pattern: u64) -> bool
     pattern % 0x8000_0000_0000_0000 > 0x7ff0_0000_0000_0000
 }
 
-// The value of a field of hex digits. If there are more than sixteen, only the last sixteen count.
-fn word(text: &[u8]) -> Field
+// The value of a field of hex digits. If there are more than sixteen, only the last sixteen count. None if a byte is no digit.
+fn word(text: &[u8]) -> Option<u64>
     ensures { result ≡ word_of text.now }
 {
     let mut value: u64 = 0;
-    let mut i = 0;
-    while i < text.len() {
-        let d = digit(text[i]);
+    for b in text {
+        let d = digit(*b);
         if d > 15 {
-            return Field::Broken;
+            return None;
         }
         value = value % 0x1000_0000_0000_0000 * 16 + d;
-        i += 1;
     }
-    Field::Number(value)
+    Some(value)
 }
 
 // The value of a byte as a hex digit in lower case; 16 if it is none.

@@ -1,17 +1,15 @@
 -- The proof of Release.antt.
-use Rattle.std.specs.Prelude.{◌≡◌, true, Float}
+use Rattle.checks.specs.declared.fault.Fault.{Fault}
+use Rattle.checks.specs.Checked.{Checked}
+use Rattle.std.specs.Prelude.{◌≡◌, true, Float, Err, Ok, Result}
 use Rattle.std.proofs.Common.{subst}
 use Rattle.std.specs.Float.Ieee.Bits.{is_true}
 use Rattle.floats.specs.Ops.{◌≼◌, f0, f1}
 use Rattle.plane.specs.declared.vector2.Vector2.{Vector2}
-use Rattle.checks.specs.declared.fault.Checked.{Checked}
-use Rattle.checks.specs.declared.fault.Checked.TheVariants.{Fine, Bad}
 use Rattle.checks.specs.Answered.{answered}
 use Rattle.checks.specs.Calls.{check_line_line}
 use Rattle.crossing.specs.LineLine.{line_line}
 use Rattle.crossing.specs.LineLineIntersect.{line_line_intr}
-use Rattle.crossing.specs.declared.line_line_intersect.LineLineAnswer.{LineLineAnswer}
-use Rattle.crossing.specs.declared.line_line_intersect.LineLineAnswer.TheVariants as LineLineAnswer·
 use Rattle.crossing.specs.declared.line_line_intr.LineLineIntr.{LineLineIntr}
 use Rattle.crossing.specs.declared.line_line_intr.LineLineIntr.TheVariants as LineLineIntr·
 use Rattle.release.specs.Release.{Calls, Release}
@@ -24,14 +22,14 @@ use Rattle.release.specs.Laws.LargeListings.{large-two-paths, large-one-path, la
 use Rattle.release.specs.Laws.LargeResults.{large-pair-wrote}
 
 -- ---- sentence 3, of the call
-abbrev Ranged : LineLineAnswer → Type 0
-Ranged (LineLineAnswer·.Refused fault) = Unit {0}
-Ranged (LineLineAnswer·.Met LineLineIntr·.NoIntersect) = Unit {0}
-Ranged (LineLineAnswer·.Met (LineLineIntr·.TrueIntersect s t)) = Unit {0}
-Ranged (LineLineAnswer·.Met (LineLineIntr·.FalseIntersect s t)) = Unit {0}
-Ranged (LineLineAnswer·.Met (LineLineIntr·.Overlapping s t)) = ((f0 ≼ s) ≡ true) × ((t ≼ f1) ≡ true)
+abbrev Ranged : Result LineLineIntr Fault → Type 0
+Ranged (Err fault) = Unit {0}
+Ranged (Ok LineLineIntr·.NoIntersect) = Unit {0}
+Ranged (Ok (LineLineIntr·.TrueIntersect s t)) = Unit {0}
+Ranged (Ok (LineLineIntr·.FalseIntersect s t)) = Unit {0}
+Ranged (Ok (LineLineIntr·.Overlapping s t)) = ((f0 ≼ s) ≡ true) × ((t ≼ f1) ≡ true)
 
-met-ranged : (r : LineLineIntr) → InRange r → Ranged (LineLineAnswer·.Met r)
+met-ranged : (r : LineLineIntr) → InRange r → Ranged (Ok r)
 met-ranged LineLineIntr·.NoIntersect ranges.nothing = tt
 met-ranged (LineLineIntr·.TrueIntersect s t) ranges.met = tt
 met-ranged (LineLineIntr·.FalseIntersect s t) ranges.missed = tt
@@ -41,9 +39,9 @@ ranged : (v1 v2 u1 u2 : Vector2) (eps : Float) → Ranged (line_line_intr v1 v2 
 unfolding line_line_intr
 ranged v1 v2 u1 u2 eps = go (check_line_line v1 v2 u1 u2 eps)
   where
-    go : (c : Checked) → Ranged (answered LineLineAnswer·.Refused LineLineAnswer·.Met c (line_line v1 v2 u1 u2 eps))
-    go (Bad fault) = tt
-    go Fine = met-ranged (line_line v1 v2 u1 u2 eps) (in-range v1 v2 u1 u2 eps)
+    go : (c : Checked) → Ranged (answered Err Ok c (line_line v1 v2 u1 u2 eps))
+    go (Err fault) = tt
+    go (Ok _) = met-ranged (line_line v1 v2 u1 u2 eps) (in-range v1 v2 u1 u2 eps)
 
 of_calls : Calls
 of_calls =

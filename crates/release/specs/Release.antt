@@ -4,7 +4,7 @@
 --    point counts as an end point.
 -- 3. If the line kernel answers Overlapping, its first parameter is at least 0 and its second at most 1.
 -- Every row that a listing writes has what sentences 1 and 2 say of its pair's answer, in both modes.
-use Rattle.std.specs.Prelude.{◌≡◌, Bool, true, cond, List, [], ◌∷◌, ◌++◌, ℕ, ◌<◌, Float}
+use Rattle.std.specs.Prelude.{◌≡◌, Bool, true, cond, List, [], ◌∷◌, ◌++◌, ℕ, ◌<◌, Float, Err, Ok}
 use Rattle.floats.specs.Ops.{◌≼◌, f0, f1}
 use Rattle.plane.specs.declared.vector2.Vector2.{Vector2}
 use Rattle.plane.specs.declared.pline_vertex.PlineVertex.{PlineVertex}
@@ -15,9 +15,7 @@ use Rattle.crossing.specs.LineLineIntersect as lines
 use Rattle.crossing.specs.LineCircleIntersect as line-circle
 use Rattle.crossing.specs.CircleCircleIntersect as circles
 use Rattle.crossing.specs.PlineSegIntersect as pair
-use Rattle.crossing.specs.declared.line_line_intersect.LineLineAnswer.TheVariants as LineLineAnswer·
 use Rattle.crossing.specs.declared.line_line_intr.LineLineIntr.TheVariants as LineLineIntr·
-use Rattle.crossing.specs.declared.pline_seg_intersect.PlineSegAnswer.TheVariants as PlineSegAnswer·
 use Rattle.told.specs.Stands.{Has, IsEnd}
 use Rattle.paths.specs.Segments.{segment_from, segment_count}
 use Rattle.cuts.specs.Cut.{is_large, cut_point}
@@ -55,11 +53,11 @@ pub record Calls : Type 0 where
       → All Finite (circles.numbers_of (circles.circle_circle_intr radius1 center1 radius2 center2 eps)).values
   -- 1 and 2, of the pair
   pub answer : (v1 v2 u1 u2 : PlineVertex) (eps : Float) (met : PlineSegIntr)
-      → pair.pline_seg_intr v1 v2 u1 u2 eps ≡ PlineSegAnswer·.Met met
+      → pair.pline_seg_intr v1 v2 u1 u2 eps ≡ Ok met
       → Good (IsEnd v1 v2 u1 u2) (class_of met) (point1_of met) (point2_of met)
   -- 3
   pub range : (v1 v2 u1 u2 : Vector2) (eps t0 t1 : Float)
-      → lines.line_line_intr v1 v2 u1 u2 eps ≡ LineLineAnswer·.Met (LineLineIntr·.Overlapping t0 t1)
+      → lines.line_line_intr v1 v2 u1 u2 eps ≡ Ok (LineLineIntr·.Overlapping t0 t1)
       → ((f0 ≼ t0) ≡ true) × ((t1 ≼ f1) ≡ true)
 
 -- ---- rows

@@ -1,6 +1,6 @@
 -- What Release.antt does not say, since it is false: two accepted calls that show it. The parameters of an overlap need not rise,
 -- and a point of an answer need not lie in the box of the coordinates.
-use Rattle.std.specs.Prelude.{◌≡◌, refl, true, Float}
+use Rattle.std.specs.Prelude.{◌≡◌, refl, true, Float, Err, Ok}
 use Rattle.std.specs.Int.Count.{count_trailing_zeros}
 use Rattle.std.specs.Float.{binary64}
 use Rattle.std.specs.Float.Ieee.{add, sub, mul, div, neg, sum, round, units, odd, size, span, climb, lt, le, eq, is_nan, of_bits, of_fields}
@@ -30,9 +30,7 @@ use Rattle.crossing.specs.ArcArc
 use Rattle.crossing.specs.PlineSeg
 use Rattle.crossing.specs.LineLineIntersect.{line_line_intr}
 use Rattle.crossing.specs.PlineSegIntersect.{pline_seg_intr}
-use Rattle.crossing.specs.declared.line_line_intersect.LineLineAnswer.TheVariants as LineLineAnswer·
 use Rattle.crossing.specs.declared.line_line_intr.LineLineIntr.TheVariants.{Overlapping}
-use Rattle.crossing.specs.declared.pline_seg_intersect.PlineSegAnswer.TheVariants as PlineSegAnswer·
 
 -- ---- the first parameter is above 1, and the second is 1
 abbrev flat : Float → Vector2
@@ -43,7 +41,7 @@ above1 = of_bits binary64 0x3ff0_0000_0000_0005
 
 pub falls : line_line_intr (flat (of_bits binary64 0x408b_3333_3333_333b)) (flat (of_bits binary64 0x408e_5333_3333_333b)) (flat f0)
     (flat (of_bits binary64 0x408b_3333_3333_3333)) (of_bits binary64 0x3d71_0000_0000_0000)
-    ≡ LineLineAnswer·.Met (Overlapping above1 f1)
+    ≡ Ok (Overlapping above1 f1)
 unfolding
     line_line_intr check_line_line Each.epsilon Each.finite Each.finite_then Each.coordinate refuse later is_infinite not_finite beyond
     Range.on_segment LineLine.crossing LineLine.both_points LineLine.first_point LineLine.second_point LineLine.rising
@@ -70,7 +68,7 @@ far = of_bits binary64 0xc2b0_50f8_0000_0004
 
 pub leaves : pline_seg_intr (left (of_bits binary64 0x3e45_798e_e230_8c3b)) right (left (of_bits binary64 0x3e45_798e_e230_8c3c)) right
     (of_bits binary64 0x3ee4_f8b5_88e3_68f1)
-    ≡ PlineSegAnswer·.Met (TangentIntersect (record { x = f0; y = far }))
+    ≡ Ok (TangentIntersect (record { x = f0; y = far }))
 unfolding
     pline_seg_intr check_pline_seg Each.epsilon Each.finite Each.finite_then Each.coordinate Each.bulge Each.chord arc_chord
     refuse later is_infinite not_finite beyond

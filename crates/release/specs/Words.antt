@@ -1,21 +1,15 @@
 -- The words of Release.antt: what is finite, what a call has written, and how many rows its answer has.
-use Rattle.std.specs.Prelude.{◌≡◌, Bool, false, List, [], ◌∷◌, ℕ, Float, length, take}
+use Rattle.std.specs.Prelude.{◌≡◌, Bool, false, List, [], ◌∷◌, ℕ, Float, length, take, Err, Ok}
 use Rattle.float_laws.specs.Flat.{flat}
 use Rattle.checks.specs.Number.{not_finite}
 use Rattle.listing_pairs.specs.declared.row.Row.{Row}
 use Rattle.listing_pairs.specs.Row.{points_of}
-use Rattle.listing_outcomes.specs.declared.answer.ListingAnswer.{ListingAnswer}
-use Rattle.listing_outcomes.specs.declared.answer.ListingAnswer.TheVariants as ListingAnswer·
-use Rattle.listing_outcomes.specs.declared.answer.PageAnswer.{PageAnswer}
-use Rattle.listing_outcomes.specs.declared.answer.PageAnswer.TheVariants as PageAnswer·
+use Rattle.listing_outcomes.specs.Answer.{ListingAnswer, PageAnswer}
 use Rattle.listing_outcomes.specs.Outcome.{Outcome}
 use Rattle.listing_outcomes.specs.BoxedOutcome.{BoxedOutcome}
+use Rattle.month.specs.Counted.{CountedAnswer}
 use Rattle.listing_calls.specs.Chain.{Lent, Joined}
-use Rattle.month.specs.declared.mutual_counted.CountedAnswer.{CountedAnswer}
-use Rattle.month.specs.declared.mutual_counted.CountedAnswer.TheVariants as CountedAnswer·
-use Rattle.large_pair.specs.declared.LargePair.{LargePair}
-use Rattle.large_pair.specs.declared.LargePair.TheVariants as LargePair·
-use Rattle.large_pair.specs.LargePair.{Result, LargeOutcome, words_of, floats_of}
+use Rattle.large_pair.specs.LargePair.{Result, LargeOutcome, words_of, floats_of, LargePair, refusal}
 use Rattle.large_listings.specs.LargeListings as large
 
 -- ---- numbers and lists
@@ -42,21 +36,20 @@ pub record Written {R : Type 0} (P : R → Type 0) (words : R → List ℕ) (flo
 
 -- how many rows an answer has: a refusal has none
 abbrev pub listed : ListingAnswer → ℕ
-listed (ListingAnswer·.Refused fault) = 0
-listed (ListingAnswer·.Listed rows pairs) = rows
+listed (Err fault) = 0
+listed (Ok counts) = counts.rows
 
 abbrev pub paged : PageAnswer → ℕ
-paged (PageAnswer·.Refused fault) = 0
-paged (PageAnswer·.Paged rows pairs next all) = rows
+paged (Err fault) = 0
+paged (Ok counts) = counts.rows
 
 abbrev pub counted : CountedAnswer → ℕ
-counted CountedAnswer·.NoRoom = 0
-counted (CountedAnswer·.Answered answer) = listed answer
+counted (Err error) = 0
+counted (Ok counts) = counts.rows
 
 abbrev pub results : LargePair → ℕ
-results LargePair·.NoRoom = 0
-results (LargePair·.Refused fault) = 0
-results (LargePair·.Met n) = n
+results (Err error) = 0
+results (Ok n) = n
 
 -- P holds of every row that a call wrote, of every result that a pair's call wrote, and of every row that a chain joined
 abbrev pub Wrote : {A : Type 0} → (A → ℕ) → (Row → Type 0) → (Row → List ℕ) → Outcome A → Type 0

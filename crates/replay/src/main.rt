@@ -4,29 +4,20 @@
 #![tactic(auto)]
 
 use std::io::{Stdin, Stdout};
+use streams::ReadError;
 
-// What reading one record showed.
-#[derive(Clone, Copy)]
-enum Seen {
-    End,
-    Right,
-    Wrong,
-    Unread,
-}
-
+// How many records a list has, and for how many our answer differs.
 #[derive(Clone, Copy)]
 struct Tally {
     records: u64,
     differences: u64,
-    unread: bool,
 }
 
 fn main(rt: HostRuntime) {
-    let t = replay(rt.stdin());
-    if t.unread {
+    let Ok(t) = replay(rt.stdin()) else {
         let _ = eprintln!(rt; "replay: standard input cannot be read");
         return;
-    }
+    };
     if !say(rt.stdout(), t.records, t.differences) {
         let _ = eprintln!(rt; "replay: standard output cannot be written");
     }
@@ -52,61 +43,39 @@ fn put_number(stdout: Stdout, n: u64) -> bool {
 }
 
 // Replays the whole list. Nothing says that the input ends, so the loop also ends where the count would not fit.
-fn replay(stdin: Stdin) -> Tally {
-    let mut records: u64 = 0;
+fn replay(stdin: Stdin) -> Result<Tally, ReadError> {
     let mut differences: u64 = 0;
-    while records < u64::MAX {
-        let seen = next(stdin);
-        match seen {
-            Seen::End => {
-                break;
-            }
-            Seen::Right => {
-                records += 1;
-            }
-            Seen::Wrong => {
-                records += 1;
-                differences += 1;
-            }
-            Seen::Unread => {
-                return Tally {
-                    records: records,
-                    differences: differences,
-                    unread: true,
-                };
-            }
+    for records in 0..u64::MAX {
+        let Some(right) = next(stdin)? else {
+            return Ok(Tally {
+                records,
+                differences,
+            });
+        };
+        if !right {
+            differences += 1;
         }
     }
-    Tally {
-        records: records,
-        differences: differences,
-        unread: false,
-    }
+    Ok(Tally {
+        records: u64::MAX,
+        differences,
+    })
 }
 
-// Reads and judges one record: its name, then as many numbers as belong to that name.
-fn next(stdin: Stdin) -> Seen {
+// Reads and judges one record: its name, then as many numbers as belong to that name. None at the end of the input.
+fn next(stdin: Stdin) -> Result<Option<bool>, ReadError> {
     let mut head = [0u8; 5];
-    let name = streams::read_full(stdin, &mut head);
-    if name.failed {
-        return Seen::Unread;
-    }
-    if name.bytes == 0 {
-        return Seen::End;
+    if streams::read_full(stdin, &mut head)? == 0 {
+        return Ok(None);
     }
     let end = records::numbers(&head) * records::FIELD;
     let mut body = [0u8; records::MOST * records::FIELD];
-    rest(stdin, &head, &mut body[..end])
+    let right = rest(stdin, &head, &mut body[..end])?;
+    Ok(Some(right))
 }
 
 // Reads and judges what follows a name. What the input lacks stays 0, and no record has a 0 byte.
-fn rest(stdin: Stdin, head: &[u8; 5], body: &mut [u8]) -> Seen {
-    let input = streams::read_full(stdin, body);
-    if input.failed {
-        return Seen::Unread;
-    }
-    if records::is_right(head, body) {
-        return Seen::Right;
-    }
-    Seen::Wrong
+fn rest(stdin: Stdin, head: &[u8; 5], body: &mut [u8]) -> Result<bool, ReadError> {
+    streams::read_full(stdin, body)?;
+    Ok(records::is_right(head, body))
 }

@@ -10,10 +10,7 @@ pub const BLOCK: usize = 64;
 pub fn flag(left: bool) -> u64
     ensures { result ≡ Flags.flag left }
 {
-    if left {
-        return 1;
-    }
-    0
+    u64::from(left)
 }
 
 // The first index from j on and before `end` whose flag is up; `end` if there is none. The flags are those from `from` on.
@@ -21,12 +18,10 @@ pub fn next_left(flags: &[u64], from: usize, j: usize, end: usize) -> usize
     requires { (from ≤ j) × (j ≤ end) × (end - from ≤ length flags.now) }
     ensures { result ≡ Next.first (Flags.is_up flags.now from) j end }
 {
-    let mut k = j;
-    while k < end {
+    for k in j..end {
         if 0 < flags[k - from] {
             return k;
         }
-        k += 1;
     }
     end
 }
@@ -36,9 +31,5 @@ pub fn leave_all(from: usize, to: usize, flags: &mut [u64])
     requires { (from ≤ to) × (to - from ≤ length flags.old) }
     ensures { flags.new ≡ Flags.flags Flags.every from to flags.old }
 {
-    let mut j = from;
-    while j < to {
-        flags[j - from] = flag(true);
-        j += 1;
-    }
+    flags[..to - from].fill(flag(true));
 }

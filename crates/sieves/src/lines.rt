@@ -62,15 +62,13 @@ pub fn keep_sides(path: &[f64], n: usize, eps: f64, sides: &mut [f64])
     requires n_in_bounds { n * LineDefs.numbers_of_side ≤ length sides.old }
     ensures { sides.new ≡ LineDefs.keep_sides path.now n eps n sides.old }
 {
-    let mut j = 0;
-    while j < n {
+    for j in 0..n {
         let s = segments::segment_from(path, j);
         let side = side_of(s.v1, s.v2, eps);
         sides[j] = side.x;
         sides[n + j] = side.y;
         sides[n + n + j] = side.dx;
         sides[n + n + n + j] = side.dy;
-        j += 1;
     }
 }
 
@@ -93,14 +91,10 @@ pub fn judged(sides: &[f64], n: usize) -> usize
     ensures { result ≡ LineDefs.judged sides.now n n }
 {
     let mut count = 0;
-    let mut j = 0;
-    while j < n {
+    for j in 0..n {
         let side = side_at(sides, n, j);
         if side.dx == side.dx {
             count += 1;
-            j += 1;
-        } else {
-            j += 1;
         }
     }
     count
@@ -135,10 +129,8 @@ pub fn sift_lines(
     requires from_le_to { (from ≤ to) × (to ≤ n) × (to - from ≤ length flags.old) }
     ensures { flags.new ≡ Flags.flags (LineDefs.lines_left v sides.now n eps) from to flags.old }
 {
-    let mut j = from;
-    while j < to {
+    for j in from..to {
         let u = side_at(sides, n, j);
         flags[j - from] = flag(!sides_apart(v, u, eps));
-        j += 1;
     }
 }

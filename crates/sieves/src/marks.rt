@@ -32,15 +32,13 @@ pub fn grain_of(n: usize, m: usize, words: usize) -> Grain
         };
     }
     let stride = words * A_WORD / n;
-    let mut shift = 0;
-    while shift < MOST_SHIFT {
+    for shift in 0..MOST_SHIFT {
         if m >> shift < stride {
             return Grain {
                 stride: stride,
                 shift: shift,
             };
         }
-        shift += 1;
     }
     Grain {
         stride: stride,
@@ -84,10 +82,8 @@ pub fn recall(marks: &[u64], grain: Grain, i: usize, from: usize, to: usize, fla
     requires from_le_to { (from ≤ to) × (to - from ≤ length flags.old) }
     ensures { flags.new ≡ Flags.flags (marks_of.marked marks.now grain i) from to flags.old }
 {
-    let mut j = from;
-    while j < to {
+    for j in from..to {
         let p = mark_of(grain, i, j);
         flags[j - from] = flag(is_set(marks, p));
-        j += 1;
     }
 }

@@ -2,44 +2,32 @@
 // or write that a signal interrupts before it moved a byte is made again. A failed one is not the same as the end of the input.
 #![tactic(auto)]
 
-ghost use Rattle.std.specs.Prelude.{◌≤◌, length, IfSome};
+ghost use Rattle.std.specs.Prelude.{◌≤◌, length, IfSome, MatchResult};
 
 use std::io::{ErrorKind, Read, Stdin, Stdout, Write};
 
 // how often a read or write is tried at most: nothing says that signals end, but a proved loop must
 const TRIES: u64 = u64::MAX;
 
-// How many bytes were read, and whether a read failed.
+// A read failed, after this many bytes.
 #[derive(Clone, Copy)]
-pub struct Input {
+pub struct ReadError {
     pub bytes: usize,
-    pub failed: bool,
 }
 
-// Reads until the slice is full, the input ends, or a read fails.
-pub fn read_full(stdin: Stdin, bytes: &mut [u8]) -> Input
-    ensures { result.bytes ≤ length bytes.new }
+// Reads until the slice is full, the input ends, or a read fails, and answers how many bytes were read.
+pub fn read_full(stdin: Stdin, bytes: &mut [u8]) -> Result<usize, ReadError>
+    ensures { MatchResult result (λ n. n ≤ length bytes.new) (λ e. e.bytes ≤ length bytes.new) }
 {
     let mut n = 0;
     while n < bytes.len() {
-        let Some(more) = read_some(stdin, &mut bytes[n..]) else {
-            return Input {
-                bytes: n,
-                failed: true,
-            };
-        };
+        let more = read_some(stdin, &mut bytes[n..]).ok_or(ReadError { bytes: n })?;
         if more == 0 {
-            return Input {
-                bytes: n,
-                failed: false,
-            };
+            return Ok(n);
         }
         n += more;
     }
-    Input {
-        bytes: n,
-        failed: false,
-    }
+    Ok(n)
 }
 
 // Writes the slice and answers how many of its bytes were taken: fewer than all exactly if a write failed or took nothing.
@@ -61,8 +49,7 @@ pub fn write_full(stdout: Stdout, bytes: &[u8]) -> usize
 fn read_some(mut stdin: Stdin, bytes: &mut [u8]) -> Option<usize>
     ensures { IfSome result (λ n. n ≤ length bytes.new) }
 {
-    let mut tries = TRIES;
-    while tries > 0 {
+    for _ in 0..TRIES {
         match stdin.read(bytes) {
             Ok(got) => {
                 return Some(got);
@@ -73,7 +60,6 @@ fn read_some(mut stdin: Stdin, bytes: &mut [u8]) -> Option<usize>
                 }
             }
         }
-        tries -= 1;
     }
     None
 }
@@ -82,8 +68,7 @@ fn read_some(mut stdin: Stdin, bytes: &mut [u8]) -> Option<usize>
 fn write_some(mut stdout: Stdout, bytes: &[u8]) -> Option<usize>
     ensures { IfSome result (λ n. n ≤ length bytes.now) }
 {
-    let mut tries = TRIES;
-    while tries > 0 {
+    for _ in 0..TRIES {
         match stdout.write(bytes) {
             Ok(put) => {
                 return Some(put);
@@ -94,7 +79,6 @@ fn write_some(mut stdout: Stdout, bytes: &[u8]) -> Option<usize>
                 }
             }
         }
-        tries -= 1;
     }
     None
 }

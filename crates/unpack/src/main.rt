@@ -3,20 +3,18 @@
 // fails, it says so in one text line on standard error.
 #![tactic(auto)]
 
-use answer_lines::{LINE, Written};
-use layout_moves::Moved;
+use answer_lines::LINE;
+use layout_moves::MoveError;
 use layout_text::LONGEST;
 
 fn main(rt: HostRuntime) {
     // one byte more than a packed file may have: the fault of a longer file lies within these (`unpack-enough` of
     // layout_moves/specs/ReadEnough.antt)
     let mut file = [0u8; layout_packed::limits::BYTES + 1];
-    let input = streams::read_full(rt.stdin(), &mut file);
-    if input.failed {
+    let Ok(n) = streams::read_full(rt.stdin(), &mut file) else {
         let _ = eprintln!(rt; "unpack: standard input cannot be read");
         return;
-    }
-    let n = input.bytes;
+    };
     answer(&rt, &file[..n]);
 }
 
@@ -24,20 +22,16 @@ fn main(rt: HostRuntime) {
 // end of this function is never reached: `unpack-answers` of layout_moves/specs/UnpackPromise.antt proves it for every file.
 fn answer(rt: &HostRuntime, file: &[u8]) {
     let mut out = [0u8; LONGEST];
-    let moved = layout_moves::unpack_layout(file, &mut out);
-    match moved {
-        Moved::Length(n) => {
-            if n <= out.len() {
-                write(rt, &out[..n]);
-                return;
-            }
+    match layout_moves::unpack_layout(file, &mut out) {
+        Ok(n) if n <= out.len() => {
+            write(rt, &out[..n]);
+            return;
         }
-        Moved::RefusedAt(number, place) => {
+        Err(MoveError::RefusedAt(number, place)) => {
             refuse(rt, number, place);
             return;
         }
-        Moved::Refused(_) => {}
-        Moved::NoRoom => {}
+        _ => {}
     }
     let _ = eprintln!(rt; "unpack: no room for the text");
 }
@@ -45,15 +39,10 @@ fn answer(rt: &HostRuntime, file: &[u8]) {
 // Writes the text line of a refusal to standard error.
 fn refuse(rt: &HostRuntime, number: u64, place: usize) {
     let mut line = [0u8; LINE];
-    let written = answer_lines::write_refusal_at(number, place, &mut line);
-    match written {
-        Written::Length(n) => {
-            if n <= line.len() {
-                let _ = rt.stderr().write_all(&line[..n]);
-            }
+    if let Ok(n) = answer_lines::write_refusal_at(number, place, &mut line) {
+        if n <= line.len() {
+            let _ = rt.stderr().write_all(&line[..n]);
         }
-        Written::NoRows => {}
-        Written::NoRoom => {}
     }
 }
 

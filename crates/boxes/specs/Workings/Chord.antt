@@ -1,6 +1,6 @@
 -- The box of a segment from a chord length that is known already, so that its root is taken once.
 use Rattle.std.specs.Prelude.{◌≡◌, refl, Bool, true, false, cond, Float}
-use Rattle.std.proofs.Common.{sym, ap, ◌∙◌}
+use Rattle.std.proofs.Common.{ap, ◌∙◌}
 use Rattle.floats.specs.Ops.{◌⊕◌, f0}
 use Rattle.plane.specs.declared.pline_vertex.PlineVertex.{PlineVertex}
 use Rattle.plane.specs.PlineVertex.{bulge_is_zero}

@@ -1,10 +1,10 @@
 -- The first number from j on for which a test says yes; and which boxes of a slice meet a given one, where the boxes of n
 -- segments stand from box `from` on and, behind them, those of their groups.
-use Rattle.std.specs.Prelude.{◌≡◌, Bool, cond, not, ◌⊎◌, List, ltb, Float, length}
+use Rattle.std.specs.Prelude.{◌≡◌, Bool, cond, not, ◌⊎◌, List, Float, length}
 use Rattle.std.proofs.Math.Path.{refl, sym, ap}
-use Rattle.std.proofs.Common.{◌∙◌, true≢false, inl, inr, eq-or-lt_of_le, add-one, arith, ltb-true, ltb-false}
+use Rattle.std.proofs.Common.{◌∙◌, inl, inr, eq-or-lt_of_le, add-one, arith}
 use Rattle.std.proofs.Math.Bool.{true, false}
-use Prim.Native.Nat.{ℕ, zero, suc, ◌+◌, ◌-◌, ◌*◌, ◌/◌, ◌≤◌, ◌<◌}
+use Prim.Native.Nat.{ℕ, zero, suc, ◌+◌, ◌-◌, ◌*◌, ◌/◌, ◌≤◌, ◌<◌, max}
 use Rattle.std.proofs.lemmas.List.Edits.{sets}
 use Rattle.std.proofs.Math.Seq.{length-sets}
 use Rattle.boxes.specs.declared.bounds.Box.{Box}
@@ -169,8 +169,8 @@ pub record GroupedTwice (boxes : List Float) (from n : ℕ) : Type 0 where
   pub twice : Grouped boxes (from + n) (group_count n)
 
 -- k, or the first segment of group g if that comes later
-unfoldable pub in_group : ℕ → ℕ → ℕ
-in_group k g = cond (ltb k (g * group_size)) (g * group_size) k
+abbrev pub in_group : ℕ → ℕ → ℕ
+in_group k g = max k (g * group_size)
 
 pub record InGroup (k g r : ℕ) : Type 0 where
   pub low : k ≤ r
@@ -179,21 +179,13 @@ pub record InGroup (k g r : ℕ) : Type 0 where
   pub high : (end : ℕ) → k < end → g * group_size < end → r < end
 
 pub in-group-lem : (k g r : ℕ) → r ≡ in_group k g → InGroup k g r
-unfolding in_group
-in-group-lem k g r e = rw e (go (ltb k (g * group_size)) refl)
-  where
-    go : (b : Bool) → ltb k (g * group_size) ≡ b → InGroup k g (cond b (g * group_size) k)
-    go true f =
-        let less : k < g * group_size = ltb-true k (g * group_size) f in
-        record { low = omega (arith, less); start = omega arith; least = λ i a b. b; high = λ end a b. b }
-    go false f =
-        let more : g * group_size ≤ k = ltb-false k (g * group_size) f in
-        record {
-          low = omega arith;
-          start = more;
-          least = λ i a b. absurd (omega (arith, a, b));
-          high = λ end a b. a;
-        }
+in-group-lem k g r e =
+    record {
+      low = omega (arith, e);
+      start = omega (arith, e);
+      least = λ i a b. omega (arith, e, a, b);
+      high = λ end a b. omega (arith, e, a, b);
+    }
 
 -- if no group from that of k up to g meets b, no segment from k up to the start of group g does
 pub none-in-groups : (boxes : List Float) (from n : ℕ) (b : Box) (k g : ℕ) → Grouped boxes from n

@@ -1,14 +1,13 @@
 -- Boxes in a slice of floats: read from it, stored in it one after the other, and read back.
 use Rattle.std.specs.Prelude.{◌≡◌, refl, List, [], ◌∷◌, ◌++◌, Float, length, get_or}
 use Rattle.std.proofs.Math.Path.{sym, ap}
-use Rattle.std.proofs.Common.{◌∙◌, append_assoc, append-nil, add-one, length-append, get_or-append-add}
+use Rattle.std.proofs.Common.{◌∙◌, append-nil, add-one, length-append, get_or-append-add}
 use Prim.Native.Nat.{ℕ, zero, suc, ◌+◌, ◌-◌, ◌*◌, ◌≤◌, ◌<◌, min as lesser}
 use native.Mathlib.Omega.{arith}
 use Rattle.std.specs.Float.{nan}
 use Rattle.std.proofs.Math.ListN.{get_or-append}
 use Rattle.std.proofs.lemmas.List.Edits.{sets}
 use Rattle.std.proofs.Math.Seq.{length-sets}
-use Rattle.float_laws.specs.Flat.{flat}
 use Rattle.float_laws.specs.Stores.{sets-append, sets-before, sets-read, flat_append, flat-length}
 use Rattle.paths.specs.declared.path.Segment.{Segment}
 use Rattle.paths.specs.Segments.{segment_from}

@@ -2,10 +2,8 @@
 use Rattle.std.specs.Prelude.{ℕ, ◌<◌, ◌≤◌, ◌≡◌, List, Float, length}
 use Rattle.std.proofs.Common.{ap, ◌∙◌, lt-ltb, le-ltb}
 use Rattle.std.proofs.lemmas.List.Edits.{sets}
-use Rattle.month.specs.declared.mutual_counted.CountedAnswer.{CountedAnswer}
-use Rattle.month.specs.declared.join.JoinAnswer.{JoinAnswer}
-use Rattle.month.specs.Counted.{CountedOutcome, LeavesCounted}
-use Rattle.month.specs.Join.{JoinOutcome, LeavesJoin}
+use Rattle.month.specs.Counted.{CountedOutcome, LeavesCounted, CountedAnswer}
+use Rattle.month.specs.Join.{JoinOutcome, LeavesJoin, JoinAnswer}
 use Rattle.capi.specs.Handed.{no_room_code}
 use Rattle.capi.specs.HandedListing.{count_places}
 use Rattle.capi.specs.HandedMonth.{of_counted, HandedCounted, join_code, HandedJoin}

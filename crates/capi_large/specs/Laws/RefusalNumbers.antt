@@ -1,7 +1,7 @@
 -- A fault that a listing, boxed or not, or a page finds in the mode of large arcs fits into a word, by the checks that find it.
+use Rattle.checks.specs.Checked.{Checked}
 use Rattle.std.specs.Prelude.{Bool, List, [], ◌∷◌, ◌++◌, ℕ, Float}
 use Rattle.std.proofs.Common.{arith}
-use Rattle.checks.specs.declared.fault.Checked.{Checked}
 use Rattle.checks.specs.First.{first as first_fault}
 use Rattle.checks.specs.Refusal
 use Rattle.checks.specs.Laws.RefusalNumbers.{Small, fine, refused, and, at-0-0, append}

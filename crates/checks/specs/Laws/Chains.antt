@@ -1,10 +1,9 @@
 -- Lists of checks, one after another; and which numbers pass the checks of a point, a vertex and a circle.
-use Rattle.std.specs.Prelude.{◌≡◌, false, ◌↔◌, List, [], ◌∷◌, ◌++◌, ℕ, Float}
+use Rattle.checks.specs.Checked.{Checked}
+use Rattle.std.specs.Prelude.{◌≡◌, false, ◌↔◌, List, [], ◌∷◌, ◌++◌, ℕ, Float, Ok}
 use Rattle.std.proofs.Common.{sym, ap, ◌∙◌}
 use Rattle.std.proofs.Math.Logic.Iff
 use Rattle.checks.specs.declared.fault.Item.TheVariants.{X, Y, Bulge, Radius, CenterX, CenterY, Trace}
-use Rattle.checks.specs.declared.fault.Checked.{Checked}
-use Rattle.checks.specs.declared.fault.Checked.TheVariants.{Fine}
 use Rattle.checks.specs.Fault.{at, later}
 use Rattle.checks.specs.Limit
 use Rattle.checks.specs.Each
@@ -22,8 +21,8 @@ pub first-append : (cs ds : List Checked) → first (cs ++ ds) ≡ later (first 
 first-append [] ds = sym (fine-left (first ds))
 first-append (c ∷ cs) ds = ap (later c) (first-append cs ds) ∙ sym (later-assoc c (first cs) (first ds))
 
-pub append-fine : (cs ds : List Checked) {F G : Type 0} → ((first cs ≡ Fine) ↔ F) → ((first ds ≡ Fine) ↔ G)
-    → ((first (cs ++ ds) ≡ Fine) ↔ (F × G))
+pub append-fine : (cs ds : List Checked) {F G : Type 0} → ((first cs ≡ Ok tt) ↔ F) → ((first ds ≡ Ok tt) ↔ G)
+    → ((first (cs ++ ds) ≡ Ok tt) ↔ (F × G))
 append-fine cs ds p q = same-fine (first-append cs ds) (then-fine p q)
 
 -- ---- what passes
@@ -47,13 +46,13 @@ pub record CircleFine (r x y : Float) : Type 0 where
 
 -- the checks of a list all pass exactly for such numbers
 module _ (x y : Float) (owner : ℕ) where
-  pub point-listed : (index : ℕ) → (first (point_checks x y owner index) ≡ Fine) ↔ PointFine x y
+  pub point-listed : (index : ℕ) → (first (point_checks x y owner index) ≡ Ok tt) ↔ PointFine x y
   point-listed index =
       Iff.trans
       (then-fine (coordinate-fine x (at owner index X)) (alone-fine (coordinate-fine y (at owner index Y))))
       (λ h. record { at_x = h.0; at_y = h.1 }, λ p. (p.at_x, p.at_y))
 
-  pub vertex-listed : (b : Float) (index : ℕ) → (first (vertex_checks x y b owner index) ≡ Fine) ↔ VertexFine x y b
+  pub vertex-listed : (b : Float) (index : ℕ) → (first (vertex_checks x y b owner index) ≡ Ok tt) ↔ VertexFine x y b
   vertex-listed b index =
       let last : List Checked = Each.bulge b (at owner index Bulge) ∷ [] in
       let last-fine = alone-fine (bulge-fine b (at owner index Bulge)) in
@@ -61,7 +60,7 @@ module _ (x y : Float) (owner : ℕ) where
       (append-fine (point_checks x y owner index) last (point-listed index) last-fine)
       (λ h. record { point = h.0; bulge = h.1 }, λ v. (v.point, v.bulge))
 
-  pub traced-listed : (b t : Float) (index : ℕ) → (first (traced_checks x y b t owner index) ≡ Fine) ↔ TracedFine x y b t
+  pub traced-listed : (b t : Float) (index : ℕ) → (first (traced_checks x y b t owner index) ≡ Ok tt) ↔ TracedFine x y b t
   traced-listed b t index =
       let last : List Checked = Each.trace t (at owner index Trace) ∷ [] in
       let last-fine = alone-fine (trace-fine t (at owner index Trace)) in
@@ -69,7 +68,7 @@ module _ (x y : Float) (owner : ℕ) where
       (append-fine (vertex_checks x y b owner index) last (vertex-listed b index) last-fine)
       (λ h. record { vertex = h.0; trace = h.1 }, λ v. (v.vertex, v.trace))
 
-  pub circle-listed : (r : Float) → (first (circle_checks r x y owner) ≡ Fine) ↔ CircleFine r x y
+  pub circle-listed : (r : Float) → (first (circle_checks r x y owner) ≡ Ok tt) ↔ CircleFine r x y
   circle-listed r =
       let center = then-fine (center-fine x (at owner 0 CenterX)) (alone-fine (center-fine y (at owner 0 CenterY))) in
       Iff.trans

@@ -1,6 +1,6 @@
 -- An arc's chord is long enough if its dot product with itself is at least 2^-80: then the correctly rounded root is at least
 -- 2^-40, the least chord, since rounding does not cross it. So the check needs no root there.
-use Rattle.std.specs.Prelude.{◌≡◌, refl, ℕ, ◌+◌, ◌-◌, ◌*◌, ◌^◌, ◌≤◌, ◌<◌, Bool, true, false, not, cond, T, Float}
+use Rattle.std.specs.Prelude.{◌≡◌, refl, ℕ, ◌+◌, ◌-◌, ◌*◌, ◌^◌, ◌≤◌, ◌<◌, Bool, true, false, not, cond, T, Float, Ok}
 use Rattle.std.proofs.Common.{sym, ap, subst, arith, lit<}
 use Rattle.std.specs.Float.{inf, binary64}
 use Rattle.std.specs.Float.Ieee.{of_bits, fits, lt}
@@ -17,7 +17,6 @@ use Rattle.floats.specs.Laws.RootPowers.{root64, root-least}
 use Rattle.plane.specs.Vector2 as vector2
 use Rattle.plane.specs.declared.vector2.Vector2.{Vector2}
 use Rattle.checks.specs.declared.fault.Place.{Place}
-use Rattle.checks.specs.declared.fault.Checked.TheVariants.{Fine}
 use Rattle.checks.specs.Fault.{bad, refuse}
 use Rattle.checks.specs.Limit
 use Rattle.checks.specs.Refusal
@@ -69,8 +68,8 @@ long-chord v h =
 
 -- so the check finds it fine, for any place p and for the computed dot product s
 pub long-fine : (v : Vector2) (s : Float) → s ≡ vector2.dot v v → (s ≽ square_least) ≡ true
-    → (p : Place) → Each.chord (vector2.length v) p ≡ Fine
+    → (p : Place) → Each.chord (vector2.length v) p ≡ Ok tt
 unfolding Each.chord refuse
 long-fine v s e h p =
     let t : T (vector2.dot v v ≽ square_least) = subst (λ (z : Float). T (z ≽ square_least)) e (subst T (sym h) tt) in
-    ap (λ (b : Bool). cond b (bad Refusal.chord p) Fine) (long-chord v t)
+    ap (λ (b : Bool). cond b (bad Refusal.chord p) (Ok tt)) (long-chord v t)

@@ -1,6 +1,6 @@
 -- What a check says of a number that it finds fine, and that it finds only such numbers fine. The proofs of callers use these
 -- facts.
-use Rattle.std.specs.Prelude.{◌≡◌, ◌↔◌, Bool, true, false, not, ◌||◌, [], ◌∷◌, ℕ, T, Float}
+use Rattle.std.specs.Prelude.{◌≡◌, ◌↔◌, Bool, true, false, not, ◌||◌, [], ◌∷◌, ℕ, T, Float, Ok}
 use Rattle.std.proofs.Math.Path.{refl}
 use Rattle.std.proofs.Math.Logic.Iff
 use Rattle.std.proofs.Common.{true≢false}
@@ -13,7 +13,6 @@ use Rattle.float_laws.specs.Chains.{finite-real, le_not_lt}
 use Rattle.floats.specs.Ops.{◌≺◌, ◌≻◌, ◌≼◌, f0}
 use Rattle.floats.specs.F64
 use Rattle.checks.specs.declared.fault.Place.{Place}
-use Rattle.checks.specs.declared.fault.Checked.TheVariants.{Fine}
 use Rattle.checks.specs.Number.{is_infinite, outside, is_whole, no_trace}
 use Rattle.checks.specs.Each
 use Rattle.checks.specs.Limit
@@ -113,41 +112,41 @@ one-no : (a : Bool) (n : ℕ) → AllNo (test n a ∷ []) ↔ (a ≡ false)
 one-no a n = (λ h. h.0, λ h. (h, tt))
 
 -- ---- the checks
-pub epsilon-fine : (x : Float) → (Each.epsilon x ≡ Fine) ↔ Between Limit.epsilon_least Limit.epsilon_most x
+pub epsilon-fine : (x : Float) → (Each.epsilon x ≡ Ok tt) ↔ Between Limit.epsilon_least Limit.epsilon_most x
 unfolding of_bits is_nan
 epsilon-fine x =
     Iff.trans (RefusalTable.epsilon x).fine
     (Iff.trans (one-no _ 4) (Iff.trans (neither _ _) (between Limit.epsilon_least Limit.epsilon_most x refl refl)))
 
 module _ (x : Float) (p : Place) where
-  pub coordinate-fine : (Each.coordinate x p ≡ Fine) ↔ Within Limit.coordinate x
+  pub coordinate-fine : (Each.coordinate x p ≡ Ok tt) ↔ Within Limit.coordinate x
   unfolding of_bits is_nan
   coordinate-fine =
       Iff.trans (RefusalTable.coordinate x p).fine (Iff.trans (three-no _ _ _ 11 12 2) (within Limit.coordinate x refl))
 
-  pub bulge-fine : (Each.bulge x p ≡ Fine) ↔ Within Limit.bulge x
+  pub bulge-fine : (Each.bulge x p ≡ Ok tt) ↔ Within Limit.bulge x
   unfolding of_bits is_nan
   bulge-fine = Iff.trans (RefusalTable.bulge x p).fine (Iff.trans (three-no _ _ _ 11 12 3) (within Limit.bulge x refl))
 
-  pub large-bulge-fine : (Each.large_bulge x p ≡ Fine) ↔ Within Limit.large_bulge x
+  pub large-bulge-fine : (Each.large_bulge x p ≡ Ok tt) ↔ Within Limit.large_bulge x
   unfolding of_bits is_nan
   large-bulge-fine =
       Iff.trans (RefusalTable.large-bulge x p).fine (Iff.trans (three-no _ _ _ 11 12 3) (within Limit.large_bulge x refl))
 
-  pub radius-fine : (Each.radius x p ≡ Fine) ↔ Between Limit.radius_least Limit.radius_most x
+  pub radius-fine : (Each.radius x p ≡ Ok tt) ↔ Between Limit.radius_least Limit.radius_most x
   unfolding of_bits is_nan
   radius-fine = Iff.trans (RefusalTable.radius x p).fine
       (Iff.trans (three-no _ _ _ 11 12 9) (between Limit.radius_least Limit.radius_most x refl refl))
 
-  pub center-fine : (Each.center x p ≡ Fine) ↔ Within Limit.center x
+  pub center-fine : (Each.center x p ≡ Ok tt) ↔ Within Limit.center x
   unfolding of_bits is_nan
   center-fine = Iff.trans (RefusalTable.center x p).fine (Iff.trans (three-no _ _ _ 11 12 9) (within Limit.center x refl))
 
-  pub trace-fine : (Each.trace x p ≡ Fine) ↔ (no_trace x ≡ false)
+  pub trace-fine : (Each.trace x p ≡ Ok tt) ↔ (no_trace x ≡ false)
   unfolding no_trace
   trace-fine = Iff.trans (RefusalTable.trace x p).fine
       (Iff.trans (three-no _ _ _ 11 12 15) (λ h. h.1, λ h. (trace-number x h, h)))
 
-  pub chord-fine : (Each.chord x p ≡ Fine) ↔ (is_nan x ≡ false → T (Limit.chord_least ≼ x))
+  pub chord-fine : (Each.chord x p ≡ Ok tt) ↔ (is_nan x ≡ false → T (Limit.chord_least ≼ x))
   unfolding of_bits is_nan
   chord-fine = Iff.trans (RefusalTable.chord x p).fine (Iff.trans (one-no _ 5) (not_short Limit.chord_least x refl))

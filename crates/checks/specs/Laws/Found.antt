@@ -1,7 +1,7 @@
 -- A call's checks, one after the other, give the first fault of their list: what each step adds to the checks made so far.
+use Rattle.checks.specs.Checked.{Checked}
 use Rattle.std.specs.Prelude.{◌≡◌, List, [], ◌∷◌, ◌++◌}
 use Rattle.std.proofs.Common.{sym, ap, ◌∙◌}
-use Rattle.checks.specs.declared.fault.Checked.{Checked}
 use Rattle.checks.specs.Fault.{later}
 use Rattle.checks.specs.First.{first}
 use Rattle.checks.specs.Laws.Later.{fine-right}

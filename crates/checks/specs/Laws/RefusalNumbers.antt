@@ -1,7 +1,8 @@
 -- A fault that a check finds fits into a word: its number, its owner and its index are small. So does the first fault of a list
 -- of checks, if later checks are asked only where the earlier ones are fine.
-use Rattle.std.specs.Prelude.{◌≡◌, refl, Bool, cond, List, ◌++◌, ℕ, ◌<◌, Float}
-use Rattle.std.proofs.Common.{sym, ap, subst, true≢false, arith}
+use Rattle.checks.specs.Checked.{Checked}
+use Rattle.std.specs.Prelude.{◌≡◌, refl, Bool, cond, List, ◌++◌, ℕ, ◌<◌, Float, Err, Ok}
+use Rattle.std.proofs.Common.{sym, subst, arith}
 use Rattle.std.proofs.Math.Bool.{true, false}
 use Rattle.plane.specs.declared.pline_vertex.PlineVertex.{PlineVertex}
 use Rattle.plane.specs.PlineVertex.{bulge_is_zero}
@@ -9,8 +10,6 @@ use Rattle.checks.specs.declared.fault.Item.{Item}
 use Rattle.checks.specs.declared.fault.Item.TheVariants.{Chord}
 use Rattle.checks.specs.declared.fault.Place.{Place}
 use Rattle.checks.specs.declared.fault.Fault.{Fault}
-use Rattle.checks.specs.declared.fault.Checked.{Checked}
-use Rattle.checks.specs.declared.fault.Checked.TheVariants.{Fine, Bad}
 use Rattle.checks.specs.Fault.{at, refuse, later}
 use Rattle.checks.specs.Arc.{arc_chord}
 use Rattle.checks.specs.Each
@@ -22,33 +21,26 @@ use Rattle.checks.specs.Laws.Chains.{first-append}
 
 -- a check that is fine, or whose fault fits
 pub record Small (c : Checked) : Type 0 where
-  pub fits : (f : Fault) → c ≡ Bad f → Fits f
+  pub fits : (f : Fault) → c ≡ Err f → Fits f
 
-pub fine : Small Fine
-fine = record { fits = λ f e. absurd (never e) }
-  where
-    is-bad : Checked → Bool
-    is-bad Fine = false
-    is-bad (Bad g) = true
-
-    never : {f : Fault} → Fine ≡ Bad f → ⊥
-    never {f} e = true≢false (sym (ap is-bad e))
+pub fine : Small (Ok tt)
+fine = record { fits = λ f e. cc }
 
 pub refused : (test : Bool) (n : ℕ) (p : Place) → 1 < n → n < Refusal.numbers_below → FitsPlace p → Small (refuse test n p)
 unfolding refuse
 refused true n p k h l = record { fits = λ f e. subst Fits (same e) (record { known = k; number = h; place = l }) }
   where
-    same : {f g : Fault} → Bad f ≡ Bad g → f ≡ g
+    same : {f g : Fault} → ◌≡◌ {A = Checked} (Err f) (Err g) → f ≡ g
     same e = cc
 refused false n p k h l = fine
 
-both : (a b : Checked) → Small a → (a ≡ Fine → Small b) → Small (later a b)
+both : (a b : Checked) → Small a → (a ≡ Ok tt → Small b) → Small (later a b)
 unfolding later
-both Fine b ha hb = hb refl
-both (Bad f) b ha hb = ha
+both (Ok _) b ha hb = hb refl
+both (Err f) b ha hb = ha
 
 -- the second is asked only where the first is fine
-pub then : {a b : Checked} → Small a → (a ≡ Fine → Small b) → Small (later a b)
+pub then : {a b : Checked} → Small a → (a ≡ Ok tt → Small b) → Small (later a b)
 then {a} {b} = both a b
 
 pub and : {a b : Checked} → Small a → Small b → Small (later a b)
@@ -113,7 +105,7 @@ module _ (x : Float) (p : Place) (l : FitsPlace p) where
   unfolding Each.center Each.finite_then
   center = and finite (refused _ Refusal.circle p (omega arith) (omega arith) l)
 
-  chord : (is-line : Bool) → Small (cond is-line Fine (Each.chord x p))
+  chord : (is-line : Bool) → Small (cond is-line (Ok tt) (Each.chord x p))
   unfolding Each.chord
   chord true = fine
   chord false = refused _ Refusal.chord p (omega arith) (omega arith) l
@@ -126,7 +118,7 @@ pub ruleset smalls =
     (and, fine, epsilon, coordinate, bulge, radius, center, arc-chord, at-0-0, at-0-1, at-1-0, at-1-1, at-2-0, at-3-0)
 
 -- ---- a list of checks
-pub append-then : (cs ds : List Checked) → Small (first cs) → (first cs ≡ Fine → Small (first ds)) → Small (first (cs ++ ds))
+pub append-then : (cs ds : List Checked) → Small (first cs) → (first cs ≡ Ok tt → Small (first ds)) → Small (first (cs ++ ds))
 append-then cs ds a b = subst Small (sym (first-append cs ds)) (then a b)
 
 pub append : (cs ds : List Checked) → Small (first cs) → Small (first ds) → Small (first (cs ++ ds))

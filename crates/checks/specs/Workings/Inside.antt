@@ -1,7 +1,7 @@
 -- Quick tests of numbers, by comparisons alone: |x| is at most the limit if x and -x are, for all floats; a NaN is at most
 -- nothing. So a point, a vertex or a circle whose numbers are all inside adds no fault to a chain of checks.
-use Rattle.std.specs.Prelude.{◌≡◌, refl, Bool, true, false, cond, not, ◌&&◌, ◌∷◌, ℕ, ◌+◌, ◌*◌, ◌≤◌, T, Float}
-use Rattle.std.proofs.Common.{sym, ap, ◌∙◌, arith}
+use Rattle.std.specs.Prelude.{◌≡◌, refl, Bool, true, false, cond, not, ◌&&◌, ℕ, ◌+◌, ◌*◌, ◌≤◌, T, Float, Ok}
+use Rattle.std.proofs.Common.{sym, arith}
 use Rattle.std.specs.Float.{nan, inf, fin}
 use Rattle.std.specs.Float.Ieee.{up, down, of_bits, neg}
 use Rattle.std.specs.Float.Ieee.Fits.{down_pos, and_l, and_r}
@@ -11,9 +11,6 @@ use Rattle.float_laws.specs.Order.{le-diff}
 use Rattle.float_laws.specs.Chains.{written-diff, between-finite}
 use Rattle.floats.specs.Ops.{◌≼◌, ◌≈◌, f0}
 use Rattle.floats.specs.F64
-use Rattle.checks.specs.declared.fault.Checked.{Checked}
-use Rattle.checks.specs.declared.fault.Checked.TheVariants.{Fine}
-use Rattle.checks.specs.Fault.{later}
 use Rattle.checks.specs.First.{first}
 use Rattle.checks.specs.Limit
 use Rattle.checks.specs.Number.{no_trace}
@@ -21,7 +18,6 @@ use Rattle.checks.specs.Lists.{point_checks, vertex_checks, traced_checks, circl
 use Rattle.checks.specs.Laws.Chains.{PointFine, VertexFine, TracedFine, CircleFine}
 use Rattle.checks.specs.Laws.Chains.{point-listed, vertex-listed, traced-listed, circle-listed}
 use Rattle.checks.specs.Laws.Fine.{Within, Between}
-use Rattle.checks.specs.Laws.Later.{fine-right}
 use Rattle.checks.specs.Laws.Traces.{zero-is-trace}
 
 abbrev pub inside : Float → Float → Bool
@@ -105,10 +101,8 @@ point-fine x y h = record {
   at_y = of-coordinate y (and_r (inside Limit.coordinate x) (inside Limit.coordinate y) h);
 }
 
-pub point-passed : (f : Checked) (x y : Float) (owner index : ℕ) → T (point_inside x y)
-    → f ≡ first (f ∷ point_checks x y owner index)
-point-passed f x y owner index h =
-    sym (fine-right f) ∙ ap (later f) (sym ((point-listed x y owner index).1 (point-fine x y h)))
+pub point-passed : (x y : Float) (owner index : ℕ) → T (point_inside x y) → Ok tt ≡ first (point_checks x y owner index)
+point-passed x y owner index h = sym ((point-listed x y owner index).1 (point-fine x y h))
 
 -- ---- a vertex, and a vertex of a path
 vertex-fine : (x y bulge : Float) → T (vertex_inside x y bulge) → VertexFine x y bulge
@@ -118,13 +112,12 @@ vertex-fine x y bulge h =
       bulge = of-bulge bulge (and_r (point_inside x y) (inside Limit.bulge bulge) h);
     }
 
-pub vertex-passed : (f : Checked) (x y bulge : Float) (owner index : ℕ) → T (vertex_inside x y bulge)
-    → f ≡ first (f ∷ vertex_checks x y bulge owner index)
-vertex-passed f x y bulge owner index h =
-    sym (fine-right f) ∙ ap (later f) (sym ((vertex-listed x y owner bulge index).1 (vertex-fine x y bulge h)))
+pub vertex-passed : (x y bulge : Float) (owner index : ℕ) → T (vertex_inside x y bulge)
+    → Ok tt ≡ first (vertex_checks x y bulge owner index)
+vertex-passed x y bulge owner index h = sym ((vertex-listed x y owner bulge index).1 (vertex-fine x y bulge h))
 
 pub all-passed : (x y bulge trace : Float) (owner index : ℕ) → T (traced_inside x y bulge trace)
-    → first (traced_checks x y bulge trace owner index) ≡ Fine
+    → first (traced_checks x y bulge trace owner index) ≡ Ok tt
 all-passed x y bulge trace owner index h = (traced-listed x y owner bulge trace index).1 (go (trace ≈ f0) refl h)
   where
     denied : (b : Bool) → T (not b) → b ≡ false
@@ -152,6 +145,5 @@ circle-fine r x y h =
       at_y = of-center y (and_r (inside Limit.center x) (inside Limit.center y) at);
     }
 
-pub circle-passed : (f : Checked) (r x y : Float) (owner : ℕ) → T (circle_inside r x y)
-    → f ≡ first (f ∷ circle_checks r x y owner)
-circle-passed f r x y owner h = sym (fine-right f) ∙ ap (later f) (sym ((circle-listed x y owner r).1 (circle-fine r x y h)))
+pub circle-passed : (r x y : Float) (owner : ℕ) → T (circle_inside r x y) → Ok tt ≡ first (circle_checks r x y owner)
+circle-passed r x y owner h = sym ((circle-listed x y owner r).1 (circle-fine r x y h))

@@ -1,9 +1,8 @@
 -- What a pair's kernel found, and the pair's answer from it: the answer is `pline_seg`'s, with the kernel asked once.
-use Rattle.std.specs.Prelude.{◌≡◌, refl, Bool, cond, ◌&&◌, Float}
+use Rattle.std.specs.Prelude.{◌≡◌, refl, Bool, cond, Float}
 use Rattle.std.proofs.Common.{sym, ap, ◌∙◌}
 use Rattle.std.proofs.Math.Bool.{true, false}
 use Rattle.std.proofs.lemmas.Bool.{false≢true}
-use Rattle.plane.specs.PlineSeg.{seg_arc_radius_and_center}
 use Rattle.plane.specs.PlineVertex.{pos, bulge_is_zero}
 use Rattle.plane.specs.declared.pline_seg.ArcRadiusCenter.{ArcRadiusCenter}
 use Rattle.plane.specs.declared.pline_vertex.PlineVertex.{PlineVertex}

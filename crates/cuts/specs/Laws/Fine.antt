@@ -1,12 +1,11 @@
 -- What the check of a path in the mode of large arcs says if it finds no fault, and that it finds no fault only in such paths.
-use Rattle.std.specs.Prelude.{◌≡◌, refl, ◌↔◌, Bool, true, false, cond, List, [], ◌∷◌, ℕ, ◌<◌, Float}
+use Rattle.checks.specs.Checked.{Checked}
+use Rattle.std.specs.Prelude.{◌≡◌, refl, ◌↔◌, Bool, true, false, cond, List, [], ◌∷◌, ℕ, ◌<◌, Float, Ok}
 use Rattle.std.proofs.Math.Logic.Iff
 use Rattle.std.proofs.Common.{true≢false}
 use Rattle.std.proofs.lemmas.Bool.{false≢true}
 use Rattle.plane.specs.declared.pline_vertex.PlineVertex.{PlineVertex}
 use Rattle.checks.specs.declared.fault.Item.TheVariants.{Bulge, Trace, CutX, CutY}
-use Rattle.checks.specs.declared.fault.Checked.{Checked}
-use Rattle.checks.specs.declared.fault.Checked.TheVariants.{Fine}
 use Rattle.checks.specs.Fault.{at}
 use Rattle.checks.specs.First.{first}
 use Rattle.checks.specs.Limit
@@ -42,14 +41,14 @@ pub record TracedFine (x y b t : Float) : Type 0 where
   pub trace : no_trace t ≡ false
 
 pub vertex-passed : (x y : Float) (owner : ℕ) (b : Float) (index : ℕ)
-    → (first (vertex_checks x y b owner index) ≡ Fine) ↔ (PointFine x y × Within Limit.large_bulge b)
+    → (first (vertex_checks x y b owner index) ≡ Ok tt) ↔ (PointFine x y × Within Limit.large_bulge b)
 vertex-passed x y owner b index =
     let last : List Checked = Each.large_bulge b (at owner index Bulge) ∷ [] in
     append-fine (point_checks x y owner index) last (point-listed x y owner index)
     (alone-fine (large-bulge-fine b (at owner index Bulge)))
 
 pub traced-listed : (x y : Float) (owner : ℕ) (b t : Float) (index : ℕ)
-    → (first (traced_checks x y b t owner index) ≡ Fine) ↔ TracedFine x y b t
+    → (first (traced_checks x y b t owner index) ≡ Ok tt) ↔ TracedFine x y b t
 traced-listed x y owner b t index =
     let last : List Checked = Each.trace t (at owner index Trace) ∷ [] in
     Iff.trans
@@ -69,7 +68,7 @@ pub record SegmentFine (v1 v2 : PlineVertex) : Type 0 where
   pub whole : is_large v1.bulge ≡ false → ArcFine v1 v2
 
 halves-listed : (v1 v2 : PlineVertex) (owner index : ℕ)
-    → (first (halves_checks v1 v2 owner index) ≡ Fine) ↔ HalvesFine v1 v2
+    → (first (halves_checks v1 v2 owner index) ≡ Ok tt) ↔ HalvesFine v1 v2
 halves-listed v1 v2 owner index =
     let c = cut_vertex v1 v2 in
     let arcs = then-fine (arc-fine (bent v1) c owner index) (alone-fine (arc-fine c v2 owner index)) in
@@ -81,7 +80,7 @@ halves-listed v1 v2 owner index =
     )
 
 pub segment-listed : (v1 v2 : PlineVertex) (owner index : ℕ)
-    → (first (segment_checks v1 v2 owner index) ≡ Fine) ↔ SegmentFine v1 v2
+    → (first (segment_checks v1 v2 owner index) ≡ Ok tt) ↔ SegmentFine v1 v2
 unfolding segment_checks
 segment-listed v1 v2 owner index =
     let chosen =
@@ -89,8 +88,8 @@ segment-listed v1 v2 owner index =
     (halves-listed v1 v2 owner index) (alone-fine (arc-fine v1 v2 owner index)) in
     Iff.trans chosen (λ h. record { cut = h.0; whole = h.1 }, λ f. (f.cut, f.whole))
   where
-    go : (b : Bool) (cs ds : List Checked) {F G : Type 0} → ((first cs ≡ Fine) ↔ F) → ((first ds ≡ Fine) ↔ G)
-        → (first (cond b cs ds) ≡ Fine) ↔ ((b ≡ true → F) × (b ≡ false → G))
+    go : (b : Bool) (cs ds : List Checked) {F G : Type 0} → ((first cs ≡ Ok tt) ↔ F) → ((first ds ≡ Ok tt) ↔ G)
+        → (first (cond b cs ds) ≡ Ok tt) ↔ ((b ≡ true → F) × (b ≡ false → G))
     go true cs ds p q = (λ e. (λ t. p.0 e, λ f. absurd (true≢false f)), λ h. p.1 (h.0 refl))
     go false cs ds p q = (λ e. (λ t. absurd (false≢true t), λ f. q.0 e), λ h. q.1 (h.1 refl))
 
@@ -101,17 +100,17 @@ pub record LargePathFine (path : List Float) (closed : Bool) : Type 0 where
   pub segments : (i : ℕ) → i < segment_count path closed → SegmentFine (segment_from path i).v1 (segment_from path i).v2
 
 module _ (path : List Float) (owner i : ℕ) where
-  pub vertex-fine : (first (of_vertex path owner i) ≡ Fine)
+  pub vertex-fine : (first (of_vertex path owner i) ≡ Ok tt)
       ↔ TracedFine (vertex path i).x (vertex path i).y (vertex path i).bulge (trace path i)
   unfolding of_vertex
   vertex-fine = let v = vertex path i in traced-listed v.x v.y owner v.bulge (trace path i) i
 
-  segment-fine : (first (of_segment path owner i) ≡ Fine) ↔ SegmentFine (segment_from path i).v1 (segment_from path i).v2
+  segment-fine : (first (of_segment path owner i) ≡ Ok tt) ↔ SegmentFine (segment_from path i).v1 (segment_from path i).v2
   unfolding of_segment
   segment-fine = let s = segment_from path i in segment-listed s.v1 s.v2 owner i
 
 pub path-listed : (path : List Float) (closed : Bool) (owner : ℕ)
-    → (first (large_path_checks path closed owner) ≡ Fine) ↔ LargePathFine path closed
+    → (first (large_path_checks path closed owner) ≡ Ok tt) ↔ LargePathFine path closed
 path-listed path closed owner =
     let vertices = along-fine (of_vertex path owner) (vertex_count path) (vertex-fine path owner) in
     let segments = along-fine (of_segment path owner) (segment_count path closed) (segment-fine path owner) in
@@ -119,6 +118,6 @@ path-listed path closed owner =
     (λ h. record { vertices = h.0; segments = h.1 }, λ f. (f.vertices, f.segments))
 
 pub path-fine : (f : Checked) (path : List Float) (closed : Bool) (owner : ℕ)
-    → (check_large_path f path closed owner ≡ Fine) ↔ ((f ≡ Fine) × LargePathFine path closed)
+    → (check_large_path f path closed owner ≡ Ok tt) ↔ ((f ≡ Ok tt) × LargePathFine path closed)
 unfolding check_large_path
 path-fine f path closed owner = then-fine Iff.rfl (path-listed path closed owner)

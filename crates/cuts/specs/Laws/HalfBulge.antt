@@ -3,7 +3,7 @@
 -- and the root at most h / 2 + 1, so the numerator is at most h / 2, which is at most |b|. And one more than b * b is at least
 -- 2, its root at least 5 / 4, and the numerator at least 1 / 4, a 64th of 16. All these bounds are floats, so no rounding
 -- crosses them.
-use Rattle.std.specs.Prelude.{◌≡◌, refl, ℕ, ◌+◌, ◌-◌, ◌*◌, ◌/◌, ◌^◌, ◌≤◌, ◌<◌, Bool, true, T, ℤ, Float}
+use Rattle.std.specs.Prelude.{◌≡◌, refl, ℕ, ◌+◌, ◌*◌, ◌/◌, ◌^◌, ◌≤◌, ◌<◌, Bool, true, T, ℤ, Float}
 use Rattle.std.proofs.Common.{sym, ap, ◌∙◌, subst, mul-pos, mul-le-mul, mul-le-mul_right, le_of_lt, le-div_iff_mul-le, div-lt_iff_lt-mul, arith, lit<}
 use Rattle.std.proofs.Math.Bool.{false}
 use Rattle.std.proofs.Math.Dec.{not_T}

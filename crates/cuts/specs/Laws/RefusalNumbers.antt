@@ -1,10 +1,10 @@
 -- A fault that a path's checks find in the mode of large arcs fits into a word: the path's owner is small, and so is each index,
 -- since a path with more vertices is refused before its vertices are checked.
+use Rattle.checks.specs.Checked.{Checked}
 use Rattle.std.specs.Prelude.{Bool, true, false, cond, List, [], ◌∷◌, ℕ, ◌≤◌, ◌<◌, Float}
 use Rattle.std.proofs.Common.{arith}
 use Rattle.plane.specs.declared.pline_vertex.PlineVertex.{PlineVertex}
 use Rattle.checks.specs.declared.fault.Item.TheVariants.{X, Y, Bulge, Chord, Trace, CutX, CutY}
-use Rattle.checks.specs.declared.fault.Checked.{Checked}
 use Rattle.checks.specs.Arc.{arc_chord}
 use Rattle.checks.specs.First.{first as first_fault}
 use Rattle.checks.specs.Word.{owners, indices}

@@ -1,6 +1,6 @@
 -- The checks of a cut segment, where its numbers have passed: the cut point is finite, so 11 and 12 are not given; both halves
 -- are arcs, since a half bulge is at least 1/64 in magnitude.
-use Rattle.std.specs.Prelude.{◌≡◌, refl, Bool, true, false, cond, ◌||◌, List, [], ◌∷◌, ℕ, ◌<◌, T, Float}
+use Rattle.std.specs.Prelude.{◌≡◌, refl, Bool, true, false, cond, ◌||◌, List, [], ◌∷◌, ℕ, ◌<◌, T, Float, Ok}
 use Rattle.std.proofs.Common.{sym, ◌∙◌, arith}
 use Rattle.std.specs.Float.Ieee.{of_bits, is_nan, lt, le}
 use Rattle.std.specs.Float.Ieee.Bits.{is_false}
@@ -14,7 +14,6 @@ use Rattle.plane.specs.PlineVertex as vertices
 use Rattle.plane.specs.Fuzzy.{fuzzy_epsilon, fuzzy_eq_zero_eps}
 use Rattle.checks.specs.declared.fault.Item.TheVariants.{CutX, CutY, Chord}
 use Rattle.checks.specs.declared.fault.Place.{Place}
-use Rattle.checks.specs.declared.fault.Checked.TheVariants.{Fine}
 use Rattle.checks.specs.Fault.{at, bad, refuse, later}
 use Rattle.checks.specs.Exactly.{Gives, test, gives}
 use Rattle.checks.specs.Number.{is_infinite, beyond}
@@ -75,21 +74,21 @@ half-arc half l =
 
 -- ---- a segment whose numbers have passed
 module _ (v1 v2 : PlineVertex) (owner i j : ℕ)
-    (start : first (vertex_checks v1.x v1.y v1.bulge owner i) ≡ Fine)
-    (end : first (point_checks v2.x v2.y owner j) ≡ Fine) where
+    (start : first (vertex_checks v1.x v1.y v1.bulge owner i) ≡ Ok tt)
+    (end : first (point_checks v2.x v2.y owner j) ≡ Ok tt) where
   pub cut-finite : PointFinite v1 v2
   cut-finite =
       let v = (vertex-passed v1.x v1.y owner v1.bulge i).0 start in
       points.cut-finite v1 v2 v.0 v.1 ((point-listed v2.x v2.y owner j).0 end)
 
-pub bent-arc : (v1 : PlineVertex) (owner i : ℕ) → first (vertex_checks v1.x v1.y v1.bulge owner i) ≡ Fine
+pub bent-arc : (v1 : PlineVertex) (owner i : ℕ) → first (vertex_checks v1.x v1.y v1.bulge owner i) ≡ Ok tt
     → is_large v1.bulge ≡ true → bulge_is_zero (bent v1) ≡ false
 unfolding bent vertices.new
 bent-arc v1 owner i start large =
     half-arc (half_bulge v1.bulge)
     (half-bulge v1.bulge large ((vertex-passed v1.x v1.y owner v1.bulge i).0 start).1).least
 
-pub cut-arc : (v1 v2 : PlineVertex) (owner i : ℕ) → first (vertex_checks v1.x v1.y v1.bulge owner i) ≡ Fine
+pub cut-arc : (v1 v2 : PlineVertex) (owner i : ℕ) → first (vertex_checks v1.x v1.y v1.bulge owner i) ≡ Ok tt
     → is_large v1.bulge ≡ true → bulge_is_zero (cut_vertex v1 v2) ≡ false
 unfolding cut_vertex vertices.new
 cut-arc v1 v2 owner i start large =
@@ -97,8 +96,8 @@ cut-arc v1 v2 owner i start large =
     (half-bulge v1.bulge large ((vertex-passed v1.x v1.y owner v1.bulge i).0 start).1).least
 
 four : (p q r : Place) (a b c d : Bool)
-    → later (refuse a 2 p) (later (refuse b 2 q) (later (refuse c 5 r) (later (refuse d 5 r) Fine)))
-    ≡ cond a (bad 2 p) (cond b (bad 2 q) (cond (c || d) (bad 5 r) Fine))
+    → later (refuse a 2 p) (later (refuse b 2 q) (later (refuse c 5 r) (later (refuse d 5 r) (Ok tt))))
+    ≡ cond a (bad 2 p) (cond b (bad 2 q) (cond (c || d) (bad 5 r) (Ok tt)))
 unfolding later refuse
 four p q r true b c d = refl
 four p q r false true c d = refl
@@ -107,7 +106,7 @@ four p q r false false false true = refl
 four p q r false false false false = refl
 
 pub cut-segment : (v1 v2 : PlineVertex) (owner i j : ℕ)
-    → first (vertex_checks v1.x v1.y v1.bulge owner i) ≡ Fine → first (point_checks v2.x v2.y owner j) ≡ Fine
+    → first (vertex_checks v1.x v1.y v1.bulge owner i) ≡ Ok tt → first (point_checks v2.x v2.y owner j) ≡ Ok tt
     → (index : ℕ) → is_large v1.bulge ≡ true
     → first (segment_checks v1 v2 owner index)
     ≡ cond (F64.abs (cut_vertex v1 v2).x ≻ Limit.coordinate)
@@ -116,7 +115,7 @@ pub cut-segment : (v1 v2 : PlineVertex) (owner i j : ℕ)
     (bad 2 (at owner index CutY))
     (cond ((chord_length (bent v1) (cut_vertex v1 v2) ≺ Limit.chord_least) || (chord_length (cut_vertex v1 v2) v2 ≺ Limit.chord_least))
     (bad 5 (at owner index Chord))
-    Fine))
+    (Ok tt)))
 unfolding segment_checks
 cut-segment v1 v2 owner i j start end index large =
     let c = cut_vertex v1 v2 in
@@ -135,11 +134,11 @@ unfolding segment_checks
 whole-segment v1 v2 owner index e = rw e (fine-right (arc_chord v1 v2 owner index))
 
 -- ---- the segments of a path whose vertices have passed
-pub at-segment : (path : List Float) (closed : Bool) (owner : ℕ) → first (all_vertices path owner) ≡ Fine
+pub at-segment : (path : List Float) (closed : Bool) (owner : ℕ) → first (all_vertices path owner) ≡ Ok tt
     → (i : ℕ) → i < segment_count path closed
     → (let s = segment_from path i in
-    (first (vertex_checks s.v1.x s.v1.y s.v1.bulge owner i) ≡ Fine)
-    × (first (point_checks s.v2.x s.v2.y owner (after path i)) ≡ Fine))
+    (first (vertex_checks s.v1.x s.v1.y s.v1.bulge owner i) ≡ Ok tt)
+    × (first (point_checks s.v2.x s.v2.y owner (after path i)) ≡ Ok tt))
 unfolding segment_from
 at-segment path closed owner fine i below =
     let passed = (along-fine (of_vertex path owner) (vertex_count path) (vertex-fine path owner)).0 fine in

@@ -15,7 +15,7 @@ use Rattle.checks.specs.Number.{no_trace}
 use Rattle.checks.specs.Laws.Fine.{Within}
 use Rattle.checks.specs.Laws.Chains.{PointFine, VertexFine}
 use Rattle.paths.specs.declared.path.Segment.{Segment}
-use Rattle.paths.specs.Path.{vertex_count, trace}
+use Rattle.paths.specs.Path.{vertex_count}
 use Rattle.paths.specs.Segments.{segment_from, after}
 use Rattle.paths.specs.Laws.Segments.{count-within, after-within}
 use Rattle.paths.specs.Laws.Fine.{ArcFine}

@@ -1,23 +1,19 @@
 -- The quick test of a path's vertices in the mode of large arcs: if all are inside their limits, by comparisons alone, the check
--- finds no fault in them, so the result before stays.
-use Rattle.std.specs.Prelude.{◌≡◌, refl, ◌⊎◌, Bool, true, false, cond, not, ◌&&◌, List, ℕ, ◌+◌, ◌≤◌, ◌<◌, T, Float}
-use Rattle.std.proofs.Common.{sym, ap, ◌∙◌, subst, inl, inr, eq-or-lt_of_le, arith}
+-- finds no fault in them.
+use Rattle.std.specs.Prelude.{◌≡◌, refl, ◌⊎◌, Bool, true, false, cond, not, ◌&&◌, List, ℕ, ◌+◌, ◌≤◌, ◌<◌, T, Float, Ok}
+use Rattle.std.proofs.Common.{sym, subst, inl, inr, eq-or-lt_of_le, arith}
 use Rattle.std.specs.Float.Ieee.Fits.{and_l, and_r}
 use Rattle.floats.specs.Ops.{◌≈◌, f0}
 use Rattle.plane.specs.declared.pline_vertex.PlineVertex.{PlineVertex}
-use Rattle.checks.specs.declared.fault.Checked.{Checked}
-use Rattle.checks.specs.declared.fault.Checked.TheVariants.{Fine}
-use Rattle.checks.specs.Fault.{later}
 use Rattle.checks.specs.First.{first}
 use Rattle.checks.specs.Limit
 use Rattle.checks.specs.Number.{no_trace}
 use Rattle.checks.specs.Laws.Fine.{not-denied}
 use Rattle.checks.specs.Laws.Traces.{zero-is-trace}
 use Rattle.checks.specs.Workings.Inside.{inside, of-coordinate, of-large-bulge}
-use Rattle.checks.specs.Laws.Later.{fine-right}
 use Rattle.paths.specs.Path.{vertex_count, vertex, trace}
 use Rattle.paths.specs.Laws.Along.{fine-all}
-use Rattle.cuts.specs.LargeChecks.{traced_checks, of_vertex, check_large_vertices}
+use Rattle.cuts.specs.LargeChecks.{traced_checks, of_vertex, all_vertices}
 use Rattle.cuts.specs.Laws.Fine.{TracedFine, traced-listed}
 
 abbrev pub vertex_inside : Float → Float → Float → Float → Bool
@@ -42,7 +38,7 @@ numbers-fine x y bulge t h e =
     }
 
 all-passed : (x y bulge t : Float) (owner index : ℕ) → T (vertex_inside x y bulge t)
-    → first (traced_checks x y bulge t owner index) ≡ Fine
+    → first (traced_checks x y bulge t owner index) ≡ Ok tt
 all-passed x y bulge t owner index h = (traced-listed x y owner bulge t index).1 (go (t ≈ f0) refl h)
   where
     denied : (b : Bool) → T (not b) → b ≡ false
@@ -89,10 +85,8 @@ one_more path i v t b is read with h below j l = go (eq-or-lt_of_le (close j i l
     go (inl e) = subst (λ (k : ℕ). Inside (vertex path k) (trace path k)) (sym e) here
     go (inr less) = below j less
 
-pub inside-fine : (f : Checked) (path : List Float) (owner : ℕ) → InsideBelow path (vertex_count path)
-    → f ≡ check_large_vertices f path owner
-unfolding check_large_vertices of_vertex
-inside-fine f path owner all =
-    sym (fine-right f)
-    ∙ ap (later f) (sym (fine-all (of_vertex path owner) (vertex_count path)
-    (λ i l. let v = vertex path i in all-passed v.x v.y v.bulge (trace path i) owner i (all i l))))
+pub inside-fine : (path : List Float) (owner : ℕ) → InsideBelow path (vertex_count path) → Ok tt ≡ first (all_vertices path owner)
+unfolding of_vertex
+inside-fine path owner all =
+    sym (fine-all (of_vertex path owner) (vertex_count path)
+    (λ i l. let v = vertex path i in all-passed v.x v.y v.bulge (trace path i) owner i (all i l)))

@@ -1,5 +1,5 @@
 -- Groups: a code and a value, where something is due.
-use Rattle.std.specs.Prelude.{ℕ, ◌+◌, ◌<◌, ◌≡◌, refl, Bool, true, false, cond, List, [], ◌∷◌, ◌++◌, eqb, length}
+use Rattle.std.specs.Prelude.{ℕ, ◌<◌, ◌≡◌, refl, Bool, true, false, cond, List, [], ◌∷◌, ◌++◌, eqb, length}
 use Rattle.std.proofs.Common.{sym, ap, ◌∙◌, subst, arith, eqb-true, length-append}
 use Rattle.dxf_form.specs.Form.{WholeText, Group, OtherCode, ValueText, count-value, flags-value, x-value, y-value}
 use Rattle.dxf_form.specs.Form.{bulge-value, other-value, count_code, flags_code, x_code, y_code, bulge_code}

@@ -1,5 +1,5 @@
 -- Lines of a whole number: what is read is spelt, and what is spelt is read.
-use Rattle.std.specs.Prelude.{ℕ, ◌+◌, ◌-◌, ◌<◌, ◌≡◌, refl, Bool, true, false, cond, List, [], ◌∷◌, ◌++◌, eqb, length}
+use Rattle.std.specs.Prelude.{ℕ, ◌+◌, ◌<◌, ◌≡◌, refl, Bool, true, false, cond, List, [], ◌∷◌, ◌++◌, eqb, length}
 use Rattle.std.proofs.Common.{sym, ap, ◌∙◌, append_assoc, pos_of_ne-zero, arith, ne_eqb}
 use Rattle.std.proofs.lemmas.Bool.{eqb-false}
 use Rattle.dxf_form.specs.Form.{blanks, AllDigits, none, more, whole_from, WholeText, First}

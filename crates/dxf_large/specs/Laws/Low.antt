@@ -1,8 +1,8 @@
 -- The faults of a path's own checks in the mode of large arcs have numbers below 20.
+use Rattle.checks.specs.Checked.{Checked}
 use Rattle.std.specs.Prelude.{ℕ, Bool, cond, Float}
 use Rattle.std.proofs.Math.Bool.{true, false}
 use mathlib.Core.List.{List, [], ◌∷◌}
-use Rattle.checks.specs.declared.fault.Checked.{Checked}
 use Rattle.checks.specs.Arc.{arc_chord}
 use Rattle.checks.specs.First.{first}
 use Rattle.paths.specs.Path.{vertex_count, vertex, trace as trace_of}

@@ -1,4 +1,5 @@
 -- A path with no bulge above 1 in magnitude: its checks are those of the old mode.
+use Rattle.checks.specs.Checked.{Checked}
 use Rattle.std.specs.Prelude.{ℕ, zero, suc, ◌+◌, ◌≤◌, ◌<◌, ◌≡◌, Bool, true, false, List, [], ◌∷◌, ◌++◌, T, Float}
 use Rattle.std.proofs.Math.Path.{refl, ap}
 use Rattle.std.proofs.Common.{sym, ◌∙◌, subst, arith}
@@ -9,7 +10,6 @@ use Rattle.floats.specs.Ops.{f1}
 use Rattle.floats.specs.F64
 use Rattle.checks.specs.declared.fault.Item.TheVariants.{Bulge, Trace}
 use Rattle.checks.specs.declared.fault.Place.{Place}
-use Rattle.checks.specs.declared.fault.Checked.{Checked}
 use Rattle.checks.specs.Fault.{at}
 use Rattle.checks.specs.Each
 use Rattle.checks.specs.Limit

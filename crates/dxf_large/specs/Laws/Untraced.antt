@@ -1,7 +1,6 @@
 -- The checks of a path without its traces, in the mode of large arcs: if the path passes, so does it.
-use Rattle.std.specs.Prelude.{ℕ, ◌<◌, ◌≡◌, Bool, List, Float}
-use Rattle.std.proofs.Common.{sym, ap, ◌∙◌, subst}
-use Rattle.checks.specs.declared.fault.Checked.TheVariants.{Fine}
+use Rattle.std.specs.Prelude.{ℕ, ◌<◌, ◌≡◌, Bool, List, Float, Ok}
+use Rattle.std.proofs.Common.{ap, ◌∙◌, subst}
 use Rattle.checks.specs.First.{first}
 use Rattle.checks.specs.Number.{no_trace}
 use Rattle.paths.specs.Path.{vertex_count}
@@ -13,8 +12,8 @@ use Rattle.dxf_write.specs.Untraced.{untraced}
 use Rattle.dxf_write.specs.Laws.Back.{untraced-vertex, untraced-trace}
 use Rattle.dxf_write.specs.Laws.Checked.{zero-trace, same_count, same-segments, same_ends}
 
-pub same-checks : (path : List Float) (closed : Bool) → Shape.shape path 0 ≡ Fine
-    → first (large_path_checks path closed 0) ≡ Fine → first (large_path_checks (untraced path) closed 0) ≡ Fine
+pub same-checks : (path : List Float) (closed : Bool) → Shape.shape path 0 ≡ Ok tt
+    → first (large_path_checks path closed 0) ≡ Ok tt → first (large_path_checks (untraced path) closed 0) ≡ Ok tt
 same-checks path closed shaped e =
     let fine = (path-listed path closed 0).0 e in
     (path-listed (untraced path) closed 0).1 (record {

@@ -1,5 +1,6 @@
 -- The checks after a pass over the text are those of Import.antt, and so is what they lead to.
-use Rattle.std.specs.Prelude.{ℕ, ◌+◌, ◌*◌, ◌/◌, ◌%◌, ◌<◌, ◌≤◌, ◌≡◌, Bool, true, false, not, cond, List, [], ◌∷◌, ◌++◌, eqb, ltb, take, drop, Float}
+use Rattle.checks.specs.Checked.{Checked}
+use Rattle.std.specs.Prelude.{ℕ, ◌+◌, ◌*◌, ◌/◌, ◌%◌, ◌<◌, ◌≤◌, ◌≡◌, Bool, true, false, cond, List, [], ◌∷◌, ◌++◌, eqb, ltb, take, drop, Float, Err, Ok}
 use Rattle.std.proofs.Math.Path.{refl, sym, ap}
 use Rattle.std.proofs.Common.{◌∙◌, arith, take_at}
 use borrow.Author.Tests.{le-ltb, lt-ltb, ltb-true, ltb-false, eq-eqb}
@@ -7,8 +8,6 @@ use Rattle.std.proofs.Math.ListN.{length}
 use Rattle.std.proofs.lemmas.List.Edits.{sets, sets-eq}
 use Rattle.checks.specs.declared.fault.Item.TheVariants.{Length, Room}
 use Rattle.checks.specs.declared.fault.Fault.{Fault}
-use Rattle.checks.specs.declared.fault.Checked.{Checked}
-use Rattle.checks.specs.declared.fault.Checked.TheVariants.{Fine, Bad}
 use Rattle.checks.specs.Fault.{at, refuse, later, whole}
 use Rattle.checks.specs.First.{first}
 use Rattle.checks.specs.Refusal as numbers
@@ -19,44 +18,43 @@ use Rattle.paths.specs.Shape
 use Rattle.paths.specs.Check.{path_checks}
 use Rattle.dxf_form.specs.Refusal
 use Rattle.dxf_form.specs.Numbers.{Corner, path_of}
-use Rattle.dxf_form.specs.Form.{Group, closed_by}
+use Rattle.dxf_form.specs.Form.{closed_by}
 use Rattle.dxf_form.specs.Body.{body_of}
 use Rattle.dxf_form.specs.Workings.Reader.{fault_at, read_groups}
 use Rattle.dxf_read.specs.Import.{PathChecks, body_checks_by, by_checks, import_by, import_dxf, line_fault}
-use Rattle.dxf_read.specs.Workings.Kept.{top, kept}
+use Rattle.dxf_read.specs.Workings.Kept.{top}
 use Rattle.dxf_read.specs.Workings.Scanning.{room, BodyRead}
 use Rattle.dxf_read.specs.Workings.Finishing.{counted_by, room_by, checked_by, finished_by, finished_with}
 use Rattle.dxf_read.specs.Laws.Kept.{eqb-kept}
 use Rattle.dxf_read.specs.Laws.Stores.{path-length}
-use Rattle.dxf_read.specs.declared.Imported.TheVariants as Imported·
 
-never : {P : Type 0} {f : Fault} → Bad f ≡ Fine → P
+never : {P : Type 0} {f : Fault} → ◌≡◌ {A = Checked} (Err f) (Ok tt) → P
 never e = let z : ◌≡◌ {A = ℕ} 0 1 = cc in absurd (omega arith)
 
 -- ---- a path that is fine is not too long, and there is room for it
 
-pub counted-few : (n count line : ℕ) → counted_by n count line ≡ Fine → n ≤ most_vertices
+pub counted-few : (n count line : ℕ) → counted_by n count line ≡ Ok tt → n ≤ most_vertices
 unfolding counted_by
 counted-few n count line = go (eqb count n) (ltb most_vertices n) refl
   where
     go : (met long : Bool) → ltb most_vertices n ≡ long
-        → cond met (cond long (Bad (whole numbers.vertices Length)) Fine) (Bad (line_fault Refusal.count line)) ≡ Fine
+        → ◌≡◌ {A = Checked} (cond met (cond long (Err (whole numbers.vertices Length)) (Ok tt)) (Err (line_fault Refusal.count line))) (Ok tt)
         → n ≤ most_vertices
     go false long e h = never h
     go true true e h = never h
     go true false e h = ltb-false most_vertices n e
 
-pub room-enough : (n floats : ℕ) → room_by n floats ≡ Fine → n * numbers_a_vertex ≤ floats
+pub room-enough : (n floats : ℕ) → room_by n floats ≡ Ok tt → n * numbers_a_vertex ≤ floats
 unfolding room_by refuse
 room-enough n floats = go (ltb floats (n * numbers_a_vertex)) refl
   where
-    go : (short : Bool) → ltb floats (n * numbers_a_vertex) ≡ short → refuse short Refusal.room (at 0 0 Room) ≡ Fine
+    go : (short : Bool) → ltb floats (n * numbers_a_vertex) ≡ short → refuse short Refusal.room (at 0 0 Room) ≡ Ok tt
         → n * numbers_a_vertex ≤ floats
     go true e h = never h
     go false e h = ltb-false floats (n * numbers_a_vertex) e
 
 checked-few : (own : PathChecks) (buffer : List Float) (n count line : ℕ) (closed : Bool) (floats : ℕ)
-    → checked_by own buffer n count line closed floats ≡ Fine → n ≤ most_vertices
+    → checked_by own buffer n count line closed floats ≡ Ok tt → n ≤ most_vertices
 unfolding checked_by
 checked-few own buffer n count line closed floats e = counted-few n count line ((later-fine _ _).0 e).0
 
@@ -76,11 +74,11 @@ module _ (vs : List Corner) where
   vertex-count : length (path_of vs) / numbers_a_vertex ≡ length vs
   vertex-count = let e = path-length vs in omega arith
 
-  pub shape-long : most_vertices < length vs → Shape.shape (path_of vs) 0 ≡ Bad (whole numbers.vertices Length)
+  pub shape-long : most_vertices < length vs → Shape.shape (path_of vs) 0 ≡ Err (whole numbers.vertices Length)
   unfolding Shape.shape refuse later
   shape-long h = rw (whole-vertices, vertex-count, lt-ltb most_vertices (length vs) h)
 
-  pub shape-fine : length vs ≤ most_vertices → Shape.shape (path_of vs) 0 ≡ Fine
+  pub shape-fine : length vs ≤ most_vertices → Shape.shape (path_of vs) 0 ≡ Ok tt
   unfolding Shape.shape refuse later
   shape-fine h = rw (whole-vertices, vertex-count, le-ltb most_vertices (length vs) h)
 
@@ -173,19 +171,19 @@ module _ (own : PathChecks) {text : List ℕ} {n count line : ℕ} {closed : Boo
       (checked-few own buffer n count line closed (length old))
       ∙ ap (by_checks (body_of b.gs) old) checked-is
     where
-      go : (c : Checked) → (c ≡ Fine → n ≤ most_vertices)
+      go : (c : Checked) → (c ≡ Ok tt → n ≤ most_vertices)
           → finished_by buffer n closed old c ≡ by_checks (body_of b.gs) old c
-      go Fine few = rw (front-is (few refl), b.n-is, b.closed_is)
-      go (Bad f) few = refl
+      go (Ok _) few = rw (front-is (few refl), b.n-is, b.closed_is)
+      go (Err f) few = refl
 
   pub imported-is : finished_with own buffer n count line closed old ≡ import_by own text old
   imported-is = rw b.read finished-is
 
 pub fault-by : (own : PathChecks) (text : List ℕ) {number line : ℕ} (old : List Float) → read_groups text ≡ fault_at number line
-    → import_by own text old ≡ record { answer = Imported·.Refused (line_fault number line); path = old }
+    → import_by own text old ≡ record { answer = Err (line_fault number line); path = old }
 fault-by own text old e = rw e
 
 pub fault-is : (text : List ℕ) {number line : ℕ} (old : List Float) → read_groups text ≡ fault_at number line
-    → import_dxf text old ≡ record { answer = Imported·.Refused (line_fault number line); path = old }
+    → import_dxf text old ≡ record { answer = Err (line_fault number line); path = old }
 unfolding import_dxf
 fault-is text old e = fault-by path_checks text old e

@@ -1,12 +1,11 @@
 -- The checks of a text that spells a body, in their order.
-use Rattle.std.specs.Prelude.{ℕ, ◌*◌, ◌<◌, ◌≤◌, ◌≡◌, Bool, not, List, [], ◌∷◌, ◌++◌, eqb, ltb, Float}
+use Rattle.checks.specs.Checked.{Checked}
+use Rattle.std.specs.Prelude.{ℕ, ◌*◌, ◌<◌, ◌≤◌, ◌≡◌, Bool, not, List, [], ◌∷◌, ◌++◌, eqb, ltb, Float, Err, Ok}
 use Rattle.std.proofs.Common.{ap, ◌∙◌, arith}
 use borrow.Author.Tests.{lt-ltb, le-ltb, eq-eqb, ne_eqb}
 use Rattle.std.proofs.Math.ListN.{length}
 use Rattle.checks.specs.declared.fault.Item.TheVariants.{Line, Length, Room}
 use Rattle.checks.specs.declared.fault.Fault.{Fault}
-use Rattle.checks.specs.declared.fault.Checked.{Checked}
-use Rattle.checks.specs.declared.fault.Checked.TheVariants.{Fine, Bad}
 use Rattle.checks.specs.Fault.{at, refuse, later, whole}
 use Rattle.checks.specs.First.{first}
 use Rattle.checks.specs.Refusal as numbers
@@ -38,12 +37,12 @@ module _ (n line : ℕ) (closed : Bool) (vs : List Corner) (old : List Float) wh
       ∷ Shape.shape (path_of vs) 0
       ∷ (own ++ (last ∷ []))
 
-  pub unmet-first : (n ≡ length vs → ⊥) → first all_checks ≡ Bad (line_fault Refusal.count line)
+  pub unmet-first : (n ≡ length vs → ⊥) → first all_checks ≡ Err (line_fault Refusal.count line)
   unfolding refuse later
   unmet-first h = rw (ne_eqb n (length vs) h)
 
   module _ (met : n ≡ length vs) where
-    pub long-first : most_vertices < length vs → first all_checks ≡ Bad (whole numbers.vertices Length)
+    pub long-first : most_vertices < length vs → first all_checks ≡ Err (whole numbers.vertices Length)
     unfolding refuse later
     long-first h = rw (eq-eqb n (length vs) met, shape-long vs h)
 
@@ -55,18 +54,18 @@ module _ (n line : ℕ) (closed : Bool) (vs : List Corner) (old : List Float) wh
       then-own : first all_checks ≡ later (first own) last
       then-own = shaped ∙ first-append own (last ∷ []) ∙ ap (later (first own)) (fine-right last)
 
-      pub own_first : (f : Fault) → first own ≡ Bad f → first all_checks ≡ Bad f
+      pub own_first : (f : Fault) → first own ≡ Err f → first all_checks ≡ Err f
       unfolding later
       own_first f e = then-own ∙ rw e
 
-      module _ (fine : first own ≡ Fine) where
-        pub room-first : length old < length vs * 4 → first all_checks ≡ Bad (whole Refusal.room Room)
+      module _ (fine : first own ≡ Ok tt) where
+        pub room-first : length old < length vs * 4 → first all_checks ≡ Err (whole Refusal.room Room)
         unfolding later refuse
         room-first h =
             let short : length old < length (path_of vs) = omega (arith, path-length vs) in
             then-own ∙ rw (fine, lt-ltb (length old) (length (path_of vs)) short)
 
-        pub none_first : length vs * 4 ≤ length old → first all_checks ≡ Fine
+        pub none_first : length vs * 4 ≤ length old → first all_checks ≡ Ok tt
         unfolding later refuse
         none_first h =
             let fits : length (path_of vs) ≤ length old = omega (arith, path-length vs) in

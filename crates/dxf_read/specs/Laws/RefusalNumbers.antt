@@ -1,10 +1,9 @@
 -- A fault that an import tells fits into a word: its number is small, and so is its vertex or its line.
-use Rattle.std.specs.Prelude.{ℕ, ◌<◌, ◌≤◌, ◌≡◌, refl, Bool, true, false, cond, List, ltb, Float}
+use Rattle.checks.specs.Checked.{Checked}
+use Rattle.std.specs.Prelude.{ℕ, ◌<◌, ◌≤◌, ◌≡◌, refl, Bool, true, false, cond, List, ltb, Float, Result, Err, Ok}
 use Rattle.std.proofs.Common.{subst, arith, ltb-false}
 use Rattle.checks.specs.declared.fault.Item.TheVariants.{Line, Room}
 use Rattle.checks.specs.declared.fault.Fault.{Fault}
-use Rattle.checks.specs.declared.fault.Checked.{Checked}
-use Rattle.checks.specs.declared.fault.Checked.TheVariants.{Fine, Bad}
 use Rattle.checks.specs.First.{first}
 use Rattle.checks.specs.Words.{Fits}
 use Rattle.checks.specs.Laws.RefusalNumbers.{Small, fine, refused, and, then, place, at-0-0, append}
@@ -22,8 +21,8 @@ use Rattle.dxf_form.specs.Exactly.{fault-read}
 use Rattle.dxf_form.specs.declared.order.Due.{Due}
 use Rattle.dxf_form.specs.declared.order.Turn.{Turn}
 use Rattle.dxf_form.specs.declared.order.Turn.TheVariants as Turn·
-use Rattle.dxf_read.specs.Import.{PathChecks, body_checks_by, by_checks, by_groups_by, import_by, import_dxf, most_line, told_line}
-use Rattle.dxf_read.specs.declared.Imported.TheVariants as Imported·
+use Rattle.dxf_read.specs.Import.{PathChecks, body_checks_by, by_checks, by_groups_by, import_by, import_dxf, most_line, told_line, Path}
+use Rattle.dxf_read.specs.declared.Imported.{Imported}
 
 -- ---- a line, and the numbers of a text's faults
 
@@ -70,26 +69,26 @@ module _ (own : PathChecks)
 
   -- ---- an import
 
-  pub fits_by : (text : List ℕ) (old : List Float) (f : Fault) → (import_by own text old).answer ≡ Imported·.Refused f → Fits f
+  pub fits_by : (text : List ℕ) (old : List Float) (f : Fault) → (import_by own text old).answer ≡ Err f → Fits f
   fits_by text old f e = go (read_groups text) refl e
     where
-      same-fault : {g h : Fault} → Imported·.Refused g ≡ Imported·.Refused h → g ≡ h
+      same-fault : {g h : Fault} → ◌≡◌ {A = Result Imported Fault} (Err g) (Err h) → g ≡ h
       same-fault e = cc
 
-      no-path : {n : ℕ} {closed : Bool} {g : Fault} → Imported·.Path n closed ≡ Imported·.Refused g → ⊥
+      no-path : {n : ℕ} {closed : Bool} {g : Fault} → Path n closed ≡ Err g → ⊥
       no-path e = let z : ◌≡◌ {A = ℕ} 0 1 = cc in absurd (omega arith)
 
-      checked : (gs : List Group) (c : Checked) → Small c → (by_checks (body_of gs) old c).answer ≡ Imported·.Refused f → Fits f
-      checked gs Fine small h = absurd (no-path h)
-      checked gs (Bad g) small h = subst Fits (same-fault h) (small.fits g refl)
+      checked : (gs : List Group) (c : Checked) → Small c → (by_checks (body_of gs) old c).answer ≡ Err f → Fits f
+      checked gs (Ok _) small h = absurd (no-path h)
+      checked gs (Err g) small h = subst Fits (same-fault h) (small.fits g refl)
 
-      go : (r : Read) → read_groups text ≡ r → (by_groups_by own old r).answer ≡ Imported·.Refused f → Fits f
+      go : (r : Read) → read_groups text ≡ r → (by_groups_by own old r).answer ≡ Err f → Fits f
       go (fault_at number line) is h =
           let n = wrong-number ((fault-read text number line).0 is).wrong in
           subst Fits (same-fault h)
           (record { known = n.0; number = n.1; place = record { owner = omega arith; index = told_below line } })
       go (groups gs) is h = checked gs (first (body_checks_by own gs old)) (body-small gs old) h
 
-pub import-fits : (text : List ℕ) (old : List Float) (f : Fault) → (import_dxf text old).answer ≡ Imported·.Refused f → Fits f
+pub import-fits : (text : List ℕ) (old : List Float) (f : Fault) → (import_dxf text old).answer ≡ Err f → Fits f
 unfolding import_dxf
 import-fits = fits_by path_checks (λ path closed few. path-small path 0 (omega arith) closed few)

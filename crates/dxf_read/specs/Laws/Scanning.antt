@@ -1,5 +1,5 @@
 -- One pass over a text, group by group: what is left, read after what was read, gives what the whole gives.
-use Rattle.std.specs.Prelude.{ℕ, ◌+◌, ◌*◌, ◌-◌, ◌<◌, ◌≤◌, Bool, ltb, set, ℤ, pos, Float}
+use Rattle.std.specs.Prelude.{ℕ, ◌+◌, ◌*◌, ◌-◌, ◌<◌, ◌≤◌, Bool, ltb, set, ℤ, pos, Float, Result, Err, Ok}
 use Rattle.std.proofs.Math.Path.{◌≡◌, refl, sym, ap}
 use Rattle.std.proofs.Common.{◌∙◌, true≢false, arith, length-append, length-set, length-drop, drop_of_length-le}
 use Rattle.std.proofs.Math.Bool.{true, false, cond}
@@ -26,14 +26,14 @@ use Rattle.dxf_form.specs.declared.order.Turn.{Turn}
 use Rattle.dxf_form.specs.declared.order.Turn.TheVariants as Turn·
 use Rattle.dxf_read.specs.Workings.Kept as code
 use Rattle.dxf_read.specs.Workings.Kept.{kept_group, kept_pair}
-use Rattle.dxf_read.specs.Workings.Pairs.{group_by, shown_pair, InTurn}
+use Rattle.dxf_read.specs.Workings.Pairs.{faulty, group_by, shown_pair, InTurn}
 use Rattle.dxf_read.specs.Workings.Scanning.{stepped, started, changed, stored, line_after, vertices_after, BodyRead}
 use Rattle.dxf_read.specs.Laws.Groups.{pair-of-lem}
 use Rattle.dxf_read.specs.Laws.Bodies.{kept_all, kept_body, body_kept, path-kept, closed-kept, many-kept}
 use Rattle.dxf_read.specs.Laws.Stores.{more-path, last-y, last-bulge, last-length, last_none}
-use Rattle.dxf_read.specs.declared.state.State.{State}
+use Rattle.dxf_read.specs.declared.scan.State.{State}
 use Rattle.dxf_read.specs.declared.pair.Pair.{Pair}
-use Rattle.dxf_read.specs.declared.pair.Pair.TheVariants as Pair·
+use Rattle.dxf_read.specs.declared.fault.LineFault.{LineFault}
 
 -- ---- the state holds what the groups so far give, their numbers as they are kept
 
@@ -244,25 +244,23 @@ turn-same due (y z) = refl
 turn-same due (bulge z) = refl
 turn-same due other = refl
 
-pub record PairGot (due : Due) (text : List ℕ) (turn : Turn) (negative : Bool) (number : ℕ) (rest : List ℕ) : Type 0 where
+pub record PairGot (due : Due) (text : List ℕ) (p : Pair) (rest : List ℕ) : Type 0 where
   pub g : Group
   pub is : pair_of due text ≡ pair g rest
-  pub kept-is : kept_group g ≡ group_by turn negative number
-  pub turn_is : turn_of due g ≡ turn
+  pub kept-is : kept_group g ≡ group_by p.turn p.negative p.number
+  pub turn_is : turn_of due g ≡ p.turn
 
 module _ (due : Due) (text t : List ℕ) where
-  pair-got : (turn : Turn) (negative : Bool) (number next : ℕ)
-      → shown_pair text (Pair·.Got turn negative number next) ≡ code.pair_of due t
-      → InTurn due (Pair·.Got turn negative number next) → PairGot due t turn negative number (drop next text)
+  pair-got : (p : Pair) → shown_pair text (Ok p) ≡ code.pair_of due t → InTurn due (Ok p) → PairGot due t p (drop p.next text)
   unfolding shown_pair
-  pair-got turn negative number next is in-turn = go (pair_of due t) refl (is ∙ pair-of-lem due t)
+  pair-got p is in-turn = go (pair_of due t) refl (is ∙ pair-of-lem due t)
     where
-      go : (p : reader.Pair) → pair_of due t ≡ p → pair (group_by turn negative number) (drop next text) ≡ kept_pair p
-          → PairGot due t turn negative number (drop next text)
+      go : (r : reader.Pair) → pair_of due t ≡ r → pair (group_by p.turn p.negative p.number) (drop p.next text) ≡ kept_pair r
+          → PairGot due t p (drop p.next text)
       go (fault n l) e k = let z : ◌≡◌ {A = ℕ} 0 1 = cc in absurd (omega arith)
       go (pair g rest) e k =
-          let one : kept_group g ≡ group_by turn negative number = cc in
-          let two : rest ≡ drop next text = cc in
+          let one : kept_group g ≡ group_by p.turn p.negative p.number = cc in
+          let two : rest ≡ drop p.next text = cc in
           record {
             g = g;
             is = e ∙ ap (pair g) two;
@@ -270,7 +268,7 @@ module _ (due : Due) (text t : List ℕ) where
             turn_is = sym (turn-same due g) ∙ ap (turn_of due) one ∙ in-turn;
           }
 
-  pair-fault : (number line : ℕ) → shown_pair text (Pair·.Fault number line) ≡ code.pair_of due t → pair_of due t ≡ fault number line
+  pair-fault : (number line : ℕ) → shown_pair text (faulty number line) ≡ code.pair_of due t → pair_of due t ≡ fault number line
   unfolding shown_pair
   pair-fault number line is = go (pair_of due t) refl (is ∙ pair-of-lem due t)
     where
@@ -375,49 +373,48 @@ some_left text at h = omega (arith, length-drop at text)
 module _ {text : List ℕ} {old : List Float} {at : ℕ} {due : Due} {lines : ℕ} {s : State} {out : List Float}
     (sc : Scanning text old at due lines s out) where
   -- a group
-  module _ (inside : at < length text) {r : Pair} (is : shown_pair text r ≡ code.pair_of due (drop at text)) where
-    pub scan-fault : {number line : ℕ} → r ≡ Pair·.Fault number line → read_groups text ≡ fault_at number (lines + line)
-    scan-fault {number} {line} e =
-        let f = pair-fault due text (drop at text) number line (ap (shown_pair text) (sym e) ∙ is) in
+  module _ (inside : at < length text) {r : Result Pair LineFault} (is : shown_pair text r ≡ code.pair_of due (drop at text)) where
+    pub scan-fault : {f : LineFault} → r ≡ Err f → read_groups text ≡ fault_at f.number (lines + f.line)
+    scan-fault {f} e =
+        let p = pair-fault due text (drop at text) f.number f.line (ap (shown_pair text) (sym e) ∙ is) in
         let step = read_step due lines (drop at text) (some_left text at inside) in
-        let here = step ∙ ap (carried_on lines _) f in
-        broken-read (read_groups text) number (lines + line)
+        let here = step ∙ ap (carried_on lines _) p in
+        broken-read (read_groups text) f.number (lines + f.line)
         (sym (ap (done due sc.body lines s.count_line) here) ∙ sc.goes_on)
 
-    pub scan-line : {number line : ℕ} → r ≡ Pair·.Fault number line → line ≤ 2
-    scan-line {number} {line} e =
-        fault-within due (drop at text) number line
-        (pair-fault due text (drop at text) number line (ap (shown_pair text) (sym e) ∙ is))
+    pub scan-line : {f : LineFault} → r ≡ Err f → f.line ≤ 2
+    scan-line {f} e =
+        fault-within due (drop at text) f.number f.line
+        (pair-fault due text (drop at text) f.number f.line (ap (shown_pair text) (sym e) ∙ is))
 
-    module _ (in-turn : InTurn due r) {turn : Turn} {negative : Bool} {number next : ℕ}
-        (e : r ≡ Pair·.Got turn negative number next) where
-      got-here : PairGot due (drop at text) turn negative number (drop next text)
+    module _ (in-turn : InTurn due r) {p : Pair} (e : r ≡ Ok p) where
+      got-here : PairGot due (drop at text) p (drop p.next text)
       got-here =
-          let right : InTurn due (Pair·.Got turn negative number next) = rw e at in-turn in
-          pair-got due text (drop at text) turn negative number next (ap (shown_pair text) (sym e) ∙ is) right
+          let right : InTurn due (Ok p) = rw e at in-turn in
+          pair-got due text (drop at text) p (ap (shown_pair text) (sym e) ∙ is) right
 
-      pub scan-shorter : 3 + length (drop next text) ≤ length (drop at text)
-      scan-shorter = let p = got-here in pair-long due (drop at text) p.g (drop next text) p.is
+      pub scan-shorter : 3 + length (drop p.next text) ≤ length (drop at text)
+      scan-shorter = let h = got-here in pair-long due (drop at text) h.g (drop p.next text) h.is
 
-      pub scan-more : Scanning text old next (after due turn) (lines + 2) (stepped s turn number lines)
-          (stored turn (value (whole negative number)) s.vertices out)
+      pub scan-more : Scanning text old p.next (after due p.turn) (lines + 2) (stepped s p.turn p.number lines)
+          (stored p.turn (value (whole p.negative p.number)) s.vertices out)
       unfolding stepped
       scan-more =
-          let p = got-here in
+          let h = got-here in
           record {
-            body = taken sc.body (group_by turn negative number);
+            body = taken sc.body (group_by p.turn p.negative p.number);
             goes_on =
-                on_step due sc.body lines s.count_line (drop at text) (drop next text) p.g turn
-                (group_by turn negative number) _ (some_left text at inside) p.is p.kept-is p.turn_is sc.goes_on;
-            holds = holds-step sc.body s out old turn negative number lines sc.holds;
+                on_step due sc.body lines s.count_line (drop at text) (drop p.next text) h.g p.turn
+                (group_by p.turn p.negative p.number) _ (some_left text at inside) h.is h.kept-is h.turn_is sc.goes_on;
+            holds = holds-step sc.body s out old p.turn p.negative p.number lines sc.holds;
             few-lines = omega (arith, scan-shorter, sc.few-lines);
-            few-vertices = omega (arith, one_more turn s.vertices, sc.few-vertices);
-            long = stored-length turn (value (whole negative number)) s.vertices out ∙ sc.long;
+            few-vertices = omega (arith, one_more p.turn s.vertices, sc.few-vertices);
+            long = stored-length p.turn (value (whole p.negative p.number)) s.vertices out ∙ sc.long;
           }
 
       pub scan-next : {due2 : Due} {s2 : State} {out2 : List Float}
-          → out2 ≡ stored turn (value (whole negative number)) s.vertices out → s2 ≡ stepped s turn number lines
-          → due2 ≡ after due turn → Scanning text old next due2 (lines + 2) s2 out2
+          → out2 ≡ stored p.turn (value (whole p.negative p.number)) s.vertices out → s2 ≡ stepped s p.turn p.number lines
+          → due2 ≡ after due p.turn → Scanning text old p.next due2 (lines + 2) s2 out2
       scan-next a b c = rw (a, b, c) scan-more
 
   -- the end of the text

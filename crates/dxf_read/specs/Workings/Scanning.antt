@@ -1,5 +1,5 @@
 -- One pass over a text: the state after each group, what a lent slice then holds, and what the pass answers.
-use Rattle.std.specs.Prelude.{ℕ, ◌+◌, ◌*◌, ◌-◌, ◌≤◌, ◌≡◌, Bool, cond, List, [], ◌∷◌, eqb, ltb, length, set, Float}
+use Rattle.std.specs.Prelude.{ℕ, ◌+◌, ◌*◌, ◌-◌, ◌≤◌, ◌≡◌, Bool, cond, List, [], ◌∷◌, eqb, ltb, length, set, Float, Result, Ok, Err}
 use Rattle.std.proofs.lemmas.List.Edits.{sets}
 use Rattle.paths.specs.Path.{numbers_a_vertex, most_vertices}
 use Rattle.dxf_form.specs.Numbers.{trace, path_of}
@@ -9,9 +9,8 @@ use Rattle.dxf_form.specs.Workings.Reader.{fault_at, groups, read_groups}
 use Rattle.dxf_form.specs.declared.order.Turn.{Turn}
 use Rattle.dxf_form.specs.declared.order.Turn.TheVariants as Turn·
 use Rattle.dxf_read.specs.Workings.Kept.{kept}
-use Rattle.dxf_read.specs.declared.state.State.{State}
-use Rattle.dxf_read.specs.declared.scan.Found.{Found}
-use Rattle.dxf_read.specs.declared.scan.Found.TheVariants as Found·
+use Rattle.dxf_read.specs.declared.scan.State.{State}
+use Rattle.dxf_read.specs.declared.fault.LineFault.{LineFault}
 
 -- ---- the state after a group
 
@@ -94,6 +93,6 @@ pub record BodyRead (text : List ℕ) (n count line : ℕ) (closed : Bool) (old 
   pub few : 3 * n ≤ length text
   pub holds : n ≤ most_vertices → now ≡ sets old 0 (path_of (body_of gs).vertices)
 
-abbrev pub Scanned : List ℕ → Found → List Float → List Float → Type 0
-Scanned text (Found·.Fault number line) old now = read_groups text ≡ fault_at number line
-Scanned text (Found·.Body n count line closed) old now = BodyRead text n count line closed old now
+abbrev pub Scanned : List ℕ → Result State LineFault → List Float → List Float → Type 0
+Scanned text (Err fault) old now = read_groups text ≡ fault_at fault.number fault.line
+Scanned text (Ok s) old now = BodyRead text s.vertices s.count s.count_line s.closed old now

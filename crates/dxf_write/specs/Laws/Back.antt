@@ -1,13 +1,12 @@
 -- The vertices of a path, and of the same path without its traces; and what is written of a vertex is read as the same floats.
-use Rattle.std.specs.Prelude.{◌≡◌, ℕ, zero, suc, ◌+◌, ◌*◌, ◌/◌, ◌%◌, ◌<◌, Bool, true, false, T, List, [], ◌∷◌, length, refl, Float}
+use Rattle.checks.specs.Checked.{Checked}
+use Rattle.std.specs.Prelude.{◌≡◌, ℕ, zero, suc, ◌+◌, ◌*◌, ◌/◌, ◌%◌, ◌<◌, Bool, true, false, T, List, [], ◌∷◌, length, refl, Float, Err, Ok}
 use Rattle.std.proofs.Common.{sym, ap, ◌∙◌, subst, true≢false, arith, add-one}
 use Rattle.std.specs.Float.{binary64}
 use Rattle.std.specs.Float.Ieee.{fits}
 use Rattle.plane.specs.declared.pline_vertex.PlineVertex.{PlineVertex}
 use Rattle.plane.specs.PlineVertex as vertices
 use Rattle.checks.specs.declared.fault.Place.{Place}
-use Rattle.checks.specs.declared.fault.Checked.{Checked}
-use Rattle.checks.specs.declared.fault.Checked.TheVariants.{Fine, Bad}
 use Rattle.checks.specs.Fault.{refuse}
 use Rattle.checks.specs.First.{first}
 use Rattle.checks.specs.Laws.Later.{later-fine}
@@ -91,16 +90,16 @@ read_back x f64 h = go (millionths_of x) refl h
     go none e h = absurd (true≢false h)
     go (found z) e h = found-reads x f64 z e
 
-pub refuse-fine : (b : Bool) (n : ℕ) (p : Place) → refuse b n p ≡ Fine → b ≡ false
+pub refuse-fine : (b : Bool) (n : ℕ) (p : Place) → refuse b n p ≡ Ok tt → b ≡ false
 unfolding refuse
 refuse-fine false n p e = refl
 refuse-fine true n p e = let z : ◌≡◌ {A = ℕ} 1 0 = ap tagged e in absurd (omega arith)
   where
     tagged : Checked → ℕ
-    tagged Fine = 0
-    tagged (Bad f) = 1
+    tagged (Ok _) = 0
+    tagged (Err f) = 1
 
-pub vertex-back : (path : List Float) → ((k : ℕ) → T (fits binary64 (number path k))) → (i : ℕ) → first (of_texts path i) ≡ Fine
+pub vertex-back : (path : List Float) → ((k : ℕ) → T (fits binary64 (number path k))) → (i : ℕ) → first (of_texts path i) ≡ Ok tt
     → ReadBack (vertex path i)
 unfolding of_texts vertex vertices.new
 vertex-back path f64 i fine =

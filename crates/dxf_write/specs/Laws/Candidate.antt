@@ -1,6 +1,6 @@
 -- The only candidate: if z millionths are read as a float of at most 2^20 in magnitude, then that float times 1,000,000 is z,
 -- rounded. Every rounding on the way is off by at most 2^-20, since the numbers are small; so the whole part is right.
-use Rattle.std.specs.Prelude.{◌≡◌, ℕ, zero, suc, ◌+◌, ◌-◌, ◌*◌, ◌/◌, ◌^◌, ◌<◌, ◌≤◌, min, Bool, true, false, cond, not, T, ℤ, pos, negsuc, nat_lt, refl, Float}
+use Rattle.std.specs.Prelude.{◌≡◌, ℕ, zero, suc, ◌+◌, ◌-◌, ◌*◌, ◌/◌, ◌^◌, ◌<◌, ◌≤◌, min, Bool, true, false, cond, T, ℤ, pos, negsuc, nat_lt, refl, Float}
 use Rattle.std.proofs.Common.{ap, ◌∙◌, subst, true≢false, mul-le-mul_right, le_of_mul-le-mul_right, lt_of_mul-lt-mul_right, le-div_iff_mul-le, div-lt_iff_lt-mul, le_trans, zero-lt-suc, arith}
 use Rattle.std.proofs.Math.Nat.{min-eq_left, sub-zero}
 use Rattle.std.proofs.Math.Dec.{not_T}

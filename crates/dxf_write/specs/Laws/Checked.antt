@@ -1,9 +1,8 @@
 -- The checks of a path without its traces: if the path passes, so does it.
-use Rattle.std.specs.Prelude.{◌≡◌, ℕ, ◌/◌, ◌%◌, ◌<◌, Bool, false, List, length, ◌==◌, Float}
+use Rattle.std.specs.Prelude.{◌≡◌, ℕ, ◌/◌, ◌%◌, ◌<◌, Bool, false, List, length, ◌==◌, Float, Ok}
 use Rattle.std.proofs.Math.Path.{refl, sym, ap, subst}
 use Rattle.std.proofs.Common.{◌∙◌, arith, eqb→eq}
 use Rattle.std.specs.Float.Ieee.{of_bits, of_fields, lt, le, eq, is_nan}
-use Rattle.checks.specs.declared.fault.Checked.TheVariants.{Fine}
 use Rattle.checks.specs.First.{first}
 use Rattle.checks.specs.Number.{is_whole, no_trace}
 use Rattle.checks.specs.Laws.Fine.{not-denied}
@@ -24,17 +23,17 @@ pub zero-trace : no_trace trace ≡ false
 unfolding no_trace is_whole of_bits of_fields lt le eq is_nan
 zero-trace = refl
 
-pub whole-vertices : (path : List Float) → Shape.shape path 0 ≡ Fine → length path % 4 ≡ 0
+pub whole-vertices : (path : List Float) → Shape.shape path 0 ≡ Ok tt → length path % 4 ≡ 0
 whole-vertices path e = eqb→eq (length path % 4) 0 (not-denied (length path % 4 == 0) ((table.shape path 0).fine.0 e).0)
 
-module _ (path : List Float) (closed : Bool) (shaped : Shape.shape path 0 ≡ Fine) where
+module _ (path : List Float) (closed : Bool) (shaped : Shape.shape path 0 ≡ Ok tt) where
   pub same-long : length (untraced path) ≡ length path
   same-long = untraced-long path (whole-vertices path shaped)
 
   pub same_count : vertex_count (untraced path) ≡ vertex_count path
   same_count = ap (λ (n : ℕ). n / 4) same-long
 
-  pub same_shape : Shape.shape (untraced path) 0 ≡ Fine
+  pub same_shape : Shape.shape (untraced path) 0 ≡ Ok tt
   unfolding Shape.shape
   same_shape = rw same-long shaped
 
@@ -61,12 +60,12 @@ module _ (path : List Float) (closed : Bool) (shaped : Shape.shape path 0 ≡ Fi
       → ArcFine (segment_from (untraced path) i).v1 (segment_from (untraced path) i).v2
   same-arc i l fine = let same = same_ends i l in rw (same.0, same.1) fine
 
-  pub same-checks : first (path_checks path closed 0) ≡ Fine → first (path_checks (untraced path) closed 0) ≡ Fine
+  pub same-checks : first (path_checks path closed 0) ≡ Ok tt → first (path_checks (untraced path) closed 0) ≡ Ok tt
   unfolding check_path
   same-checks e =
-      let fine = ((path-fine Fine path closed 0).0 (fine-left (first (path_checks path closed 0)) ∙ e)).1 in
+      let fine = ((path-fine (Ok tt) path closed 0).0 (fine-left (first (path_checks path closed 0)) ∙ e)).1 in
       sym (fine-left (first (path_checks (untraced path) closed 0)))
-      ∙ (path-fine Fine (untraced path) closed 0).1 (
+      ∙ (path-fine (Ok tt) (untraced path) closed 0).1 (
         refl,
         record {
           vertices = λ i l.

@@ -1,11 +1,10 @@
 -- The ends of an export: a check refuses the path, a number has no text, there is too little room, or the whole text is put.
-use Rattle.std.specs.Prelude.{◌≡◌, ℕ, zero, suc, ◌+◌, ◌*◌, ◌<◌, ◌≤◌, Bool, true, false, List, [], ◌∷◌, ◌++◌, length, refl, Float}
+use Rattle.checks.specs.Checked.{Checked}
+use Rattle.std.specs.Prelude.{◌≡◌, ℕ, zero, suc, ◌+◌, ◌*◌, ◌<◌, ◌≤◌, Bool, true, false, List, [], ◌∷◌, ◌++◌, length, refl, Float, Result, Err, Ok}
 use Rattle.std.proofs.Common.{sym, ◌∙◌, arith, lt-ltb, le-ltb, length-append}
 use Rattle.std.proofs.Math.Path.{ap}
 use Rattle.checks.specs.declared.fault.Item.TheVariants.{Room}
 use Rattle.checks.specs.declared.fault.Fault.{Fault}
-use Rattle.checks.specs.declared.fault.Checked.{Checked}
-use Rattle.checks.specs.declared.fault.Checked.TheVariants.{Fine, Bad}
 use Rattle.checks.specs.Fault.{refuse, later, whole}
 use Rattle.checks.specs.First.{first}
 use Rattle.checks.specs.Laws.Chains.{first-append}
@@ -31,10 +30,6 @@ use Rattle.dxf_write.specs.Export.{
 }
 use Rattle.dxf_write.specs.Workings.Told.{vertex_most, MeasureTold, Written}
 use Rattle.dxf_write.specs.Laws.Put.{group-long}
-use Rattle.dxf_write.specs.declared.Exported.{Exported}
-use Rattle.dxf_write.specs.declared.Exported.TheVariants as Exported·
-use Rattle.dxf_write.specs.declared.vertices.Measured.{Measured}
-use Rattle.dxf_write.specs.declared.vertices.Measured.TheVariants as Measured·
 
 -- ---- the length of a text
 
@@ -89,12 +84,12 @@ module _ (checks : List Checked) (path : List Float) (closed : Bool) (old : List
   abbrev all : Checked
   all = first (checks ++ (text_checks path ++ (room_check path closed old ∷ [])))
 
-  ends-bad : {f : Fault} → all ≡ Bad f → Exports (export_after checks path closed old) (Exported·.Refused f) old
+  ends-bad : {f : Fault} → all ≡ Err f → Exports (export_after checks path closed old) (Err f) old
   unfolding export_after
   ends-bad e = record { answer-is = rw e; text-holds = rw e }
 
-  ends-fine : {next : ℕ} {now : List ℕ} → all ≡ Fine → Put (bytes_of path closed) old 0 now next
-      → Exports (export_after checks path closed old) (Exported·.Bytes next) now
+  ends-fine : {next : ℕ} {now : List ℕ} → all ≡ Ok tt → Put (bytes_of path closed) old 0 now next
+      → Exports (export_after checks path closed old) (Ok next) now
   unfolding export_after
   ends-fine {next} {now} e p =
       let long : next ≡ length (bytes_of path closed) = omega (arith, p.after) in
@@ -109,19 +104,19 @@ in-turn path closed old =
     ∙ ap (later (first (text_checks path))) (fine-right (room_check path closed old))
 
 -- no sum of a few sizes overflows
-pub size_few : (path : List Float) (m : Measured) {size : ℕ} → MeasureTold path m → m ≡ Measured·.Bytes size
+pub size_few : (path : List Float) (m : Result ℕ Fault) {size : ℕ} → MeasureTold path m → m ≡ Ok size
     → size ≤ most_vertices * vertex_most
 size_few path m told e = let t = rw e at told in t.2
 
-module _ (path : List Float) (closed : Bool) (old : List ℕ) (m : Measured) (told : MeasureTold path m) where
-  pub text-refused : {f : Fault} → m ≡ Measured·.Refused f → Exports (export_after [] path closed old) (Exported·.Refused f) old
+module _ (path : List Float) (closed : Bool) (old : List ℕ) (m : Result ℕ Fault) (told : MeasureTold path m) where
+  pub text-refused : {f : Fault} → m ≡ Err f → Exports (export_after [] path closed old) (Err f) old
   unfolding later
   text-refused {f} e =
-      let bad : first (text_checks path) ≡ Bad f = rw e at told in
+      let bad : first (text_checks path) ≡ Err f = rw e at told in
       ends-bad [] path closed old (in-turn path closed old ∙ ap (λ (c : Checked). later c (room_check path closed old)) bad)
 
-  module _ {size : ℕ} (e : m ≡ Measured·.Bytes size) where
-    measured : (first (text_checks path) ≡ Fine) × (size ≡ length (vertices_bytes (corners_of path)))
+  module _ {size : ℕ} (e : m ≡ Ok size) where
+    measured : (first (text_checks path) ≡ Ok tt) × (size ≡ length (vertices_bytes (corners_of path)))
     measured = let t = rw e at told in (t.0, t.1)
 
     last : all [] path closed old ≡ room_check path closed old
@@ -135,7 +130,7 @@ module _ (path : List Float) (closed : Bool) (old : List ℕ) (m : Measured) (to
           omega (arith, text-long path closed, measured.1, digits)
 
       pub no_room : {f : Fault} → length old < size + d + 9 → f ≡ whole Refusal.room Room
-          → Exports (export_after [] path closed old) (Exported·.Refused f) old
+          → Exports (export_after [] path closed old) (Err f) old
       unfolding refuse
       no_room h is =
           let short : length old < length (bytes_of path closed) = omega (arith, whole_long) in
@@ -160,7 +155,7 @@ module _ (path : List Float) (closed : Bool) (old : List ℕ) (m : Measured) (to
                 omega (arith, count.after, flags.after, group-long count_code (decimal n), count-digits, flag-long, measured.1)
 
             pub all-written : {o3 : List ℕ} {p3 : ℕ} → Written path o2 p2 o3 p3
-                → Exports (export_after [] path closed old) (Exported·.Bytes p3) o3
+                → Exports (export_after [] path closed old) (Ok p3) o3
             unfolding refuse
             all-written {o3} {p3} vertices =
                 let fits : length (bytes_of path closed) ≤ length old = omega (arith, whole_long) in
@@ -172,7 +167,7 @@ module _ (path : List Float) (closed : Bool) (old : List ℕ) (m : Measured) (to
 -- ---- the path's own checks: its shape, then those of its numbers and arcs
 
 -- a path that is not too long
-pub short-enough : (path : List Float) {s : Checked} → s ≡ Shape.shape path 0 → s ≡ Fine → vertex_count path ≤ most_vertices
+pub short-enough : (path : List Float) {s : Checked} → s ≡ Shape.shape path 0 → s ≡ Ok tt → vertex_count path ≤ most_vertices
 short-enough path shaped e = shape-few path 0 (sym shaped ∙ e)
 
 module _ (checks : PathChecks) (path : List Float) (closed : Bool) (old : List ℕ) {s : Checked}
@@ -180,7 +175,7 @@ module _ (checks : PathChecks) (path : List Float) (closed : Bool) (old : List �
   abbrev before : List Checked
   before = Shape.shape path 0 ∷ checks path closed 0
 
-  pub shape-refused : {f : Fault} → s ≡ Bad f → Exports (export_after before path closed old) (Exported·.Refused f) old
+  pub shape-refused : {f : Fault} → s ≡ Err f → Exports (export_after before path closed old) (Err f) old
   unfolding later
   shape-refused e = ends-bad before path closed old (rw (sym shaped ∙ e))
 
@@ -193,12 +188,12 @@ module _ (checks : PathChecks) (path : List Float) (closed : Bool) (old : List �
         first-append before (text_checks path ++ (room_check path closed old ∷ []))
         ∙ ap (λ (t : Checked). later t (all [] path closed old)) own
 
-    pub path-refused : {f : Fault} → c ≡ Bad f → Exports (export_after before path closed old) (Exported·.Refused f) old
+    pub path-refused : {f : Fault} → c ≡ Err f → Exports (export_after before path closed old) (Err f) old
     unfolding later
     path-refused e =
         ends-bad before path closed old (in_order ∙ ap (λ (t : Checked). later t (all [] path closed old)) e)
 
-    pub path-fine : c ≡ Fine → {r : Exported} {now : List ℕ} → Exports (export_after [] path closed old) r now
+    pub path-fine : c ≡ Ok tt → {r : Result ℕ Fault} {now : List ℕ} → Exports (export_after [] path closed old) r now
         → Exports (export_after before path closed old) r now
     unfolding export_after later
     path-fine e x =

@@ -1,12 +1,11 @@
 -- The faults of a path's own checks have numbers below 20: those of an export's other checks are 23 and 24.
-use Rattle.std.specs.Prelude.{◌≡◌, ℕ, zero, suc, ◌+◌, ◌<◌, Bool, true, false, cond, List, ◌++◌, ◌≢◌, Float}
+use Rattle.checks.specs.Checked.{Checked}
+use Rattle.std.specs.Prelude.{◌≡◌, ℕ, zero, suc, ◌+◌, ◌<◌, Bool, true, false, cond, List, ◌++◌, Float, Err, Ok}
 use Rattle.std.proofs.Common.{sym, ap, subst, true≢false, arith}
 use Rattle.plane.specs.declared.pline_vertex.PlineVertex.{PlineVertex}
 use Rattle.plane.specs.PlineVertex.{bulge_is_zero}
 use Rattle.checks.specs.declared.fault.Place.{Place}
 use Rattle.checks.specs.declared.fault.Fault.{Fault}
-use Rattle.checks.specs.declared.fault.Checked.{Checked}
-use Rattle.checks.specs.declared.fault.Checked.TheVariants.{Fine, Bad}
 use Rattle.checks.specs.Fault.{refuse, later}
 use Rattle.checks.specs.Refusal
 use Rattle.checks.specs.Each
@@ -25,16 +24,16 @@ numbers_below = 20
 
 -- a check that is fine, or whose fault has such a number
 pub record Low (c : Checked) : Type 0 where
-  pub below : (f : Fault) → c ≡ Bad f → f.number < numbers_below
+  pub below : (f : Fault) → c ≡ Err f → f.number < numbers_below
 
-pub fine : Low Fine
+pub fine : Low (Ok tt)
 fine = record { below = λ f e. absurd (never e) }
   where
     is-bad : Checked → Bool
-    is-bad Fine = false
-    is-bad (Bad g) = true
+    is-bad (Ok _) = false
+    is-bad (Err g) = true
 
-    never : {f : Fault} → Fine ≢ Bad f
+    never : {f : Fault} → ◌≡◌ {A = Checked} (Ok tt) (Err f) → ⊥
     never {f} e = true≢false (sym (ap is-bad e))
 
 pub refused : (test : Bool) (n : ℕ) (p : Place) → n < numbers_below → Low (refuse test n p)
@@ -42,14 +41,14 @@ unfolding refuse
 refused true n p h = record { below = λ f e. subst (λ (m : ℕ). m < numbers_below) (ap (number_of n) e) h }
   where
     number_of : ℕ → Checked → ℕ
-    number_of n Fine = n
-    number_of n (Bad g) = g.number
+    number_of n (Ok _) = n
+    number_of n (Err g) = g.number
 refused false n p h = fine
 
 both : (a b : Checked) → Low a → Low b → Low (later a b)
 unfolding later
-both Fine b ha hb = hb
-both (Bad f) b ha hb = ha
+both (Ok _) b ha hb = hb
+both (Err f) b ha hb = ha
 
 pub and : {a b : Checked} → Low a → Low b → Low (later a b)
 and {a} {b} ha hb = both a b ha hb
@@ -84,7 +83,7 @@ module _ (x : Float) (p : Place) where
   unfolding Each.trace Each.finite_then
   trace = and finite (refused _ Refusal.trace p (omega arith))
 
-  chord : (is-line : Bool) → Low (cond is-line Fine (Each.chord x p))
+  chord : (is-line : Bool) → Low (cond is-line (Ok tt) (Each.chord x p))
   unfolding Each.chord
   chord true = fine
   chord false = refused _ Refusal.chord p (omega arith)

@@ -12,6 +12,7 @@ use Rattle.dxf_form.specs.Numbers.{million}
 use Rattle.dxf_form.specs.Form.{x_code, y_code, bulge_code}
 use Rattle.dxf_write.specs.Written.{digit, six_digits, size_bytes, number_bytes, group_bytes, vertex_bytes}
 use Rattle.dxf_write.specs.Workings.Told.{corner_by}
+use Rattle.dxf_write.specs.declared.millionths.Vertex.{Vertex}
 
 -- ---- six digits
 
@@ -134,39 +135,39 @@ bulge-digits : length (decimal bulge_code) ≡ 2
 unfolding decimal decimal_in
 bulge-digits = refl
 
-module _ (x-minus : Bool) (x : ℕ) (y-minus : Bool) (y : ℕ) (b-minus : Bool) (b : ℕ) where
-  pub vertex-long : length (vertex_bytes (corner_by x-minus x y-minus y b-minus b))
-      ≡ length (group_bytes x_code (number_bytes (whole x-minus x)))
-      + (length (group_bytes y_code (number_bytes (whole y-minus y)))
-      + length (group_bytes bulge_code (number_bytes (whole b-minus b))))
+module _ (v : Vertex) where
+  pub vertex-long : length (vertex_bytes (corner_by v))
+      ≡ length (group_bytes x_code (number_bytes (whole v.x.negative v.x.millionths)))
+      + (length (group_bytes y_code (number_bytes (whole v.y.negative v.y.millionths)))
+      + length (group_bytes bulge_code (number_bytes (whole v.bulge.negative v.bulge.millionths))))
   unfolding vertex_bytes
   vertex-long =
-      length-append (group_bytes x_code (number_bytes (whole x-minus x))) _
-      ∙ ap (λ (k : ℕ). length (group_bytes x_code (number_bytes (whole x-minus x))) + k)
-      (length-append (group_bytes y_code (number_bytes (whole y-minus y))) (group_bytes bulge_code (number_bytes (whole b-minus b))))
+      length-append (group_bytes x_code (number_bytes (whole v.x.negative v.x.millionths))) _
+      ∙ ap (λ (k : ℕ). length (group_bytes x_code (number_bytes (whole v.x.negative v.x.millionths))) + k)
+      (length-append (group_bytes y_code (number_bytes (whole v.y.negative v.y.millionths))) (group_bytes bulge_code (number_bytes (whole v.bulge.negative v.bulge.millionths))))
 
   -- each code has two digits
-  pub vertex-size : length (vertex_bytes (corner_by x-minus x y-minus y b-minus b))
-      ≡ length (number_bytes (whole x-minus x))
-      + length (number_bytes (whole y-minus y))
-      + length (number_bytes (whole b-minus b))
+  pub vertex-size : length (vertex_bytes (corner_by v))
+      ≡ length (number_bytes (whole v.x.negative v.x.millionths))
+      + length (number_bytes (whole v.y.negative v.y.millionths))
+      + length (number_bytes (whole v.bulge.negative v.bulge.millionths))
       + 12
   vertex-size =
       omega (
         arith,
         vertex-long,
-        group-long x_code (number_bytes (whole x-minus x)),
-        group-long y_code (number_bytes (whole y-minus y)),
-        group-long bulge_code (number_bytes (whole b-minus b)),
+        group-long x_code (number_bytes (whole v.x.negative v.x.millionths)),
+        group-long y_code (number_bytes (whole v.y.negative v.y.millionths)),
+        group-long bulge_code (number_bytes (whole v.bulge.negative v.bulge.millionths)),
         x-digits,
         y-digits,
         bulge-digits,
       )
 
   pub vertex-put : {o o1 o2 o3 : List ℕ} {at p1 p2 p3 : ℕ}
-      → Put (group_bytes x_code (number_bytes (whole x-minus x))) o at o1 p1
-      → Put (group_bytes y_code (number_bytes (whole y-minus y))) o1 p1 o2 p2
-      → Put (group_bytes bulge_code (number_bytes (whole b-minus b))) o2 p2 o3 p3
-      → Put (vertex_bytes (corner_by x-minus x y-minus y b-minus b)) o at o3 p3
+      → Put (group_bytes x_code (number_bytes (whole v.x.negative v.x.millionths))) o at o1 p1
+      → Put (group_bytes y_code (number_bytes (whole v.y.negative v.y.millionths))) o1 p1 o2 p2
+      → Put (group_bytes bulge_code (number_bytes (whole v.bulge.negative v.bulge.millionths))) o2 p2 o3 p3
+      → Put (vertex_bytes (corner_by v)) o at o3 p3
   unfolding vertex_bytes
   vertex-put p q r = put-join p (put-join q r)

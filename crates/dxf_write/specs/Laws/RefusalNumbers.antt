@@ -1,10 +1,9 @@
 -- A fault that an export tells fits into a word: its number is small, and so is its vertex.
-use Rattle.std.specs.Prelude.{◌≡◌, ℕ, zero, suc, ◌+◌, ◌<◌, ◌≤◌, Bool, List, [], ◌∷◌, ◌++◌, ◌≢◌, refl, Float}
+use Rattle.checks.specs.Checked.{Checked}
+use Rattle.std.specs.Prelude.{◌≡◌, ℕ, zero, suc, ◌+◌, ◌<◌, ◌≤◌, Bool, List, [], ◌∷◌, ◌++◌, ◌≢◌, refl, Float, Result, Err, Ok}
 use Rattle.std.proofs.Common.{subst, arith}
 use Rattle.checks.specs.declared.fault.Item.TheVariants.{X, Y, Bulge, Room}
 use Rattle.checks.specs.declared.fault.Fault.{Fault}
-use Rattle.checks.specs.declared.fault.Checked.{Checked}
-use Rattle.checks.specs.declared.fault.Checked.TheVariants.{Fine, Bad}
 use Rattle.checks.specs.First.{first}
 use Rattle.checks.specs.Words.{Fits}
 use Rattle.checks.specs.Laws.Later.{later-fine}
@@ -15,7 +14,6 @@ use Rattle.paths.specs.Check.{along, path_checks}
 use Rattle.paths.specs.Laws.RefusalNumbers.{shape-small, shape-few, path-small}
 use Rattle.dxf_form.specs.Refusal
 use Rattle.dxf_write.specs.Export.{of_texts, text_checks, room_check, bytes_of, by_checks, export_after, export_dxf}
-use Rattle.dxf_write.specs.declared.Exported.TheVariants as Exported·
 
 -- ---- each vertex's texts
 
@@ -34,7 +32,7 @@ texts-small path i (suc k) h =
 
 -- ---- all checks, one after the other; the faults of these first ones fit, and a path that passes them is not too long
 module _ (own : List Checked) (path : List Float) (closed : Bool) (old : List ℕ) (own-small : Small (first own))
-    (few : first own ≡ Fine → vertex_count path ≤ most_vertices) where
+    (few : first own ≡ Ok tt → vertex_count path ≤ most_vertices) where
   all_small : Small (first (own ++ (text_checks path ++ (room_check path closed old ∷ []))))
   all_small =
       append-then own _ own-small
@@ -44,31 +42,31 @@ module _ (own : List Checked) (path : List Float) (closed : Bool) (old : List �
 
   -- ---- an export
 
-  pub fits_after : (f : Fault) → (export_after own path closed old).answer ≡ Exported·.Refused f → Fits f
+  pub fits_after : (f : Fault) → (export_after own path closed old).answer ≡ Err f → Fits f
   unfolding export_after
   fits_after f e = go (first (own ++ (text_checks path ++ (room_check path closed old ∷ [])))) all_small e
     where
-      same-fault : {g h : Fault} → Exported·.Refused g ≡ Exported·.Refused h → g ≡ h
+      same-fault : {g h : Fault} → ◌≡◌ {A = Result ℕ Fault} (Err g) (Err h) → g ≡ h
       same-fault e = cc
 
-      no_bytes : {n : ℕ} {g : Fault} → Exported·.Bytes n ≢ Exported·.Refused g
+      no_bytes : {n : ℕ} {g : Fault} → Ok n ≢ Err g
       no_bytes e = let z : ◌≡◌ {A = ℕ} 0 1 = cc in absurd (omega arith)
 
-      go : (c : Checked) → Small c → (by_checks (bytes_of path closed) old c).answer ≡ Exported·.Refused f → Fits f
-      go Fine small h = absurd (no_bytes h)
-      go (Bad g) small h = subst Fits (same-fault h) (small.fits g refl)
+      go : (c : Checked) → Small c → (by_checks (bytes_of path closed) old c).answer ≡ Err f → Fits f
+      go (Ok _) small h = absurd (no_bytes h)
+      go (Err g) small h = subst Fits (same-fault h) (small.fits g refl)
 
 -- ---- after a path's shape and these checks
 pub fits-shaped : (own : List Checked) (path : List Float) (closed : Bool) (old : List ℕ)
     → (vertex_count path ≤ most_vertices → Small (first own))
-    → (f : Fault) → (export_after (shape path 0 ∷ own) path closed old).answer ≡ Exported·.Refused f → Fits f
+    → (f : Fault) → (export_after (shape path 0 ∷ own) path closed old).answer ≡ Err f → Fits f
 fits-shaped own path closed old own-small =
     fits_after (shape path 0 ∷ own) path closed old
     (then (shape-small path 0 (omega arith)) (λ e. own-small (shape-few path 0 e)))
     (λ e. shape-few path 0 ((later-fine (shape path 0) (first own)).0 e).0)
 
 pub export-fits : (path : List Float) (closed : Bool) (old : List ℕ) (f : Fault)
-    → (export_dxf path closed old).answer ≡ Exported·.Refused f → Fits f
+    → (export_dxf path closed old).answer ≡ Err f → Fits f
 unfolding export_dxf
 export-fits path closed old =
     fits-shaped (path_checks path closed 0) path closed old (path-small path 0 (omega arith) closed)

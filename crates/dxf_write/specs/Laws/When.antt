@@ -1,6 +1,7 @@
 -- The first fault of an export, after any checks that leave only small numbers: it is theirs; or 23 at the first number without
 -- a text; or 24.
-use Rattle.std.specs.Prelude.{◌≡◌, ℕ, zero, suc, ◌+◌, ◌*◌, ◌<◌, ◌≤◌, Bool, true, false, T, ◌↔◌, List, [], ◌∷◌, ◌++◌, length, drop, nat_lt, Float}
+use Rattle.checks.specs.Checked.{Checked}
+use Rattle.std.specs.Prelude.{◌≡◌, ℕ, zero, suc, ◌+◌, ◌*◌, ◌<◌, ◌≤◌, Bool, true, false, T, ◌↔◌, List, [], ◌∷◌, ◌++◌, length, drop, nat_lt, Float, Result, Err, Ok}
 use Rattle.std.proofs.Math.Path.{refl, subst}
 use Rattle.std.proofs.Common.{sym, ap, ◌∙◌, inl, inr, eq-or-lt_of_le, arith, lt-ltb, le-ltb, ltb-true, ltb-false}
 use Rattle.std.proofs.Math.Logic.Iff
@@ -15,8 +16,6 @@ use Rattle.checks.specs.declared.fault.Item.{Item}
 use Rattle.checks.specs.declared.fault.Item.TheVariants.{X, Y, Bulge, Room}
 use Rattle.checks.specs.declared.fault.Place.{Place}
 use Rattle.checks.specs.declared.fault.Fault.{Fault}
-use Rattle.checks.specs.declared.fault.Checked.{Checked}
-use Rattle.checks.specs.declared.fault.Checked.TheVariants.{Fine, Bad}
 use Rattle.checks.specs.Fault.{at, refuse, later, whole}
 use Rattle.checks.specs.First.{first}
 use Rattle.checks.specs.FirstFault.{FirstFault, first-bad, first_fine}
@@ -37,33 +36,31 @@ use Rattle.dxf_write.specs.Spelt.{number-spelt}
 use Rattle.dxf_write.specs.Workings.Told.{no_text}
 use Rattle.dxf_write.specs.Laws.Back.{refuse-fine}
 use Rattle.dxf_write.specs.Laws.Low.{numbers_below, Low}
-use Rattle.dxf_write.specs.declared.Exported.{Exported}
-use Rattle.dxf_write.specs.declared.Exported.TheVariants as Exported·
 
 is-bad : Checked → Bool
-is-bad Fine = false
-is-bad (Bad f) = true
+is-bad (Ok _) = false
+is-bad (Err f) = true
 
-never : {P : Type 0} {f : Fault} → Fine ≡ Bad f → P
+never : {P : Type 0} {f : Fault} → ◌≡◌ {A = Checked} (Ok tt) (Err f) → P
 unfolding is-bad
 never e = absurd (true≢false (sym (ap is-bad e)))
 
 number_of : Checked → ℕ
-number_of Fine = 0
-number_of (Bad f) = f.number
+number_of (Ok _) = 0
+number_of (Err f) = f.number
 
 item_of : Checked → Item
-item_of Fine = X
-item_of (Bad f) = f.place.item
+item_of (Ok _) = X
+item_of (Err f) = f.place.item
 
 index_of : Checked → ℕ
-index_of Fine = 0
-index_of (Bad f) = f.place.index
+index_of (Ok _) = 0
+index_of (Err f) = f.place.index
 
 -- whether bytes are answered
-abbrev tagged : Exported → Bool
-tagged (Exported·.Bytes n) = true
-tagged (Exported·.Refused f) = false
+abbrev tagged : Result ℕ Fault → Bool
+tagged (Ok n) = true
+tagged (Err f) = false
 
 -- ---- a number's text
 
@@ -94,7 +91,7 @@ three i a b c =
     ∷ refuse c Refusal.no_text (at 0 i Bulge)
     ∷ [])
 
-no-fault : (b : Bool) (n : ℕ) (p : Place) → b ≡ false → refuse b n p ≡ Fine
+no-fault : (b : Bool) (n : ℕ) (p : Place) → b ≡ false → refuse b n p ≡ Ok tt
 unfolding refuse
 no-fault b n p e = rw e
 
@@ -105,7 +102,7 @@ yes false e n = absurd (n (e.0 refl))
 -- by what each test says
 module _ (v : PlineVertex) (i : ℕ) {a b c : Bool} (at_x : (a ≡ false) ↔ HasText v.x) (at_y : (b ≡ false) ↔ HasText v.y)
     (at-bulge : (c ≡ false) ↔ HasText v.bulge) where
-  three-fine : (three i a b c ≡ Fine) ↔ VertexHasText v
+  three-fine : (three i a b c ≡ Ok tt) ↔ VertexHasText v
   three-fine = (
     λ e.
         let f = (later-fine _ _).0 e in
@@ -126,25 +123,25 @@ module _ (v : PlineVertex) (i : ℕ) {a b c : Bool} (at_x : (a ≡ false) ↔ Ha
         ),
   )
 
-  three-bad : (item : Item) → (three i a b c ≡ Bad (no_text i item)) ↔ NoTextOf v item
+  three-bad : (item : Item) → (three i a b c ≡ Err (no_text i item)) ↔ NoTextOf v item
   unfolding refuse later item_of
   three-bad item = (to a b c at_x at_y at-bulge, from)
     where
       to : (a b c : Bool) → (a ≡ false) ↔ HasText v.x → (b ≡ false) ↔ HasText v.y → (c ≡ false) ↔ HasText v.bulge
-          → three i a b c ≡ Bad (no_text i item) → NoTextOf v item
+          → three i a b c ≡ Err (no_text i item) → NoTextOf v item
       to true b c p q r e = subst (NoTextOf v) (ap item_of e) (no-x (λ t. true≢false (p.1 t)))
       to false true c p q r e = subst (NoTextOf v) (ap item_of e) (no-y (p.0 refl) (λ t. true≢false (q.1 t)))
       to false false true p q r e =
           subst (NoTextOf v) (ap item_of e) (no-bulge (p.0 refl) (q.0 refl) (λ t. true≢false (r.1 t)))
       to false false false p q r e = never e
 
-      from : {item : Item} → NoTextOf v item → three i a b c ≡ Bad (no_text i item)
+      from : {item : Item} → NoTextOf v item → three i a b c ≡ Err (no_text i item)
       from (no-x n) = rw (yes a at_x n)
       from (no-y t n) = rw (at_x.1 t, yes b at_y n)
       from (no-bulge t u n) = rw (at_x.1 t, at_y.1 u, yes c at-bulge n)
 
 -- what such a fault is, whatever the numbers are
-three-place : (i : ℕ) (a b c : Bool) (f : Fault) → three i a b c ≡ Bad f
+three-place : (i : ℕ) (a b c : Bool) (f : Fault) → three i a b c ≡ Err f
     → (f.number ≡ Refusal.no_text) × (f.place.index ≡ i)
 unfolding refuse later number_of index_of
 three-place i true b c f e = (sym (ap number_of e), sym (ap index_of e))
@@ -153,18 +150,18 @@ three-place i false false true f e = (sym (ap number_of e), sym (ap index_of e))
 three-place i false false false f e = never e
 
 module _ (path : List Float) (i : ℕ) where
-  vertex-place : (f : Fault) → first (of_texts path i) ≡ Bad f → (f.number ≡ Refusal.no_text) × (f.place.index ≡ i)
+  vertex-place : (f : Fault) → first (of_texts path i) ≡ Err f → (f.number ≡ Refusal.no_text) × (f.place.index ≡ i)
   unfolding of_texts
   vertex-place f e = three-place i _ _ _ f e
 
   module _ (f64 : (k : ℕ) → T (fits binary64 (number path k))) (small : SmallVertex (vertex path i)) where
-    pub vertex-texts : (first (of_texts path i) ≡ Fine) ↔ VertexHasText (vertex path i)
+    pub vertex-texts : (first (of_texts path i) ≡ Ok tt) ↔ VertexHasText (vertex path i)
     unfolding of_texts vertex vertices.new
     vertex-texts =
         three-fine (vertex path i) i (has-text _ (f64 (i * 4)) small.x-small) (has-text _ (f64 (i * 4 + 1)) small.y-small)
         (has-text _ (f64 (i * 4 + 2)) small.bulge-small)
 
-    pub vertex-no-text : (item : Item) → (first (of_texts path i) ≡ Bad (no_text i item)) ↔ NoTextOf (vertex path i) item
+    pub vertex-no-text : (item : Item) → (first (of_texts path i) ≡ Err (no_text i item)) ↔ NoTextOf (vertex path i) item
     unfolding of_texts vertex vertices.new
     vertex-no-text item =
         three-bad (vertex path i) i (has-text _ (f64 (i * 4)) small.x-small) (has-text _ (f64 (i * 4 + 1)) small.y-small)
@@ -176,11 +173,11 @@ pub record FirstAt (checks : ℕ → List Checked) (i k : ℕ) (f : Fault) : Typ
   pub j : ℕ
   pub from : i ≤ j
   pub below : j < i + k
-  pub before : (m : ℕ) → i ≤ m → m < j → first (checks m) ≡ Fine
-  pub here : first (checks j) ≡ Bad f
+  pub before : (m : ℕ) → i ≤ m → m < j → first (checks m) ≡ Ok tt
+  pub here : first (checks j) ≡ Err f
 
 module _ (checks : ℕ → List Checked) (f : Fault) where
-  along-at : (k i : ℕ) → first (along checks i k) ≡ Bad f → FirstAt checks i k f
+  along-at : (k i : ℕ) → first (along checks i k) ≡ Err f → FirstAt checks i k f
   along-at zero i e = never e
   along-at (suc k) i e =
       elim ((later-bad _ _ f).0 (sym (first-append (checks i) (along checks (i + 1) k)) ∙ e)) [
@@ -206,7 +203,7 @@ module _ (checks : ℕ → List Checked) (f : Fault) where
             }
       ]
 
-  at-along : (k i : ℕ) → FirstAt checks i k f → first (along checks i k) ≡ Bad f
+  at-along : (k i : ℕ) → FirstAt checks i k f → first (along checks i k) ≡ Err f
   at-along zero i r = absurd (omega (arith, r.from, r.below))
   at-along (suc k) i r =
       first-append (checks i) (along checks (i + 1) k)
@@ -230,10 +227,10 @@ module _ (checks : ℕ → List Checked) (f : Fault) where
 -- after a path's own checks its numbers are small, and their faults are neither 23 nor 24
 pub record Judged (own : List Checked) (path : List Float) : Type 0 where
   pub low : Low (first own)
-  pub small : first own ≡ Fine → (i : ℕ) → i < vertex_count path → SmallVertex (vertex path i)
+  pub small : first own ≡ Ok tt → (i : ℕ) → i < vertex_count path → SmallVertex (vertex path i)
 
 room-fault : (path : List Float) (closed : Bool) (old : List ℕ)
-    → (room_check path closed old ≡ Bad (whole Refusal.room Room)) ↔ (length old < length (bytes_of path closed))
+    → (room_check path closed old ≡ Err (whole Refusal.room Room)) ↔ (length old < length (bytes_of path closed))
 unfolding refuse
 room-fault path closed old = (
   λ e. go (nat_lt (length old) (length (bytes_of path closed))) refl e,
@@ -241,11 +238,11 @@ room-fault path closed old = (
 )
   where
     go : (b : Bool) → nat_lt (length old) (length (bytes_of path closed)) ≡ b
-        → refuse b Refusal.room (at 0 0 Room) ≡ Bad (whole Refusal.room Room) → length old < length (bytes_of path closed)
+        → refuse b Refusal.room (at 0 0 Room) ≡ Err (whole Refusal.room Room) → length old < length (bytes_of path closed)
     go true is e = ltb-true _ _ is
     go false is e = never e
 
-room-number : (b : Bool) (f : Fault) → refuse b Refusal.room (at 0 0 Room) ≡ Bad f → f.number ≡ Refusal.room
+room-number : (b : Bool) (f : Fault) → refuse b Refusal.room (at 0 0 Room) ≡ Err f → f.number ≡ Refusal.room
 unfolding refuse number_of
 room-number true f e = sym (ap number_of e)
 room-number false f e = never e
@@ -262,39 +259,39 @@ module _ (own : List Checked) (path : List Float) (closed : Bool) (old : List �
       ∙ ap (later (first (text_checks path))) (fine-right (room_check path closed old)))
 
   -- the answer is that of the first fault
-  pub refused-after : (f : Fault) → ((export_after own path closed old).answer ≡ Exported·.Refused f) ↔ FirstFault f all_checks
+  pub refused-after : (f : Fault) → ((export_after own path closed old).answer ≡ Err f) ↔ FirstFault f all_checks
   unfolding export_after
   refused-after f = Iff.trans (by (first all_checks)) (first-bad all_checks f)
     where
-      fault-of : Fault → Exported → Fault
-      fault-of f (Exported·.Bytes n) = f
-      fault-of f (Exported·.Refused g) = g
+      fault-of : Fault → Result ℕ Fault → Fault
+      fault-of f (Ok n) = f
+      fault-of f (Err g) = g
 
-      by : (c : Checked) → ((by_checks (bytes_of path closed) old c).answer ≡ Exported·.Refused f) ↔ (c ≡ Bad f)
-      by Fine = (λ e. absurd (true≢false (ap tagged e)), λ e. never e)
-      by (Bad g) = (λ e. ap Bad (ap (fault-of f) e), λ e. ap (λ (c : Checked). (by_checks (bytes_of path closed) old c).answer) e)
+      by : (c : Checked) → ((by_checks (bytes_of path closed) old c).answer ≡ Err f) ↔ (c ≡ Err f)
+      by (Ok _) = (λ e. absurd (true≢false (ap tagged e)), λ e. never e)
+      by (Err g) = (λ e. ap Err (ap (fault-of f) e), λ e. ap (λ (c : Checked). (by_checks (bytes_of path closed) old c).answer) e)
 
   -- and the bytes exactly if there is none
   pub bytes_after :
-      ((export_after own path closed old).answer ≡ Exported·.Bytes (length (bytes_of path closed))) ↔ (first all_checks ≡ Fine)
+      ((export_after own path closed old).answer ≡ Ok (length (bytes_of path closed))) ↔ (first all_checks ≡ Ok tt)
   unfolding export_after
   bytes_after = by (first all_checks)
     where
       by : (c : Checked)
-          → ((by_checks (bytes_of path closed) old c).answer ≡ Exported·.Bytes (length (bytes_of path closed))) ↔ (c ≡ Fine)
-      by Fine = (λ e. refl, λ e. refl)
-      by (Bad g) = (λ e. absurd (true≢false (sym (ap tagged e))), λ e. never (sym e))
+          → ((by_checks (bytes_of path closed) old c).answer ≡ Ok (length (bytes_of path closed))) ↔ (c ≡ Ok tt)
+      by (Ok _) = (λ e. refl, λ e. refl)
+      by (Err g) = (λ e. absurd (true≢false (sym (ap tagged e))), λ e. never (sym e))
 
   module _ (judged : Judged own path) (f64 : (k : ℕ) → T (fits binary64 (number path k))) where
     -- the texts
-    all-texts : first own ≡ Fine → (first (text_checks path) ≡ Fine) ↔ TextsBelow path (vertex_count path)
+    all-texts : first own ≡ Ok tt → (first (text_checks path) ≡ Ok tt) ↔ TextsBelow path (vertex_count path)
     all-texts fine =
         let along = along-fine (of_texts path) (vertex_count path) (λ j. Iff.rfl) in (
           λ e i l. (vertex-texts path i f64 (judged.small fine i l)).0 (along.0 e i l),
           λ h. along.1 (λ i l. (vertex-texts path i f64 (judged.small fine i l)).1 (h i l)),
         )
 
-    first-text : first own ≡ Fine → (i : ℕ) (item : Item) → first (text_checks path) ≡ Bad (no_text i item)
+    first-text : first own ≡ Ok tt → (i : ℕ) (item : Item) → first (text_checks path) ≡ Err (no_text i item)
         → NoText own path i item
     first-text fine i item e =
         let r = along-at (of_texts path) (no_text i item) (vertex_count path) 0 e in
@@ -311,7 +308,7 @@ module _ (own : List Checked) (path : List Float) (closed : Bool) (old : List �
               (ap (λ (z : ℕ). first (of_texts path z)) same ∙ r.here);
         }
 
-    text-first : (i : ℕ) (item : Item) → NoText own path i item → first (text_checks path) ≡ Bad (no_text i item)
+    text-first : (i : ℕ) (item : Item) → NoText own path i item → first (text_checks path) ≡ Err (no_text i item)
     text-first i item t =
         let fine = (first_fine own).1 t.own-fine in
         at-along (of_texts path) (no_text i item) (vertex_count path) 0 (record {
@@ -323,15 +320,15 @@ module _ (own : List Checked) (path : List Float) (closed : Bool) (old : List �
           here = (vertex-no-text path i f64 (judged.small fine i t.inside) item).1 t.here;
         })
 
-    texts-number : (f : Fault) → first (text_checks path) ≡ Bad f → f.number ≡ Refusal.no_text
+    texts-number : (f : Fault) → first (text_checks path) ≡ Err f → f.number ≡ Refusal.no_text
     texts-number f e =
         let r = along-at (of_texts path) f (vertex_count path) 0 e in (vertex-place path r.j f r.here).0
 
     -- which of the three it is
     data Which (f : Fault) : Type 0 where
-      in-own : first own ≡ Bad f → Which f
-      in-texts : first own ≡ Fine → first (text_checks path) ≡ Bad f → Which f
-      in-room : first own ≡ Fine → first (text_checks path) ≡ Fine → room_check path closed old ≡ Bad f → Which f
+      in-own : first own ≡ Err f → Which f
+      in-texts : first own ≡ Ok tt → first (text_checks path) ≡ Err f → Which f
+      in-room : first own ≡ Ok tt → first (text_checks path) ≡ Ok tt → room_check path closed old ≡ Err f → Which f
 
     which : (f : Fault) → FirstFault f all_checks → Which f
     which f h =
@@ -347,7 +344,7 @@ module _ (own : List Checked) (path : List Float) (closed : Bool) (old : List �
     of-which : (f : Fault) → Which f → FirstFault f all_checks
     of-which f w = (first-bad all_checks f).0 (in-turn ∙ go w)
       where
-        go : Which f → later (first own) (later (first (text_checks path)) (room_check path closed old)) ≡ Bad f
+        go : Which f → later (first own) (later (first (text_checks path)) (room_check path closed old)) ≡ Err f
         go (in-own e) = (later-bad _ _ f).1 (inl e)
         go (in-texts e t) = (later-bad _ _ f).1 (inr (e, (later-bad _ _ f).1 (inl t)))
         go (in-room e t r) = (later-bad _ _ f).1 (inr (e, (later-bad _ _ f).1 (inr (t, r))))
@@ -393,7 +390,7 @@ module _ (own : List Checked) (path : List Float) (closed : Bool) (old : List �
         }
 
     -- none
-    pub fine-after : (first all_checks ≡ Fine) ↔ Exportable own path closed old
+    pub fine-after : (first all_checks ≡ Ok tt) ↔ Exportable own path closed old
     fine-after = (
       λ e.
           let a = (later-fine _ _).0 (sym in-turn ∙ e) in
@@ -405,36 +402,36 @@ module _ (own : List Checked) (path : List Float) (closed : Bool) (old : List �
           },
       λ x.
           let fine = (first_fine own).1 x.own-fine in
-          let fits_in : room_check path closed old ≡ Fine = no-fault _ _ _ (le-ltb _ _ x.inside) in
+          let fits_in : room_check path closed old ≡ (Ok tt) = no-fault _ _ _ (le-ltb _ _ x.inside) in
           in-turn ∙ (later-fine _ _).1 (fine, (later-fine _ _).1 ((all-texts fine).1 x.texts, fits_in)),
     )
 
   -- ---- what the text holds
 
-  module _ {r : Exported} {now : List ℕ} (x : Exports (export_after own path closed old) r now) where
-    pub keeps-after : (f : Fault) → r ≡ Exported·.Refused f → now ≡ old
+  module _ {r : Result ℕ Fault} {now : List ℕ} (x : Exports (export_after own path closed old) r now) where
+    pub keeps-after : (f : Fault) → r ≡ Err f → now ≡ old
     unfolding export_after
     keeps-after f e = x.text-holds ∙ go (first all_checks) (sym x.answer-is ∙ e)
       where
-        go : (c : Checked) → (by_checks (bytes_of path closed) old c).answer ≡ Exported·.Refused f
+        go : (c : Checked) → (by_checks (bytes_of path closed) old c).answer ≡ Err f
             → (by_checks (bytes_of path closed) old c).text ≡ old
-        go Fine e = absurd (true≢false (ap tagged e))
-        go (Bad g) e = refl
+        go (Ok _) e = absurd (true≢false (ap tagged e))
+        go (Err g) e = refl
 
-    pub front-after : (n : ℕ) → r ≡ Exported·.Bytes n → now ≡ bytes_of path closed ++ drop n old
+    pub front-after : (n : ℕ) → r ≡ Ok n → now ≡ bytes_of path closed ++ drop n old
     unfolding export_after
     front-after n e = x.text-holds ∙ go (first all_checks) refl (sym x.answer-is ∙ e)
       where
-        count_of : Exported → ℕ
-        count_of (Exported·.Bytes k) = k
-        count_of (Exported·.Refused f) = 0
+        count_of : Result ℕ Fault → ℕ
+        count_of (Ok k) = k
+        count_of (Err f) = 0
 
         zero_more : (n : ℕ) → 0 + n ≡ n
         zero_more n = omega arith
 
-        go : (c : Checked) → first all_checks ≡ c → (by_checks (bytes_of path closed) old c).answer ≡ Exported·.Bytes n
+        go : (c : Checked) → first all_checks ≡ c → (by_checks (bytes_of path closed) old c).answer ≡ Ok n
             → (by_checks (bytes_of path closed) old c).text ≡ bytes_of path closed ++ drop n old
-        go Fine is e =
+        go (Ok _) is e =
             let b = bytes_of path closed in
             let all = (later-fine _ _).0 (sym in-turn ∙ is) in
             let last = ((later-fine _ _).0 all.1).1 in
@@ -442,4 +439,4 @@ module _ (own : List Checked) (path : List Float) (closed : Bool) (old : List �
             let whole : sets old 0 b ≡ b ++ drop (length b) old =
             rw (zero_more (length b)) at (sets-eq b old 0 (omega (arith, inside))) in
             whole ∙ ap (λ (k : ℕ). b ++ drop k old) (ap count_of e)
-        go (Bad f) is e = absurd (true≢false (sym (ap tagged e)))
+        go (Err f) is e = absurd (true≢false (sym (ap tagged e)))

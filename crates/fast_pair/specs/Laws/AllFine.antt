@@ -1,5 +1,6 @@
 -- The pair call's check finds no fault: shown from its numbers one by one, and from the quick test of them.
-use Rattle.std.specs.Prelude.{◌≡◌, refl, Bool, true, false, cond, ◌&&◌, ◌||◌, List, [], ◌∷◌, ◌++◌, ℕ, T, Float}
+use Rattle.checks.specs.Checked.{Checked}
+use Rattle.std.specs.Prelude.{◌≡◌, refl, Bool, true, false, cond, ◌&&◌, ◌||◌, List, [], ◌∷◌, ◌++◌, ℕ, T, Float, Ok}
 use Rattle.std.proofs.Common.{◌∙◌}
 use Rattle.std.specs.Float.Ieee.{of_bits}
 use Rattle.std.specs.Float.Ieee.Bits.{is_true}
@@ -9,8 +10,6 @@ use Rattle.floats.specs.Ops.{◌≼◌, ◌≽◌}
 use Rattle.plane.specs.PlineVertex.{pos, bulge_is_zero}
 use Rattle.plane.specs.Vector2 as vector2
 use Rattle.plane.specs.declared.pline_vertex.PlineVertex.{PlineVertex}
-use Rattle.checks.specs.declared.fault.Checked.{Checked}
-use Rattle.checks.specs.declared.fault.Checked.TheVariants.{Fine}
 use Rattle.checks.specs.Fault.{later}
 use Rattle.checks.specs.Limit
 use Rattle.checks.specs.Each
@@ -26,17 +25,17 @@ use Rattle.checks.specs.Laws.Later.{fine-right, later-fine}
 use Rattle.fast_pair.specs.Workings.AllFine.{point_fine, segment_fine, epsilon_fine, pair_fine}
 
 -- ---- from its numbers
-both-fine : (cs ds : List Checked) → first cs ≡ Fine → first ds ≡ Fine → first (cs ++ ds) ≡ Fine
+both-fine : (cs ds : List Checked) → first cs ≡ Ok tt → first ds ≡ Ok tt → first (cs ++ ds) ≡ Ok tt
 both-fine cs ds e f = chains.first-append cs ds ∙ (later-fine (first cs) (first ds)).1 (e, f)
 
 -- one segment, v or u
 pub record Sound (v1 v2 : PlineVertex) (owner : ℕ) : Type 0 where
   pub start : chains.VertexFine v1.x v1.y v1.bulge
   pub end : chains.PointFine v2.x v2.y
-  pub arc : arc_chord v1 v2 owner 0 ≡ Fine
+  pub arc : arc_chord v1 v2 owner 0 ≡ Ok tt
 
-pub look-fine : (v1 v2 u1 u2 : PlineVertex) (epsilon : Float) → Each.epsilon epsilon ≡ Fine
-    → Sound v1 v2 0 → Sound u1 u2 1 → check_pline_seg v1 v2 u1 u2 epsilon ≡ Fine
+pub look-fine : (v1 v2 u1 u2 : PlineVertex) (epsilon : Float) → Each.epsilon epsilon ≡ Ok tt
+    → Sound v1 v2 0 → Sound u1 u2 1 → check_pline_seg v1 v2 u1 u2 epsilon ≡ Ok tt
 unfolding check_pline_seg
 look-fine v1 v2 u1 u2 epsilon e fv fu =
     let eps = Each.epsilon epsilon in
@@ -48,8 +47,8 @@ look-fine v1 v2 u1 u2 epsilon e fv fu =
     let arc-v = arc_chord v1 v2 0 0 in
     let arc-u = arc_chord u1 u2 1 0 in
     let c5 : List Checked = arc-v ∷ arc-u ∷ [] in
-    let f0 : first c0 ≡ Fine = fine-right eps ∙ e in
-    let f5 : first c5 ≡ Fine = (later-fine arc-v (later arc-u Fine)).1 (fv.arc, fine-right arc-u ∙ fu.arc) in
+    let f0 : first c0 ≡ (Ok tt) = fine-right eps ∙ e in
+    let f5 : first c5 ≡ (Ok tt) = (later-fine arc-v (later arc-u (Ok tt))).1 (fv.arc, fine-right arc-u ∙ fu.arc) in
     let f1 = both-fine c0 c1 f0 ((chains.vertex-listed v1.x v1.y 0 v1.bulge 0).1 fv.start) in
     let f2 = both-fine (c0 ++ c1) c2 f1 ((chains.point-listed v2.x v2.y 0 1).1 fv.end) in
     let f3 = both-fine (c0 ++ c1 ++ c2) c3 f2 ((chains.vertex-listed u1.x u1.y 1 u1.bulge 0).1 fu.start) in
@@ -72,14 +71,14 @@ of-point v h =
 
 of-arc : (v1 v2 : PlineVertex) (owner : ℕ)
     → T (bulge_is_zero v1 || (vector2.dot (vector2.sub (pos v2) (pos v1)) (vector2.sub (pos v2) (pos v1)) ≽ square_least))
-    → arc_chord v1 v2 owner 0 ≡ Fine
+    → arc_chord v1 v2 owner 0 ≡ Ok tt
 unfolding arc_chord
 of-arc v1 v2 owner h =
     let chord = vector2.sub (pos v2) (pos v1) in
     let s = vector2.dot chord chord in
     go (bulge_is_zero v1) (s ≽ square_least) h (λ e. long-fine chord s refl e _)
   where
-    go : (line long : Bool) {c : Checked} → T (line || long) → (long ≡ true → c ≡ Fine) → cond line Fine c ≡ Fine
+    go : (line long : Bool) {c : Checked} → T (line || long) → (long ≡ true → c ≡ Ok tt) → cond line (Ok tt) c ≡ Ok tt
     go true long t f = refl
     go false long t f = f (is_true long t)
 
@@ -103,7 +102,7 @@ of-segment v1 v2 owner h =
     }
 
 pub fine-by-tests : (v1 v2 u1 u2 : PlineVertex) (eps : Float) → T (pair_fine v1 v2 u1 u2 eps)
-    → check_pline_seg v1 v2 u1 u2 eps ≡ Fine
+    → check_pline_seg v1 v2 u1 u2 eps ≡ Ok tt
 unfolding pair_fine
 fine-by-tests v1 v2 u1 u2 eps h =
     let v = segment_fine v1 v2 in

@@ -1,6 +1,6 @@
 -- How the answer is made from the computed points that were tested for the findings: it is the pair's, so each point is tested
 -- once.
-use Rattle.std.specs.Prelude.{◌≡◌, refl, Bool, true, false, cond, not, ◌&&◌, List, [], ◌∷◌, Float, get_or}
+use Rattle.std.specs.Prelude.{◌≡◌, refl, Bool, true, false, cond, not, ◌&&◌, List, [], ◌∷◌, Float, get_or, None, Option, Some}
 use Rattle.std.proofs.Common.{sym, ap, ◌∙◌}
 use Rattle.floats.specs.Ops.{◌⊗◌, f0}
 use Rattle.plane.specs.BaseMath.{point_from_parametric}
@@ -26,14 +26,10 @@ use Rattle.arcs.specs.LineAndArc.{
 use Rattle.arcs.specs.OneCircle.{overlapping_arc_arc}
 use Rattle.arcs.specs.TwoArcs.{both_sweep, tangent_arc_arc, two_in_sweep, ends_or, two_arc_arc, collect_end_points, crossing_arcs}
 use Rattle.arcs.specs.declared.arc_geometry.ArcGeometry.{ArcGeometry}
-use Rattle.arcs.specs.declared.line_and_arc.PointInSweep.{PointInSweep}
-use Rattle.arcs.specs.declared.line_and_arc.PointInSweep.TheVariants.{Nothing, At}
 use Rattle.arcs.specs.declared.pline_seg_intr.PlineSegIntr.{PlineSegIntr}
 use Rattle.arcs.specs.declared.pline_seg_intr.PlineSegIntr.TheVariants.{NoIntersect, TangentIntersect, OneIntersect}
 use Rattle.arcs.specs.declared.sweep_finding.SweepFinding.{SweepFinding}
 use Rattle.arcs.specs.declared.sweep_finding.SweepFinding.TheVariants as sweep
-use Rattle.arcs.specs.declared.two_arcs.Slot.{Slot}
-use Rattle.arcs.specs.declared.two_arcs.Slot.TheVariants.{Empty}
 use Rattle.crossing.specs.ArcArc.{arc_arc_of}
 use Rattle.crossing.specs.LineArc.{line_arc_of}
 use Rattle.crossing.specs.declared.circle_circle_intr.CircleCircleIntr.{CircleCircleIntr}
@@ -71,8 +67,8 @@ counts_of sweep.NearEnd = refl
 -- ---- a line and an arc
 
 -- the point at t, if it counts
-abbrev if_counts : Tested → PointInSweep
-if_counts e = cond (counts e.finding) (At e.point) Nothing
+abbrev if_counts : Tested → Option Vector2
+if_counts e = cond (counts e.finding) (Some e.point) None
 
 point-in-sweep : (t line_length : Float) (p0 p1 : Vector2) (arc : ArcGeometry) (eps : Float)
     → point_in_sweep t line_length p0 p1 arc eps ≡ if_counts (point_tested t line_length p0 p1 arc eps)
@@ -82,9 +78,9 @@ point-in-sweep t line_length p0 p1 arc eps =
     simp (sweeps-is-yes arc p) (go (not (fuzzy_in_range_eps (t ⊗ line_length) f0 line_length eps)) (geometry.finding arc p) p)
   where
     go : (out : Bool) (f : SweepFinding) (p : Vector2)
-        → cond out Nothing (cond (is_yes f) (At p) Nothing) ≡ cond (counts (cond out NotTested (of_sweep f))) (At p) Nothing
+        → cond out None (cond (is_yes f) (Some p) None) ≡ cond (counts (cond out NotTested (of_sweep f))) (Some p) None
     go true f p = refl
-    go false f p = ap (λ (t : Bool). cond t (At p) Nothing) (sym (counts_of f))
+    go false f p = ap (λ (t : Bool). cond t (Some p) None) (sym (counts_of f))
 
 unfoldable pub tangent_answer : Tested → Vector2 → Vector2 → ArcGeometry → PlineSegIntr
 tangent_answer e p0 p1 arc =
@@ -103,7 +99,7 @@ tangent-line t line_length p0 p1 arc eps =
     (TangentIntersect p1) r))
     (go (counts (point_tested t line_length p0 p1 arc eps).finding) (point_tested t line_length p0 p1 arc eps).point))
   where
-    go : (t : Bool) (p : Vector2) → cond t (TangentIntersect p) NoIntersect ≡ tangent_at (cond t (At p) Nothing)
+    go : (t : Bool) (p : Vector2) → cond t (TangentIntersect p) NoIntersect ≡ tangent_at (cond t (Some p) None)
     go true p = refl
     go false p = refl
 
@@ -131,7 +127,7 @@ crossings e1 e2 p0 p1 arc_start arc u_is_line = go (counts e1.finding) (counts e
     go : (a b : Bool) (p q : Vector2)
         → cond a (cond b (in_order (with_sticky_ends p q p0 p1 arc) arc_start u_is_line) (one_line_arc p p0 p1 arc))
         (cond b (one_line_arc q p0 p1 arc) NoIntersect)
-        ≡ crossings_line_arc (cond a (At p) Nothing) (cond b (At q) Nothing) p0 p1 arc_start arc u_is_line
+        ≡ crossings_line_arc (cond a (Some p) None) (cond b (Some q) None) p0 p1 arc_start arc u_is_line
     go true true p q = refl
     go true false p q = refl
     go false true p q = refl
@@ -221,7 +217,7 @@ pub tangent-told : (point v1 v2 u1 u2 : Vector2) (arc1 arc2 : ArcGeometry)
 unfolding tangent_told tangent_computed
 tangent-told point v1 v2 u1 u2 arc1 arc2 = refl
 
-unfoldable pub two_answer : Slot → Slot → Computed → Computed → PlineSegIntr
+unfoldable pub two_answer : Option Vector2 → Option Vector2 → Computed → Computed → PlineSegIntr
 two_answer first second c1 c2 =
     cond (counted c1 && counted c2)
     (two_in_sweep first second c1.point c2.point)
@@ -231,7 +227,7 @@ two_answer first second c1 c2 =
     (ends_or first second (OneIntersect c2.point))
     (ends_or first second NoIntersect)))
 
-unfoldable pub two_of : Slot → Slot → Computed → Computed → TwoComputed
+unfoldable pub two_of : Option Vector2 → Option Vector2 → Computed → Computed → TwoComputed
 two_of first second c1 c2 =
     cond (counted c1 && counted c2)
     (both_counted first second c1 c2)
@@ -241,14 +237,14 @@ two_of first second c1 c2 =
     (record { first = c1; second = unless_ends first second c2 })
     (record { first = c1; second = c2 })))
 
-pub two-arcs : (point1 point2 : Vector2) (slots : List Slot) (arc1 arc2 : ArcGeometry)
-    → two_answer (get_or slots 0 Empty) (get_or slots 1 Empty) (both_tested arc1 arc2 point1) (both_tested arc1 arc2 point2)
+pub two-arcs : (point1 point2 : Vector2) (slots : List (Option Vector2)) (arc1 arc2 : ArcGeometry)
+    → two_answer (get_or slots 0 None) (get_or slots 1 None) (both_tested arc1 arc2 point1) (both_tested arc1 arc2 point2)
     ≡ two_arc_arc point1 point2 slots arc1 arc2
 unfolding two_answer two_arc_arc both_tested
 two-arcs point1 point2 slots arc1 arc2 = simp (← both-sweep arc1 arc2 point1, ← both-sweep arc1 arc2 point2)
 
-pub two-told : (point1 point2 : Vector2) (slots : List Slot) (arc1 arc2 : ArcGeometry)
-    → two_of (get_or slots 0 Empty) (get_or slots 1 Empty) (both_tested arc1 arc2 point1) (both_tested arc1 arc2 point2)
+pub two-told : (point1 point2 : Vector2) (slots : List (Option Vector2)) (arc1 arc2 : ArcGeometry)
+    → two_of (get_or slots 0 None) (get_or slots 1 None) (both_tested arc1 arc2 point1) (both_tested arc1 arc2 point2)
     ≡ two_computed point1 point2 slots arc1 arc2
 unfolding two_of two_computed
 two-told point1 point2 slots arc1 arc2 = refl
@@ -260,7 +256,7 @@ tangent_report point v1 v2 u1 u2 arc1 arc2 =
       findings = findings_of (tangent_computed point v1 v2 u1 u2 arc1 arc2 ∷ []);
     }
 
-unfoldable pub two_report : Vector2 → Vector2 → List Slot → ArcGeometry → ArcGeometry → Reported
+unfoldable pub two_report : Vector2 → Vector2 → List (Option Vector2) → ArcGeometry → ArcGeometry → Reported
 two_report point1 point2 slots arc1 arc2 =
     let both = two_computed point1 point2 slots arc1 arc2 in
     record { answer = two_arc_arc point1 point2 slots arc1 arc2; findings = findings_of (both.first ∷ both.second ∷ []) }

@@ -1,7 +1,7 @@
 -- The root of a value above zero, by its count: `root_at` rounds the root of X units, and of all counts that fit the format's
 -- digits none is nearer or as near. There is no tie. It would be a count M, halfway between two values, whose square is X * 2 ^
 -- low. But X has few digits, so its root has few digits too: M itself would fit the format, and it would be nearer than both.
-use Rattle.std.specs.Prelude.{◌≡◌, ℕ, zero, suc, ◌+◌, ◌-◌, ◌*◌, ◌/◌, ◌%◌, ◌^◌, ◌<◌, ◌≤◌, Bool, true, false, cond, T, ◌==◌, ◌≢◌, Float}
+use Rattle.std.specs.Prelude.{◌≡◌, ℕ, zero, suc, ◌+◌, ◌*◌, ◌/◌, ◌%◌, ◌^◌, ◌<◌, ◌≤◌, Bool, true, false, cond, T, ◌==◌, ◌≢◌, Float}
 use Rattle.std.proofs.Common.{sym, ap, ◌∙◌, subst, mul-pos, mul-one, zero-mul, mul_assoc, mul_right_comm, mul-div_cancel, mul-le-mul, mul-le-mul_right, mul-lt-mul_of_pos_right, le_of_mul-le-mul_right, le_trans, le_of_eq, le_of_lt, lt_of_le_of_lt, lt_of_lt_of_le, arith, true≢false, eqb→eq, pow-add, pow_pos, pow_mono}
 use Rattle.std.proofs.Math.Nat.{pow-succ'}
 use Rattle.std.proofs.Math.Arith.{lt_of_le-ne}

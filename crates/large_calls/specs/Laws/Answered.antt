@@ -1,13 +1,12 @@
 -- What the old mode's call leaves in the lent parts, with its rows spread as many as it answers, is the outcome with rows of
 -- five; and a refusal leaves the slices as they were. The same for a listing, a page and a boxed listing.
-use Rattle.std.specs.Prelude.{◌≡◌, Bool, true, false, List, [], ◌∷◌, ◌++◌, ℕ, ◌+◌, ◌*◌, ◌≤◌, Float, drop}
+use Rattle.checks.specs.Checked.{Checked}
+use Rattle.std.specs.Prelude.{◌≡◌, Bool, true, false, List, [], ◌∷◌, ◌++◌, ℕ, ◌+◌, ◌*◌, ◌≤◌, Float, drop, Err, Ok}
 use Rattle.std.proofs.Math.Path.{refl, ap}
 use Rattle.std.proofs.Common.{sym, ◌∙◌, subst, true≢false}
 use native.Mathlib.Omega.{arith}
 use Rattle.std.proofs.Math.ListN.{length}
 use Rattle.checks.specs.declared.fault.Fault.{Fault}
-use Rattle.checks.specs.declared.fault.Checked.{Checked}
-use Rattle.checks.specs.declared.fault.Checked.TheVariants.{Fine, Bad}
 use Rattle.checks.specs.First.{first as first_fault}
 use Rattle.listing_pairs.specs.declared.row.Row.{Row}
 use Rattle.listing_pairs.specs.declared.row.Look.{Look}
@@ -15,10 +14,7 @@ use Rattle.listing_pairs.specs.Row.{indices_a_row, points_a_row}
 use Rattle.listing_pairs.specs.Order.{Pair}
 use Rattle.listing_pairs.specs.Rows.{rows_of, looked_at}
 use Rattle.listing_pairs.specs.Page.{page}
-use Rattle.listing_outcomes.specs.declared.answer.ListingAnswer.{ListingAnswer}
-use Rattle.listing_outcomes.specs.declared.answer.ListingAnswer.TheVariants.{Refused, Listed}
-use Rattle.listing_outcomes.specs.declared.answer.PageAnswer.{PageAnswer}
-use Rattle.listing_outcomes.specs.declared.answer.PageAnswer.TheVariants as pages
+use Rattle.listing_outcomes.specs.Answer.{Listed, ListingAnswer, PageAnswer, Paged}
 use Rattle.listing_outcomes.specs.Outcome.{Leaves, outcome}
 use Rattle.listing_outcomes.specs.PageOutcome.{page_outcome}
 use Rattle.listing_outcomes.specs.BoxedOutcome.{LeavesBoxed, index_check, boxes_after, boxed_outcome}
@@ -48,10 +44,10 @@ use Rattle.large_outcomes.specs.Laws.Large.{
 }
 use Rattle.large_calls.specs.Workings.Answers.{of_bulge, listed_rows, listed_bulge, paged_rows, paged_bulge}
 
-listed-apart : (f : Fault) (n k : ℕ) → Refused f ≡ Listed n k → ⊥
+listed-apart : (f : Fault) (n k : ℕ) → Err f ≡ Listed n k → ⊥
 listed-apart f n k e = let z : ◌≡◌ {A = ℕ} 0 1 = cc in omega (arith, z)
 
-paged-apart : (f : Fault) (n k next all : ℕ) → pages.Refused f ≡ pages.Paged n k next all → ⊥
+paged-apart : (f : Fault) (n k next all : ℕ) → Err f ≡ Paged n k next all → ⊥
 paged-apart f n k next all e = let z : ◌≡◌ {A = ℕ} 0 1 = cc in omega (arith, z)
 
 -- both slices are as they were
@@ -62,42 +58,42 @@ pub record Kept (i₀ i : List ℕ) (p₀ p : List Float) : Type 0 where
 refusal-keeps : {A : Type 0} (numbers : Row → List ℕ) (refused : Fault → A) (c : Checked) (answer : A) (rows : List Row)
     (i₀ i : List ℕ) (p₀ p : List Float) (f : Fault) → (refused f ≡ answer → ⊥)
     → Leaves (large_of numbers refused c answer rows i₀ p₀) (refused f) i p → Kept i₀ i p₀ p
-refusal-keeps numbers refused Fine answer rows i₀ i p₀ p f apart l = absurd (apart l.answer)
-refusal-keeps numbers refused (Bad x) answer rows i₀ i p₀ p f apart l = record { indices = l.indices; points = l.points }
+refusal-keeps numbers refused (Ok _) answer rows i₀ i p₀ p f apart l = absurd (apart l.answer)
+refusal-keeps numbers refused (Err x) answer rows i₀ i p₀ p f apart l = record { indices = l.indices; points = l.points }
 
 listing-keeps : (checks : List Checked) (look : ℕ → ℕ → Look) (ps : List Pair) (i₀ i : List ℕ) (p₀ p : List Float) (f : Fault)
-    → Leaves (large_outcome with_zeros checks look ps i₀ p₀) (Refused f) i p → Kept i₀ i p₀ p
+    → Leaves (large_outcome with_zeros checks look ps i₀ p₀) (Err f) i p → Kept i₀ i p₀ p
 unfolding large_outcome
 listing-keeps checks look ps i₀ i p₀ p f l =
     let rows = rows_of look ps in
-    refusal-keeps with_zeros Refused (first_fault (checks ++ (large_room_check rows i₀ p₀ ∷ [])))
+    refusal-keeps with_zeros Err (first_fault (checks ++ (large_room_check rows i₀ p₀ ∷ [])))
     (Listed (length rows) (looked_at look ps)) rows i₀ i p₀ p f (listed-apart f (length rows) (looked_at look ps)) l
 
 page-keeps : (checks : List Checked) (look : ℕ → ℕ → Look) (ps : List Pair) (position budget : ℕ) (i₀ i : List ℕ)
     (p₀ p : List Float) (f : Fault)
-    → Leaves (large_page_outcome with_zeros checks look ps position budget i₀ p₀) (pages.Refused f) i p → Kept i₀ i p₀ p
+    → Leaves (large_page_outcome with_zeros checks look ps position budget i₀ p₀) (Err f) i p → Kept i₀ i p₀ p
 unfolding large_page_outcome
 page-keeps checks look ps position budget i₀ i p₀ p f l =
     let q = page look (drop position ps) (large_room i₀ p₀) budget in
     let n = length q.rows in
-    refusal-keeps with_zeros pages.Refused (first_fault (checks ++ large_limits position (length ps) budget i₀ p₀))
-    (pages.Paged n q.passed (position + q.passed) (length ps)) q.rows i₀ i p₀ p f
+    refusal-keeps with_zeros Err (first_fault (checks ++ large_limits position (length ps) budget i₀ p₀))
+    (Paged n q.passed (position + q.passed) (length ps)) q.rows i₀ i p₀ p f
     (paged-apart f n q.passed (position + q.passed) (length ps)) l
 
 boxes-kept : (numbers : Row → List ℕ) (c : Checked) (rows : List Row) (k : ℕ) (i₀ : List ℕ) (p₀ idx x₀ x : List Float)
-    (f : Fault) → Refused f ≡ (large_listed_of numbers c rows k i₀ p₀).answer → x ≡ boxes_after c idx x₀ → x ≡ x₀
-boxes-kept numbers Fine rows k i₀ p₀ idx x₀ x f e is = absurd (listed-apart f (length rows) k e)
-boxes-kept numbers (Bad g) rows k i₀ p₀ idx x₀ x f e is = is
+    (f : Fault) → Err f ≡ (large_listed_of numbers c rows k i₀ p₀).answer → x ≡ boxes_after c idx x₀ → x ≡ x₀
+boxes-kept numbers (Ok _) rows k i₀ p₀ idx x₀ x f e is = absurd (listed-apart f (length rows) k e)
+boxes-kept numbers (Err g) rows k i₀ p₀ idx x₀ x f e is = is
 
 boxed-keeps : (checks : List Checked) (look : ℕ → ℕ → Look) (ps : List Pair) (idx x₀ x : List Float) (i₀ i : List ℕ)
     (p₀ p : List Float) (f : Fault)
-    → LeavesBoxed (large_boxed_outcome with_zeros checks look ps idx x₀ i₀ p₀) (Refused f) x i p → Kept i₀ i p₀ p × (x ≡ x₀)
+    → LeavesBoxed (large_boxed_outcome with_zeros checks look ps idx x₀ i₀ p₀) (Err f) x i p → Kept i₀ i p₀ p × (x ≡ x₀)
 unfolding large_boxed_outcome
 boxed-keeps checks look ps idx x₀ x i₀ i p₀ p f l =
     let rows = rows_of look ps in
     let k = looked_at look ps in
     let c = first_fault (checks ++ (index_check idx x₀ ∷ large_room_check rows i₀ p₀ ∷ [])) in (
-      refusal-keeps with_zeros Refused c (Listed (length rows) k) rows i₀ i p₀ p f (listed-apart f (length rows) k) l.listing,
+      refusal-keeps with_zeros Err c (Listed (length rows) k) rows i₀ i p₀ p f (listed-apart f (length rows) k) l.listing,
       boxes-kept with_zeros c rows k i₀ p₀ idx x₀ x f l.listing.answer l.boxes,
     )
 
@@ -123,13 +119,13 @@ module _ (checks : List Checked) (look : ℕ → ℕ → Look) (ps : List Pair) 
     answered-few l = go r refl
       where
         go : (a : ListingAnswer) → r ≡ a → listed_rows a * large_indices_a_row ≤ length i₀
-        go (Refused f) e = omega arith
-        go (Listed n k) e =
+        go (Err f) e = omega arith
+        go (Ok counts) e =
             listed-few i₀ p₀ m is zero_halves (λ x y class. refl) look ps (λ c. first_fault (checks ++ (c ∷ [])))
-            (last-fine checks) r i p n k e l
+            (last-fine checks) r i p counts.rows counts.pairs e l
 
-    refused-whole : (f : Fault) → r ≡ Refused f → Leaves (outcome checks look ps a₀ b₀) r i p
-        → Leaves (large_outcome with_zeros checks look ps i₀ p₀) (Refused f) (whole i) (whole-points p)
+    refused-whole : (f : Fault) → r ≡ Err f → Leaves (outcome checks look ps a₀ b₀) r i p
+        → Leaves (large_outcome with_zeros checks look ps i₀ p₀) (Err f) (whole i) (whole-points p)
     unfolding outcome large_outcome
     refused-whole f e l =
         listed-refused i₀ p₀ m is zero_halves (λ x y class. refl) look ps (λ c. first_fault (checks ++ (c ∷ [])))
@@ -142,17 +138,17 @@ module _ (checks : List Checked) (look : ℕ → ℕ → Look) (ps : List Pair) 
     answered now l done = go r refl
       where
         go : (a : ListingAnswer) → r ≡ a → Leaves (large_outcome with_zeros checks look ps i₀ p₀) r now (whole-points p)
-        go (Refused f) e =
+        go (Err f) e =
             let w = refused-whole f e l in
             record {
               answer = e ∙ w.answer;
               indices = done ∙ ap (λ (a : ListingAnswer). spread zero_halves (listed_rows a) (whole i)) e ∙ w.indices;
               points = w.points;
             }
-        go (Listed n k) e =
-            let w : Leaves (large_outcome with_zeros checks look ps i₀ p₀) (Listed n k) now (whole-points p) =
+        go (Ok counts) e =
+            let w : Leaves (large_outcome with_zeros checks look ps i₀ p₀) (Ok counts) now (whole-points p) =
             listed-spread i₀ p₀ m is zero_halves (λ x y class. refl) look ps (λ c. first_fault (checks ++ (c ∷ [])))
-            (last-fine checks) r i now p n k e l
+            (last-fine checks) r i now p counts.rows counts.pairs e l
             (done ∙ ap (λ (a : ListingAnswer). spread zero_halves (listed_rows a) (whole i)) e) in
             record { answer = e ∙ w.answer; indices = w.indices; points = w.points }
 
@@ -162,8 +158,8 @@ module _ (checks : List Checked) (look : ℕ → ℕ → Look) (ps : List Pair) 
     refusal-kept b l = go r refl
       where
         go : (a : ListingAnswer) → r ≡ a → Kept i₀ (whole i) p₀ (whole-points p)
-        go (Refused f) e = listing-keeps checks look ps i₀ (whole i) p₀ (whole-points p) f (refused-whole f e l)
-        go (Listed n k) e = absurd (true≢false (sym b ∙ ap listed_bulge e))
+        go (Err f) e = listing-keeps checks look ps i₀ (whole i) p₀ (whole-points p) f (refused-whole f e l)
+        go (Ok counts) e = absurd (true≢false (sym b ∙ ap listed_bulge e))
 
   -- ---- a page
   module _ (position budget : ℕ) (r : PageAnswer) (i : List ℕ) (p : List Float) where
@@ -174,12 +170,12 @@ module _ (checks : List Checked) (look : ℕ → ℕ → Look) (ps : List Pair) 
     paged-answered-few l = go r refl
       where
         go : (a : PageAnswer) → r ≡ a → paged_rows a * large_indices_a_row ≤ length i₀
-        go (pages.Refused f) e = omega arith
-        go (pages.Paged n k next all) e =
-            paged-few i₀ p₀ m is zero_halves (λ x y class. refl) look ps checks position budget r i p n k next all e l
+        go (Err f) e = omega arith
+        go (Ok counts) e =
+            paged-few i₀ p₀ m is zero_halves (λ x y class. refl) look ps checks position budget r i p counts.rows counts.pairs counts.next counts.all e l
 
-    page-refused-whole : (f : Fault) → r ≡ pages.Refused f → Leaves (page_outcome checks look ps position budget a₀ b₀) r i p
-        → Leaves (large_page_outcome with_zeros checks look ps position budget i₀ p₀) (pages.Refused f) (whole i) (whole-points p)
+    page-refused-whole : (f : Fault) → r ≡ Err f → Leaves (page_outcome checks look ps position budget a₀ b₀) r i p
+        → Leaves (large_page_outcome with_zeros checks look ps position budget i₀ p₀) (Err f) (whole i) (whole-points p)
     unfolding page_outcome large_page_outcome
     page-refused-whole f e l =
         paged-refused i₀ p₀ m is zero_halves (λ x y class. refl) look ps checks position budget r i p f e l
@@ -193,17 +189,17 @@ module _ (checks : List Checked) (look : ℕ → ℕ → Look) (ps : List Pair) 
       where
         go : (a : PageAnswer) → r ≡ a
             → Leaves (large_page_outcome with_zeros checks look ps position budget i₀ p₀) r now (whole-points p)
-        go (pages.Refused f) e =
+        go (Err f) e =
             let w = page-refused-whole f e l in
             record {
               answer = e ∙ w.answer;
               indices = done ∙ ap (λ (a : PageAnswer). spread zero_halves (paged_rows a) (whole i)) e ∙ w.indices;
               points = w.points;
             }
-        go (pages.Paged n k next all) e =
-            let w : Leaves (large_page_outcome with_zeros checks look ps position budget i₀ p₀) (pages.Paged n k next all) now
+        go (Ok counts) e =
+            let w : Leaves (large_page_outcome with_zeros checks look ps position budget i₀ p₀) (Ok counts) now
             (whole-points p) =
-            paged-spread i₀ p₀ m is zero_halves (λ x y class. refl) look ps checks position budget r i now p n k next all e l
+            paged-spread i₀ p₀ m is zero_halves (λ x y class. refl) look ps checks position budget r i now p counts.rows counts.pairs counts.next counts.all e l
             (done ∙ ap (λ (a : PageAnswer). spread zero_halves (paged_rows a) (whole i)) e) in
             record { answer = e ∙ w.answer; indices = w.indices; points = w.points }
 
@@ -213,9 +209,9 @@ module _ (checks : List Checked) (look : ℕ → ℕ → Look) (ps : List Pair) 
     page-refusal-kept b l = go r refl
       where
         go : (a : PageAnswer) → r ≡ a → Kept i₀ (whole i) p₀ (whole-points p)
-        go (pages.Refused f) e =
+        go (Err f) e =
             page-keeps checks look ps position budget i₀ (whole i) p₀ (whole-points p) f (page-refused-whole f e l)
-        go (pages.Paged n k next all) e = absurd (true≢false (sym b ∙ ap paged_bulge e))
+        go (Ok counts) e = absurd (true≢false (sym b ∙ ap paged_bulge e))
 
   -- ---- a boxed listing
   module _ (idx x₀ : List Float) (r : ListingAnswer) (x : List Float) (i : List ℕ) (p : List Float) where
@@ -226,11 +222,11 @@ module _ (checks : List Checked) (look : ℕ → ℕ → Look) (ps : List Pair) 
     boxed-answered-few l = go r refl
       where
         go : (a : ListingAnswer) → r ≡ a → listed_rows a * large_indices_a_row ≤ length i₀
-        go (Refused f) e = omega arith
-        go (Listed n k) e = boxed-few i₀ p₀ m is zero_halves (λ x y class. refl) look ps checks idx x₀ r x i p n k e l
+        go (Err f) e = omega arith
+        go (Ok counts) e = boxed-few i₀ p₀ m is zero_halves (λ x y class. refl) look ps checks idx x₀ r x i p counts.rows counts.pairs e l
 
-    boxed-refused-whole : (f : Fault) → r ≡ Refused f → LeavesBoxed (boxed_outcome checks look ps idx x₀ a₀ b₀) r x i p
-        → LeavesBoxed (large_boxed_outcome with_zeros checks look ps idx x₀ i₀ p₀) (Refused f) x (whole i) (whole-points p)
+    boxed-refused-whole : (f : Fault) → r ≡ Err f → LeavesBoxed (boxed_outcome checks look ps idx x₀ a₀ b₀) r x i p
+        → LeavesBoxed (large_boxed_outcome with_zeros checks look ps idx x₀ i₀ p₀) (Err f) x (whole i) (whole-points p)
     unfolding boxed_outcome large_boxed_outcome
     boxed-refused-whole f e l =
         boxed-refused i₀ p₀ m is zero_halves (λ x y class. refl) look ps checks idx x₀ r x i p f e l
@@ -244,7 +240,7 @@ module _ (checks : List Checked) (look : ℕ → ℕ → Look) (ps : List Pair) 
       where
         go : (a : ListingAnswer) → r ≡ a
             → LeavesBoxed (large_boxed_outcome with_zeros checks look ps idx x₀ i₀ p₀) r x now (whole-points p)
-        go (Refused f) e =
+        go (Err f) e =
             let w = boxed-refused-whole f e l in
             record {
               listing =
@@ -256,9 +252,9 @@ module _ (checks : List Checked) (look : ℕ → ℕ → Look) (ps : List Pair) 
                   };
               boxes = w.boxes;
             }
-        go (Listed n k) e =
-            let w : LeavesBoxed (large_boxed_outcome with_zeros checks look ps idx x₀ i₀ p₀) (Listed n k) x now (whole-points p) =
-            boxed-spread i₀ p₀ m is zero_halves (λ x y class. refl) look ps checks idx x₀ r x i now p n k e l
+        go (Ok counts) e =
+            let w : LeavesBoxed (large_boxed_outcome with_zeros checks look ps idx x₀ i₀ p₀) (Ok counts) x now (whole-points p) =
+            boxed-spread i₀ p₀ m is zero_halves (λ x y class. refl) look ps checks idx x₀ r x i now p counts.rows counts.pairs e l
             (done ∙ ap (λ (a : ListingAnswer). spread zero_halves (listed_rows a) (whole i)) e) in
             record {
               listing =
@@ -272,6 +268,6 @@ module _ (checks : List Checked) (look : ℕ → ℕ → Look) (ps : List Pair) 
     boxed-refusal-kept b l = go r refl
       where
         go : (a : ListingAnswer) → r ≡ a → Kept i₀ (whole i) p₀ (whole-points p) × (x ≡ x₀)
-        go (Refused f) e =
+        go (Err f) e =
             boxed-keeps checks look ps idx x₀ x i₀ (whole i) p₀ (whole-points p) f (boxed-refused-whole f e l)
-        go (Listed n k) e = absurd (true≢false (sym b ∙ ap listed_bulge e))
+        go (Ok counts) e = absurd (true≢false (sym b ∙ ap listed_bulge e))

@@ -1,10 +1,9 @@
 -- The old mode is asked first. What it answers, in rows of five with halves 0, is the answer of the mode of large arcs, unless it
 -- is refusal 3.
-use Rattle.std.specs.Prelude.{◌≡◌, refl, Bool, true, false, List, [], ◌∷◌, ◌++◌, ℕ, Float, length, drop}
+use Rattle.checks.specs.Checked.{Checked}
+use Rattle.std.specs.Prelude.{◌≡◌, refl, Bool, true, false, List, [], ◌∷◌, ◌++◌, ℕ, Float, length, drop, Err, Ok}
 use Rattle.std.proofs.Common.{sym, ap, ◌∙◌, subst}
 use Rattle.checks.specs.declared.fault.Fault.{Fault}
-use Rattle.checks.specs.declared.fault.Checked.{Checked}
-use Rattle.checks.specs.declared.fault.Checked.TheVariants.{Fine, Bad}
 use Rattle.checks.specs.First.{first as first_fault}
 use Rattle.paths.specs.Segments.{segment_count}
 use Rattle.boxes.specs.Index.{index}
@@ -14,10 +13,7 @@ use Rattle.listing_pairs.specs.Rows.{rows_of, looked_at}
 use Rattle.listing_pairs.specs.Look.{traced_look, traced_self_look}
 use Rattle.listing_pairs.specs.Boxed.{boxed_pairs}
 use Rattle.listing_pairs.specs.Page.{page}
-use Rattle.listing_outcomes.specs.declared.answer.ListingAnswer.{ListingAnswer}
-use Rattle.listing_outcomes.specs.declared.answer.ListingAnswer.TheVariants.{Refused, Listed}
-use Rattle.listing_outcomes.specs.declared.answer.PageAnswer.{PageAnswer}
-use Rattle.listing_outcomes.specs.declared.answer.PageAnswer.TheVariants as pages
+use Rattle.listing_outcomes.specs.Answer.{ListingAnswer, PageAnswer}
 use Rattle.listing_outcomes.specs.Outcome.{Outcome, Leaves}
 use Rattle.listing_outcomes.specs.BoxedOutcome.{BoxedOutcome, LeavesBoxed, index_check}
 use Rattle.listing_calls.specs.Listing.{mutual_checks, self_checks}
@@ -71,15 +67,15 @@ module _ {A : Type 0} (refused : Fault → A) (checks larges more : List Checked
   abbrev zeros : Outcome A
   zeros = large_of with_zeros refused (first_fault (checks ++ more)) answer rows i₀ p₀
 
-  old-first : (whole : Outcome A) → (first_fault checks ≡ Fine → whole ≡ zeros)
-      → ((x : Fault) → first_fault larges ≡ Bad x → Leaves whole (refused x) i₀ p₀)
+  old-first : (whole : Outcome A) → (first_fault checks ≡ Ok tt → whole ≡ zeros)
+      → ((x : Fault) → first_fault larges ≡ Err x → Leaves whole (refused x) i₀ p₀)
       → Leaves (large_of with_zeros refused (first_fault (checks ++ more)) answer rows i₀ p₀) r i p → Leaves whole r i p
   old-first whole plain bad l = go (first_fault checks) refl
     where
       go : (c : Checked) → first_fault checks ≡ c → Leaves whole r i p
-      go Fine e = subst (λ (o : Outcome A). Leaves o r i p) (sym (plain e)) l
-      go (Bad x) e =
-          let left : Leaves (large_of with_zeros refused (Bad x) answer rows i₀ p₀) r i p = rw (after-bad checks more x e) at l in
+      go (Ok _) e = subst (λ (o : Outcome A). Leaves o r i p) (sym (plain e)) l
+      go (Err x) e =
+          let left : Leaves (large_of with_zeros refused (Err x) answer rows i₀ p₀) r i p = rw (after-bad checks more x e) at l in
           let same = agree (ap over_bulge e ∙ other x left.answer) ∙ e in
           let b = bad x same in
           record {
@@ -90,16 +86,16 @@ module _ {A : Type 0} (refused : Fault → A) (checks larges more : List Checked
 
 boxed-first : (checks larges more : List Checked) → AgreeAll checks larges → (rows : List Row) (k : ℕ) (idx x₀ : List Float)
     (i₀ : List ℕ) (p₀ : List Float) (r : ListingAnswer) (x : List Float) (i : List ℕ) (p : List Float)
-    → ((f : Fault) → r ≡ Refused f → of_bulge f ≡ false) → (whole : BoxedOutcome)
-    → (first_fault checks ≡ Fine → whole ≡ large_boxed_of with_zeros (first_fault (checks ++ more)) rows k idx x₀ i₀ p₀)
-    → ((f : Fault) → first_fault larges ≡ Bad f → LeavesBoxed whole (Refused f) x₀ i₀ p₀)
+    → ((f : Fault) → r ≡ Err f → of_bulge f ≡ false) → (whole : BoxedOutcome)
+    → (first_fault checks ≡ Ok tt → whole ≡ large_boxed_of with_zeros (first_fault (checks ++ more)) rows k idx x₀ i₀ p₀)
+    → ((f : Fault) → first_fault larges ≡ Err f → LeavesBoxed whole (Err f) x₀ i₀ p₀)
     → LeavesBoxed (large_boxed_of with_zeros (first_fault (checks ++ more)) rows k idx x₀ i₀ p₀) r x i p → LeavesBoxed whole r x i p
 boxed-first checks larges more agree rows k idx x₀ i₀ p₀ r x i p other whole plain bad l = go (first_fault checks) refl
   where
     go : (c : Checked) → first_fault checks ≡ c → LeavesBoxed whole r x i p
-    go Fine e = subst (λ (o : BoxedOutcome). LeavesBoxed o r x i p) (sym (plain e)) l
-    go (Bad f) e =
-        let left : LeavesBoxed (large_boxed_of with_zeros (Bad f) rows k idx x₀ i₀ p₀) r x i p =
+    go (Ok _) e = subst (λ (o : BoxedOutcome). LeavesBoxed o r x i p) (sym (plain e)) l
+    go (Err f) e =
+        let left : LeavesBoxed (large_boxed_of with_zeros (Err f) rows k idx x₀ i₀ p₀) r x i p =
         rw (after-bad checks more f e) at l in
         let same = agree (ap over_bulge e ∙ other f left.listing.answer) ∙ e in
         let b = bad f same in
@@ -113,10 +109,10 @@ boxed-first checks larges more agree rows k idx x₀ i₀ p₀ r x i p other who
           boxes = left.boxes ∙ b.boxes;
         }
 
-listed-other : (r : ListingAnswer) → listed_bulge r ≡ false → (x : Fault) → r ≡ Refused x → of_bulge x ≡ false
+listed-other : (r : ListingAnswer) → listed_bulge r ≡ false → (x : Fault) → r ≡ Err x → of_bulge x ≡ false
 listed-other r b x e = sym (ap listed_bulge e) ∙ b
 
-paged-other : (r : PageAnswer) → paged_bulge r ≡ false → (x : Fault) → r ≡ pages.Refused x → of_bulge x ≡ false
+paged-other : (r : PageAnswer) → paged_bulge r ≡ false → (x : Fault) → r ≡ Err x → of_bulge x ≡ false
 paged-other r b x e = sym (ap paged_bulge e) ∙ b
 
 -- ---- the slices are as they were, and the paths are cut
@@ -145,7 +141,7 @@ module _ (first : List Float) (first_closed : Bool) (second : List Float) (secon
       → Leaves (mutual_large first first_closed second second_closed epsilon i₀ p₀) r i p
   unfolding large_outcome check_mutual_large
   mutual-first r b l =
-      old-first Refused olds larges _ (agree-mutual first first_closed second second_closed epsilon) _ _ i₀ p₀ r i p
+      old-first Err olds larges _ (agree-mutual first first_closed second second_closed epsilon) _ _ i₀ p₀ r i p
       (listed-other r b) (mutual_large first first_closed second second_closed epsilon i₀ p₀)
       (λ e. let both = plain-mutual first first_closed second second_closed epsilon e in
       mutual-plain first first_closed second second_closed epsilon both.0 both.1 i₀ p₀)
@@ -158,7 +154,7 @@ module _ (first : List Float) (first_closed : Bool) (second : List Float) (secon
       → Leaves (mutual_page_large first first_closed second second_closed epsilon position budget i₀ p₀) r i p
   unfolding large_page_outcome check_mutual_large
   mutual-page-first position budget r b l =
-      old-first pages.Refused olds larges _ (agree-mutual first first_closed second second_closed epsilon) _ _ i₀ p₀ r i p
+      old-first Err olds larges _ (agree-mutual first first_closed second second_closed epsilon) _ _ i₀ p₀ r i p
       (paged-other r b) (mutual_page_large first first_closed second second_closed epsilon position budget i₀ p₀)
       (λ e. let both = plain-mutual first first_closed second second_closed epsilon e in
       mutual-page-plain first first_closed second second_closed epsilon both.0 both.1 i₀ p₀ position budget)
@@ -199,7 +195,7 @@ module _ (path : List Float) (closed : Bool) (epsilon : Float) (i₀ : List ℕ)
       → Leaves (self_large path closed epsilon i₀ p₀) r i p
   unfolding large_outcome check_self_large
   self-first r b l =
-      old-first Refused own-olds own-larges _ (agree-self path closed epsilon) _ _ i₀ p₀ r i p (listed-other r b)
+      old-first Err own-olds own-larges _ (agree-self path closed epsilon) _ _ i₀ p₀ r i p (listed-other r b)
       (self_large path closed epsilon i₀ p₀)
       (λ e. self-plain path closed epsilon (plain-self path closed epsilon e) i₀ p₀)
       (λ x e. self-refused path closed epsilon x i₀ p₀ e) l
@@ -210,7 +206,7 @@ module _ (path : List Float) (closed : Bool) (epsilon : Float) (i₀ : List ℕ)
       → Leaves (self_page_large path closed epsilon position budget i₀ p₀) r i p
   unfolding large_page_outcome check_self_large
   self-page-first position budget r b l =
-      old-first pages.Refused own-olds own-larges _ (agree-self path closed epsilon) _ _ i₀ p₀ r i p (paged-other r b)
+      old-first Err own-olds own-larges _ (agree-self path closed epsilon) _ _ i₀ p₀ r i p (paged-other r b)
       (self_page_large path closed epsilon position budget i₀ p₀)
       (λ e. self-page-plain path closed epsilon (plain-self path closed epsilon e) i₀ p₀ position budget)
       (λ x e. self-page-refused path closed epsilon x i₀ p₀ e position budget) l

@@ -1,14 +1,13 @@
 -- What a listing of the mode of large arcs adds to a report: what is read from its rows of three, before they are spread, is what
 -- the definition adds.
-use Rattle.std.specs.Prelude.{◌≡◌, Bool, List, [], ◌∷◌, ◌++◌, ℕ, ◌+◌, ◌*◌, ◌≤◌, ◌<◌, Float, length, drop}
+use Rattle.checks.specs.Checked.{Checked}
+use Rattle.std.specs.Prelude.{◌≡◌, Bool, List, [], ◌∷◌, ◌++◌, ℕ, ◌+◌, ◌*◌, ◌≤◌, ◌<◌, Float, length, drop, Err, Ok}
 use Rattle.std.proofs.Math.Path.{refl, ap}
 use Rattle.std.proofs.Common.{sym, ◌∙◌, arith, le-ltb, lt-ltb, length-append, length-drop}
 use Rattle.std.proofs.Math.Bool.{true, false}
 use Rattle.float_laws.specs.Stores.{flat-length}
 use Rattle.checks.specs.declared.fault.Item.TheVariants.{Report}
 use Rattle.checks.specs.declared.fault.Fault.{Fault}
-use Rattle.checks.specs.declared.fault.Checked.{Checked}
-use Rattle.checks.specs.declared.fault.Checked.TheVariants.{Fine, Bad}
 use Rattle.checks.specs.Fault.{at, whole, refuse}
 use Rattle.checks.specs.First.{first as first_fault}
 use Rattle.checks.specs.Refusal
@@ -24,18 +23,18 @@ use Rattle.listing_pairs.specs.Laws.Sequence.{mutual-every}
 use Rattle.listing_pairs.specs.Row.{indices_a_row, points_a_row, indices_of, numbers_of_rows}
 use Rattle.listing_pairs.specs.Rows.{rows_of, looked_at}
 use Rattle.listing_loop.specs.Laws.Pages.{few-looked}
-use Rattle.listing_outcomes.specs.declared.answer.ListingAnswer.{ListingAnswer}
-use Rattle.listing_outcomes.specs.declared.answer.ListingAnswer.TheVariants.{Refused, Listed}
+use Rattle.listing_outcomes.specs.Answer.{Listed, ListingAnswer}
 use Rattle.listing_outcomes.specs.Outcome.{Outcome, Leaves, overwrite, room_check, listed_of}
 use Rattle.listing_outcomes.specs.Workings.Outcome.{listed}
+use Rattle.listing_outcomes.specs.Laws.Counts.{same-rows, same-pairs}
+use Rattle.checks.specs.declared.call.CallError.TheVariants.{NoRoom}
 use Rattle.large_outcomes.specs.LargeRow.{large_indices_a_row, large_room}
 use Rattle.large_outcomes.specs.LargeOutcome.{large_room_check, large_listed_of}
 use Rattle.large_outcomes.specs.Laws.Parts.{indices_part, points_part, rows_inside}
 use Rattle.large_outcomes.specs.Workings.Spread.{by_names, spread, five_of}
 use Rattle.large_outcomes.specs.Laws.Large.{few-rows, listed-whole, listed-refused, listed-spread}
-use Rattle.month.specs.declared.mutual_counted.CountedAnswer.TheVariants.{NoRoom, Answered}
 use Rattle.month.specs.Report.{words, refusal_numbers, most_added, full, plus}
-use Rattle.month.specs.Counted.{LeavesCounted, adds, counted_of, report_check}
+use Rattle.month.specs.Counted.{LeavesCounted, adds, counted_of, report_check, Answered}
 use Rattle.month.specs.Workings.Written.{adds_by, Listing, Countable}
 use Rattle.month.specs.Laws.Given.{Known, given_below}
 use Rattle.month.specs.Laws.Listings.{rows-looked, same-adds}
@@ -46,15 +45,15 @@ use Rattle.large_counted.specs.Workings.Counting.{ListedCounted, LargeAdded}
 use Rattle.large_counted.specs.Laws.LargeGiven.{mutual-checks-known, room-known}
 use Rattle.large_listings.specs.Laws.LargeEntry.{mutual-listed, mutual-refused}
 
-never : {f : Fault} {k m : ℕ} → Refused f ≡ Listed k m → ⊥
+never : {f : Fault} {k m : ℕ} → Err f ≡ Listed k m → ⊥
 never e = let z : ◌≡◌ {A = ℕ} 0 1 = cc in omega (arith, z)
 
-same-fault : {f g : Fault} → Refused f ≡ Refused g → f ≡ g
+same-fault : {f g : Fault} → ◌≡◌ {A = ListingAnswer} (Err f) (Err g) → f ≡ g
 same-fault e = cc
 
 -- ---- a listing in the lent parts. `found` makes the first fault of all checks from 8's check, which is among them
 module _ (look : ℕ → ℕ → Look) (ps : List Pair) (few : length ps ≤ most_added) (i₀ : List ℕ) (p₀ : List Float) (m : ℕ)
-    (is : m ≡ large_room i₀ p₀) (found : Checked → Checked) (among : (c : Checked) → found c ≡ Fine → c ≡ Fine)
+    (is : m ≡ large_room i₀ p₀) (found : Checked → Checked) (among : (c : Checked) → found c ≡ Ok tt → c ≡ Ok tt)
     (known : Known (found (large_room_check (rows_of look ps) i₀ p₀))) (r : ListingAnswer) (i : List ℕ) (p : List Float)
     (l : Leaves (listed_of (found (room_check (rows_of look ps) (indices_part i₀ p₀ m is) (points_part i₀ p₀ m is)))
     (rows_of look ps) (looked_at look ps) (indices_part i₀ p₀ m is) (points_part i₀ p₀ m is)) r i p) (w₀ : List ℕ) where
@@ -79,18 +78,18 @@ module _ (look : ℕ → ℕ → Look) (ps : List Pair) (few : length ps ≤ mos
         listed = λ n k e. go check refl all n k e;
       }
     where
-      go-refused : (c : Checked) → Known c → r ≡ (listed_of c rows (looked_at look ps) i₀ p₀).answer → (f : Fault) → r ≡ Refused f
+      go-refused : (c : Checked) → Known c → r ≡ (listed_of c rows (looked_at look ps) i₀ p₀).answer → (f : Fault) → r ≡ Err f
           → f.number < refusal_numbers
-      go-refused Fine k h f e = absurd (never (sym e ∙ h))
-      go-refused (Bad g) k h f e = given_below f.number (k.known f (ap Bad (same-fault (sym h ∙ e))))
+      go-refused (Ok _) k h f e = absurd (never (sym e ∙ h))
+      go-refused (Err g) k h f e = given_below f.number (k.known f (ap Err (same-fault (sym h ∙ e))))
 
       go : (c : Checked) → check ≡ c → Leaves (listed_of c rows (looked_at look ps) i₀ p₀) r now (p ++ drop (m * points_a_row) p₀)
           → (n k : ℕ) → r ≡ Listed n k → Listing n k now
-      go (Bad g) h leaves n k e = absurd (never (sym leaves.answer ∙ e))
-      go Fine h leaves n k e =
+      go (Err g) h leaves n k e = absurd (never (sym leaves.answer ∙ e))
+      go (Ok _) h leaves n k e =
           let made = sym e ∙ leaves.answer in
-          let count : n ≡ length rows = cc in
-          let pairs : k ≡ looked_at look ps = cc in
+          let count : n ≡ length rows = same-rows made in
+          let pairs : k ≡ looked_at look ps = same-pairs made in
           let three = numbers_of_rows indices_of rows in
           let three-long = flat-length indices_of indices_a_row (λ r. refl) rows in
           record {
@@ -112,10 +111,10 @@ module _ (look : ℕ → ℕ → Look) (ps : List Pair) (few : length ps ≤ mos
     where
       go : (c : Checked) → check ≡ c → Leaves (listed_of c rows (looked_at look ps) i₀ p₀) r now (p ++ drop (m * points_a_row) p₀)
           → n * large_indices_a_row ≤ length now
-      go (Bad g) h leaves = absurd (never (sym leaves.answer ∙ e))
-      go Fine h leaves =
+      go (Err g) h leaves = absurd (never (sym leaves.answer ∙ e))
+      go (Ok _) h leaves =
           let made = sym e ∙ leaves.answer in
-          let count : n ≡ length rows = cc in
+          let count : n ≡ length rows = same-rows made in
           let three = numbers_of_rows indices_of rows in
           omega (
             arith,
@@ -141,8 +140,8 @@ module _ (look : ℕ → ℕ → Look) (ps : List Pair) (few : length ps ≤ mos
 module _ (first : List Float) (first_closed : Bool) (second : List Float) (second_closed : Bool) (epsilon : Float)
     (i₀ : List ℕ) (p₀ : List Float) (w₀ : List ℕ) where
   -- a fault of the checks
-  module _ (x : Fault) (e : check_mutual_large first first_closed second second_closed epsilon ≡ Bad x) where
-    pub refused-countable : words ≤ length w₀ → full w₀ ≡ false → (i : List ℕ) → Countable (Refused x) i w₀
+  module _ (x : Fault) (e : check_mutual_large first first_closed second second_closed epsilon ≡ Err x) where
+    pub refused-countable : words ≤ length w₀ → full w₀ ≡ false → (i : List ℕ) → Countable (Err x) i w₀
     unfolding check_mutual_large
     refused-countable long roomy i =
         record {
@@ -150,18 +149,18 @@ module _ (first : List Float) (first_closed : Bool) (second : List Float) (secon
           roomy = roomy;
           refused =
               λ f h. given_below f.number
-              ((mutual-checks-known first first_closed second second_closed epsilon).known f (e ∙ ap Bad (same-fault h)));
+              ((mutual-checks-known first first_closed second second_closed epsilon).known f (e ∙ ap Err (same-fault h)));
           listed = λ n k h. absurd (never h);
         }
 
-    pub refused-added : (w : List ℕ) → w ≡ plus w₀ (adds_by (Refused x) i₀)
-        → LargeAdded first first_closed second second_closed epsilon i₀ p₀ w₀ (Refused x) i₀ p₀ w
+    pub refused-added : (w : List ℕ) → w ≡ plus w₀ (adds_by (Err x) i₀)
+        → LargeAdded first first_closed second second_closed epsilon i₀ p₀ w₀ (Err x) i₀ p₀ w
     refused-added w sum =
         record { listing = mutual-refused first first_closed second second_closed epsilon x i₀ p₀ e; report = sum }
 
   -- ---- the ends of a counted listing
   pub counted-no-room : length w₀ < words
-      → LeavesCounted (mutual_counted_large first first_closed second second_closed epsilon i₀ p₀ w₀) NoRoom i₀ p₀ w₀
+      → LeavesCounted (mutual_counted_large first first_closed second second_closed epsilon i₀ p₀ w₀) (Err NoRoom) i₀ p₀ w₀
   unfolding mutual_counted_large
   counted-no-room h =
       rw (lt-ltb (length w₀) words h)
@@ -181,12 +180,12 @@ module _ (first : List Float) (first_closed : Bool) (second : List Float) (secon
 
     pub counted-full : test ≡ true → (fault : Fault) → fault ≡ whole Refusal.report Report
         → LeavesCounted (mutual_counted_large first first_closed second second_closed epsilon i₀ p₀ w₀)
-        (Answered (Refused fault)) i₀ p₀ w₀
+        (Answered (Err fault)) i₀ p₀ w₀
     unfolding refuse
     counted-full e fault told =
         rw (checked-report true e)
         (record {
-          listing = record { answer = ap (λ (f : Fault). Answered (Refused f)) told; indices = refl; points = refl };
+          listing = record { answer = ap (λ (f : Fault). Answered (Err f)) told; indices = refl; points = refl };
           report = refl;
         })
 
@@ -215,13 +214,13 @@ module _ (firsts seconds : List ℕ) (look : ℕ → ℕ → Look) (ps : List Pa
       added look ps few i₀ p₀ m is (λ c. c) (λ c e. e) (room-known (rows_of look ps) i₀ p₀) r i p l w₀ w sum
       ∙ ap (λ (x : ListingAnswer). plus w₀ (adds x (rows_of look ps))) e
 
-  pub counted-refused : (f : Fault) → r ≡ Refused f
-      → ListedCounted (five_of firsts seconds) look ps i₀ p₀ w₀ (Refused f) (i ++ drop (m * indices_a_row) i₀)
+  pub counted-refused : (f : Fault) → r ≡ Err f
+      → ListedCounted (five_of firsts seconds) look ps i₀ p₀ w₀ (Err f) (i ++ drop (m * indices_a_row) i₀)
       (p ++ drop (m * points_a_row) p₀) w
   counted-refused f e =
       record {
         listing = listed-refused i₀ p₀ m is (by_names firsts seconds) (λ x y class. refl) look ps (λ c. c) (λ c e. e) r i p f e l;
-        report = its-report (Refused f) e;
+        report = its-report (Err f) e;
       }
 
   pub counted-spread : (now : List ℕ) (n k : ℕ) → r ≡ Listed n k
@@ -241,7 +240,7 @@ module _ (first : List Float) (first_closed : Bool) (second : List Float) (secon
     (a-is : a ≡ cut_path first first_closed) (b-is : b ≡ cut_path second second_closed)
     (words_are : words₁ ≡ name_words first first_closed) (others-are : others ≡ name_words second second_closed)
     (n-is : n ≡ cut_count first first_closed) (m-is : m ≡ cut_count second second_closed)
-    (e : check_mutual_large first first_closed second second_closed epsilon ≡ Fine) (i₀ i : List ℕ) (p₀ p : List Float) where
+    (e : check_mutual_large first first_closed second second_closed epsilon ≡ Ok tt) (i₀ i : List ℕ) (p₀ p : List Float) where
   pub mutual-counted : (r : ListingAnswer) (w₀ w : List ℕ) (j : Job) → j ≡ mutual_job n m false epsilon
       → ListedCounted (five_of words₁ others) (look_by a b j) (every j) i₀ p₀ w₀ r i p w
       → LargeAdded first first_closed second second_closed epsilon i₀ p₀ w₀ r i p w

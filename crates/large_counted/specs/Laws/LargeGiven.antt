@@ -1,8 +1,8 @@
 -- A listing of the mode of large arcs refuses with no other number than those of the old mode: check by check.
+use Rattle.checks.specs.Checked.{Checked}
 use Rattle.std.specs.Prelude.{◌≡◌, refl, Bool, true, false, cond, List, [], ◌∷◌, ◌++◌, ℕ, Float}
 use Rattle.plane.specs.declared.pline_vertex.PlineVertex.{PlineVertex}
 use Rattle.checks.specs.declared.fault.Place.{Place}
-use Rattle.checks.specs.declared.fault.Checked.{Checked}
 use Rattle.checks.specs.Each
 use Rattle.checks.specs.Arc.{arc_chord}
 use Rattle.checks.specs.First.{first as first_fault}

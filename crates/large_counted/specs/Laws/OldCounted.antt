@@ -1,13 +1,12 @@
 -- The counted listing that asks the old mode first: what the old mode's rows of three add to the report is what the definition
 -- adds, unless the old mode refuses a bulge.
-use Rattle.std.specs.Prelude.{◌≡◌, Bool, true, false, List, [], ◌∷◌, ◌++◌, ℕ, ◌*◌, ◌≤◌, Float}
+use Rattle.checks.specs.Checked.{Checked}
+use Rattle.std.specs.Prelude.{◌≡◌, Bool, true, false, List, [], ◌∷◌, ◌++◌, ℕ, ◌*◌, ◌≤◌, Float, Err, Ok}
 use Rattle.std.proofs.Math.Path.{refl, ap}
 use Rattle.std.proofs.Common.{sym, ◌∙◌, mul-le-mul}
 use native.Mathlib.Omega.{arith}
 use Rattle.std.proofs.Math.ListN.{length, drop}
 use Rattle.checks.specs.declared.fault.Fault.{Fault}
-use Rattle.checks.specs.declared.fault.Checked.{Checked}
-use Rattle.checks.specs.declared.fault.Checked.TheVariants.{Fine, Bad}
 use Rattle.checks.specs.First.{first as first_fault}
 use Rattle.checks.specs.Laws.Chains.{first-append}
 use Rattle.checks.specs.Laws.Later.{later-fine}
@@ -20,8 +19,7 @@ use Rattle.listing_pairs.specs.Order.{Pair, mutual_pairs}
 use Rattle.listing_pairs.specs.Rows.{rows_of, looked_at}
 use Rattle.listing_pairs.specs.Look.{traced_look}
 use Rattle.listing_pairs.specs.Laws.Order.{few-pairs}
-use Rattle.listing_outcomes.specs.declared.answer.ListingAnswer.{ListingAnswer}
-use Rattle.listing_outcomes.specs.declared.answer.ListingAnswer.TheVariants.{Refused, Listed}
+use Rattle.listing_outcomes.specs.Answer.{Listed, ListingAnswer}
 use Rattle.listing_outcomes.specs.Outcome.{Leaves, room_check, listed_of, outcome}
 use Rattle.listing_calls.specs.Listing.{mutual_checks, mutual_listing}
 use Rattle.listing_calls.specs.Laws.Entry.{after-bad}
@@ -46,16 +44,16 @@ use Rattle.large_counted.specs.Laws.LargeCounting.{countable, still-fits, added}
 
 -- rows were listed, so the checks are fine
 listed-fine : (checks : List Checked) (look : ℕ → ℕ → Look) (ps : List Pair) (a : List ℕ) (b : List Float) (n k : ℕ)
-    → Listed n k ≡ (outcome checks look ps a b).answer → first_fault checks ≡ Fine
+    → Listed n k ≡ (outcome checks look ps a b).answer → first_fault checks ≡ Ok tt
 unfolding outcome
 listed-fine checks look ps a b n k e = go (first_fault checks) refl
   where
-    never : (f : Fault) → Listed n k ≡ Refused f → ⊥
+    never : (f : Fault) → Listed n k ≡ Err f → ⊥
     never f e = let z : ◌≡◌ {A = ℕ} 0 1 = sym cc in omega (arith, z)
 
-    go : (c : Checked) → first_fault checks ≡ c → c ≡ Fine
-    go Fine h = refl
-    go (Bad f) h =
+    go : (c : Checked) → first_fault checks ≡ c → c ≡ Ok tt
+    go (Ok _) h = refl
+    go (Err f) h =
         let all = after-bad checks (room_check (rows_of look ps) a b ∷ []) f h in
         absurd (never f (e ∙ ap (λ (t : Checked). (listed_of t (rows_of look ps) (looked_at look ps) a b).answer) all))
 
@@ -103,15 +101,15 @@ module _ (first : List Float) (first_closed : Bool) (second : List Float) (secon
     old-fits = go r refl
       where
         go : (a : ListingAnswer) → r ≡ a → listed_rows a * large_indices_a_row ≤ length (i ++ drop (m * indices_a_row) i₀)
-        go (Refused f) e = omega arith
-        go (Listed n k) e =
-            still-fits look ps few i₀ p₀ m is (λ c. first_fault (checks ++ (c ∷ []))) (last-fine checks) known r i p l w₀ n k e
+        go (Err f) e = omega arith
+        go (Ok counts) e =
+            still-fits look ps few i₀ p₀ m is (λ c. first_fault (checks ++ (c ∷ []))) (last-fine checks) known r i p l w₀ counts.rows counts.pairs e
 
     rows-added : (w : List ℕ) → w ≡ plus w₀ (adds_by r (i ++ drop (m * indices_a_row) i₀)) → w ≡ plus w₀ (adds r (rows_of look ps))
     unfolding mutual_listing outcome
     rows-added = added look ps few i₀ p₀ m is (λ c. first_fault (checks ++ (c ∷ []))) (last-fine checks) known r i p l w₀
 
-    fine-if-listed : (n k : ℕ) → r ≡ Listed n k → first_fault checks ≡ Fine
+    fine-if-listed : (n k : ℕ) → r ≡ Listed n k → first_fault checks ≡ Ok tt
     unfolding mutual_listing
     fine-if-listed n k e =
         listed-fine checks look ps (indices_part i₀ p₀ m is) (points_part i₀ p₀ m is) n k (sym e ∙ l.answer)
@@ -121,11 +119,11 @@ module _ (first : List Float) (first_closed : Bool) (second : List Float) (secon
       where
         go : (a : ListingAnswer) → r ≡ a
             → adds r (rows_of look ps) ≡ adds r (mutual_large_rows first first_closed second second_closed epsilon)
-        go (Refused f) e =
+        go (Err f) e =
             ap (λ (a : ListingAnswer). adds a (rows_of look ps)) e
             ∙ sym (ap (λ (a : ListingAnswer). adds a (mutual_large_rows first first_closed second second_closed epsilon)) e)
-        go (Listed n k) e =
-            let both = plain-mutual first first_closed second second_closed epsilon (fine-if-listed n k e) in
+        go (Ok counts) e =
+            let both = plain-mutual first first_closed second second_closed epsilon (fine-if-listed counts.rows counts.pairs e) in
             ap (adds r) (sym (mutual-rows-plain first first_closed second second_closed epsilon both.0 both.1))
 
     pub old-added : listed_bulge r ≡ false → (w now : List ℕ) → w ≡ plus w₀ (adds_by r (i ++ drop (m * indices_a_row) i₀))

@@ -1,14 +1,13 @@
 -- One call of a chain of pages of the mode of large arcs that is not refused: it is the old page of the lent parts, and its rows
 -- of five are those of the pairs that it passed.
-use Rattle.std.specs.Prelude.{◌≡◌, ℕ, ◌+◌, ◌*◌, ◌<◌, ◌≤◌, Float, length, drop}
+use Rattle.checks.specs.Checked.{Checked}
+use Rattle.std.specs.Prelude.{◌≡◌, ℕ, ◌+◌, ◌*◌, ◌<◌, ◌≤◌, Float, length, drop, Err, Ok}
 use Rattle.std.proofs.Math.Path.{refl, ap}
 use Rattle.std.proofs.Common.{sym, ◌∙◌, arith, take_at}
 use mathlib.Core.List.{List, [], ◌∷◌, ◌++◌}
 use Rattle.std.proofs.Math.ListN.{take}
 use Rattle.float_laws.specs.Stores.{flat-length}
 use Rattle.checks.specs.declared.fault.Fault.{Fault}
-use Rattle.checks.specs.declared.fault.Checked.{Checked}
-use Rattle.checks.specs.declared.fault.Checked.TheVariants.{Fine, Bad}
 use Rattle.checks.specs.First.{first as first_fault}
 use Rattle.listing_pairs.specs.declared.row.Row.{Row}
 use Rattle.listing_pairs.specs.declared.row.Look.{Look}
@@ -16,8 +15,7 @@ use Rattle.listing_pairs.specs.Order.{Pair}
 use Rattle.listing_pairs.specs.Page.{Page, page}
 use Rattle.listing_pairs.specs.Row.{points_a_row, points_of, numbers_of_rows}
 use Rattle.listing_pairs.specs.Rows.{rows_of}
-use Rattle.listing_outcomes.specs.declared.answer.PageAnswer.{PageAnswer}
-use Rattle.listing_outcomes.specs.declared.answer.PageAnswer.TheVariants.{Refused, Paged}
+use Rattle.listing_outcomes.specs.Answer.{PageAnswer, Paged}
 use Rattle.listing_outcomes.specs.Outcome.{Outcome, overwrite, room, outcome_of}
 use Rattle.listing_outcomes.specs.PageOutcome.{limits, paged_of, page_outcome}
 use Rattle.listing_calls.specs.Chain.{between}
@@ -27,7 +25,7 @@ use Rattle.large_outcomes.specs.LargeOutcome.{large_limits, large_paged_of, larg
 use Rattle.large_outcomes.specs.Laws.Parts.{indices_part, points_part, same-room}
 use Rattle.large_outcomes.specs.Laws.Large.{limits-same}
 
-never : {f : Fault} {r p q a : ℕ} → Refused f ≡ Paged r p q a → ⊥
+never : {f : Fault} {r p q a : ℕ} → Err f ≡ Paged r p q a → ⊥
 never e = let z : ◌≡◌ {A = ℕ} 0 1 = cc in omega (arith, z)
 
 module _ (numbers : Row → List ℕ) (wide : (r : Row) → length (numbers r) ≡ large_indices_a_row) (checks : List Checked)
@@ -48,8 +46,8 @@ module _ (numbers : Row → List ℕ) (wide : (r : Row) → length (numbers r) �
   -- both, by the first fault
   same : (c : Checked)
       → (large_paged_of numbers c q position (length ps) i₀ p₀).answer ≡ (paged_of c q position (length ps) i₁ p₁).answer
-  same Fine = refl
-  same (Bad f) = refl
+  same (Ok _) = refl
+  same (Err f) = refl
 
   pub same_answer : (large_page_outcome numbers checks look ps position budget i₀ p₀).answer ≡ old_page.answer
   unfolding large_page_outcome page_outcome
@@ -94,8 +92,8 @@ module _ (numbers : Row → List ℕ) (wide : (r : Row) → length (numbers r) �
         go : (c : Checked) → (large_paged_of numbers c q position (length ps) i₀ p₀).answer ≡ Paged rows pairs next all
             → take (rows * large_indices_a_row) (large_paged_of numbers c q position (length ps) i₀ p₀).indices
             ≡ numbers_of_rows numbers (rows_of look (between position next ps))
-        go (Bad f) h = absurd (never h)
-        go Fine h = read numbers large_indices_a_row wide i₀
+        go (Err f) h = absurd (never h)
+        go (Ok _) h = read numbers large_indices_a_row wide i₀
 
     pub read-points : take (rows * points_a_row) (large_page_outcome numbers checks look ps position budget i₀ p₀).points
         ≡ numbers_of_rows points_of (rows_of look (between position next ps))
@@ -105,5 +103,5 @@ module _ (numbers : Row → List ℕ) (wide : (r : Row) → length (numbers r) �
         go : (c : Checked) → (large_paged_of numbers c q position (length ps) i₀ p₀).answer ≡ Paged rows pairs next all
             → take (rows * points_a_row) (large_paged_of numbers c q position (length ps) i₀ p₀).points
             ≡ numbers_of_rows points_of (rows_of look (between position next ps))
-        go (Bad f) h = absurd (never h)
-        go Fine h = read points_of points_a_row (λ r. refl) p₀
+        go (Err f) h = absurd (never h)
+        go (Ok _) h = read points_of points_a_row (λ r. refl) p₀

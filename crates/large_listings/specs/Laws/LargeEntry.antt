@@ -1,13 +1,12 @@
 -- From the checks of a listing, a page or a boxed listing of the mode of large arcs to its outcome: the chain of calls is the
 -- list of checks; if they are fine, every pair of the cut paths is fine for the pair call; and the outcome is that of checked
 -- paths, or the refusal of the first fault.
-use Rattle.std.specs.Prelude.{◌≡◌, Bool, true, false, ℕ, ◌*◌, ◌<◌, ◌≤◌, Float, length}
+use Rattle.checks.specs.Checked.{Checked}
+use Rattle.std.specs.Prelude.{◌≡◌, Bool, true, false, ℕ, ◌*◌, ◌<◌, ◌≤◌, Float, length, Err, Ok}
 use Rattle.std.proofs.Math.Path.{refl, sym, ap}
 use Rattle.std.proofs.Common.{◌∙◌, true≢false, arith}
 use mathlib.Core.List.{List, [], ◌∷◌, ◌++◌, append-nil}
 use Rattle.checks.specs.declared.fault.Fault.{Fault}
-use Rattle.checks.specs.declared.fault.Checked.{Checked}
-use Rattle.checks.specs.declared.fault.Checked.TheVariants.{Fine, Bad}
 use Rattle.checks.specs.Fault.{later}
 use Rattle.checks.specs.Each
 use Rattle.checks.specs.First.{first as first_fault}
@@ -31,10 +30,7 @@ use Rattle.listing_pairs.specs.Workings.Job.{every}
 use Rattle.listing_pairs.specs.Workings.Ready.{look_on, boxed_look, look_by}
 use Rattle.listing_pairs.specs.Laws.Sequence.{mutual-every, self-every}
 use Rattle.listing_pairs.specs.Laws.Skipped.{boxed-rows, boxed-looked}
-use Rattle.listing_outcomes.specs.declared.answer.ListingAnswer.{ListingAnswer}
-use Rattle.listing_outcomes.specs.declared.answer.ListingAnswer.TheVariants.{Refused, Listed}
-use Rattle.listing_outcomes.specs.declared.answer.PageAnswer.{PageAnswer}
-use Rattle.listing_outcomes.specs.declared.answer.PageAnswer.TheVariants as pages
+use Rattle.listing_outcomes.specs.Answer.{Listed, ListingAnswer, PageAnswer}
 use Rattle.listing_outcomes.specs.Outcome.{Leaves}
 use Rattle.listing_outcomes.specs.BoxedOutcome.{BoxedOutcome, LeavesBoxed, index_check}
 use Rattle.listing_outcomes.specs.Workings.BoxedOutcome.{index_for, OwnPath}
@@ -77,29 +73,29 @@ use Rattle.large_listings.specs.Workings.Jobs.{mutual_job, self_job}
 -- ---- any call: its checks, then the last ones
 module _ {A : Type 0} (numbers : Row → List ℕ) (refused : Fault → A) (checks more : List Checked) (answer : A) (rows : List Row)
     (i₀ : List ℕ) (p₀ : List Float) where
-  outcome-fine : first_fault checks ≡ Fine
+  outcome-fine : first_fault checks ≡ Ok tt
       → large_of numbers refused (first_fault (checks ++ more)) answer rows i₀ p₀
       ≡ large_of numbers refused (first_fault more) answer rows i₀ p₀
   outcome-fine e = ap (λ (t : Checked). large_of numbers refused t answer rows i₀ p₀) (after-fine checks more e)
 
-  outcome-bad : (x : Fault) → first_fault checks ≡ Bad x
+  outcome-bad : (x : Fault) → first_fault checks ≡ Err x
       → Leaves (large_of numbers refused (first_fault (checks ++ more)) answer rows i₀ p₀) (refused x) i₀ p₀
   outcome-bad x e = rw (after-bad checks more x e) (record { answer = refl; indices = refl; points = refl })
 
 module _ (numbers : Row → List ℕ) (checks : List Checked) (f : ℕ → ℕ → Look) (ps : List Pair) (i₀ : List ℕ) (p₀ : List Float)
-    (e : first_fault checks ≡ Fine) where
+    (e : first_fault checks ≡ Ok tt) where
   listing-fine : large_outcome numbers checks f ps i₀ p₀ ≡ large_listed numbers f ps i₀ p₀
   unfolding large_outcome
   listing-fine =
       let c = large_room_check (rows_of f ps) i₀ p₀ in
-      outcome-fine numbers Refused checks (c ∷ []) (Listed (length (rows_of f ps)) (looked_at f ps)) (rows_of f ps) i₀ p₀ e
+      outcome-fine numbers Err checks (c ∷ []) (Listed (length (rows_of f ps)) (looked_at f ps)) (rows_of f ps) i₀ p₀ e
       ∙ ap (λ (t : Checked). large_listed_of numbers t (rows_of f ps) (looked_at f ps) i₀ p₀) (fine-right c)
 
   page-fine : (position budget : ℕ)
       → large_page_outcome numbers checks f ps position budget i₀ p₀ ≡ large_paged numbers f ps position budget i₀ p₀
   unfolding large_page_outcome
   page-fine position budget =
-      outcome-fine numbers pages.Refused checks (large_limits position (length ps) budget i₀ p₀) _ _ i₀ p₀ e
+      outcome-fine numbers Err checks (large_limits position (length ps) budget i₀ p₀) _ _ i₀ p₀ e
 
   boxed-fine : (idx b₀ : List Float) → large_boxed_outcome numbers checks f ps idx b₀ i₀ p₀ ≡ large_boxed numbers f ps idx b₀ i₀ p₀
   unfolding large_boxed_outcome
@@ -109,17 +105,17 @@ module _ (numbers : Row → List ℕ) (checks : List Checked) (f : ℕ → ℕ �
 
 -- a refusal of the checks
 module _ (numbers : Row → List ℕ) (checks : List Checked) (f : ℕ → ℕ → Look) (ps : List Pair) (i₀ : List ℕ) (p₀ : List Float)
-    (x : Fault) (e : first_fault checks ≡ Bad x) where
-  listing-bad : Leaves (large_outcome numbers checks f ps i₀ p₀) (Refused x) i₀ p₀
+    (x : Fault) (e : first_fault checks ≡ Err x) where
+  listing-bad : Leaves (large_outcome numbers checks f ps i₀ p₀) (Err x) i₀ p₀
   unfolding large_outcome
-  listing-bad = outcome-bad numbers Refused checks _ _ _ i₀ p₀ x e
+  listing-bad = outcome-bad numbers Err checks _ _ _ i₀ p₀ x e
 
   page-bad : (position budget : ℕ)
-      → Leaves (large_page_outcome numbers checks f ps position budget i₀ p₀) (pages.Refused x) i₀ p₀
+      → Leaves (large_page_outcome numbers checks f ps position budget i₀ p₀) (Err x) i₀ p₀
   unfolding large_page_outcome
-  page-bad position budget = outcome-bad numbers pages.Refused checks _ _ _ i₀ p₀ x e
+  page-bad position budget = outcome-bad numbers Err checks _ _ _ i₀ p₀ x e
 
-  boxed-bad : (idx b₀ : List Float) → LeavesBoxed (large_boxed_outcome numbers checks f ps idx b₀ i₀ p₀) (Refused x) b₀ i₀ p₀
+  boxed-bad : (idx b₀ : List Float) → LeavesBoxed (large_boxed_outcome numbers checks f ps idx b₀ i₀ p₀) (Err x) b₀ i₀ p₀
   unfolding large_boxed_outcome
   boxed-bad idx b₀ =
       rw (after-bad checks (index_check idx b₀ ∷ large_room_check (rows_of f ps) i₀ p₀ ∷ []) x e)
@@ -168,13 +164,13 @@ module _ (first : List Float) (first_closed : Bool) (second : List Float) (secon
 
   -- what is known if the checks are fine
   pub record MutualFine : Type 0 where
-    pub eps : Each.epsilon epsilon ≡ Fine
-    pub first-shape : shape first 0 ≡ Fine
-    pub second-shape : shape second 1 ≡ Fine
+    pub eps : Each.epsilon epsilon ≡ Ok tt
+    pub first-shape : shape first 0 ≡ Ok tt
+    pub second-shape : shape second 1 ≡ Ok tt
     pub first_fine : LargePathFine first first_closed
     pub second-fine : LargePathFine second second_closed
 
-  pub mutual-fine : check_mutual_large first first_closed second second_closed epsilon ≡ Fine → MutualFine
+  pub mutual-fine : check_mutual_large first first_closed second second_closed epsilon ≡ Ok tt → MutualFine
   mutual-fine e =
       let outer = (path-fine (check_large_path shapes first first_closed 0) second second_closed 1).0 (mutual-chain ∙ e) in
       let inner = (path-fine shapes first first_closed 0).0 outer.0 in
@@ -193,7 +189,7 @@ module _ (first : List Float) (first_closed : Bool) (second : List Float) (secon
       (a-is : a ≡ cut_path first first_closed) (b-is : b ≡ cut_path second second_closed)
       (words_are : words ≡ name_words first first_closed) (others-are : others ≡ name_words second second_closed)
       (n-is : n ≡ cut_count first first_closed) (m-is : m ≡ cut_count second second_closed)
-      (e : check_mutual_large first first_closed second second_closed epsilon ≡ Fine) (i₀ i : List ℕ) (p₀ p : List Float) where
+      (e : check_mutual_large first first_closed second second_closed epsilon ≡ Ok tt) (i₀ i : List ℕ) (p₀ p : List Float) where
     abbrev plain : Job
     plain = mutual_job (cut_count first first_closed) (cut_count second second_closed) false epsilon
 
@@ -263,18 +259,18 @@ module _ (first : List Float) (first_closed : Bool) (second : List Float) (secon
 
   -- a fault
   module _ (x : Fault) (i₀ : List ℕ) (p₀ : List Float)
-      (e : check_mutual_large first first_closed second second_closed epsilon ≡ Bad x) where
-    pub mutual-refused : Leaves (mutual_large first first_closed second second_closed epsilon i₀ p₀) (Refused x) i₀ p₀
+      (e : check_mutual_large first first_closed second second_closed epsilon ≡ Err x) where
+    pub mutual-refused : Leaves (mutual_large first first_closed second second_closed epsilon i₀ p₀) (Err x) i₀ p₀
     unfolding mutual_large check_mutual_large
     mutual-refused = listing-bad five these looks between i₀ p₀ x e
 
     pub mutual-page-refused : (position budget : ℕ)
-        → Leaves (mutual_page_large first first_closed second second_closed epsilon position budget i₀ p₀) (pages.Refused x) i₀ p₀
+        → Leaves (mutual_page_large first first_closed second second_closed epsilon position budget i₀ p₀) (Err x) i₀ p₀
     unfolding mutual_page_large check_mutual_large
     mutual-page-refused position budget = page-bad five these looks between i₀ p₀ x e position budget
 
     pub mutual-boxed-refused : (b₀ : List Float)
-        → LeavesBoxed (mutual_boxed_large first first_closed second second_closed epsilon b₀ i₀ p₀) (Refused x) b₀ i₀ p₀
+        → LeavesBoxed (mutual_boxed_large first first_closed second second_closed epsilon b₀ i₀ p₀) (Err x) b₀ i₀ p₀
     unfolding mutual_boxed_large check_mutual_large
     mutual-boxed-refused b₀ =
         boxed-bad five these looks (boxed_pairs (cut_path first first_closed)
@@ -315,18 +311,18 @@ module _ (path : List Float) (closed : Bool) (epsilon : Float) where
       ap (λ (t : Checked). later t (first_fault c1)) two ∙ sym (first-append c0 c1)
 
   pub record SelfFine : Type 0 where
-    pub eps : Each.epsilon epsilon ≡ Fine
-    pub shape-fine : shape path 0 ≡ Fine
+    pub eps : Each.epsilon epsilon ≡ Ok tt
+    pub shape-fine : shape path 0 ≡ Ok tt
     pub path-fine : LargePathFine path closed
 
-  pub self-fine : check_self_large path closed epsilon ≡ Fine → SelfFine
+  pub self-fine : check_self_large path closed epsilon ≡ Ok tt → SelfFine
   self-fine e =
       let whole = (path-fine shaped path closed 0).0 (self-chain ∙ e) in
       let one = (later-fine (Each.epsilon epsilon) (shape path 0)).0 whole.0 in
       record { eps = one.0; shape-fine = one.1; path-fine = whole.1 }
 
   module _ (a : List Float) (words : List ℕ) (n : ℕ) (a-is : a ≡ cut_path path closed) (words_are : words ≡ name_words path closed)
-      (n-is : n ≡ cut_count path closed) (e : check_self_large path closed epsilon ≡ Fine) (i₀ i : List ℕ) (p₀ p : List Float) where
+      (n-is : n ≡ cut_count path closed) (e : check_self_large path closed epsilon ≡ Ok tt) (i₀ i : List ℕ) (p₀ p : List Float) where
     abbrev own-plain : Job
     own-plain = self_job (cut_count path closed) closed false epsilon
 
@@ -365,18 +361,18 @@ module _ (path : List Float) (closed : Bool) (epsilon : Float) where
         rw (boxed-fine own-five its own-looks (boxed_pairs x x epsilon own) i₀ p₀ e idx b₀)
         (rw (left_out own-five x x epsilon own-looks own idx b₀ i₀ p₀) at g)
 
-  module _ (x : Fault) (i₀ : List ℕ) (p₀ : List Float) (e : check_self_large path closed epsilon ≡ Bad x) where
-    pub self-refused : Leaves (self_large path closed epsilon i₀ p₀) (Refused x) i₀ p₀
+  module _ (x : Fault) (i₀ : List ℕ) (p₀ : List Float) (e : check_self_large path closed epsilon ≡ Err x) where
+    pub self-refused : Leaves (self_large path closed epsilon i₀ p₀) (Err x) i₀ p₀
     unfolding self_large check_self_large
     self-refused = listing-bad own-five its own-looks own i₀ p₀ x e
 
     pub self-page-refused : (position budget : ℕ)
-        → Leaves (self_page_large path closed epsilon position budget i₀ p₀) (pages.Refused x) i₀ p₀
+        → Leaves (self_page_large path closed epsilon position budget i₀ p₀) (Err x) i₀ p₀
     unfolding self_page_large check_self_large
     self-page-refused position budget = page-bad own-five its own-looks own i₀ p₀ x e position budget
 
     pub self-boxed-refused : (b₀ : List Float)
-        → LeavesBoxed (self_boxed_large path closed epsilon b₀ i₀ p₀) (Refused x) b₀ i₀ p₀
+        → LeavesBoxed (self_boxed_large path closed epsilon b₀ i₀ p₀) (Err x) b₀ i₀ p₀
     unfolding self_boxed_large check_self_large
     self-boxed-refused b₀ =
         boxed-bad own-five its own-looks (boxed_pairs (cut_path path closed) (cut_path path closed) epsilon own) i₀ p₀ x e

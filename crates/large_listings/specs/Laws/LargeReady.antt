@@ -1,8 +1,7 @@
 -- If the checks of the mode of large arcs are fine, every pair of the cut paths is fine for the pair call, and the slices into
 -- which the paths are cut are long enough.
-use Rattle.std.specs.Prelude.{◌≡◌, refl, Bool, true, false, not, List, ℕ, ◌+◌, ◌*◌, ◌%◌, ◌<◌, ◌≤◌, eqb, Float, length, take}
+use Rattle.std.specs.Prelude.{◌≡◌, refl, Bool, true, false, not, List, ℕ, ◌+◌, ◌*◌, ◌%◌, ◌<◌, ◌≤◌, eqb, Float, length, take, Ok}
 use Rattle.std.proofs.Common.{sym, ap, ◌∙◌, arith, eqb-true}
-use Rattle.checks.specs.declared.fault.Checked.TheVariants.{Fine}
 use Rattle.checks.specs.Each
 use Rattle.checks.specs.Arc.{arc_chord}
 use Rattle.fast_pair.specs.Laws.AllFine.{Sound, look-fine}
@@ -32,7 +31,7 @@ sound path closed fine owner k h =
 
 -- ---- a job of two cut paths, or of one
 cut-ready : (first : List Float) (first_closed : Bool) (second : List Float) (second_closed : Bool) (job : Job)
-    → Each.epsilon job.epsilon ≡ Fine → LargePathFine first first_closed → LargePathFine second second_closed
+    → Each.epsilon job.epsilon ≡ Ok tt → LargePathFine first first_closed → LargePathFine second second_closed
     → job.n ≡ cut_count first first_closed → job.m ≡ cut_count second second_closed
     → Ready (cut_path first first_closed) (cut_path second second_closed) job
 cut-ready first first_closed second second_closed job e fv fu n m =
@@ -51,7 +50,7 @@ cut-ready first first_closed second second_closed job e fv fu n m =
 
 module _ (first : List Float) (first_closed : Bool) (second : List Float) (second_closed boxed : Bool) (epsilon : Float)
     (floats others : List Float) (names more : List ℕ) (r s : Sizes) where
-  pub mutual-ready : Each.epsilon epsilon ≡ Fine → LargePathFine first first_closed → LargePathFine second second_closed
+  pub mutual-ready : Each.epsilon epsilon ≡ Ok tt → LargePathFine first first_closed → LargePathFine second second_closed
       → Cut first first_closed floats names r → Cut second second_closed others more s
       → (j : Job) → j ≡ mutual_job r.segments s.segments boxed epsilon
       → Ready (take r.floats floats) (take s.floats others) j
@@ -61,7 +60,7 @@ module _ (first : List Float) (first_closed : Bool) (second : List Float) (secon
       a.count-is b.count-is)
 
 pub self-ready : (path : List Float) (closed boxed : Bool) (epsilon : Float) (floats : List Float) (names : List ℕ) (r : Sizes)
-    → Each.epsilon epsilon ≡ Fine → LargePathFine path closed → Cut path closed floats names r
+    → Each.epsilon epsilon ≡ Ok tt → LargePathFine path closed → Cut path closed floats names r
     → (j : Job) → j ≡ self_job r.segments closed boxed epsilon
     → Ready (take r.floats floats) (take r.floats floats) j
 self-ready path closed boxed epsilon floats names r e f a j is =
@@ -69,7 +68,7 @@ self-ready path closed boxed epsilon floats names r e f a j is =
     (cut-ready path closed path closed (self_job r.segments closed boxed epsilon) e f f a.count-is a.count-is)
 
 -- ---- the slices are long enough for an accepted path
-pub roomy : (path : List Float) (owner : ℕ) (floats : List Float) (names : List ℕ) → shape path owner ≡ Fine
+pub roomy : (path : List Float) (owner : ℕ) (floats : List Float) (names : List ℕ) → shape path owner ≡ Ok tt
     → most_segments * 4 ≤ length floats → most_segments ≤ length names → Roomy path floats names
 roomy path owner floats names e f n =
     let few = shape-few path owner e in

@@ -1,6 +1,7 @@
 -- A path with no bulge above 1 in magnitude: its checks are those of the old mode, and a row of its pairs has its own indices
 -- with halves 0.
-use Rattle.std.specs.Prelude.{◌≡◌, Bool, true, false, cond, List, [], ◌∷◌, ◌++◌, ℕ, zero, suc, ◌+◌, ◌-◌, ◌≤◌, ◌<◌, T, Float, length, take, drop}
+use Rattle.checks.specs.Checked.{Checked}
+use Rattle.std.specs.Prelude.{◌≡◌, Bool, true, false, cond, List, [], ◌∷◌, ◌++◌, ℕ, zero, suc, ◌+◌, ◌-◌, ◌≤◌, ◌<◌, T, Float, length, take, drop, Err, Ok}
 use Rattle.std.proofs.Math.Path.{refl, sym, ap}
 use Rattle.std.proofs.Common.{◌∙◌, subst, arith}
 use Rattle.std.specs.Float.{nan, inf, fin, binary64}
@@ -11,8 +12,6 @@ use Rattle.floats.specs.F64
 use Rattle.checks.specs.declared.fault.Item.TheVariants.{Bulge, Trace}
 use Rattle.checks.specs.declared.fault.Place.{Place}
 use Rattle.checks.specs.declared.fault.Fault.{Fault}
-use Rattle.checks.specs.declared.fault.Checked.{Checked}
-use Rattle.checks.specs.declared.fault.Checked.TheVariants.{Fine, Bad}
 use Rattle.checks.specs.Fault.{at}
 use Rattle.checks.specs.First.{first as first_fault}
 use Rattle.checks.specs.Each
@@ -42,9 +41,7 @@ use Rattle.listing_pairs.specs.Page.{page}
 use Rattle.listing_pairs.specs.Look.{look, self_look_of, traced_look}
 use Rattle.listing_pairs.specs.Traces.{one_trace, traced}
 use Rattle.listing_loop.specs.Laws.Pages.{taken}
-use Rattle.listing_outcomes.specs.declared.answer.ListingAnswer.{ListingAnswer}
-use Rattle.listing_outcomes.specs.declared.answer.ListingAnswer.TheVariants.{Refused, Listed}
-use Rattle.listing_outcomes.specs.declared.answer.PageAnswer.TheVariants as page_answer
+use Rattle.listing_outcomes.specs.Answer.{Listed, ListingAnswer, Paged}
 use Rattle.listing_outcomes.specs.Outcome.{Outcome, overwrite}
 use Rattle.listing_outcomes.specs.BoxedOutcome.{index_check, boxes_after}
 use Rattle.large_outcomes.specs.LargeRow.{large_indices_of, with_zeros, large_room}
@@ -227,8 +224,8 @@ module _ (f g : Row → List ℕ) where
       (points : List Float)
       → numbers_of_rows f rows ≡ numbers_of_rows g rows
       → large_of f refused c answer rows indices points ≡ large_of g refused c answer rows indices points
-  of-same refused (Bad x) answer rows indices points e = refl
-  of-same {A} refused Fine answer rows indices points e =
+  of-same refused (Err x) answer rows indices points e = refl
+  of-same {A} refused (Ok _) answer rows indices points e =
       let made : List ℕ → Outcome A = λ l. record {
         answer = answer;
         indices = overwrite indices l;
@@ -241,7 +238,7 @@ module _ (f g : Row → List ℕ) where
     pub listing-same : large_outcome f checks look ps indices points ≡ large_outcome g checks look ps indices points
     unfolding large_outcome
     listing-same =
-        of-same Refused (first_fault (checks ++ (large_room_check (rows_of look ps) indices points ∷ [])))
+        of-same Err (first_fault (checks ++ (large_room_check (rows_of look ps) indices points ∷ [])))
         (Listed (length (rows_of look ps)) (looked_at look ps)) (rows_of look ps) indices points
         (numbers-same n m f g look same ps range)
 
@@ -252,7 +249,7 @@ module _ (f g : Row → List ℕ) where
     boxed-same idx boxes =
         let c = first_fault (checks ++ (index_check idx boxes ∷ large_room_check (rows_of look ps) indices points ∷ [])) in
         ap (λ (o : Outcome ListingAnswer). record { listing = o; boxes = boxes_after c idx boxes })
-        (of-same Refused c (Listed (length (rows_of look ps)) (looked_at look ps)) (rows_of look ps) indices points
+        (of-same Err c (Listed (length (rows_of look ps)) (looked_at look ps)) (rows_of look ps) indices points
         (numbers-same n m f g look same ps range))
 
     pub page-same : (position budget : ℕ)
@@ -263,8 +260,8 @@ module _ (f g : Row → List ℕ) where
         let room = large_room indices points in
         let q = page look (drop position ps) room budget in
         let there = taken look (drop position ps) room budget in
-        of-same page_answer.Refused (first_fault (checks ++ large_limits position (length ps) budget indices points))
-        (page_answer.Paged (length q.rows) q.passed (position + q.passed) (length ps)) q.rows indices points
+        of-same Err (first_fault (checks ++ large_limits position (length ps) budget indices points))
+        (Paged (length q.rows) q.passed (position + q.passed) (length ps)) q.rows indices points
         (ap (numbers_of_rows f) there
         ∙ numbers-same n m f g look same (take q.passed (drop position ps))
         (range-take n m q.passed (drop position ps) (range-drop n m position ps range))

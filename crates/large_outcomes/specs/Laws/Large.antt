@@ -1,13 +1,12 @@
 -- From what a listing, a page and a boxed listing leave in the lent parts to the outcome with rows of five.
-use Rattle.std.specs.Prelude.{◌≡◌, refl, Bool, true, false, cond, List, [], ◌∷◌, ◌++◌, ℕ, ◌+◌, ◌*◌, ◌≤◌, ltb, eqb, Float, length, drop}
+use Rattle.checks.specs.Checked.{Checked}
+use Rattle.std.specs.Prelude.{◌≡◌, refl, Bool, true, false, cond, List, [], ◌∷◌, ◌++◌, ℕ, ◌+◌, ◌*◌, ◌≤◌, ltb, eqb, Float, length, drop, Err, Ok}
 use Rattle.std.proofs.Common.{sym, ◌∙◌, arith}
 use Rattle.std.proofs.Math.Path.{ap}
 use borrow.Author.Tests.{ltb-false}
 use Rattle.checks.specs.declared.fault.Item.TheVariants.{Rows}
 use Rattle.checks.specs.declared.fault.Place.{Place}
 use Rattle.checks.specs.declared.fault.Fault.{Fault}
-use Rattle.checks.specs.declared.fault.Checked.{Checked}
-use Rattle.checks.specs.declared.fault.Checked.TheVariants.{Fine, Bad}
 use Rattle.checks.specs.Fault.{at, bad, refuse, later}
 use Rattle.checks.specs.First.{first as first_fault}
 use Rattle.checks.specs.Refusal
@@ -20,13 +19,11 @@ use Rattle.listing_pairs.specs.Order.{Pair}
 use Rattle.listing_pairs.specs.Page.{Page, page}
 use Rattle.listing_pairs.specs.Rows.{rows_of, looked_at}
 use Rattle.listing_loop.specs.Laws.Pages.{joins}
-use Rattle.listing_outcomes.specs.declared.answer.ListingAnswer.{ListingAnswer}
-use Rattle.listing_outcomes.specs.declared.answer.ListingAnswer.TheVariants.{Refused, Listed}
-use Rattle.listing_outcomes.specs.declared.answer.PageAnswer.{PageAnswer}
-use Rattle.listing_outcomes.specs.declared.answer.PageAnswer.TheVariants as page_answer
+use Rattle.listing_outcomes.specs.Answer.{Listed, ListingAnswer, PageAnswer, Paged}
 use Rattle.listing_outcomes.specs.Outcome.{Leaves, room, room_check, listed_of, outcome_of}
 use Rattle.listing_outcomes.specs.PageOutcome.{position_check, budget_check, row_check, limits, paged_of}
 use Rattle.listing_outcomes.specs.BoxedOutcome.{LeavesBoxed, index_check, boxes_after, boxed_of}
+use Rattle.listing_outcomes.specs.Laws.Counts.{same-rows, same-page-rows}
 use Rattle.large_outcomes.specs.LargeRow.{large_indices_a_row, large_room}
 use Rattle.large_outcomes.specs.LargeOutcome.{
   large_room_check,
@@ -50,28 +47,28 @@ use Rattle.large_outcomes.specs.Laws.Parts.{
 }
 
 -- ---- answers and checks
-listed-apart : (f : Fault) (n k : ℕ) → Refused f ≡ Listed n k → ⊥
+listed-apart : (f : Fault) (n k : ℕ) → Err f ≡ Listed n k → ⊥
 listed-apart f n k e = let z : ◌≡◌ {A = ℕ} 0 1 = cc in omega (arith, z)
 
-paged-apart : (f : Fault) (n k next all : ℕ) → page_answer.Refused f ≡ page_answer.Paged n k next all → ⊥
+paged-apart : (f : Fault) (n k next all : ℕ) → Err f ≡ Paged n k next all → ⊥
 paged-apart f n k next all e = let z : ◌≡◌ {A = ℕ} 0 1 = cc in omega (arith, z)
 
 -- a check that is fine said no
-said-no : (b : Bool) (n : ℕ) (p : Place) → refuse b n p ≡ Fine → b ≡ false
+said-no : (b : Bool) (n : ℕ) (p : Place) → refuse b n p ≡ Ok tt → b ≡ false
 unfolding refuse
 said-no false n p e = refl
 said-no true n p e = let z : ◌≡◌ {A = ℕ} 0 1 = cc in absurd (omega (arith, z))
 
 -- if all checks are fine, so are the later ones, and the last
-later_ones : (before more : List Checked) → first_fault (before ++ more) ≡ Fine → first_fault more ≡ Fine
+later_ones : (before more : List Checked) → first_fault (before ++ more) ≡ Ok tt → first_fault more ≡ Ok tt
 later_ones before more e = ((later-fine (first_fault before) (first_fault more)).0 (sym (first-append before more) ∙ e)).1
 
-pub last-fine : (before : List Checked) (c : Checked) → first_fault (before ++ (c ∷ [])) ≡ Fine → c ≡ Fine
-last-fine before c e = ((later-fine c Fine).0 (later_ones before (c ∷ []) e)).0
+pub last-fine : (before : List Checked) (c : Checked) → first_fault (before ++ (c ∷ [])) ≡ Ok tt → c ≡ Ok tt
+last-fine before c e = ((later-fine c (Ok tt)).0 (later_ones before (c ∷ []) e)).0
 
-last-of-two : (before : List Checked) (b c : Checked) → first_fault (before ++ (b ∷ c ∷ [])) ≡ Fine → c ≡ Fine
+last-of-two : (before : List Checked) (b c : Checked) → first_fault (before ++ (b ∷ c ∷ [])) ≡ Ok tt → c ≡ Ok tt
 last-of-two before b c e =
-    ((later-fine c Fine).0 ((later-fine b (later c Fine)).0 (later_ones before (b ∷ c ∷ []) e)).1).0
+    ((later-fine c (Ok tt)).0 ((later-fine b (later c (Ok tt))).0 (later_ones before (b ∷ c ∷ []) e)).1).0
 
 module _ (indices : List ℕ) (points : List Float) (m : ℕ) (is : m ≡ large_room indices points) where
   abbrev is-part : List ℕ
@@ -87,7 +84,7 @@ module _ (indices : List ℕ) (points : List Float) (m : ℕ) (is : m ≡ large_
   unfolding room_check large_room_check
   check-same rows = ap (λ (n : ℕ). refuse (ltb n (length rows)) Refusal.rows (at 0 0 Rows)) room-same
 
-  pub few-rows : (rows : List Row) → large_room_check rows indices points ≡ Fine → length rows ≤ m
+  pub few-rows : (rows : List Row) → large_room_check rows indices points ≡ Ok tt → length rows ≤ m
   unfolding large_room_check
   few-rows rows e =
       omega (arith, is, ltb-false (large_room indices points) (length rows) (said-no _ Refusal.rows (at 0 0 Rows) e))
@@ -109,7 +106,7 @@ module _ (indices : List ℕ) (points : List Float) (m : ℕ) (is : m ≡ large_
     rows = rows_of look ps
 
     -- ---- a listing. `found` makes the first fault of all checks from 8's check, which is among them
-    module _ (found : Checked → Checked) (among : (c : Checked) → found c ≡ Fine → c ≡ Fine) where
+    module _ (found : Checked → Checked) (among : (c : Checked) → found c ≡ Ok tt → c ≡ Ok tt) where
       abbrev all_found : Checked
       all_found = found (large_room_check rows indices points)
 
@@ -124,13 +121,13 @@ module _ (indices : List ℕ) (points : List Float) (m : ℕ) (is : m ≡ large_
           → Leaves (listed_of all_found rows (looked_at look ps) is-part ps-part) r i p
       on-part r i p l = rw (check-same rows) at l
 
-      few-found : all_found ≡ Fine → length rows ≤ m
+      few-found : all_found ≡ Ok tt → length rows ≤ m
       few-found e = few-rows rows (among (large_room_check rows indices points) e)
 
-      pub listed-refused : (r : ListingAnswer) (i : List ℕ) (p : List Float) (f : Fault) → r ≡ Refused f → ListedPart r i p
-          → ListedWhole (Refused f) (i ++ drop (m * indices_a_row) indices) (p ++ drop (m * points_a_row) points)
+      pub listed-refused : (r : ListingAnswer) (i : List ℕ) (p : List Float) (f : Fault) → r ≡ Err f → ListedPart r i p
+          → ListedWhole (Err f) (i ++ drop (m * indices_a_row) indices) (p ++ drop (m * points_a_row) points)
       listed-refused r i p f e l =
-          part-refused indices points m is Refused (Listed (length rows) (looked_at look ps)) rows five wide
+          part-refused indices points m is Err (Listed (length rows) (looked_at look ps)) rows five wide
           all_found r i p f e (listed-apart f _ _) (on-part r i p l)
 
       pub listed-spread : (r : ListingAnswer) (i now : List ℕ) (p : List Float) (n k : ℕ) → r ≡ Listed n k → ListedPart r i p
@@ -138,20 +135,17 @@ module _ (indices : List ℕ) (points : List Float) (m : ℕ) (is : m ≡ large_
           → ListedWhole (Listed n k) now (p ++ drop (m * points_a_row) points)
       listed-spread r i now p n k e l done =
           let all : ListedWhole r now (p ++ drop (m * points_a_row) points) =
-          part-spread indices points m is Refused (Listed (length rows) (looked_at look ps)) rows five wide
-          all_found r i now p n (λ f h. listed-apart f n k (sym h ∙ e)) (λ h. count n k (sym e ∙ h))
+          part-spread indices points m is Err (Listed (length rows) (looked_at look ps)) rows five wide
+          all_found r i now p n (λ f h. listed-apart f n k (sym h ∙ e)) (λ h. same-rows (sym e ∙ h))
           few-found (on-part r i p l) done in
           rw e at all
-        where
-          count : (n k : ℕ) → Listed n k ≡ Listed (length rows) (looked_at look ps) → n ≡ length rows
-          count n k e = cc
 
       -- what stands in the whole slices before the rows are spread
       pub listed-whole : (r : ListingAnswer) (i : List ℕ) (p : List Float) → ListedPart r i p
           → Leaves (listed_of (found (large_room_check (rows_of look ps) indices points)) (rows_of look ps) (looked_at look ps)
           indices points) r (i ++ drop (m * indices_a_row) indices) (p ++ drop (m * points_a_row) points)
       listed-whole r i p l =
-          part-whole indices points m is Refused (Listed (length rows) (looked_at look ps)) rows five wide
+          part-whole indices points m is Err (Listed (length rows) (looked_at look ps)) rows five wide
           all_found r i p few-found (on-part r i p l)
 
       -- the rows that were written are few
@@ -161,10 +155,9 @@ module _ (indices : List ℕ) (points : List Float) (m : ℕ) (is : m ≡ large_
         where
           go : (c : Checked) → all_found ≡ c
               → Leaves (listed_of c rows (looked_at look ps) is-part ps-part) r i p → n * large_indices_a_row ≤ length indices
-          go (Bad g) h l = absurd (listed-apart g n k (sym l.answer ∙ e))
-          go Fine h l =
-              let made = sym e ∙ l.answer in
-              let count : n ≡ length rows = cc in
+          go (Err g) h l = absurd (listed-apart g n k (sym l.answer ∙ e))
+          go (Ok _) h l =
+              let count : n ≡ length rows = same-rows (sym e ∙ l.answer) in
               omega (arith, count, few-found h, rows_inside indices points m is)
 
     -- ---- a page. `before`: the checks that come before 13, 14 and 8
@@ -190,40 +183,35 @@ module _ (indices : List ℕ) (points : List Float) (m : ℕ) (is : m ≡ large_
           → Leaves (paged_of page-found q position (length ps) is-part ps-part) r i p
       on-page r i p l = rw (row-check-same, room-same) at l
 
-      pub paged-refused : (r : PageAnswer) (i : List ℕ) (p : List Float) (f : Fault) → r ≡ page_answer.Refused f
+      pub paged-refused : (r : PageAnswer) (i : List ℕ) (p : List Float) (f : Fault) → r ≡ Err f
           → PagedPart r i p
-          → PagedWhole (page_answer.Refused f) (i ++ drop (m * indices_a_row) indices) (p ++ drop (m * points_a_row) points)
+          → PagedWhole (Err f) (i ++ drop (m * indices_a_row) indices) (p ++ drop (m * points_a_row) points)
       paged-refused r i p f e l =
-          part-refused indices points m is page_answer.Refused
-          (page_answer.Paged (length q.rows) q.passed (position + q.passed) (length ps)) q.rows five wide
+          part-refused indices points m is Err
+          (Paged (length q.rows) q.passed (position + q.passed) (length ps)) q.rows five wide
           page-found r i p f e (paged-apart f _ _ _ _) (on-page r i p l)
 
       pub paged-spread : (r : PageAnswer) (i now : List ℕ) (p : List Float) (n k next all : ℕ)
-          → r ≡ page_answer.Paged n k next all → PagedPart r i p
+          → r ≡ Paged n k next all → PagedPart r i p
           → now ≡ spread five n (i ++ drop (m * indices_a_row) indices)
-          → PagedWhole (page_answer.Paged n k next all) now (p ++ drop (m * points_a_row) points)
+          → PagedWhole (Paged n k next all) now (p ++ drop (m * points_a_row) points)
       paged-spread r i now p n k next all e l done =
           let whole : PagedWhole r now (p ++ drop (m * points_a_row) points) =
-          part-spread indices points m is page_answer.Refused
-          (page_answer.Paged (length q.rows) q.passed (position + q.passed) (length ps)) q.rows five wide
-          page-found r i now p n (λ f h. paged-apart f n k next all (sym h ∙ e)) (λ h. count (sym e ∙ h))
+          part-spread indices points m is Err
+          (Paged (length q.rows) q.passed (position + q.passed) (length ps)) q.rows five wide
+          page-found r i now p n (λ f h. paged-apart f n k next all (sym h ∙ e)) (λ h. same-page-rows (sym e ∙ h))
           (λ h. few-on-page) (on-page r i p l) done in
           rw e at whole
-        where
-          count : page_answer.Paged n k next all
-              ≡ page_answer.Paged (length q.rows) q.passed (position + q.passed) (length ps) → n ≡ length q.rows
-          count e = cc
 
-      pub paged-few : (r : PageAnswer) (i : List ℕ) (p : List Float) (n k next all : ℕ) → r ≡ page_answer.Paged n k next all
+      pub paged-few : (r : PageAnswer) (i : List ℕ) (p : List Float) (n k next all : ℕ) → r ≡ Paged n k next all
           → PagedPart r i p → n * large_indices_a_row ≤ length indices
       paged-few r i p n k next all e l = go page-found (on-page r i p l)
         where
           go : (c : Checked) → Leaves (paged_of c q position (length ps) is-part ps-part) r i p
               → n * large_indices_a_row ≤ length indices
-          go (Bad g) l = absurd (paged-apart g n k next all (sym l.answer ∙ e))
-          go Fine l =
-              let made = sym e ∙ l.answer in
-              let count : n ≡ length q.rows = cc in
+          go (Err g) l = absurd (paged-apart g n k next all (sym l.answer ∙ e))
+          go (Ok _) l =
+              let count : n ≡ length q.rows = same-page-rows (sym e ∙ l.answer) in
               omega (arith, count, few-on-page, rows_inside indices points m is)
 
     -- ---- a boxed listing. `before`: the checks that come before 17 and 8
@@ -231,7 +219,7 @@ module _ (indices : List ℕ) (points : List Float) (m : ℕ) (is : m ≡ large_
       abbrev box-found : Checked → Checked
       box-found c = first_fault (before ++ (index_check idx b₀ ∷ c ∷ []))
 
-      box-among : (c : Checked) → box-found c ≡ Fine → c ≡ Fine
+      box-among : (c : Checked) → box-found c ≡ Ok tt → c ≡ Ok tt
       box-among = last-of-two before (index_check idx b₀)
 
       abbrev pub BoxedPart : ListingAnswer → List Float → List ℕ → List Float → Type 0
@@ -249,9 +237,9 @@ module _ (indices : List ℕ) (points : List Float) (m : ℕ) (is : m ≡ large_
       boxes-are r b i p l =
           l.boxes ∙ ap (λ (c : Checked). boxes_after (box-found c) idx b₀) (check-same rows)
 
-      pub boxed-refused : (r : ListingAnswer) (b : List Float) (i : List ℕ) (p : List Float) (f : Fault) → r ≡ Refused f
+      pub boxed-refused : (r : ListingAnswer) (b : List Float) (i : List ℕ) (p : List Float) (f : Fault) → r ≡ Err f
           → BoxedPart r b i p
-          → BoxedWhole (Refused f) b (i ++ drop (m * indices_a_row) indices) (p ++ drop (m * points_a_row) points)
+          → BoxedWhole (Err f) b (i ++ drop (m * indices_a_row) indices) (p ++ drop (m * points_a_row) points)
       boxed-refused r b i p f e l =
           record { listing = listed-refused box-found box-among r i p f e l.listing; boxes = boxes-are r b i p l }
 

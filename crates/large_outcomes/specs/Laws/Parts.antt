@@ -1,12 +1,11 @@
 -- A listing of cut paths is lent the front of the caller's slices, of three numbers for each row of five that fits. So its own
 -- room is that of the rows of five, and what it leaves, with its rows spread, is the outcome with rows of five.
-use Rattle.std.specs.Prelude.{◌≡◌, refl, List, [], ◌∷◌, ◌++◌, ℕ, ◌+◌, ◌*◌, ◌≤◌, ltb, Float, length, take, drop}
+use Rattle.checks.specs.Checked.{Checked}
+use Rattle.std.specs.Prelude.{◌≡◌, refl, List, [], ◌∷◌, ◌++◌, ℕ, ◌+◌, ◌*◌, ◌≤◌, ltb, Float, length, take, drop, Err, Ok}
 use Rattle.std.proofs.Common.{sym, ap, ◌∙◌, append_assoc, mul-le-mul, le_refl, arith, ltb-false, take-append-drop, length-take-le}
 use Rattle.std.proofs.lemmas.List.{drop-append-le}
 use Rattle.float_laws.specs.Stores.{flat-length}
 use Rattle.checks.specs.declared.fault.Fault.{Fault}
-use Rattle.checks.specs.declared.fault.Checked.{Checked}
-use Rattle.checks.specs.declared.fault.Checked.TheVariants.{Fine, Bad}
 use Rattle.listing_pairs.specs.declared.row.Row.{Row}
 use Rattle.listing_pairs.specs.Row.{indices_a_row, points_a_row, indices_of, points_of, numbers_of_rows}
 use Rattle.listing_outcomes.specs.Outcome.{Leaves, overwrite, room, outcome_of}
@@ -59,10 +58,10 @@ module _ (indices : List ℕ) (points : List Float) (m : ℕ) (is : m ≡ large_
     large c r i p = Leaves (large_of (numbers_by five) refused c answer rows indices points) r i p
 
     -- what stands in the whole slices, before anything is spread
-    pub part-whole : (c : Checked) (r : A) (i : List ℕ) (p : List Float) → (c ≡ Fine → length rows ≤ m) → part c r i p
+    pub part-whole : (c : Checked) (r : A) (i : List ℕ) (p : List Float) → (c ≡ Ok tt → length rows ≤ m) → part c r i p
         → Leaves (outcome_of refused c answer rows indices points) r
         (i ++ drop (m * indices_a_row) indices) (p ++ drop (m * points_a_row) points)
-    part-whole (Bad g) r i p few l =
+    part-whole (Err g) r i p few l =
         record {
           answer = l.answer;
           indices =
@@ -72,7 +71,7 @@ module _ (indices : List ℕ) (points : List Float) (m : ℕ) (is : m ≡ large_
               ap (λ (x : List Float). x ++ drop (m * points_a_row) points) l.points
               ∙ take-append-drop (m * points_a_row) points;
         }
-    part-whole Fine r i p few l =
+    part-whole (Ok _) r i p few l =
         let fits = few refl in
         let three-long = flat-length indices_of indices_a_row (λ r. refl) rows in
         let points-long = flat-length points_of points_a_row (λ r. refl) rows in
@@ -90,22 +89,22 @@ module _ (indices : List ℕ) (points : List Float) (m : ℕ) (is : m ≡ large_
     pub part-refused : (c : Checked) (r : A) (i : List ℕ) (p : List Float) (f : Fault) → r ≡ refused f
         → (refused f ≡ answer → ⊥) → part c r i p
         → large c (refused f) (i ++ drop (m * indices_a_row) indices) (p ++ drop (m * points_a_row) points)
-    part-refused (Bad g) r i p f e apart l =
-        let w = part-whole (Bad g) r i p (λ h. absurd (never h)) l in
+    part-refused (Err g) r i p f e apart l =
+        let w = part-whole (Err g) r i p (λ h. absurd (never h)) l in
         record { answer = sym e ∙ w.answer; indices = w.indices; points = w.points }
       where
-        never : Bad g ≡ Fine → ⊥
+        never : ◌≡◌ {A = Checked} (Err g) (Ok tt) → ⊥
         never h = let z : ◌≡◌ {A = ℕ} 0 1 = cc in omega (arith, z)
-    part-refused Fine r i p f e apart l = absurd (apart (sym e ∙ l.answer))
+    part-refused (Ok _) r i p f e apart l = absurd (apart (sym e ∙ l.answer))
 
     -- n rows were answered
     pub part-spread : (c : Checked) (r : A) (i now : List ℕ) (p : List Float) (n : ℕ)
-        → ((f : Fault) → r ≡ refused f → ⊥) → (r ≡ answer → n ≡ length rows) → (c ≡ Fine → length rows ≤ m)
+        → ((f : Fault) → r ≡ refused f → ⊥) → (r ≡ answer → n ≡ length rows) → (c ≡ Ok tt → length rows ≤ m)
         → part c r i p → now ≡ spread five n (i ++ drop (m * indices_a_row) indices)
         → large c r now (p ++ drop (m * points_a_row) points)
-    part-spread (Bad g) r i now p n made count few l done = absurd (made g l.answer)
-    part-spread Fine r i now p n made count few l done =
-        let w = part-whole Fine r i p few l in
+    part-spread (Err g) r i now p n made count few l done = absurd (made g l.answer)
+    part-spread (Ok _) r i now p n made count few l done =
+        let w = part-whole (Ok tt) r i p few l in
         let fits = few refl in
         record {
           answer = l.answer;

@@ -7,8 +7,7 @@ use Rattle.listing_pairs.specs.declared.row.Look.{Look}
 use Rattle.listing_pairs.specs.Order.{Pair}
 use Rattle.listing_pairs.specs.Page.{page}
 use Rattle.listing_pairs.specs.Rows.{rows_of, looked_at}
-use Rattle.listing_outcomes.specs.declared.answer.ListingAnswer.{ListingAnswer}
-use Rattle.listing_outcomes.specs.declared.answer.PageAnswer.{PageAnswer}
+use Rattle.listing_outcomes.specs.Answer.{ListingAnswer, PageAnswer}
 use Rattle.listing_outcomes.specs.Outcome.{Outcome}
 use Rattle.listing_outcomes.specs.BoxedOutcome.{BoxedOutcome, index_check}
 use Rattle.large_outcomes.specs.LargeRow.{large_room}

@@ -1,6 +1,7 @@
 -- What the check of a pair says if it finds no fault, and that it finds no fault only in such pairs. Then every part of the one
 -- segment passes the pair's own check with every part of the other.
-use Rattle.std.specs.Prelude.{◌≡◌, ◌↔◌, Bool, ◌&&◌, List, [], ◌∷◌, ◌++◌, ℕ, Float}
+use Rattle.checks.specs.Checked.{Checked}
+use Rattle.std.specs.Prelude.{◌≡◌, ◌↔◌, Bool, ◌&&◌, List, [], ◌∷◌, ◌++◌, ℕ, Float, Ok}
 use Rattle.std.proofs.Math.Path.{refl}
 use Rattle.std.proofs.Common.{sym, ◌∙◌, subst, true≢false}
 use Rattle.std.proofs.Math.Logic.Iff
@@ -16,8 +17,6 @@ use Rattle.floats.specs.Ops.{◌≻◌, f1}
 use Rattle.floats.specs.F64
 use Rattle.plane.specs.declared.pline_vertex.PlineVertex.{PlineVertex}
 use Rattle.plane.specs.PlineVertex as vertices
-use Rattle.checks.specs.declared.fault.Checked.{Checked}
-use Rattle.checks.specs.declared.fault.Checked.TheVariants.{Fine}
 use Rattle.checks.specs.Limit
 use Rattle.checks.specs.Each
 use Rattle.checks.specs.First.{first}
@@ -52,7 +51,7 @@ pub record PairFine (v1 v2 u1 u2 : PlineVertex) (pos_equal_eps : Float) : Type 0
   pub u : EndsFine u1 u2
 
 pub pair-listed : (v1 v2 u1 u2 : PlineVertex) (pos_equal_eps : Float)
-    → (first (large_pair_checks v1 v2 u1 u2 pos_equal_eps) ≡ Fine) ↔ PairFine v1 v2 u1 u2 pos_equal_eps
+    → (first (large_pair_checks v1 v2 u1 u2 pos_equal_eps) ≡ Ok tt) ↔ PairFine v1 v2 u1 u2 pos_equal_eps
 pair-listed v1 v2 u1 u2 pos_equal_eps =
     let c0 : List Checked = Each.epsilon pos_equal_eps ∷ [] in
     let c1 = vertex_checks v1.x v1.y v1.bulge 0 0 in
@@ -145,7 +144,7 @@ module _ (v1 v2 : PlineVertex) where
 -- all numbers of the pair
 pub quick-pair : (v1 v2 u1 u2 : PlineVertex) (v u : Halves) (pos_equal_eps : Float) → v ≡ starts v1 v2 → u ≡ starts u1 u2
     → T (epsilon_fine pos_equal_eps && (parts_fine v1 v2 v && parts_fine u1 u2 u))
-    → first (large_pair_checks v1 v2 u1 u2 pos_equal_eps) ≡ Fine
+    → first (large_pair_checks v1 v2 u1 u2 pos_equal_eps) ≡ Ok tt
 quick-pair v1 v2 u1 u2 v u pos_equal_eps ev eu t =
     let a = epsilon_fine pos_equal_eps in
     let f = parts_fine v1 v2 v in
@@ -161,7 +160,7 @@ quick-pair v1 v2 u1 u2 v u pos_equal_eps ev eu t =
 pub by_tests : (v1 v2 u1 u2 : PlineVertex) (v u : Halves) (pos_equal_eps : Float) {a b c : Bool}
     → v ≡ starts v1 v2 → u ≡ starts u1 u2
     → a ≡ epsilon_fine pos_equal_eps → b ≡ parts_fine v1 v2 v → c ≡ parts_fine u1 u2 u → (a && (b && c)) ≡ true
-    → first (large_pair_checks v1 v2 u1 u2 pos_equal_eps) ≡ Fine
+    → first (large_pair_checks v1 v2 u1 u2 pos_equal_eps) ≡ Ok tt
 by_tests v1 v2 u1 u2 v u pos_equal_eps ev eu ea eb ec all =
     quick-pair v1 v2 u1 u2 v u pos_equal_eps ev eu (rw (← ea, ← eb, ← ec) (passes _ all))
 
@@ -187,7 +186,7 @@ module _ (v1 v2 : PlineVertex) (fine : EndsFine v1 v2) (owner : ℕ) where
 pub record QuickWhole (v1 v2 u1 u2 : PlineVertex) (pos_equal_eps : Float) : Type 0 where
   pub v-whole : is_large v1.bulge ≡ false
   pub u-whole : is_large u1.bulge ≡ false
-  pub checked : first (large_pair_checks v1 v2 u1 u2 pos_equal_eps) ≡ Fine
+  pub checked : first (large_pair_checks v1 v2 u1 u2 pos_equal_eps) ≡ Ok tt
 
 small-not-large : (b : Float) → Within Limit.bulge b → is_large b ≡ false
 unfolding is_large

@@ -1,12 +1,11 @@
 -- The parts of an accepted segment, as the code makes them: each is ready for a pair, and is the definition's part. And what is
 -- written of their meetings is what the definition has.
-use Rattle.std.specs.Prelude.{ℕ, ◌≡◌, refl, Bool, true, false, List, [], ◌∷◌, ◌++◌, Float}
+use Rattle.std.specs.Prelude.{ℕ, ◌≡◌, refl, Bool, true, false, List, [], ◌∷◌, ◌++◌, Float, Ok}
 use Rattle.std.proofs.Math.Path.{sym, ap}
 use Rattle.std.proofs.Common.{◌∙◌, subst}
 use Rattle.std.proofs.Math.Bool.{cond}
 use Rattle.std.proofs.lemmas.List.Edits.{sets}
 use Rattle.plane.specs.declared.pline_vertex.PlineVertex.{PlineVertex}
-use Rattle.checks.specs.declared.fault.Checked.TheVariants.{Fine}
 use Rattle.checks.specs.First.{first}
 use Rattle.checks.specs.Laws.Fine.{epsilon-fine}
 use Rattle.arcs.specs.Workings.Circles.{circle_if_arc, OfArc, circle-if-arc}

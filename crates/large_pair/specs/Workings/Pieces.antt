@@ -1,9 +1,8 @@
 -- The parts of a segment with their circles, and what is written of their meetings: src/put.rt.
-use Rattle.std.specs.Prelude.{ℕ, ◌≡◌, List, Float, length}
+use Rattle.std.specs.Prelude.{ℕ, ◌≡◌, List, Float, length, Ok}
 use Rattle.std.proofs.lemmas.List.Edits.{sets}
 use Rattle.float_laws.specs.Flat.{flat}
 use Rattle.plane.specs.declared.pline_vertex.PlineVertex.{PlineVertex}
-use Rattle.checks.specs.declared.fault.Checked.TheVariants.{Fine}
 use Rattle.checks.specs.Calls.{check_pline_seg}
 use Rattle.arcs.specs.declared.pline_seg_intr.PlineSegIntr.{PlineSegIntr}
 use Rattle.arcs.specs.Workings.Circles.{circle_if_arc, OfArc}
@@ -25,7 +24,7 @@ meeting pos_equal_eps v u = result pos_equal_eps (part v) (part u)
 
 -- the pair's own check finds no fault in these two, and each has its circle
 pub record FitPair (v u : Piece) (pos_equal_eps : Float) : Type 0 where
-  pub checked : check_pline_seg v.start v.end u.start u.end pos_equal_eps ≡ Fine
+  pub checked : check_pline_seg v.start v.end u.start u.end pos_equal_eps ≡ Ok tt
   pub v-circle : OfArc v.start v.end v.circle
   pub u-circle : OfArc u.start u.end u.circle
 

@@ -13,19 +13,19 @@ returns c =
     let a = c.args in
     no_room (lines_for a.first.now a.second.now) a.out.now c.if-out-lt-ROOM.true
 
-returns-2 : tie.Need-returns-in-Refused
+returns-2 : tie.Need-returns-in-Err
 returns-2 c =
     let e = c.before.before.before.before.before.before.before.before.before.before in
     let a = (start e).args in
     refused-lines a.first.now a.second.now a.out.now e.if-out-lt-ROOM.false c.mutual_listing-listed.result _ _
-    c.mutual_listing-listed.ensures _ _ _ c.in-Refused.is c.write_refusal.ensures
+    c.mutual_listing-listed.ensures _ _ _ c.in-Err.is c.write_refusal.ensures
 
-returns-3 : tie.Need-returns-in-Listed
+returns-3 : tie.Need-returns-in-Ok
 returns-3 c =
     let e = c.before.before.before.before.before.before.before.before.before.before.before.before in
     let a = (start e).args in
     listed-lines a.first.now a.second.now a.out.now e.if-out-lt-ROOM.false c.mutual_listing-listed.result _ _
-    c.mutual_listing-listed.ensures _ _ _ _ c.in-Listed.is c.write_answer.ensures
+    c.mutual_listing-listed.ensures _ _ _ _ c.in-Ok.is c.write_answer.ensures
 
 pub list_paths_spec : {M : Type 1} → statement M
 list_paths_spec =

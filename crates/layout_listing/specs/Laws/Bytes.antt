@@ -1,6 +1,6 @@
 -- The text lines of every listing of two paths fit the room: there are no more rows than the room is for, and each of its numbers
 -- fits a u64. These are a refusal's number, the count of pairs, and the numbers of rows in a slice that held zeros.
-use Rattle.std.specs.Prelude.{◌≡◌, Bool, true, cond, List, Float}
+use Rattle.std.specs.Prelude.{◌≡◌, Bool, true, cond, List, Float, Err, Ok}
 use Rattle.std.proofs.Math.Path.{refl}
 use Rattle.std.proofs.Math.Bool.{false}
 use Prim.Native.Nat.{ℕ, ◌*◌, ◌^◌, ◌≤◌}
@@ -13,10 +13,9 @@ use Rattle.answer_lines.specs.Lines.{refused_text}
 use Rattle.answer_lines.specs.Sizes.{room_for}
 use Rattle.answer_lines.specs.Room.{refusal-fits, answer-fits}
 use Rattle.listing_pairs.specs.Row.{indices_a_row}
-use Rattle.listing_outcomes.specs.declared.answer.ListingAnswer.{ListingAnswer}
-use Rattle.listing_outcomes.specs.declared.answer.ListingAnswer.TheVariants.{Refused, Listed}
 use Rattle.listing_calls.specs.Laws.Counts.{mutual-fits}
 use Rattle.listing_calls.specs.Laws.Numbers.{Numbers, mutual-numbers, below-replicate}
+use Rattle.listing_outcomes.specs.Answer.{Listed, ListingAnswer}
 use Rattle.layout_listing.specs.Answer.{
   epsilon,
   most_rows,
@@ -52,14 +51,14 @@ module _ (first second : List Float) where
 
   of-answer : (a : ListingAnswer) → (listing first second).answer ≡ a
       → length (lines_of a (listing first second).indices (listing first second).points) ≤ room
-  of-answer (Refused f) e = omega (arith, refusal-fits f.number (omega (arith, numbers.refusal f e)))
-  of-answer (Listed rows pairs) e =
-      let rows_few = few rows pairs e in
+  of-answer (Err f) e = omega (arith, refusal-fits f.number (omega (arith, numbers.refusal f e)))
+  of-answer (Ok counts) e =
+      let rows_few = few counts.rows counts.pairs e in
       omega (
         arith,
         rows_few,
-        answer-fits pairs rows (listing first second).indices (listing first second).points
-            (omega (arith, numbers.pairs rows pairs e)) (omega (arith, rows_few)) numbers.indices,
+        answer-fits counts.pairs counts.rows (listing first second).indices (listing first second).points
+            (omega (arith, numbers.pairs counts.rows counts.pairs e)) (omega (arith, rows_few)) numbers.indices,
       )
 
   lines_fit : length (lines_for first second) ≤ room

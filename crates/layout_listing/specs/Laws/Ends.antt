@@ -1,6 +1,6 @@
 -- How answering an input ends: no room, the text line of a refusal, the text lines of a listing; and what the reader's answer
 -- says of the buffers.
-use Rattle.std.specs.Prelude.{◌≡◌, Bool, true, false, List, ℕ, ◌+◌, ◌-◌, ◌*◌, ◌/◌, ◌≤◌, ◌<◌, ltb, Float, length, replicate, take, drop}
+use Rattle.std.specs.Prelude.{◌≡◌, Bool, true, false, List, ℕ, ◌+◌, ◌-◌, ◌*◌, ◌/◌, ◌≤◌, ◌<◌, ltb, Float, length, replicate, take, drop, Result, Ok, Err}
 use Rattle.std.proofs.Math.Path.{refl}
 use Rattle.std.proofs.Common.{sym, ap, ◌∙◌, arith, lt-ltb, le-ltb, take_at}
 use Rattle.std.proofs.lemmas.Bool.{lt-leb}
@@ -16,18 +16,18 @@ use Rattle.layouts.specs.Numbers.{path_of}
 use Rattle.layout_packed.specs.Workings.Reader.{Unpacked, broken_at, layout, reads_packed}
 use Rattle.layout_packed.specs.Exactly.{read-is-packed}
 use Rattle.layout_packed.specs.Read as read
-use Rattle.layout_packed.specs.declared.Unpacking.{Unpacking}
-use Rattle.layout_packed.specs.declared.Unpacking.TheVariants as Unpacking·
-use Rattle.answer_lines.specs.declared.Written.{Written}
-use Rattle.answer_lines.specs.declared.Written.TheVariants as Written·
+use Rattle.layout_packed.specs.declared.Counts.{Counts}
+use Rattle.layout_packed.specs.declared.UnpackError.{UnpackError}
+use Rattle.layout_packed.specs.declared.UnpackError.TheVariants as UnpackError·
+use Rattle.answer_lines.specs.declared.WriteError.{WriteError}
+use Rattle.answer_lines.specs.declared.WriteError.TheVariants.{NoRoom}
 use Rattle.answer_lines.specs.Lines as LineDefs
 use Rattle.answer_lines.specs.Lines.{refused_text, answer_text}
 use Rattle.answer_lines.specs.Sizes.{line}
 use Rattle.answer_lines.specs.Written.{Lines, RefusalLine, AnswerLines}
 use Rattle.listing_pairs.specs.Row.{indices_a_row, points_a_row}
 use Rattle.checks.specs.declared.fault.Fault.{Fault}
-use Rattle.listing_outcomes.specs.declared.answer.ListingAnswer.{ListingAnswer}
-use Rattle.listing_outcomes.specs.declared.answer.ListingAnswer.TheVariants.{Refused, Listed}
+use Rattle.listing_outcomes.specs.Answer.{Listed, ListingAnswer}
 use Rattle.listing_outcomes.specs.Outcome.{Leaves}
 use Rattle.listing_calls.specs.Listing.{mutual_listing}
 use Rattle.listing_calls.specs.Laws.Counts.{mutual-fits}
@@ -53,31 +53,31 @@ use Rattle.layout_listing.specs.Answer.{
 
 -- ---- text lines
 module _ (bytes old : List ℕ) where
-  pub no_room : length old < room → Lines false (ltb (length old) room) bytes Written·.NoRoom old old
+  pub no_room : length old < room → Lines false (ltb (length old) room) bytes (Err NoRoom) old old
   no_room h = let e = lt-ltb (length old) room h in record { answer-is = rw e refl; holds = rw e refl }
 
   module _ (h : room ≤ length old) where
     -- if there is more room than needed
-    enough : (roomless : Bool) → roomless ≡ false → (r : Written) (now : List ℕ) → Lines false roomless bytes r old now
+    enough : (roomless : Bool) → roomless ≡ false → (r : Result ℕ WriteError) (now : List ℕ) → Lines false roomless bytes r old now
         → Lines false (ltb (length old) room) bytes r old now
     enough roomless e r now l =
         let f = le-ltb (length old) room h in
         let k = rw e at l in
         record { answer-is = rw f k.answer-is; holds = rw f k.holds }
 
-pub refusal-line : (n : ℕ) (old : List ℕ) → room ≤ length old → (r : Written) (now : List ℕ) → RefusalLine n r old now
+pub refusal-line : (n : ℕ) (old : List ℕ) → room ≤ length old → (r : Result ℕ WriteError) (now : List ℕ) → RefusalLine n r old now
     → Lines false (ltb (length old) room) (refused_text n) r old now
 refusal-line n old h r now l =
     enough (refused_text n) old h (ltb (length old) line) (le-ltb (length old) line (omega (arith, h))) r now l
 
 -- ---- the text lines of a listing
 module _ (first second : List Float) (old : List ℕ) (h : room ≤ length old) (a : ListingAnswer) (i : List ℕ) (p : List Float)
-    (leaves : Leaves (mutual_listing first false second false epsilon no_indices no_points) a i p) (r : Written) (now : List ℕ) where
+    (leaves : Leaves (mutual_listing first false second false epsilon no_indices no_points) a i p) (r : Result ℕ WriteError) (now : List ℕ) where
   lines : lines_for first second ≡ lines_of a i p
   unfolding lines_for listing
   lines = rw (leaves.answer, leaves.indices, leaves.points) refl
 
-  pub refused-lines : (f : Fault) → a ≡ Refused f → RefusalLine f.number r old now → LinesFor first second r old now
+  pub refused-lines : (f : Fault) → a ≡ Err f → RefusalLine f.number r old now → LinesFor first second r old now
   refused-lines f e l =
       rw (lines ∙ ap (λ (t : ListingAnswer). lines_of t i p) e) (refusal-line f.number old h r now l)
 
@@ -125,23 +125,28 @@ pub record Fronts (file : List ℕ) (n m : ℕ) (first second : List Float) : Ty
   pub first-front : take (n * numbers_a_vertex) first ≡ path_of layout_is.first
   pub second-front : take (m * numbers_a_vertex) second ≡ path_of layout_is.second
 
-module _ (file : List ℕ) (r : Unpacking) (first second : List Float) (l : read.ReadPacked file r buffer first buffer second) where
+-- two answers of the reader are equal
+abbrev Alike : Result Counts UnpackError → Result Counts UnpackError → Type 0
+Alike r s = r ≡ s
+
+module _ (file : List ℕ) (r : Result Counts UnpackError) (first second : List Float) (l : read.ReadPacked file r buffer first buffer second) where
   answer-is : r ≡ read.answer_of (reads_packed file)
   answer-is = l.answer-is
 
-  pub counted : (n m : ℕ) → r ≡ Unpacking·.Counts n m → Fronts file n m first second
-  counted n m e = go (reads_packed file) refl
+  pub counted : (counts : Counts) → r ≡ Ok counts → Fronts file counts.first counts.second first second
+  counted counts e = go (reads_packed file) refl
     where
-      go : (u : Unpacked) → reads_packed file ≡ u → Fronts file n m first second
+      go : (u : Unpacked) → reads_packed file ≡ u → Fronts file counts.first counts.second first second
       go (broken_at k) is =
-          let both : Unpacking·.Refused read.refusal k ≡ Unpacking·.Counts n m = sym (answer-is ∙ ap read.answer_of is) ∙ e in
+          let both : Alike (Err (UnpackError·.Refused read.refusal k)) (Ok counts) = sym (answer-is ∙ ap read.answer_of is) ∙ e in
           let z : ◌≡◌ {A = ℕ} 0 1 = cc in
           absurd (omega (arith, z))
       go (layout k) is =
-          let both : Unpacking·.Counts (length k.first) (length k.second) ≡ Unpacking·.Counts n m =
+          let both : Alike (Ok (record { first = length k.first; second = length k.second })) (Ok counts) =
           sym (answer-is ∙ ap read.answer_of is) ∙ e in
-          let n-is : n ≡ length k.first = cc in
-          let m-is : m ≡ length k.second = cc in
+          let same : record { first = length k.first; second = length k.second } ≡ counts = cc in
+          let n-is : counts.first ≡ length k.first = sym (ap (λ (c : Counts). c.first) same) in
+          let m-is : counts.second ≡ length k.second = sym (ap (λ (c : Counts). c.second) same) in
           let w = (read-is-packed file k is).1 in
           let on-first : first ≡ sets buffer 0 (path_of k.first) =
           l.first_holds ∙ ap (λ (u : Unpacked). read.first_of u buffer) is in
@@ -154,42 +159,43 @@ module _ (file : List ℕ) (r : Unpacking) (first second : List Float) (l : read
             few-second = omega (arith, m-is, w.second-count);
             first-long = ap length on-first ∙ length-sets buffer 0 (path_of k.first) ∙ buffer-long;
             second-long = ap length on-second ∙ length-sets buffer 0 (path_of k.second) ∙ buffer-long;
-            first-front = front k.first n first n-is w.first_count on-first;
-            second-front = front k.second m second m-is w.second-count on-second;
+            first-front = front k.first counts.first first n-is w.first_count on-first;
+            second-front = front k.second counts.second second m-is w.second-count on-second;
           }
 
   -- what a refusal says: its number is that of a file that breaks the packed form
-  pub refused-is : (n k : ℕ) → r ≡ Unpacking·.Refused n k → (reads_packed file ≡ broken_at k) × (n ≡ read.refusal)
+  pub refused-is : (n k : ℕ) → r ≡ Err (UnpackError·.Refused n k) → (reads_packed file ≡ broken_at k) × (n ≡ read.refusal)
   refused-is n k e = go (reads_packed file) refl
     where
       go : (u : Unpacked) → reads_packed file ≡ u → (u ≡ broken_at k) × (n ≡ read.refusal)
       go (broken_at j) is =
-          let both : Unpacking·.Refused read.refusal j ≡ Unpacking·.Refused n k = sym (answer-is ∙ ap read.answer_of is) ∙ e in
+          let both : Alike (Err (UnpackError·.Refused read.refusal j)) (Err (UnpackError·.Refused n k)) =
+          sym (answer-is ∙ ap read.answer_of is) ∙ e in
           let same : j ≡ k = cc in
           (ap broken_at same, cc)
       go (layout j) is =
-          let both : Unpacking·.Counts (length j.first) (length j.second) ≡ Unpacking·.Refused n k =
+          let both : Alike (Ok (record { first = length j.first; second = length j.second })) (Err (UnpackError·.Refused n k)) =
           sym (answer-is ∙ ap read.answer_of is) ∙ e in
           let z : ◌≡◌ {A = ℕ} 0 1 = cc in
           absurd (omega (arith, z))
 
   -- the buffers have room
-  pub roomy : r ≡ Unpacking·.NoRoom → ⊥
+  pub roomy : r ≡ Err UnpackError·.NoRoom → ⊥
   roomy e = go (reads_packed file) refl
     where
       go : (u : Unpacked) → reads_packed file ≡ u → ⊥
       go (broken_at k) is =
-          let both : Unpacking·.Refused read.refusal k ≡ Unpacking·.NoRoom = sym (answer-is ∙ ap read.answer_of is) ∙ e in
+          let both : Alike (Err (UnpackError·.Refused read.refusal k)) (Err UnpackError·.NoRoom) = sym (answer-is ∙ ap read.answer_of is) ∙ e in
           let z : ◌≡◌ {A = ℕ} 0 1 = cc in
           omega (arith, z)
       go (layout k) is =
-          let both : Unpacking·.Counts (length k.first) (length k.second) ≡ Unpacking·.NoRoom =
+          let both : Alike (Ok (record { first = length k.first; second = length k.second })) (Err UnpackError·.NoRoom) =
           sym (answer-is ∙ ap read.answer_of is) ∙ e in
           let z : ◌≡◌ {A = ℕ} 0 1 = cc in
           omega (arith, z)
 
 -- ---- the answer to a packed file
-module _ (file old : List ℕ) (r : Written) (now : List ℕ) where
+module _ (file old : List ℕ) (r : Result ℕ WriteError) (now : List ℕ) where
   pub broken-answer : (n k : ℕ) → room ≤ length old → reads_packed file ≡ broken_at k → n ≡ read.refusal → RefusalLine n r old now
       → FileAnswer file r old now
   broken-answer n k h is e l = rw is (refusal-line read.refusal old h r now (rw e at l))
@@ -199,7 +205,7 @@ module _ (file old : List ℕ) (r : Written) (now : List ℕ) where
   listed_answer n m first second f l = rw f.reads-it (rw (f.first-front, f.second-front) at l)
 
 -- ---- the answer to an input
-module _ (input old : List ℕ) (r : Written) (now : List ℕ) where
+module _ (input old : List ℕ) (r : Result ℕ WriteError) (now : List ℕ) where
   pub begun-answer : begins first_line input ≡ true
       → FileAnswer (take (length input - length first_line) (drop (length first_line) input)) r old now → AnswerTo input r old now
   unfolding answer_to

@@ -1,6 +1,7 @@
 -- The paths of a layout within the limits pass every check of a listing but those of chords and of rows. So a layout's listing is
 -- refused with 5 or 8 only.
-use Rattle.std.specs.Prelude.{◌≡◌, refl, ◌⊎◌, Bool, not, cond, List, [], ◌∷◌, ◌++◌, ℕ, zero, suc, ◌+◌, ◌*◌, ◌%◌, ◌≤◌, ◌<◌, length, get_or, Float}
+use Rattle.checks.specs.Checked.{Checked}
+use Rattle.std.specs.Prelude.{◌≡◌, refl, ◌⊎◌, Bool, not, cond, List, [], ◌∷◌, ◌++◌, ℕ, zero, suc, ◌+◌, ◌*◌, ◌%◌, ◌≤◌, ◌<◌, length, get_or, Float, Err, Ok}
 use Rattle.std.proofs.Common.{sym, ap, ◌∙◌, subst, inl, inr, arith, le-ltb, eq-eqb}
 use Rattle.std.proofs.Math.Bool.{true, false}
 use Rattle.std.specs.Float.{nan, inf, fin}
@@ -12,8 +13,6 @@ use Rattle.plane.specs.PlineVertex.{new, bulge_is_zero}
 use Rattle.checks.specs.declared.fault.Item.TheVariants.{Chord}
 use Rattle.checks.specs.declared.fault.Place.{Place}
 use Rattle.checks.specs.declared.fault.Fault.{Fault}
-use Rattle.checks.specs.declared.fault.Checked.{Checked}
-use Rattle.checks.specs.declared.fault.Checked.TheVariants.{Fine, Bad}
 use Rattle.checks.specs.Fault.{at, refuse, later}
 use Rattle.checks.specs.First.{first as first_fault}
 use Rattle.checks.specs.Number.{is_infinite, not_finite, is_whole, no_trace}
@@ -41,7 +40,6 @@ use Rattle.listing_pairs.specs.declared.row.Row.{Row}
 use Rattle.listing_pairs.specs.Look.{traced_look}
 use Rattle.listing_pairs.specs.Order.{mutual_pairs}
 use Rattle.listing_pairs.specs.Rows.{rows_of, looked_at}
-use Rattle.listing_outcomes.specs.declared.answer.ListingAnswer.TheVariants.{Refused}
 use Rattle.listing_outcomes.specs.Outcome.{room_check, listed_of, outcome}
 use Rattle.listing_calls.specs.Listing.{mutual_checks, mutual_listing}
 use Rattle.layout_listing.specs.Answer.{epsilon, no_indices, no_points, listing}
@@ -53,15 +51,15 @@ abbrev pub FiveOrEight : ℕ → Type 0
 FiveOrEight n = (n ≡ Refusal.chord) ⊎ (n ≡ Refusal.rows)
 
 record Only (c : Checked) : Type 0 where
-  pub says : (f : Fault) → c ≡ Bad f → FiveOrEight f.number
+  pub says : (f : Fault) → c ≡ Err f → FiveOrEight f.number
 
-same-fault : {f g : Fault} → Bad f ≡ Bad g → f ≡ g
+same-fault : {f g : Fault} → ◌≡◌ {A = Checked} (Err f) (Err g) → f ≡ g
 same-fault e = cc
 
-never : {f : Fault} → Fine ≡ Bad f → ⊥
+never : {f : Fault} → ◌≡◌ {A = Checked} (Ok tt) (Err f) → ⊥
 never e = let z : ◌≡◌ {A = ℕ} 0 1 = cc in omega (arith, z)
 
-only-fine : {c : Checked} → c ≡ Fine → Only c
+only-fine : {c : Checked} → c ≡ Ok tt → Only c
 only-fine e = record { says = λ f b. absurd (never (sym e ∙ b)) }
 
 only-refuse : (test : Bool) (n : ℕ) (p : Place) → FiveOrEight n → Only (refuse test n p)
@@ -71,8 +69,8 @@ only-refuse false n p h = only-fine refl
 
 only-later : (a b : Checked) → Only a → Only b → Only (later a b)
 unfolding later
-only-later Fine b p q = q
-only-later (Bad f) b p q = p
+only-later (Ok _) b p q = q
+only-later (Err f) b p q = p
 
 only-append : (cs ds : List Checked) → Only (first_fault cs) → Only (first_fault ds) → Only (first_fault (cs ++ ds))
 only-append cs ds p q = subst Only (sym (first-append cs ds)) (only-later (first_fault cs) (first_fault ds) p q)
@@ -135,7 +133,7 @@ each-vertex (v ∷ vs) (more w ws) (suc i) h =
 -- ---- the checks of a listing
 
 module _ (vs : List Vertex) (owner : ℕ) where
-  vertex-passes : EachWithin vs → (i : ℕ) → i < vertex_count (path_of vs) → first_fault (of_vertex (path_of vs) owner i) ≡ Fine
+  vertex-passes : EachWithin vs → (i : ℕ) → i < vertex_count (path_of vs) → first_fault (of_vertex (path_of vs) owner i) ≡ Ok tt
   unfolding vertex trace new
   vertex-passes ws i h = (vertex-fine (path_of vs) owner i).1 (each-vertex vs ws i (omega (arith, h, as_many vs)))
 
@@ -144,9 +142,9 @@ module _ (vs : List Vertex) (owner : ℕ) where
   segment-only i = let s = segment_from (path_of vs) i in go (bulge_is_zero s.v1) _
     where
       go : (line short : Bool)
-          → Only (later (cond line Fine (refuse short Refusal.chord (at owner i Chord))) Fine)
-      go true short = only-later Fine Fine (only-fine refl) (only-fine refl)
-      go false short = only-later _ Fine (only-refuse short Refusal.chord (at owner i Chord) (inl refl)) (only-fine refl)
+          → Only (later (cond line (Ok tt) (refuse short Refusal.chord (at owner i Chord))) (Ok tt))
+      go true short = only-later (Ok tt) (Ok tt) (only-fine refl) (only-fine refl)
+      go false short = only-later _ (Ok tt) (only-refuse short Refusal.chord (at owner i Chord) (inl refl)) (only-fine refl)
 
   path-only : EachWithin vs → Only (first_fault (path_checks (path_of vs) false owner))
   path-only ws =
@@ -154,7 +152,7 @@ module _ (vs : List Vertex) (owner : ℕ) where
       (only-fine (fine-all (of_vertex (path_of vs) owner) (vertex_count (path_of vs)) (vertex-passes ws)))
       (only-along (of_segment (path_of vs) owner) segment-only 0 (segment_count (path_of vs) false))
 
-  shape-passes : length vs ≤ limit.vertices → shape (path_of vs) owner ≡ Fine
+  shape-passes : length vs ≤ limit.vertices → shape (path_of vs) owner ≡ Ok tt
   shape-passes few =
       let whole : length (path_of vs) % 4 ≡ 0 = omega (arith, path-long vs) in
       (table.shape (path_of vs) owner).fine.1 (
@@ -162,7 +160,7 @@ module _ (vs : List Vertex) (owner : ℕ) where
         (le-ltb most_vertices (vertex_count (path_of vs)) (omega (arith, few, as_many vs)), tt),
       )
 
-epsilon-passes : Each.epsilon epsilon ≡ Fine
+epsilon-passes : Each.epsilon epsilon ≡ Ok tt
 unfolding Each.epsilon refuse not_finite is_infinite is_nan lt of_bits
 epsilon-passes = refl
 
@@ -180,16 +178,16 @@ checks-only l w =
     (path-only l.first 0 w.first-each))
     (path-only l.second 1 w.second-each)
 
-room-only : (rows : List Row) → Only (later (room_check rows no_indices no_points) Fine)
+room-only : (rows : List Row) → Only (later (room_check rows no_indices no_points) (Ok tt))
 unfolding room_check
-room-only rows = only-later _ Fine (only-refuse _ Refusal.rows _ (inr refl)) (only-fine refl)
+room-only rows = only-later _ (Ok tt) (only-refuse _ Refusal.rows _ (inr refl)) (only-fine refl)
 
-to-bad : (c : Checked) (rows : List Row) (n : ℕ) (f : Fault) → (listed_of c rows n no_indices no_points).answer ≡ Refused f → c ≡ Bad f
-to-bad Fine rows n f e = let z : ◌≡◌ {A = ℕ} 0 1 = cc in absurd (omega (arith, z))
-to-bad (Bad g) rows n f e = let same : g ≡ f = cc in ap Bad same
+to-bad : (c : Checked) (rows : List Row) (n : ℕ) (f : Fault) → (listed_of c rows n no_indices no_points).answer ≡ Err f → c ≡ Err f
+to-bad (Ok _) rows n f e = let z : ◌≡◌ {A = ℕ} 0 1 = cc in absurd (omega (arith, z))
+to-bad (Err g) rows n f e = let same : g ≡ f = cc in ap Err same
 
 pub five-or-eight : (l : Layout) → layouts.Within l → (f : Fault)
-    → (listing (path_of l.first) (path_of l.second)).answer ≡ Refused f → FiveOrEight f.number
+    → (listing (path_of l.first) (path_of l.second)).answer ≡ Err f → FiveOrEight f.number
 unfolding listing mutual_listing outcome
 five-or-eight l w f e =
     let first = path_of l.first in

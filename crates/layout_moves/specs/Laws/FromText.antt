@@ -1,14 +1,13 @@
 -- One turn of the loop that packs the vertices of a text.
-use Rattle.std.specs.Prelude.{ℕ, ◌+◌, ◌-◌, ◌≤◌, ◌<◌, ◌≡◌, refl, Bool, List, [], ◌∷◌, ◌++◌, drop}
+use Rattle.std.specs.Prelude.{ℕ, ◌+◌, ◌-◌, ◌≤◌, ◌<◌, ◌≡◌, refl, List, [], ◌∷◌, ◌++◌, drop, Option, Some, None}
 use Rattle.std.proofs.Common.{sym, ap, ◌∙◌}
 use Rattle.layouts.specs.Layout.{Vertex, VertexWithin, whole_vertex}
+use Rattle.layouts.specs.declared.vertex.Reading.{Reading}
 use Rattle.put_text.specs.Workings.Put.{PutIn}
 use Rattle.layout_text.specs.Workings.Reader.{Got, nothing, got, and_then, vertex_of, vertices_of}
 use Rattle.layout_text.specs.Workings.Shown.{shown_vertex}
 use Rattle.layout_text.specs.Laws.Said.{no_line, a-line, lines_end, lines-broken, lines-read}
 use Rattle.layout_text.specs.Laws.Sound.{vertex-spelt}
-use Rattle.layout_text.specs.declared.vertex.Corner.{Corner}
-use Rattle.layout_text.specs.declared.vertex.Corner.TheVariants as Corner·
 use Rattle.layout_packed.specs.Packed.{vertex_numbers, vertices_numbers, joined}
 use Rattle.layout_packed.specs.Laws.Vertices.{joined-append}
 use Rattle.layout_moves.specs.Workings.Carried.{Found, from_text, vertices_bytes}
@@ -26,9 +25,8 @@ unfolding joined
 no_bytes = refl
 
 -- what a line's vertex is, and that it is within the limits
-module _ (text : List ℕ) (at : ℕ) (r : Corner) (is : shown_vertex text r ≡ vertex_of (drop at text)) where
-  pub line-within : {x-minus y-minus b-minus : Bool} {x y b next : ℕ} → r ≡ Corner·.At x-minus x y-minus y b-minus b next
-      → VertexWithin (whole_vertex x-minus x y-minus y b-minus b)
+module _ (text : List ℕ) (at : ℕ) (r : Option Reading) (is : shown_vertex text r ≡ vertex_of (drop at text)) where
+  pub line-within : {v : Reading} → r ≡ Some v → VertexWithin (whole_vertex v.corner)
   line-within e = (vertex-spelt (drop at text) (a-line text is e)).1
 
 -- `all` is what is stored once all lines are moved, and i of n are moved, up to k
@@ -37,17 +35,16 @@ module _ (text : List ℕ) (n i at : ℕ) (all : Stored) (old : List ℕ) (k : �
   pub pack-end : n ≤ i → holds old k ≡ all
   pack-end h = sym (stored-none vertices_bytes no_bytes old k) ∙ rw (lines_end n i _ h) at inv
 
-  module _ (inside : i < n) (r : Corner) (is : shown_vertex text r ≡ vertex_of (drop at text)) where
-    pub pack-broken : r ≡ Corner·.Broken → gone ≡ all
+  module _ (inside : i < n) (r : Option Reading) (is : shown_vertex text r ≡ vertex_of (drop at text)) where
+    pub pack-broken : r ≡ None → gone ≡ all
     pack-broken e = rw (lines-broken n i _ inside (no_line text is e)) at inv
 
-    pub pack-line : (x-minus y-minus b-minus : Bool) (x y b next most : ℕ) → r ≡ Corner·.At x-minus x y-minus y b-minus b next
-        → (mid : List ℕ) (to : ℕ)
-        → PutIn most (joined (vertex_numbers (whole_vertex x-minus x y-minus y b-minus b))) old k mid to
-        → stored vertices_bytes (from_text (vertices_of (n - (i + 1)) (drop next text))) mid to ≡ all
-    pack-line x-minus y-minus b-minus x y b next most e mid to put =
-        let v = whole_vertex x-minus x y-minus y b-minus b in
-        let rest = vertices_of (n - (i + 1)) (drop next text) in
-        stored_one vertices_bytes (λ w. joined (vertex_numbers w)) more_bytes v (from_text rest) put.is-put
-        ∙ ap (λ (g : Found). stored vertices_bytes g old k) (sym (one_more v rest))
+    pub pack-line : (v : Reading) (most : ℕ) → r ≡ Some v → (mid : List ℕ) (to : ℕ)
+        → PutIn most (joined (vertex_numbers (whole_vertex v.corner))) old k mid to
+        → stored vertices_bytes (from_text (vertices_of (n - (i + 1)) (drop v.next text))) mid to ≡ all
+    pack-line v most e mid to put =
+        let vertex = whole_vertex v.corner in
+        let rest = vertices_of (n - (i + 1)) (drop v.next text) in
+        stored_one vertices_bytes (λ w. joined (vertex_numbers w)) more_bytes vertex (from_text rest) put.is-put
+        ∙ ap (λ (g : Found). stored vertices_bytes g old k) (sym (one_more vertex rest))
         ∙ rw (lines-read n i _ inside (a-line text is e)) at inv

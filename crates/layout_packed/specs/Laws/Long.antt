@@ -1,8 +1,9 @@
 -- How many bytes a number has, by its range.
-use Rattle.std.specs.Prelude.{ℕ, ◌≤◌, Bool, length, ℤ}
+use Rattle.std.specs.Prelude.{ℕ, ◌≤◌, length, ℤ}
 use Rattle.std.proofs.Common.{arith}
 use Rattle.layouts.specs.Limits as limit
-use Rattle.layouts.specs.Layout.{magnitude, whole, whole_vertex, VertexWithin}
+use Rattle.layouts.specs.Layout.{magnitude, signed, whole_vertex, VertexWithin}
+use Rattle.layouts.specs.declared.vertex.Corner.{Corner}
 use Rattle.layouts.specs.Laws.Whole.{size-whole}
 use Rattle.layout_packed.specs.Limits as written
 use Rattle.layout_packed.specs.Groups.{groups_of, zigzag}
@@ -26,23 +27,21 @@ pub bulge-short : (z : ℤ) → magnitude z ≤ limit.bulge → length (groups_o
 bulge-short z h = bulge-long (zigzag z) (zigzag-most z limit.bulge h)
 
 -- the numbers of a vertex, given by sign and magnitude
-pub record Sizes (x-minus : Bool) (x : ℕ) (y-minus : Bool) (y : ℕ) (b-minus : Bool) (b : ℕ) : Type 0 where
-  pub x-most : x ≤ limit.coordinate
-  pub y-most : y ≤ limit.coordinate
-  pub b-most : b ≤ limit.bulge
-  pub x-bytes : length (groups_of (zigzag (whole x-minus x))) ≤ written.coordinate_bytes
-  pub y-bytes : length (groups_of (zigzag (whole y-minus y))) ≤ written.coordinate_bytes
-  pub b-bytes : length (groups_of (zigzag (whole b-minus b))) ≤ written.bulge_bytes
+pub record Sizes (v : Corner) : Type 0 where
+  pub x-most : v.x.magnitude ≤ limit.coordinate
+  pub y-most : v.y.magnitude ≤ limit.coordinate
+  pub b-most : v.bulge.magnitude ≤ limit.bulge
+  pub x-bytes : length (groups_of (zigzag (signed v.x))) ≤ written.coordinate_bytes
+  pub y-bytes : length (groups_of (zigzag (signed v.y))) ≤ written.coordinate_bytes
+  pub b-bytes : length (groups_of (zigzag (signed v.bulge))) ≤ written.bulge_bytes
 
-pub sizes-of : (x-minus : Bool) (x : ℕ) (y-minus : Bool) (y : ℕ) (b-minus : Bool) (b : ℕ)
-    → VertexWithin (whole_vertex x-minus x y-minus y b-minus b)
-    → Sizes x-minus x y-minus y b-minus b
-sizes-of x-minus x y-minus y b-minus b w =
+pub sizes-of : (v : Corner) → VertexWithin (whole_vertex v) → Sizes v
+sizes-of v w =
     record {
-      x-most = omega (arith, size-whole x-minus x, w.x-within);
-      y-most = omega (arith, size-whole y-minus y, w.y-within);
-      b-most = omega (arith, size-whole b-minus b, w.bulge-within);
-      x-bytes = coordinate-short (whole x-minus x) w.x-within;
-      y-bytes = coordinate-short (whole y-minus y) w.y-within;
-      b-bytes = bulge-short (whole b-minus b) w.bulge-within;
+      x-most = omega (arith, size-whole v.x.negative v.x.magnitude, w.x-within);
+      y-most = omega (arith, size-whole v.y.negative v.y.magnitude, w.y-within);
+      b-most = omega (arith, size-whole v.bulge.negative v.bulge.magnitude, w.bulge-within);
+      x-bytes = coordinate-short (signed v.x) w.x-within;
+      y-bytes = coordinate-short (signed v.y) w.y-within;
+      b-bytes = bulge-short (signed v.bulge) w.bulge-within;
     }

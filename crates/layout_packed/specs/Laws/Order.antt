@@ -1,5 +1,5 @@
 -- The numbers of a file are settled by its bytes: two ways to read sound numbers as far as they go are the same.
-use Rattle.std.specs.Prelude.{ℕ, ◌+◌, ◌≤◌, ◌≡◌, refl, List, [], ◌∷◌, ◌++◌, length}
+use Rattle.std.specs.Prelude.{ℕ, ◌≤◌, ◌≡◌, refl, List, [], ◌∷◌, ◌++◌, length}
 use Rattle.std.proofs.Common.{sym, ap, ◌∙◌, append_assoc, append-nil, arith}
 use Rattle.layouts.specs.Limits as limit
 use Rattle.layout_packed.specs.Groups.{groups_of}

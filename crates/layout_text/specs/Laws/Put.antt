@@ -5,7 +5,8 @@ use Rattle.std.proofs.Math.Path.{refl}
 use Rattle.std.proofs.Common.{ap}
 use Rattle.std.proofs.Math.Bool.{true, false}
 use Rattle.layouts.specs.Limits as limit
-use Rattle.layouts.specs.Layout.{Vertex, VertexWithin, whole, whole_vertex}
+use Rattle.layouts.specs.Layout.{Vertex, VertexWithin, whole, signed, whole_vertex}
+use Rattle.layouts.specs.declared.vertex.Corner.{Corner}
 use Rattle.put_text.specs.Decimal.{decimal}
 use Rattle.put_text.specs.Workings.Put.{Put, PutIn}
 use Rattle.put_text.specs.Laws.Put.{put-join, word_in}
@@ -61,29 +62,27 @@ module _ (negative : Bool) (n : ℕ) where
 -- ---- text lines
 
 -- the room that each of a vertex's numbers takes at most
-pub record Parts (x-minus : Bool) (x : ℕ) (y-minus : Bool) (y : ℕ) (b-minus : Bool) (b : ℕ) : Type 0 where
-  pub x-short : length (whole_text (whole x-minus x)) ≤ coordinate
-  pub y-short : length (whole_text (whole y-minus y)) ≤ coordinate
-  pub b-short : length (whole_text (whole b-minus b)) ≤ bulge
+pub record Parts (v : Corner) : Type 0 where
+  pub x-short : length (whole_text (signed v.x)) ≤ coordinate
+  pub y-short : length (whole_text (signed v.y)) ≤ coordinate
+  pub b-short : length (whole_text (signed v.bulge)) ≤ bulge
 
-pub parts-of : (x-minus : Bool) (x : ℕ) (y-minus : Bool) (y : ℕ) (b-minus : Bool) (b : ℕ)
-    → VertexWithin (whole_vertex x-minus x y-minus y b-minus b) → Parts x-minus x y-minus y b-minus b
-parts-of x-minus x y-minus y b-minus b w =
+pub parts-of : (v : Corner) → VertexWithin (whole_vertex v) → Parts v
+parts-of v w =
     record {
-      x-short = coordinate-long (whole x-minus x) w.x-within;
-      y-short = coordinate-long (whole y-minus y) w.y-within;
-      b-short = bulge-long (whole b-minus b) w.bulge-within;
+      x-short = coordinate-long (signed v.x) w.x-within;
+      y-short = coordinate-long (signed v.y) w.y-within;
+      b-short = bulge-long (signed v.bulge) w.bulge-within;
     }
 
-pub vertex-put : (x-minus : Bool) (x : ℕ) (y-minus : Bool) (y : ℕ) (b-minus : Bool) (b : ℕ)
-    → VertexWithin (whole_vertex x-minus x y-minus y b-minus b)
+pub vertex-put : (v : Corner) → VertexWithin (whole_vertex v)
     → {o o1 o2 o3 o4 o5 o6 : List ℕ} {at p1 p2 p3 p4 p5 p6 : ℕ}
-    → Put (whole_text (whole x-minus x)) o at o1 p1 → Put (32 ∷ []) o1 p1 o2 p2
-    → Put (whole_text (whole y-minus y)) o2 p2 o3 p3 → Put (32 ∷ []) o3 p3 o4 p4
-    → Put (whole_text (whole b-minus b)) o4 p4 o5 p5 → Put (10 ∷ []) o5 p5 o6 p6
-    → PutIn vertex_line (vertex_text (whole_vertex x-minus x y-minus y b-minus b)) o at o6 p6
+    → Put (whole_text (signed v.x)) o at o1 p1 → Put (32 ∷ []) o1 p1 o2 p2
+    → Put (whole_text (signed v.y)) o2 p2 o3 p3 → Put (32 ∷ []) o3 p3 o4 p4
+    → Put (whole_text (signed v.bulge)) o4 p4 o5 p5 → Put (10 ∷ []) o5 p5 o6 p6
+    → PutIn vertex_line (vertex_text (whole_vertex v)) o at o6 p6
 unfolding vertex_text
-vertex-put x-minus x y-minus y b-minus b w put-x gap put-y gap2 put_b end =
+vertex-put v w put-x gap put-y gap2 put_b end =
     word_in vertex_line (put-join (put-join (put-join put-x (put-join gap put-y)) (put-join gap2 put_b)) end) (vertex-long _ w)
 
 pub counts-put : (n m : ℕ) → n ≤ limit.vertices → m ≤ limit.vertices

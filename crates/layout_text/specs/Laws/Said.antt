@@ -1,44 +1,40 @@
 -- What each case of the code's answers says of what the definition has read; and the text lines that are left, one by one. The
 -- functions here that go over vertices use it, and so can those above.
-use Rattle.std.specs.Prelude.{ℕ, suc, ◌+◌, ◌-◌, ◌≤◌, ◌<◌, ◌≡◌, Bool, List, [], ◌∷◌, drop, ℤ}
+use Rattle.std.specs.Prelude.{ℕ, suc, ◌+◌, ◌-◌, ◌≤◌, ◌<◌, ◌≡◌, List, [], ◌∷◌, drop, ℤ, Option, Some, None}
 use Rattle.std.proofs.Math.Path.{sym, ap}
 use Rattle.std.proofs.Common.{◌∙◌, arith}
-use Rattle.layouts.specs.Layout.{Vertex, whole, whole_vertex}
+use Rattle.layouts.specs.Layout.{Vertex, signed, whole_vertex}
 use Rattle.layout_text.specs.Workings.Reader.{Got, nothing, got, and_then, vertex_of, vertices_of}
 use Rattle.layout_text.specs.Workings.Shown.{shown_number, shown_vertex, Fitting, Shaped}
 use Rattle.layout_text.specs.declared.number.Number.{Number}
-use Rattle.layout_text.specs.declared.number.Number.TheVariants as Number·
-use Rattle.layout_text.specs.declared.vertex.Corner.{Corner}
-use Rattle.layout_text.specs.declared.vertex.Corner.TheVariants as Corner·
-use Rattle.layout_text.specs.declared.shape.Shape.{Shape}
-use Rattle.layout_text.specs.declared.shape.Shape.TheVariants as Shape·
+use Rattle.layouts.specs.declared.vertex.Reading.{Reading}
+use Rattle.layouts.specs.declared.shape.Shape.{Shape}
 
 -- ---- a number
 
-module _ (text : List ℕ) {g : Got ℤ} {r : Number} (is : shown_number text r ≡ g) where
-  pub no_number : r ≡ Number·.Broken → g ≡ nothing
+module _ (text : List ℕ) {g : Got ℤ} {r : Option Number} (is : shown_number text r ≡ g) where
+  pub no_number : r ≡ None → g ≡ nothing
   unfolding shown_number
   no_number e = sym is ∙ ap (shown_number text) e
 
-  pub a-number : {negative : Bool} {n next : ℕ} → r ≡ Number·.Whole negative n next → g ≡ got (whole negative n) (drop next text)
+  pub a-number : {n : Number} → r ≡ Some n → g ≡ got (signed n.value) (drop n.next text)
   unfolding shown_number
   a-number e = sym is ∙ ap (shown_number text) e
 
 -- ---- a vertex
 
-module _ (text : List ℕ) {g : Got Vertex} {r : Corner} (is : shown_vertex text r ≡ g) where
-  pub no_line : r ≡ Corner·.Broken → g ≡ nothing
+module _ (text : List ℕ) {g : Got Vertex} {r : Option Reading} (is : shown_vertex text r ≡ g) where
+  pub no_line : r ≡ None → g ≡ nothing
   unfolding shown_vertex
   no_line e = sym is ∙ ap (shown_vertex text) e
 
-  pub a-line : {x-minus y-minus b-minus : Bool} {x y b next : ℕ} → r ≡ Corner·.At x-minus x y-minus y b-minus b next
-      → g ≡ got (whole_vertex x-minus x y-minus y b-minus b) (drop next text)
+  pub a-line : {v : Reading} → r ≡ Some v → g ≡ got (whole_vertex v.corner) (drop v.next text)
   unfolding shown_vertex
   a-line e = sym is ∙ ap (shown_vertex text) e
 
 -- ---- a shape
 
-pub fits-of : (text : List ℕ) {s : Shape} {n m a b : ℕ} → Shaped text s → s ≡ Shape·.Fits n m a b → Fitting text n m a b
+pub fits-of : (text : List ℕ) {s : Option Shape} {at : Shape} → Shaped text s → s ≡ Some at → Fitting text at
 fits-of text shaped e = rw e at shaped
 
 -- ---- the text lines that are left, at i of n

@@ -1,11 +1,10 @@
 -- From the checks of a boxed listing to its outcome: that of checked paths, or the refusal of the first fault. To skip pairs is
 -- to leave them out.
-use Rattle.std.specs.Prelude.{◌≡◌, Bool, true, List, [], ◌∷◌, ◌++◌, ℕ, Float}
+use Rattle.checks.specs.Checked.{Checked}
+use Rattle.std.specs.Prelude.{◌≡◌, Bool, true, List, [], ◌∷◌, ◌++◌, ℕ, Float, Err, Ok}
 use Rattle.std.proofs.Math.Path.{refl, ap}
 use Rattle.std.proofs.Common.{sym, ◌∙◌, true≢false, append-nil}
 use Rattle.checks.specs.declared.fault.Fault.{Fault}
-use Rattle.checks.specs.declared.fault.Checked.{Checked}
-use Rattle.checks.specs.declared.fault.Checked.TheVariants.{Fine, Bad}
 use Rattle.checks.specs.First.{first as first_fault}
 use Rattle.paths.specs.Segments.{segment_count}
 use Rattle.boxes.specs.Index.{index}
@@ -20,8 +19,7 @@ use Rattle.listing_pairs.specs.Workings.Job.{every}
 use Rattle.listing_pairs.specs.Workings.Ready.{look_on, boxed_look, look_by}
 use Rattle.listing_pairs.specs.Laws.Sequence.{mutual-every, self-every}
 use Rattle.listing_pairs.specs.Laws.Skipped.{boxed-rows, boxed-looked}
-use Rattle.listing_outcomes.specs.declared.answer.ListingAnswer.{ListingAnswer}
-use Rattle.listing_outcomes.specs.declared.answer.ListingAnswer.TheVariants.{Refused}
+use Rattle.listing_outcomes.specs.Answer.{ListingAnswer}
 use Rattle.listing_outcomes.specs.Outcome.{room_check}
 use Rattle.listing_outcomes.specs.BoxedOutcome.{BoxedOutcome, LeavesBoxed, index_check, boxed_of, boxed_outcome}
 use Rattle.listing_outcomes.specs.Workings.BoxedOutcome.{boxed, index_for, OwnPath}
@@ -35,13 +33,13 @@ module _ (checks : List Checked) (f : ℕ → ℕ → Look) (ps : List Pair) (id
   abbrev more : List Checked
   more = index_check idx b₀ ∷ room_check (rows_of f ps) i₀ p₀ ∷ []
 
-  boxed-fine : first_fault checks ≡ Fine → boxed_outcome checks f ps idx b₀ i₀ p₀ ≡ boxed f ps idx b₀ i₀ p₀
+  boxed-fine : first_fault checks ≡ Ok tt → boxed_outcome checks f ps idx b₀ i₀ p₀ ≡ boxed f ps idx b₀ i₀ p₀
   unfolding boxed_outcome
   boxed-fine e =
       ap (λ (t : Checked). boxed_of t (rows_of f ps) (looked_at f ps) idx b₀ i₀ p₀) (after-fine checks more e)
 
-  boxed-bad : (x : Fault) → first_fault checks ≡ Bad x
-      → LeavesBoxed (boxed_outcome checks f ps idx b₀ i₀ p₀) (Refused x) b₀ i₀ p₀
+  boxed-bad : (x : Fault) → first_fault checks ≡ Err x
+      → LeavesBoxed (boxed_outcome checks f ps idx b₀ i₀ p₀) (Err x) b₀ i₀ p₀
   unfolding boxed_outcome
   boxed-bad x e =
       rw (after-bad checks more x e)
@@ -80,7 +78,7 @@ module _ (first : List Float) (first_closed : Bool) (second : List Float) (secon
   both = index first epsilon (segment_count first first_closed) ++ index second epsilon (segment_count second second_closed)
 
   pub mutual-boxed : (b : List Float) (i : List ℕ) (p : List Float) (r : ListingAnswer)
-      → check_mutual first first_closed second second_closed epsilon ≡ Fine
+      → check_mutual first first_closed second second_closed epsilon ≡ Ok tt
       → (j : Job) → j ≡ job first first_closed second second_closed epsilon true
       → LeavesBoxed (boxed (look_by first second j) (every j) (index_for first second j) b₀ i₀ p₀) r b i p
       → LeavesBoxed (mutual_boxed first first_closed second second_closed epsilon b₀ i₀ p₀) r b i p
@@ -91,8 +89,8 @@ module _ (first : List Float) (first_closed : Bool) (second : List Float) (secon
       rw (boxed-fine these (traced_look first second epsilon) (boxed_pairs first second epsilon between) both b₀ i₀ p₀ e)
       (rw (left_out first second epsilon (traced_look first second epsilon) between both b₀ i₀ p₀) at g)
 
-  pub mutual-boxed-refused : (x : Fault) → check_mutual first first_closed second second_closed epsilon ≡ Bad x
-      → LeavesBoxed (mutual_boxed first first_closed second second_closed epsilon b₀ i₀ p₀) (Refused x) b₀ i₀ p₀
+  pub mutual-boxed-refused : (x : Fault) → check_mutual first first_closed second second_closed epsilon ≡ Err x
+      → LeavesBoxed (mutual_boxed first first_closed second second_closed epsilon b₀ i₀ p₀) (Err x) b₀ i₀ p₀
   unfolding mutual_boxed check_mutual
   mutual-boxed-refused x e =
       boxed-bad these (traced_look first second epsilon) (boxed_pairs first second epsilon between) both b₀ i₀ p₀ x e
@@ -108,7 +106,7 @@ module _ (path : List Float) (closed : Bool) (epsilon : Float) (b₀ : List Floa
   abbrev one : List Float
   one = index path epsilon (segment_count path closed)
 
-  pub self-boxed : (b : List Float) (i : List ℕ) (p : List Float) (r : ListingAnswer) → check_self path closed epsilon ≡ Fine
+  pub self-boxed : (b : List Float) (i : List ℕ) (p : List Float) (r : ListingAnswer) → check_self path closed epsilon ≡ Ok tt
       → (j : Job) → j ≡ own-job path closed epsilon true
       → LeavesBoxed (boxed (look_by path path j) (every j) (index_for path path j) b₀ i₀ p₀) r b i p
       → LeavesBoxed (self_boxed path closed epsilon b₀ i₀ p₀) r b i p
@@ -121,8 +119,8 @@ module _ (path : List Float) (closed : Bool) (epsilon : Float) (b₀ : List Floa
       rw (boxed-fine its (traced_self_look path closed epsilon) (boxed_pairs path path epsilon own) one b₀ i₀ p₀ e)
       (rw (left_out path path epsilon (traced_self_look path closed epsilon) own one b₀ i₀ p₀) at l)
 
-  pub self-boxed-refused : (x : Fault) → check_self path closed epsilon ≡ Bad x
-      → LeavesBoxed (self_boxed path closed epsilon b₀ i₀ p₀) (Refused x) b₀ i₀ p₀
+  pub self-boxed-refused : (x : Fault) → check_self path closed epsilon ≡ Err x
+      → LeavesBoxed (self_boxed path closed epsilon b₀ i₀ p₀) (Err x) b₀ i₀ p₀
   unfolding self_boxed check_self
   self-boxed-refused x e =
       boxed-bad its (traced_self_look path closed epsilon) (boxed_pairs path path epsilon own) one b₀ i₀ p₀ x e

@@ -1,10 +1,9 @@
 -- Chains of pages, step by step: what one call gives, and how it joins to the rest.
-use Rattle.std.specs.Prelude.{◌≡◌, Bool, true, false, ◌≢◌, List, [], ◌∷◌, ◌++◌, ℕ, zero, suc, ◌+◌, ◌-◌, ◌*◌, ◌≤◌, ◌<◌, Float, length, take, drop}
+use Rattle.checks.specs.Checked.{Checked}
+use Rattle.std.specs.Prelude.{◌≡◌, Bool, true, false, ◌≢◌, List, [], ◌∷◌, ◌++◌, ℕ, zero, suc, ◌+◌, ◌-◌, ◌*◌, ◌≤◌, ◌<◌, Float, length, take, drop, Err, Ok}
 use Rattle.std.proofs.Math.Path.{refl}
 use Rattle.std.proofs.Common.{sym, ap, ◌∙◌, true≢false, zero-add, arith, length-append, length-drop, take_all, take_at, drop-drop}
 use Rattle.checks.specs.declared.fault.Fault.{Fault}
-use Rattle.checks.specs.declared.fault.Checked.{Checked}
-use Rattle.checks.specs.declared.fault.Checked.TheVariants.{Fine, Bad}
 use Rattle.checks.specs.Fault.{later}
 use Rattle.checks.specs.First.{first as first_fault}
 use Rattle.checks.specs.Laws.Chains.{first-append}
@@ -17,16 +16,16 @@ use Rattle.listing_pairs.specs.Rows.{rows_of}
 use Rattle.listing_pairs.specs.Page.{Page, page}
 use Rattle.float_laws.specs.Stores.{flat_append, flat-length}
 use Rattle.listing_loop.specs.Laws.Pages.{joins, taken, passes-one}
-use Rattle.listing_outcomes.specs.declared.answer.PageAnswer.{PageAnswer}
-use Rattle.listing_outcomes.specs.declared.answer.PageAnswer.TheVariants.{Refused, Paged}
+use Rattle.listing_outcomes.specs.Answer.{PageAnswer, Paged}
 use Rattle.listing_outcomes.specs.Outcome.{Outcome, overwrite, room}
 use Rattle.listing_outcomes.specs.PageOutcome.{position_check, budget_check, row_check, limits, paged_of, page_outcome}
+use Rattle.listing_outcomes.specs.Laws.Counts.{same-page-rows, same-page-pairs, same-next, same-all}
 use Rattle.listing_calls.specs.PageRefusals.{position-fine, budget-fine, row_fine}
 use Rattle.listing_calls.specs.Chain.{Lent, Joined, joined, chain, BeforeEnd, Before, between}
 use Rattle.listing_calls.specs.Laws.Complete.{rows_append}
 
 -- ---- one call that is not refused
-never : {f : Fault} {r p q a : ℕ} → Refused f ≡ Paged r p q a → ⊥
+never : {f : Fault} {r p q a : ℕ} → Err f ≡ Paged r p q a → ⊥
 never e = let z : ◌≡◌ {A = ℕ} 0 1 = cc in omega (arith, z)
 
 -- the position is within, there is a budget and room for a row, and the answer and the slices are those of the page
@@ -54,11 +53,11 @@ module _ (checks : List Checked) (look : ℕ → ℕ → Look) (ps : List Pair) 
   positive zero h = absurd (h refl)
   positive (suc n) h = omega arith
 
-  fine-within : first_fault lasts ≡ Fine → (position ≤ length ps) × (0 < budget) × (0 < room i₀ p₀)
+  fine-within : first_fault lasts ≡ Ok tt → (position ≤ length ps) × (0 < budget) × (0 < room i₀ p₀)
   fine-within e =
-      let a = (later-fine (position_check position (length ps)) (later (budget_check budget) (later (row_check i₀ p₀) Fine))).0 e in
-      let b = (later-fine (budget_check budget) (later (row_check i₀ p₀) Fine)).0 a.1 in
-      let c = (later-fine (row_check i₀ p₀) Fine).0 b.1 in (
+      let a = (later-fine (position_check position (length ps)) (later (budget_check budget) (later (row_check i₀ p₀) (Ok tt)))).0 e in
+      let b = (later-fine (budget_check budget) (later (row_check i₀ p₀) (Ok tt))).0 a.1 in
+      let c = (later-fine (row_check i₀ p₀) (Ok tt)).0 b.1 in (
         (position-fine position (length ps)).0 a.0,
         positive budget ((budget-fine budget).0 b.0),
         positive (room i₀ p₀) ((row_fine i₀ p₀).0 c.0),
@@ -67,18 +66,18 @@ module _ (checks : List Checked) (look : ℕ → ℕ → Look) (ps : List Pair) 
   of-checked : (c : Checked) → first_fault (checks ++ lasts) ≡ c → {rows pairs next all : ℕ}
       → (paged_of c q position (length ps) i₀ p₀).answer ≡ Paged rows pairs next all
       → Called look ps position budget i₀ p₀ (paged_of c q position (length ps) i₀ p₀) rows pairs next all
-  of-checked (Bad fault) e h = absurd (never h)
-  of-checked Fine e h =
+  of-checked (Err fault) e h = absurd (never h)
+  of-checked (Ok _) e h =
       let both = (later-fine (first_fault checks) (first_fault lasts)).0 (sym (first-append checks lasts) ∙ e) in
       let fine = fine-within both.1 in
       record {
         within = fine.0;
         some = fine.1;
         fits = fine.2;
-        rows_are = cc;
-        pairs-are = cc;
-        next-is = cc;
-        all_are = cc;
+        rows_are = sym (same-page-rows h);
+        pairs-are = sym (same-page-pairs h);
+        next-is = sym (same-next h);
+        all_are = sym (same-all h);
         indices = refl;
         points = refl;
       }

@@ -1,9 +1,8 @@
 -- What the checks of one path, or of two, find fits into a word: epsilon's, the shapes', and then any checks of a path's numbers
 -- that do so for every path of a fair shape. Both modes of arcs are instances.
-use Rattle.std.specs.Prelude.{◌≡◌, Bool, List, [], ◌∷◌, ◌++◌, ℕ, ◌≤◌, ◌<◌, Float}
+use Rattle.checks.specs.Checked.{Checked}
+use Rattle.std.specs.Prelude.{◌≡◌, Bool, List, [], ◌∷◌, ◌++◌, ℕ, ◌≤◌, ◌<◌, Float, Ok}
 use Rattle.std.proofs.Common.{sym, ◌∙◌, arith}
-use Rattle.checks.specs.declared.fault.Checked.{Checked}
-use Rattle.checks.specs.declared.fault.Checked.TheVariants.{Fine}
 use Rattle.checks.specs.Each
 use Rattle.checks.specs.First.{first as first_fault}
 use Rattle.checks.specs.Word.{owners}
@@ -15,7 +14,7 @@ use Rattle.paths.specs.Shape.{shape}
 use Rattle.paths.specs.Laws.RefusalNumbers.{shape-small, shape-few}
 
 -- the earlier of two lists of checks is fine if both are
-front-fine : (cs ds : List Checked) → first_fault (cs ++ ds) ≡ Fine → first_fault cs ≡ Fine
+front-fine : (cs ds : List Checked) → first_fault (cs ++ ds) ≡ Ok tt → first_fault cs ≡ Ok tt
 front-fine cs ds e = ((later-fine (first_fault cs) (first_fault ds)).0 (sym (first-append cs ds) ∙ e)).0
 
 -- ---- two paths' shapes
@@ -30,15 +29,15 @@ module _ (first second : List Float) (eps : Float) where
   shapes-small =
       and (epsilon eps) (and (shape-small first 0 (omega arith)) (and (shape-small second 1 (omega arith)) fine))
 
-  both-shapes : first_fault shapes ≡ Fine → first_fault later-shapes ≡ Fine
+  both-shapes : first_fault shapes ≡ Ok tt → first_fault later-shapes ≡ Ok tt
   both-shapes e = ((later-fine (Each.epsilon eps) (first_fault later-shapes)).0 e).1
 
-  first-shape : first_fault shapes ≡ Fine → shape first 0 ≡ Fine
+  first-shape : first_fault shapes ≡ Ok tt → shape first 0 ≡ Ok tt
   first-shape e = ((later-fine (shape first 0) (first_fault (shape second 1 ∷ []))).0 (both-shapes e)).0
 
-  second-shape : first_fault shapes ≡ Fine → shape second 1 ≡ Fine
+  second-shape : first_fault shapes ≡ Ok tt → shape second 1 ≡ Ok tt
   second-shape e =
-      ((later-fine (shape second 1) Fine).0 ((later-fine (shape first 0) (first_fault (shape second 1 ∷ []))).0 (both-shapes e)).1).0
+      ((later-fine (shape second 1) (Ok tt)).0 ((later-fine (shape first 0) (first_fault (shape second 1 ∷ []))).0 (both-shapes e)).1).0
 
 -- ---- with the paths' numbers
 module _ (of_path : List Float → Bool → ℕ → List Checked)
@@ -60,5 +59,5 @@ module _ (of_path : List Float → Bool → ℕ → List Checked)
       let shaped : List Checked = Each.epsilon eps ∷ shape path 0 ∷ [] in
       append-then shaped (of_path path closed 0) (and (epsilon eps) (and (shape-small path 0 (omega arith)) fine))
       (λ e. small path 0 (omega arith) closed
-      (shape-few path 0 ((later-fine (shape path 0) Fine).0
+      (shape-few path 0 ((later-fine (shape path 0) (Ok tt)).0
       ((later-fine (Each.epsilon eps) (first_fault (shape path 0 ∷ []))).0 e).1).0))

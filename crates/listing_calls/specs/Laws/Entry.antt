@@ -1,12 +1,11 @@
 -- From the checks of a listing or a page to its outcome: the chain of calls is the list of checks; if they are fine, every pair
 -- of the job is fine for the pair call; and the outcome is that of checked paths, or the refusal of the first fault.
-use Rattle.std.specs.Prelude.{◌≡◌, Bool, false, ℕ, ◌≤◌, Float, length}
+use Rattle.checks.specs.Checked.{Checked}
+use Rattle.std.specs.Prelude.{◌≡◌, Bool, false, ℕ, ◌≤◌, Float, length, Err, Ok}
 use Rattle.std.proofs.Math.Path.{refl, sym, ap}
 use Rattle.std.proofs.Common.{◌∙◌}
 use mathlib.Core.List.{List, [], ◌∷◌, ◌++◌}
 use Rattle.checks.specs.declared.fault.Fault.{Fault}
-use Rattle.checks.specs.declared.fault.Checked.{Checked}
-use Rattle.checks.specs.declared.fault.Checked.TheVariants.{Fine, Bad}
 use Rattle.checks.specs.Fault.{at, later}
 use Rattle.checks.specs.Each
 use Rattle.checks.specs.First.{first as first_fault}
@@ -27,10 +26,7 @@ use Rattle.listing_pairs.specs.Look.{look, self_look_of, traced_look, traced_sel
 use Rattle.listing_pairs.specs.Workings.Job.{every}
 use Rattle.listing_pairs.specs.Laws.Sequence.{mutual-every, self-every}
 use Rattle.listing_pairs.specs.Workings.Ready.{look_on, look_by, Ready, paths-ready}
-use Rattle.listing_outcomes.specs.declared.answer.ListingAnswer.{ListingAnswer}
-use Rattle.listing_outcomes.specs.declared.answer.ListingAnswer.TheVariants.{Refused, Listed}
-use Rattle.listing_outcomes.specs.declared.answer.PageAnswer.{PageAnswer}
-use Rattle.listing_outcomes.specs.declared.answer.PageAnswer.TheVariants as pages
+use Rattle.listing_outcomes.specs.Answer.{Listed, ListingAnswer, PageAnswer}
 use Rattle.listing_outcomes.specs.Outcome.{Leaves, room_check, outcome_of, listed_of, outcome}
 use Rattle.listing_outcomes.specs.PageOutcome.{limits, page_outcome}
 use Rattle.listing_outcomes.specs.Workings.Outcome.{listed}
@@ -40,40 +36,40 @@ use Rattle.listing_calls.specs.Workings.Jobs.{mutual_job, self_job}
 use Rattle.listing_calls.specs.Listing.{mutual_checks, check_mutual, mutual_listing, self_checks, check_self, self_listing}
 
 -- ---- any call: its checks, then the last ones
-pub after-fine : (checks more : List Checked) → first_fault checks ≡ Fine → first_fault (checks ++ more) ≡ first_fault more
+pub after-fine : (checks more : List Checked) → first_fault checks ≡ Ok tt → first_fault (checks ++ more) ≡ first_fault more
 after-fine checks more e =
     first-append checks more ∙ ap (λ (t : Checked). later t (first_fault more)) e ∙ fine-left (first_fault more)
 
-pub after-bad : (checks more : List Checked) (x : Fault) → first_fault checks ≡ Bad x → first_fault (checks ++ more) ≡ Bad x
+pub after-bad : (checks more : List Checked) (x : Fault) → first_fault checks ≡ Err x → first_fault (checks ++ more) ≡ Err x
 unfolding later
 after-bad checks more x e = first-append checks more ∙ ap (λ (t : Checked). later t (first_fault more)) e
 
 module _ {A : Type 0} (refused : Fault → A) (checks more : List Checked) (answer : A) (rows : List Row)
     (i₀ : List ℕ) (p₀ : List Float) where
-  outcome-fine : first_fault checks ≡ Fine
+  outcome-fine : first_fault checks ≡ Ok tt
       → outcome_of refused (first_fault (checks ++ more)) answer rows i₀ p₀
       ≡ outcome_of refused (first_fault more) answer rows i₀ p₀
   outcome-fine e = ap (λ (t : Checked). outcome_of refused t answer rows i₀ p₀) (after-fine checks more e)
 
-  outcome-bad : (x : Fault) → first_fault checks ≡ Bad x
+  outcome-bad : (x : Fault) → first_fault checks ≡ Err x
       → Leaves (outcome_of refused (first_fault (checks ++ more)) answer rows i₀ p₀) (refused x) i₀ p₀
   outcome-bad x e = rw (after-bad checks more x e) (record { answer = refl; indices = refl; points = refl })
 
 -- a listing: if the checks are fine, it is that of checked paths
 listing-fine : (checks : List Checked) (f : ℕ → ℕ → Look) (ps : List Pair) (i₀ : List ℕ) (p₀ : List Float)
-    → first_fault checks ≡ Fine → outcome checks f ps i₀ p₀ ≡ listed f ps i₀ p₀
+    → first_fault checks ≡ Ok tt → outcome checks f ps i₀ p₀ ≡ listed f ps i₀ p₀
 unfolding outcome
 listing-fine checks f ps i₀ p₀ e =
     let c = room_check (rows_of f ps) i₀ p₀ in
-    outcome-fine Refused checks (c ∷ []) (Listed (length (rows_of f ps)) (looked_at f ps)) (rows_of f ps) i₀ p₀ e
+    outcome-fine Err checks (c ∷ []) (Listed (length (rows_of f ps)) (looked_at f ps)) (rows_of f ps) i₀ p₀ e
     ∙ ap (λ (t : Checked). listed_of t (rows_of f ps) (looked_at f ps) i₀ p₀) (fine-right c)
 
 -- so is a page
 page-fine : (checks : List Checked) (f : ℕ → ℕ → Look) (ps : List Pair) (position budget : ℕ) (i₀ : List ℕ) (p₀ : List Float)
-    → first_fault checks ≡ Fine → page_outcome checks f ps position budget i₀ p₀ ≡ paged f ps position budget i₀ p₀
+    → first_fault checks ≡ Ok tt → page_outcome checks f ps position budget i₀ p₀ ≡ paged f ps position budget i₀ p₀
 unfolding page_outcome
 page-fine checks f ps position budget i₀ p₀ e =
-    outcome-fine pages.Refused checks (limits position (length ps) budget i₀ p₀) _ _ i₀ p₀ e
+    outcome-fine Err checks (limits position (length ps) budget i₀ p₀) _ _ i₀ p₀ e
 
 -- ---- two paths
 module _ (first : List Float) (first_closed : Bool) (second : List Float) (second_closed : Bool) (epsilon : Float) where
@@ -108,14 +104,14 @@ module _ (first : List Float) (first_closed : Bool) (second : List Float) (secon
       ∙ ap (λ (t : Checked). later t (first_fault c2)) (sym (first-append c0 c1))
       ∙ sym (first-append (c0 ++ c1) c2)
 
-  module _ (e : check_mutual first first_closed second second_closed epsilon ≡ Fine) where
-    outer : (check_path shapes first first_closed 0 ≡ Fine) × PathFine second second_closed
+  module _ (e : check_mutual first first_closed second second_closed epsilon ≡ Ok tt) where
+    outer : (check_path shapes first first_closed 0 ≡ Ok tt) × PathFine second second_closed
     outer = (path-fine (check_path shapes first first_closed 0) second second_closed 1).0 (mutual-chain ∙ e)
 
-    inner : (shapes ≡ Fine) × PathFine first first_closed
+    inner : (shapes ≡ Ok tt) × PathFine first first_closed
     inner = (path-fine shapes first first_closed 0).0 outer.0
 
-    eps : Each.epsilon epsilon ≡ Fine
+    eps : Each.epsilon epsilon ≡ Ok tt
     eps =
         let a = Each.epsilon epsilon in
         ((later-fine a (shape first 0)).0 ((later-fine (later a (shape first 0)) (shape second 1)).0 inner.0).0).0
@@ -144,16 +140,16 @@ module _ (first : List Float) (first_closed : Bool) (second : List Float) (secon
           rw (page-fine these f between position budget i₀ p₀ e) g
 
   module _ (x : Fault) (i₀ : List ℕ) (p₀ : List Float)
-      (e : check_mutual first first_closed second second_closed epsilon ≡ Bad x) where
-    pub mutual-refused : Leaves (mutual_listing first first_closed second second_closed epsilon i₀ p₀) (Refused x) i₀ p₀
+      (e : check_mutual first first_closed second second_closed epsilon ≡ Err x) where
+    pub mutual-refused : Leaves (mutual_listing first first_closed second second_closed epsilon i₀ p₀) (Err x) i₀ p₀
     unfolding mutual_listing outcome check_mutual
-    mutual-refused = outcome-bad Refused these _ _ _ i₀ p₀ x e
+    mutual-refused = outcome-bad Err these _ _ _ i₀ p₀ x e
 
     pub mutual-page-refused : (position budget : ℕ)
         → Leaves (mutual_page first first_closed second second_closed epsilon position budget i₀ p₀)
-        (pages.Refused x) i₀ p₀
+        (Err x) i₀ p₀
     unfolding mutual_page page_outcome check_mutual
-    mutual-page-refused position budget = outcome-bad pages.Refused these _ _ _ i₀ p₀ x e
+    mutual-page-refused position budget = outcome-bad Err these _ _ _ i₀ p₀ x e
 
 -- ---- one path
 module _ (path : List Float) (closed : Bool) (epsilon : Float) where
@@ -184,11 +180,11 @@ module _ (path : List Float) (closed : Bool) (epsilon : Float) where
       let two : shaped ≡ first_fault c0 = simp (later-assoc, fine-right) in
       ap (λ (t : Checked). later t (first_fault c1)) two ∙ sym (first-append c0 c1)
 
-  module _ (e : check_self path closed epsilon ≡ Fine) where
-    whole : (shaped ≡ Fine) × PathFine path closed
+  module _ (e : check_self path closed epsilon ≡ Ok tt) where
+    whole : (shaped ≡ Ok tt) × PathFine path closed
     whole = (path-fine shaped path closed 0).0 (self-chain ∙ e)
 
-    self-eps : Each.epsilon epsilon ≡ Fine
+    self-eps : Each.epsilon epsilon ≡ Ok tt
     self-eps = ((later-fine (Each.epsilon epsilon) (shape path 0)).0 whole.0).0
 
     pub self-ready : {boxed : Bool} (j : Job) → j ≡ own-job boxed → Ready path path j
@@ -214,12 +210,12 @@ module _ (path : List Float) (closed : Bool) (epsilon : Float) where
           let k : Leaves (paged g own position budget i₀ p₀) r i p = rw (is, self-every (own-job false) refl refl) at h in
           rw (page-fine its g own position budget i₀ p₀ e) k
 
-  module _ (x : Fault) (i₀ : List ℕ) (p₀ : List Float) (e : check_self path closed epsilon ≡ Bad x) where
-    pub self-refused : Leaves (self_listing path closed epsilon i₀ p₀) (Refused x) i₀ p₀
+  module _ (x : Fault) (i₀ : List ℕ) (p₀ : List Float) (e : check_self path closed epsilon ≡ Err x) where
+    pub self-refused : Leaves (self_listing path closed epsilon i₀ p₀) (Err x) i₀ p₀
     unfolding self_listing outcome check_self
-    self-refused = outcome-bad Refused its _ _ _ i₀ p₀ x e
+    self-refused = outcome-bad Err its _ _ _ i₀ p₀ x e
 
     pub self-page-refused : (position budget : ℕ)
-        → Leaves (self_page path closed epsilon position budget i₀ p₀) (pages.Refused x) i₀ p₀
+        → Leaves (self_page path closed epsilon position budget i₀ p₀) (Err x) i₀ p₀
     unfolding self_page page_outcome check_self
-    self-page-refused position budget = outcome-bad pages.Refused its _ _ _ i₀ p₀ x e
+    self-page-refused position budget = outcome-bad Err its _ _ _ i₀ p₀ x e

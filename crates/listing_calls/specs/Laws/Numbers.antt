@@ -1,11 +1,10 @@
 -- How large the whole numbers of a listing of two paths can be: a refusal's, the count of pairs, and every number in the slice of
 -- indices, those behind the rows included.
-use Rattle.std.specs.Prelude.{◌≡◌, refl, Bool, cond, List, [], ◌∷◌, ◌++◌, ℕ, zero, suc, ◌+◌, ◌-◌, ◌*◌, ◌≤◌, ◌<◌, Float, length, get_or, drop, replicate}
+use Rattle.checks.specs.Checked.{Checked}
+use Rattle.std.specs.Prelude.{◌≡◌, refl, Bool, cond, List, [], ◌∷◌, ◌++◌, ℕ, zero, suc, ◌+◌, ◌-◌, ◌*◌, ◌≤◌, ◌<◌, Float, length, get_or, drop, replicate, Err, Ok}
 use Rattle.std.proofs.Common.{sym, subst, mul-le-mul, arith, get_or-drop}
 use Rattle.std.proofs.Math.Bool.{true, false}
 use Rattle.checks.specs.declared.fault.Fault.{Fault}
-use Rattle.checks.specs.declared.fault.Checked.{Checked}
-use Rattle.checks.specs.declared.fault.Checked.TheVariants.{Fine, Bad}
 use Rattle.checks.specs.First.{first as first_fault}
 use Rattle.checks.specs.Refusal.{numbers_below}
 use Rattle.checks.specs.Words.{Fits}
@@ -27,9 +26,9 @@ use Rattle.listing_pairs.specs.Look.{look, traced_look}
 use Rattle.listing_pairs.specs.Traces.{one_trace, traced}
 use Rattle.listing_pairs.specs.Laws.Order.{few-pairs}
 use Rattle.listing_loop.specs.Laws.Pages.{few-looked}
-use Rattle.listing_outcomes.specs.declared.answer.ListingAnswer.{ListingAnswer}
-use Rattle.listing_outcomes.specs.declared.answer.ListingAnswer.TheVariants.{Refused, Listed}
+use Rattle.listing_outcomes.specs.Answer.{Listed, ListingAnswer}
 use Rattle.listing_outcomes.specs.Outcome.{Outcome, room_check, listed_of, outcome}
+use Rattle.listing_outcomes.specs.Laws.Counts.{same-pairs}
 use Rattle.listing_calls.specs.Listing.{mutual_checks, mutual_listing}
 use Rattle.listing_calls.specs.Laws.RefusalNumbers.{mutual-small}
 
@@ -39,7 +38,7 @@ Below b l = (k : ℕ) → get_or l k 0 < b
 
 -- what a listing answers, with b for the numbers in its slice of indices
 pub record Numbers (b : ℕ) (o : Outcome ListingAnswer) : Type 0 where
-  pub refusal : (f : Fault) → o.answer ≡ Refused f → f.number < numbers_below
+  pub refusal : (f : Fault) → o.answer ≡ Err f → f.number < numbers_below
   pub pairs : (rows pairs : ℕ) → o.answer ≡ Listed rows pairs → pairs ≤ most_vertices * most_vertices
   pub indices : Below b o.indices
 
@@ -117,25 +116,22 @@ module _ (b : ℕ) (wide : most_vertices ≤ b) (first second : List Float) (eps
       (pairs_below m hm (suc i) k (omega (arith, h)))
 
 -- ---- what a listing answers
-never : {f : Fault} {k m : ℕ} → Refused f ≡ Listed k m → ⊥
+never : {f : Fault} {k m : ℕ} → Err f ≡ Listed k m → ⊥
 never e = let z : ◌≡◌ {A = ℕ} 0 1 = cc in omega (arith, z)
 
-same-fault : {f g : Fault} → Refused f ≡ Refused g → f ≡ g
+same-fault : {f g : Fault} → ◌≡◌ {A = ListingAnswer} (Err f) (Err g) → f ≡ g
 same-fault e = cc
-
-same-pairs : {n k m l : ℕ} → Listed n k ≡ Listed m l → k ≡ l
-same-pairs e = cc
 
 module _ (b : ℕ) (rows : List Row) (looked : ℕ) (i₀ : List ℕ) (p₀ : List Float) (few : looked ≤ most_vertices * most_vertices)
     (written : Below b (numbers_of_rows indices_of rows)) (held : Below b i₀) where
   of-checked : (c : Checked) → Small c → Numbers b (listed_of c rows looked i₀ p₀)
-  of-checked (Bad fault) small =
+  of-checked (Err fault) small =
       record {
         refusal = λ f e. (subst Fits (same-fault e) (small.fits fault refl)).number;
         pairs = λ n m e. absurd (never e);
         indices = held;
       }
-  of-checked Fine small =
+  of-checked (Ok _) small =
       let numbers = numbers_of_rows indices_of rows in
       record {
         refusal = λ f e. absurd (never (sym e));

@@ -1,5 +1,6 @@
 -- The outcome of a boxed listing of checked paths, from what its parts leave: the index of a job, and the two refusals.
-use Rattle.std.specs.Prelude.{◌≡◌, Bool, true, false, cond, List, [], ◌∷◌, ◌++◌, ℕ, ◌+◌, ◌*◌, ◌≤◌, ◌<◌, Float, length}
+use Rattle.checks.specs.Checked.{Checked}
+use Rattle.std.specs.Prelude.{◌≡◌, Bool, true, false, cond, List, [], ◌∷◌, ◌++◌, ℕ, ◌+◌, ◌*◌, ◌≤◌, ◌<◌, Float, length, Err, Ok}
 use Rattle.std.proofs.Math.Path.{refl, ap}
 use Rattle.std.proofs.Common.{sym, ◌∙◌, append-nil, arith, le-ltb, lt-ltb, length-append}
 use Rattle.std.proofs.lemmas.List.Edits.{sets}
@@ -7,8 +8,6 @@ use Rattle.std.proofs.Math.Seq.{length-sets}
 use Rattle.float_laws.specs.Stores.{sets-append}
 use Rattle.checks.specs.declared.fault.Item.TheVariants.{Boxes}
 use Rattle.checks.specs.declared.fault.Fault.{Fault}
-use Rattle.checks.specs.declared.fault.Checked.{Checked}
-use Rattle.checks.specs.declared.fault.Checked.TheVariants.{Fine, Bad}
 use Rattle.checks.specs.Fault.{whole, refuse, later}
 use Rattle.checks.specs.Refusal
 use Rattle.checks.specs.First.{first as first_fault}
@@ -21,8 +20,7 @@ use Rattle.listing_pairs.specs.declared.order.Job.{Job}
 use Rattle.listing_pairs.specs.Order.{Pair}
 use Rattle.listing_pairs.specs.Rows.{rows_of, looked_at}
 use Rattle.listing_pairs.specs.Workings.Keeping.{boxes_kept, BoxesKept}
-use Rattle.listing_outcomes.specs.declared.answer.ListingAnswer.{ListingAnswer}
-use Rattle.listing_outcomes.specs.declared.answer.ListingAnswer.TheVariants.{Refused, Listed}
+use Rattle.listing_outcomes.specs.declared.answer.Counts.{Counts}
 use Rattle.listing_outcomes.specs.Outcome.{Outcome, Leaves, overwrite, room_check, listed_of}
 use Rattle.listing_outcomes.specs.BoxedOutcome.{BoxedOutcome, LeavesBoxed, index_check, boxes_after, boxed_of}
 use Rattle.listing_outcomes.specs.Laws.Overwrite.{sets_over}
@@ -131,10 +129,6 @@ module _ (first second kept : List Float) (job : Job) (old : List Float) (same :
       ∙ sets_over old (one ++ two) (omega (arith, length-append one two, n, m, few))
       ∙ ap (λ (b : Bool). overwrite old (one ++ cond b [] two)) (sym own)
 
--- a refusal is no listing
-apart : {f : Fault} {n k : ℕ} → Refused f ≡ Listed n k → ⊥
-apart e = let z : ◌≡◌ {A = ℕ} 0 1 = cc in omega (arith, z)
-
 -- ---- a boxed listing of checked paths
 abbrev pub boxed : (ℕ → ℕ → Look) → List Pair → List Float → List Float → List ℕ → List Float → BoxedOutcome
 boxed look ps index boxes indices points =
@@ -148,11 +142,11 @@ module _ (look : ℕ → ℕ → Look) (ps : List Pair) (index boxes : List Floa
 
   -- 17
   pub no_index : length boxes < length index → (f : Fault) → f ≡ whole Refusal.boxes Boxes
-      → LeavesBoxed (boxed look ps index boxes i₀ p₀) (Refused f) boxes i₀ p₀
+      → LeavesBoxed (boxed look ps index boxes i₀ p₀) (Err f) boxes i₀ p₀
   unfolding index_check refuse later
   no_index h f e =
       rw (lt-ltb _ _ h)
-      (record { listing = record { answer = ap Refused e; indices = refl; points = refl }; boxes = refl })
+      (record { listing = record { answer = ap Err e; indices = refl; points = refl }; boxes = refl })
 
   module _ (fits : length index ≤ length boxes) where
     -- only 8 is left
@@ -160,30 +154,30 @@ module _ (look : ℕ → ℕ → Look) (ps : List Pair) (index boxes : List Floa
     unfolding index_check refuse later
     left c = rw (le-ltb _ _ fits) (go c)
       where
-        go : (c : Checked) → later Fine (later c Fine) ≡ c
-        go Fine = refl
-        go (Bad f) = refl
+        go : (c : Checked) → later (Ok tt) (later c (Ok tt)) ≡ c
+        go (Ok _) = refl
+        go (Err f) = refl
 
     pub index-fits : boxed look ps index boxes i₀ p₀
         ≡ boxed_of (room_check rows i₀ p₀) rows (looked_at look ps) index boxes i₀ p₀
     index-fits =
         ap (λ (c : Checked). boxed_of c rows (looked_at look ps) index boxes i₀ p₀) (left (room_check rows i₀ p₀))
 
-    pub boxed-refused : (f : Fault) (r : ListingAnswer) (i : List ℕ) (p : List Float) → r ≡ Refused f
-        → Leaves (listed look ps i₀ p₀) r i p → LeavesBoxed (boxed look ps index boxes i₀ p₀) (Refused f) boxes i p
-    boxed-refused f r i p is h = rw index-fits (go (room_check rows i₀ p₀) (rw is at h))
+    pub boxed-refused : (f : Fault) (i : List ℕ) (p : List Float) → Leaves (listed look ps i₀ p₀) (Err f) i p
+        → LeavesBoxed (boxed look ps index boxes i₀ p₀) (Err f) boxes i p
+    boxed-refused f i p h = rw index-fits (go (room_check rows i₀ p₀) h)
       where
-        go : (c : Checked) → Leaves (listed_of c rows (looked_at look ps) i₀ p₀) (Refused f) i p
-            → LeavesBoxed (boxed_of c rows (looked_at look ps) index boxes i₀ p₀) (Refused f) boxes i p
-        go (Bad g) l = record { listing = l; boxes = refl }
-        go Fine l = absurd (apart l.answer)
+        go : (c : Checked) → Leaves (listed_of c rows (looked_at look ps) i₀ p₀) (Err f) i p
+            → LeavesBoxed (boxed_of c rows (looked_at look ps) index boxes i₀ p₀) (Err f) boxes i p
+        go (Err g) l = record { listing = l; boxes = refl }
+        go (Ok _) l = cc l.answer
 
-    pub boxed-listed : (n k : ℕ) (r : ListingAnswer) (b : List Float) (i : List ℕ) (p : List Float) → r ≡ Listed n k
-        → Leaves (listed look ps i₀ p₀) r i p → b ≡ overwrite boxes index
-        → LeavesBoxed (boxed look ps index boxes i₀ p₀) (Listed n k) b i p
-    boxed-listed n k r b i p is h e = rw index-fits (go (room_check rows i₀ p₀) (rw is at h))
+    pub boxed-listed : (counts : Counts) (b : List Float) (i : List ℕ) (p : List Float)
+        → Leaves (listed look ps i₀ p₀) (Ok counts) i p → b ≡ overwrite boxes index
+        → LeavesBoxed (boxed look ps index boxes i₀ p₀) (Ok counts) b i p
+    boxed-listed counts b i p h e = rw index-fits (go (room_check rows i₀ p₀) h)
       where
-        go : (c : Checked) → Leaves (listed_of c rows (looked_at look ps) i₀ p₀) (Listed n k) i p
-            → LeavesBoxed (boxed_of c rows (looked_at look ps) index boxes i₀ p₀) (Listed n k) b i p
-        go (Bad g) l = absurd (apart (sym l.answer))
-        go Fine l = record { listing = l; boxes = e }
+        go : (c : Checked) → Leaves (listed_of c rows (looked_at look ps) i₀ p₀) (Ok counts) i p
+            → LeavesBoxed (boxed_of c rows (looked_at look ps) index boxes i₀ p₀) (Ok counts) b i p
+        go (Err g) l = cc l.answer
+        go (Ok _) l = record { listing = l; boxes = e }

@@ -1,6 +1,6 @@
 -- The outcome of a listing of checked paths, from pages: all rows on one page; rows held back and then copied; rows held back,
 -- the rest counted and then filled in behind them; and too many rows.
-use Rattle.std.specs.Prelude.{◌≡◌, refl, Bool, true, false, List, ◌++◌, ℕ, ◌+◌, ◌-◌, ◌*◌, ◌≤◌, ◌<◌, Float, length}
+use Rattle.std.specs.Prelude.{◌≡◌, refl, Bool, true, false, List, ◌++◌, ℕ, ◌+◌, ◌-◌, ◌*◌, ◌≤◌, ◌<◌, Float, length, Err}
 use Rattle.std.proofs.Common.{sym, ◌∙◌, mul-le-mul, le_refl, add-mul, arith, le-ltb, lt-ltb, length-append}
 use Rattle.std.proofs.Math.Path.{ap}
 use Rattle.std.proofs.Math.Nat.{sub-zero}
@@ -34,8 +34,7 @@ use Rattle.listing_loop.specs.Laws.Pages.{
 }
 use Rattle.listing_loop.specs.Workings.Filling.{Filled}
 use Rattle.listing_loop.specs.Laws.Loop.{most_pairs, few-left, few-on-page}
-use Rattle.listing_outcomes.specs.declared.answer.ListingAnswer.{ListingAnswer}
-use Rattle.listing_outcomes.specs.declared.answer.ListingAnswer.TheVariants.{Refused, Listed}
+use Rattle.listing_outcomes.specs.Answer.{Listed, ListingAnswer}
 use Rattle.listing_outcomes.specs.Outcome.{Outcome, Leaves, overwrite, room, room_check, listed_of}
 use Rattle.listing_outcomes.specs.Laws.Overwrite.{sets_over, paste-over, paste_all, over-all, sets-beyond}
 
@@ -55,9 +54,9 @@ module _ (look : ℕ → ℕ → Look) (ps : List Pair) (i₀ : List ℕ) (p₀ 
 
   -- ---- refused, and listed
   pub is-refused : room i₀ p₀ < length rows → (i : List ℕ) (p : List Float) → i ≡ i₀ → p ≡ p₀
-      → (f : Fault) → f ≡ whole Refusal.rows Rows → Leaves (listed look ps i₀ p₀) (Refused f) i p
+      → (f : Fault) → f ≡ whole Refusal.rows Rows → Leaves (listed look ps i₀ p₀) (Err f) i p
   unfolding room_check refuse
-  is-refused h i p a b f e = rw (lt-ltb _ _ h) (record { answer = ap Refused e; indices = a; points = b })
+  is-refused h i p a b f e = rw (lt-ltb _ _ h) (record { answer = ap Err e; indices = a; points = b })
 
   pub is-listed : length rows ≤ room i₀ p₀ → (n k : ℕ) (i : List ℕ) (p : List Float) → n ≡ length rows → k ≡ looked_at look ps
       → i ≡ overwrite i₀ (numbers_of_rows indices_of rows) → p ≡ overwrite p₀ (numbers_of_rows points_of rows)
@@ -261,7 +260,7 @@ module _ {look : ℕ → ℕ → Look} {job : Job} {k : ℕ} {r : Filling} {a : 
 
     -- pairs remain after that page too
     pub behind-refused : empty behind.rest ≡ false → (x : List ℕ) (y : List Float) → x ≡ i₀ → y ≡ p₀
-        → (f : Fault) → f ≡ whole Refusal.rows Rows → Leaves (listed look ps i₀ p₀) (Refused f) x y
+        → (f : Fault) → f ≡ whole Refusal.rows Rows → Leaves (listed look ps i₀ p₀) (Err f) x y
     behind-refused e =
         let n = too_many look (joins look after (room i₀ p₀ - k) most) (few-left job r.i r.j) e in
         let l = length-append before.rows (rows_of look after) in

@@ -1,6 +1,7 @@
 -- The outcome of a page of checked paths, from what the loop leaves: the three refusals, and the rows filled in from the
 -- position on.
-use Rattle.std.specs.Prelude.{◌≡◌, false, true, ◌≢◌, List, [], ◌∷◌, ℕ, ◌+◌, ◌-◌, ◌*◌, ◌≤◌, ◌<◌, Float, length, drop}
+use Rattle.checks.specs.Checked.{Checked}
+use Rattle.std.specs.Prelude.{◌≡◌, false, true, ◌≢◌, List, [], ◌∷◌, ℕ, ◌+◌, ◌-◌, ◌*◌, ◌≤◌, ◌<◌, Float, length, drop, Ok, Err}
 use Rattle.std.proofs.Math.Path.{refl}
 use Rattle.std.proofs.Common.{sym, ap, ◌∙◌, mul-le-mul, le_refl, arith, le-ltb, lt-ltb, eq-eqb, ne_eqb, length-drop}
 use Rattle.std.proofs.Math.Nat.{sub-zero}
@@ -8,8 +9,6 @@ use Rattle.std.proofs.lemmas.List.Edits.{sets}
 use Rattle.checks.specs.declared.fault.Place.{Place}
 use Rattle.checks.specs.declared.fault.Fault.{Fault}
 use Rattle.checks.specs.declared.fault.Item.TheVariants.{Rows, Position, Budget}
-use Rattle.checks.specs.declared.fault.Checked.{Checked}
-use Rattle.checks.specs.declared.fault.Checked.TheVariants.{Fine}
 use Rattle.checks.specs.Fault.{at, bad, whole, refuse, later}
 use Rattle.checks.specs.First.{first as first_fault}
 use Rattle.checks.specs.Refusal
@@ -27,8 +26,7 @@ use Rattle.listing_loop.specs.declared.fill.Filling.{Filling}
 use Rattle.listing_loop.specs.Laws.Pages.{joins}
 use Rattle.listing_loop.specs.Workings.Filling.{Filled}
 use Rattle.listing_loop.specs.Laws.Loop.{most_pairs}
-use Rattle.listing_outcomes.specs.declared.answer.PageAnswer.{PageAnswer}
-use Rattle.listing_outcomes.specs.declared.answer.PageAnswer.TheVariants.{Refused, Paged}
+use Rattle.listing_outcomes.specs.Answer.{PageAnswer, Paged}
 use Rattle.listing_outcomes.specs.Outcome.{Outcome, Leaves, overwrite, room}
 use Rattle.listing_outcomes.specs.PageOutcome.{position_check, budget_check, row_check, limits, paged_of}
 use Rattle.listing_outcomes.specs.Laws.Overwrite.{sets_over}
@@ -40,15 +38,15 @@ in-first : (a b c : Checked) (n : ℕ) (p : Place) → a ≡ bad n p → first_f
 unfolding later
 in-first a b c n p e = rw e refl
 
-in-second : (a b c : Checked) (n : ℕ) (p : Place) → a ≡ Fine → b ≡ bad n p → first_fault (a ∷ b ∷ c ∷ []) ≡ bad n p
+in-second : (a b c : Checked) (n : ℕ) (p : Place) → a ≡ Ok tt → b ≡ bad n p → first_fault (a ∷ b ∷ c ∷ []) ≡ bad n p
 unfolding later
 in-second a b c n p e f = rw (e, f) refl
 
-in-third : (a b c : Checked) (n : ℕ) (p : Place) → a ≡ Fine → b ≡ Fine → c ≡ bad n p → first_fault (a ∷ b ∷ c ∷ []) ≡ bad n p
+in-third : (a b c : Checked) (n : ℕ) (p : Place) → a ≡ Ok tt → b ≡ Ok tt → c ≡ bad n p → first_fault (a ∷ b ∷ c ∷ []) ≡ bad n p
 unfolding later
 in-third a b c n p e f g = rw (e, f, g) refl
 
-in-none : (a b c : Checked) → a ≡ Fine → b ≡ Fine → c ≡ Fine → first_fault (a ∷ b ∷ c ∷ []) ≡ Fine
+in-none : (a b c : Checked) → a ≡ Ok tt → b ≡ Ok tt → c ≡ Ok tt → first_fault (a ∷ b ∷ c ∷ []) ≡ Ok tt
 unfolding later
 in-none a b c e f g = rw (e, f, g) refl
 
@@ -86,20 +84,20 @@ module _ (look : ℕ → ℕ → Look) (ps : List Pair) (position budget : ℕ) 
 
   -- what the first fault of the three checks is
   refused : (n : ℕ) (p : Place) → first_fault (limits position (length ps) budget i₀ p₀) ≡ bad n p
-      → (f : Fault) → f ≡ record { number = n; place = p } → is (Refused f) i₀ p₀
-  refused n p e f same = rw e (record { answer = ap Refused same; indices = refl; points = refl })
+      → (f : Fault) → f ≡ record { number = n; place = p } → is (Err f) i₀ p₀
+  refused n p e f same = rw e (record { answer = ap Err same; indices = refl; points = refl })
 
   is-beyond : length ps < position → position_check position (length ps) ≡ bad Refusal.position (at 0 0 Position)
   unfolding position_check refuse
   is-beyond h = rw (lt-ltb _ _ h) refl
 
-  pub beyond : length ps < position → (f : Fault) → f ≡ whole Refusal.position Position → is (Refused f) i₀ p₀
+  pub beyond : length ps < position → (f : Fault) → f ≡ whole Refusal.position Position → is (Err f) i₀ p₀
   beyond h =
       refused Refusal.position (at 0 0 Position)
       (in-first (position_check position (length ps)) (budget_check budget) (row_check i₀ p₀) _ _ (is-beyond h))
 
   module _ (within : position ≤ length ps) where
-    position-passes : position_check position (length ps) ≡ Fine
+    position-passes : position_check position (length ps) ≡ Ok tt
     unfolding position_check refuse
     position-passes = rw (le-ltb (length ps) position within) refl
 
@@ -107,13 +105,13 @@ module _ (look : ℕ → ℕ → Look) (ps : List Pair) (position budget : ℕ) 
     unfolding budget_check refuse
     budget-none e = rw (eq-eqb budget 0 e) refl
 
-    pub no-budget : budget ≡ 0 → (f : Fault) → f ≡ whole Refusal.budget Budget → is (Refused f) i₀ p₀
+    pub no-budget : budget ≡ 0 → (f : Fault) → f ≡ whole Refusal.budget Budget → is (Err f) i₀ p₀
     no-budget e =
         refused Refusal.budget (at 0 0 Budget)
         (in-second (position_check position (length ps)) (budget_check budget) (row_check i₀ p₀) _ _ position-passes (budget-none e))
 
     module _ (some : budget ≢ 0) where
-      budget-passes : budget_check budget ≡ Fine
+      budget-passes : budget_check budget ≡ Ok tt
       unfolding budget_check refuse
       budget-passes = rw (ne_eqb budget 0 some) refl
 
@@ -121,18 +119,18 @@ module _ (look : ℕ → ℕ → Look) (ps : List Pair) (position budget : ℕ) 
       unfolding row_check refuse
       row-none e = rw (eq-eqb (room i₀ p₀) 0 e) refl
 
-      pub no_row : room i₀ p₀ ≡ 0 → (f : Fault) → f ≡ whole Refusal.rows Rows → is (Refused f) i₀ p₀
+      pub no_row : room i₀ p₀ ≡ 0 → (f : Fault) → f ≡ whole Refusal.rows Rows → is (Err f) i₀ p₀
       no_row e =
           refused Refusal.rows (at 0 0 Rows)
           (in-third (position_check position (length ps)) (budget_check budget) (row_check i₀ p₀) _ _
           position-passes budget-passes (row-none e))
 
       module _ (fits : room i₀ p₀ ≢ 0) where
-        row-passes : row_check i₀ p₀ ≡ Fine
+        row-passes : row_check i₀ p₀ ≡ Ok tt
         unfolding row_check refuse
         row-passes = rw (ne_eqb (room i₀ p₀) 0 fits) refl
 
-        all_pass : first_fault (limits position (length ps) budget i₀ p₀) ≡ Fine
+        all_pass : first_fault (limits position (length ps) budget i₀ p₀) ≡ Ok tt
         all_pass =
             in-none (position_check position (length ps)) (budget_check budget) (row_check i₀ p₀)
             position-passes budget-passes row-passes

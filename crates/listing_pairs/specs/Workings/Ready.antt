@@ -1,10 +1,9 @@
 -- What a listing's loop needs of its paths: the pair call's check finds no fault in any pair. It follows from the checks of both
 -- paths.
-use Rattle.std.specs.Prelude.{◌≡◌, Bool, ◌&&◌, List, ℕ, ◌<◌, ◌≤◌, Float}
+use Rattle.std.specs.Prelude.{◌≡◌, Bool, ◌&&◌, List, ℕ, ◌<◌, ◌≤◌, Float, Ok}
 use Rattle.std.proofs.Math.Path.{refl}
 use Rattle.std.proofs.Common.{ap, ◌∙◌, arith}
 use Rattle.std.proofs.Math.Bool.{true, false, cond}
-use Rattle.checks.specs.declared.fault.Checked.TheVariants.{Fine}
 use Rattle.checks.specs.Each
 use Rattle.checks.specs.Calls.{check_pline_seg}
 use Rattle.arcs.specs.declared.pline_seg_intr.PlineSegIntr.{PlineSegIntr}
@@ -95,7 +94,7 @@ pub each-of-one : (path : List Float) (closed : Bool) (job : Job) → job.own �
 each-of-one path closed job = each-of-own path closed (segment_count path closed) job
 
 abbrev PairFine : Segment → Segment → Float → Type 0
-PairFine v u epsilon = check_pline_seg v.v1 v.v2 u.v1 u.v2 epsilon ≡ Fine
+PairFine v u epsilon = check_pline_seg v.v1 v.v2 u.v1 u.v2 epsilon ≡ Ok tt
 
 -- segment v with every segment of the second path
 pub record SegmentReady (v : Segment) (second : List Float) (job : Job) : Type 0 where
@@ -123,7 +122,7 @@ at-segment v first second job i ready h e =
 
 -- ---- what the checks of a listing show
 -- if two segments are fine, the pair call's check finds no fault in them
-pub pair-fine : (v u : Segment) (epsilon : Float) → Each.epsilon epsilon ≡ Fine → SegmentFine v → SegmentFine u
+pub pair-fine : (v u : Segment) (epsilon : Float) → Each.epsilon epsilon ≡ Ok tt → SegmentFine v → SegmentFine u
     → PairFine v u epsilon
 pair-fine v u epsilon e fv fu = look-fine v.v1 v.v2 u.v1 u.v2 epsilon e (sound v 0 fv) (sound u 1 fu)
   where
@@ -132,7 +131,7 @@ pair-fine v u epsilon e fv fu = look-fine v.v1 v.v2 u.v1 u.v2 epsilon e (sound v
 
 -- if both paths are fine, every pair is
 pub paths-ready : (first second : List Float) (first_closed second_closed : Bool) (job : Job)
-    → Each.epsilon job.epsilon ≡ Fine → PathFine first first_closed → PathFine second second_closed
+    → Each.epsilon job.epsilon ≡ Ok tt → PathFine first first_closed → PathFine second second_closed
     → job.n ≡ segment_count first first_closed → job.m ≡ segment_count second second_closed
     → Ready first second job
 paths-ready first second first_closed second_closed job e fv fu n m =

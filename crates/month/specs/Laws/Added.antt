@@ -1,5 +1,5 @@
 -- The words of what a listing adds to a report.
-use Rattle.std.specs.Prelude.{◌≡◌, refl, Bool, true, false, List, [], ◌∷◌, ltb, Float, drop, set}
+use Rattle.std.specs.Prelude.{◌≡◌, refl, Bool, true, false, List, [], ◌∷◌, ltb, Float, drop, set, Err, Ok}
 use Rattle.std.proofs.Math.Path.{ap}
 use Rattle.std.proofs.Common.{◌∙◌, arith, ltb-true, ltb-false, drop_of_length-le}
 use Prim.Native.Nat.{ℕ, zero, suc, ◌+◌, ◌-◌, ◌≤◌, ◌<◌}
@@ -13,8 +13,7 @@ use Rattle.listing_pairs.specs.Rows.{rows_of, looked_at}
 use Rattle.listing_pairs.specs.Look.{look, traced_look}
 use Rattle.listing_pairs.specs.Traces.{traced_pairs}
 use Rattle.listing_pairs.specs.TracedListing.{traced-rows}
-use Rattle.listing_outcomes.specs.declared.answer.ListingAnswer.{ListingAnswer}
-use Rattle.listing_outcomes.specs.declared.answer.ListingAnswer.TheVariants.{Refused, Listed}
+use Rattle.listing_outcomes.specs.Answer.{ListingAnswer}
 use Rattle.listing_outcomes.specs.Outcome.{Outcome}
 use Rattle.listing_calls.specs.Listing.{mutual_listing}
 use Rattle.listing_calls.specs.ChainedCalls.{mutual-looked}
@@ -54,8 +53,8 @@ accepted-else rows looked k far =
 -- either adds one layout
 pub adds-one-layout : (a : ListingAnswer) (rows : List Row) → word (adds a rows) layouts ≡ 1
 unfolding accepted_adds
-adds-one-layout (Refused f) rows = refused-layout f.number
-adds-one-layout (Listed n looked) rows = refl
+adds-one-layout (Err f) rows = refused-layout f.number
+adds-one-layout (Ok counts) rows = refl
 
 -- of the pairs ps of two paths, taken by traces
 module _ (first second : List Float) (epsilon : Float) (ps : List Pair) where
@@ -111,11 +110,11 @@ module _ (first : List Float) (first_closed : Bool) (second : List Float) (secon
     where
       go : (a : ListingAnswer) → (mutual_listing first first_closed second second_closed epsilon indices points).answer ≡ a
           → Adds (adds a (mutual_rows first first_closed second second_closed epsilon))
-      go (Refused f) e = refused-small f.number
-      go (Listed n looked) e =
-          let is = mutual-counts first first_closed second second_closed epsilon indices points n looked e in
+      go (Err f) e = refused-small f.number
+      go (Ok counts) e =
+          let is = mutual-counts first first_closed second second_closed epsilon indices points counts.rows counts.pairs e in
           let ps = mutual_pairs (segment_count first first_closed) (segment_count second second_closed) in
-          accepted-small (mutual_rows first first_closed second second_closed epsilon) looked
+          accepted-small (mutual_rows first first_closed second second_closed epsilon) counts.pairs
           (omega (arith, is.1, rows-looked (traced_look first second epsilon) ps))
           (omega (arith, is.1, few-looked-at first first_closed second second_closed epsilon indices points))
 

@@ -1,5 +1,5 @@
 -- The three cases of a counted listing as equations, and which of them an answer tells; for any listing.
-use Rattle.std.specs.Prelude.{◌≡◌, Bool, true, false, List, ℕ, ◌≤◌, ◌<◌, ltb, Float, length}
+use Rattle.std.specs.Prelude.{◌≡◌, Bool, true, false, List, ℕ, ◌≤◌, ◌<◌, ltb, Float, length, Err, Ok}
 use Rattle.std.proofs.Math.Path.{refl}
 use Rattle.std.proofs.Common.{sym, ap, ◌∙◌, arith, lt-ltb, le-ltb, ltb-true, ltb-false}
 use Rattle.checks.specs.declared.fault.Item.TheVariants.{Report}
@@ -7,23 +7,26 @@ use Rattle.checks.specs.declared.fault.Fault.{Fault}
 use Rattle.checks.specs.Fault.{whole, refuse}
 use Rattle.checks.specs.Refusal
 use Rattle.listing_pairs.specs.declared.row.Row.{Row}
-use Rattle.listing_outcomes.specs.declared.answer.ListingAnswer.{ListingAnswer}
-use Rattle.listing_outcomes.specs.declared.answer.ListingAnswer.TheVariants.{Refused, Listed}
+use Rattle.listing_outcomes.specs.Answer.{Listed, ListingAnswer}
 use Rattle.listing_outcomes.specs.Outcome.{Outcome}
-use Rattle.month.specs.declared.mutual_counted.CountedAnswer.TheVariants.{NoRoom, Answered}
+use Rattle.checks.specs.declared.call.CallError.TheVariants.{NoRoom}
 use Rattle.month.specs.Report.{words, full, plus}
-use Rattle.month.specs.Counted.{CountedOutcome, adds, unchanged, counted, report_check, counted_listing}
+use Rattle.month.specs.Counted.{CountedOutcome, adds, unchanged, counted, report_check, counted_listing, Answered, CountedAnswer}
 
 pub same_answer : {a b : ListingAnswer} → Answered a ≡ Answered b → a ≡ b
-same_answer e = cc
+same_answer {a = Err f} {b = Err g} e = cc
+same_answer {a = Err f} {b = Ok d} e = cc
+same_answer {a = Ok c} {b = Err g} e = cc
+same_answer {a = Ok c} {b = Ok d} e = cc
 
-pub room-told : {a : ListingAnswer} → NoRoom ≡ Answered a → ⊥
-room-told e = let z : ◌≡◌ {A = ℕ} 0 1 = cc in omega (arith, z)
+pub room-told : (a : ListingAnswer) → ◌≡◌ {A = CountedAnswer} (Err NoRoom) (Answered a) → ⊥
+room-told (Err f) e = cc
+room-told (Ok c) e = cc
 
-pub kinds-differ : {f : Fault} {k m : ℕ} → Refused f ≡ Listed k m → ⊥
+pub kinds-differ : {f : Fault} {k m : ℕ} → Err f ≡ Listed k m → ⊥
 kinds-differ e = let z : ◌≡◌ {A = ℕ} 0 1 = cc in omega (arith, z)
 
-pub same-fault : {f g : Fault} → Refused f ≡ Refused g → f ≡ g
+pub same-fault : {f g : Fault} → ◌≡◌ {A = ListingAnswer} (Err f) (Err g) → f ≡ g
 same-fault e = cc
 
 module _ (listing : Outcome ListingAnswer) (rows : List Row) (indices : List ℕ) (points : List Float) (report : List ℕ) where
@@ -31,12 +34,12 @@ module _ (listing : Outcome ListingAnswer) (rows : List Row) (indices : List ℕ
   o = counted_listing listing rows indices points report
 
   pub no-room-is : length report < words
-      → counted_listing listing rows indices points report ≡ unchanged NoRoom indices points report
+      → counted_listing listing rows indices points report ≡ unchanged (Err NoRoom) indices points report
   no-room-is h = rw (lt-ltb (length report) words h) refl
 
   pub full_is : words ≤ length report → full report ≡ true
       → counted_listing listing rows indices points report
-      ≡ unchanged (Answered (Refused (whole Refusal.report Report))) indices points report
+      ≡ unchanged (Answered (Err (whole Refusal.report Report))) indices points report
   unfolding report_check refuse
   full_is long e = rw (le-ltb (length report) words long, e) refl
 
@@ -53,7 +56,7 @@ module _ (listing : Outcome ListingAnswer) (rows : List Row) (indices : List ℕ
     pub sum : (counted_listing listing rows indices points report).report ≡ plus report (adds a rows)
 
   told : (a : ListingAnswer) → o.listing.answer ≡ Answered a
-      → (a ≡ Refused (whole Refusal.report Report) → ⊥) → Told a
+      → (a ≡ Err (whole Refusal.report Report) → ⊥) → Told a
   told a e other =
       go (ltb (length report) words) (ltb-true (length report) words) (ltb-false (length report) words) (full report) refl
     where
@@ -73,7 +76,7 @@ module _ (listing : Outcome ListingAnswer) (rows : List Row) (indices : List ℕ
       go : (t : Bool) → (t ≡ true → length report < words) → (t ≡ false → words ≤ length report)
           → (b : Bool) → full report ≡ b → Told a
       go true short long b f =
-          absurd (room-told (sym (ap (λ (x : CountedOutcome). x.listing.answer) (no-room-is (short refl))) ∙ e))
+          absurd (room-told a (sym (ap (λ (x : CountedOutcome). x.listing.answer) (no-room-is (short refl))) ∙ e))
       go false short long true f =
           absurd (other
           (sym (same_answer (sym (ap (λ (x : CountedOutcome). x.listing.answer) (full_is (long refl) f)) ∙ e))))
@@ -85,6 +88,6 @@ module _ (listing : Outcome ListingAnswer) (rows : List Row) (indices : List ℕ
   told-listed n looked e = told (Listed n looked) e (λ x. kinds-differ (sym x))
 
   pub told-refused : (f : Fault)
-      → (counted_listing listing rows indices points report).listing.answer ≡ Answered (Refused f)
-      → (f.number ≡ Refusal.report → ⊥) → Told (Refused f)
-  told-refused f e other = told (Refused f) e (λ x. other (ap (λ (g : Fault). g.number) (same-fault x)))
+      → (counted_listing listing rows indices points report).listing.answer ≡ Answered (Err f)
+      → (f.number ≡ Refusal.report → ⊥) → Told (Err f)
+  told-refused f e other = told (Err f) e (λ x. other (ap (λ (g : Fault). g.number) (same-fault x)))

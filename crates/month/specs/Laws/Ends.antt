@@ -1,34 +1,30 @@
 -- The ends of a join and of a counted listing: no room, 19, or what is added.
-use Rattle.std.specs.Prelude.{◌≡◌, Bool, cond, ◌||◌, List, ℕ, ◌<◌, ◌≤◌, ltb, Float, length, take}
+use Rattle.checks.specs.Checked.{Checked}
+use Rattle.std.specs.Prelude.{◌≡◌, Bool, cond, ◌||◌, List, ℕ, ◌<◌, ◌≤◌, ltb, Float, length, take, Err, Ok}
 use Rattle.std.proofs.Math.Path.{refl, ap}
 use Rattle.std.proofs.Common.{sym, ◌∙◌}
 use Rattle.std.proofs.Math.Bool.{true, false}
 use borrow.Author.Tests.{lt-ltb, le-ltb}
 use Rattle.checks.specs.declared.fault.Item.TheVariants.{Report}
 use Rattle.checks.specs.declared.fault.Fault.{Fault}
-use Rattle.checks.specs.declared.fault.Checked.{Checked}
-use Rattle.checks.specs.declared.fault.Checked.TheVariants.{Fine, Bad}
 use Rattle.checks.specs.Fault.{at, whole, refuse}
 use Rattle.checks.specs.Refusal
-use Rattle.month.specs.declared.join.JoinAnswer.{JoinAnswer}
-use Rattle.month.specs.declared.join.JoinAnswer.TheVariants as joins
-use Rattle.listing_outcomes.specs.declared.answer.ListingAnswer.{ListingAnswer}
-use Rattle.listing_outcomes.specs.declared.answer.ListingAnswer.TheVariants.{Refused}
+use Rattle.listing_outcomes.specs.Answer.{ListingAnswer}
 use Rattle.listing_outcomes.specs.Outcome.{Outcome, Leaves}
+use Rattle.checks.specs.declared.call.CallError.TheVariants.{NoRoom, Refused}
 use Rattle.listing_calls.specs.Listing.{mutual_listing}
-use Rattle.month.specs.declared.mutual_counted.CountedAnswer.TheVariants.{NoRoom, Answered}
 use Rattle.month.specs.Report.{words, full, plus}
-use Rattle.month.specs.Counted.{LeavesCounted, adds, counted, counted_of, report_check, mutual_rows, mutual_counted}
-use Rattle.month.specs.Join.{JoinOutcome, LeavesJoin, too_much, join_check, joined_of, join}
+use Rattle.month.specs.Counted.{LeavesCounted, adds, counted, counted_of, report_check, mutual_rows, mutual_counted, Answered}
+use Rattle.month.specs.Join.{JoinOutcome, LeavesJoin, too_much, join_check, joined_of, join, JoinAnswer}
 
 -- ---- a join
 module _ (into other : List ℕ) where
-  pub join-no-room : length into < words → LeavesJoin (join into other) joins.NoRoom into
+  pub join-no-room : length into < words → LeavesJoin (join into other) (Err NoRoom) into
   unfolding join
   join-no-room h = rw (lt-ltb (length into) words h) (record { answer = refl; into = refl })
 
   module _ (long : words ≤ length into) where
-    pub join-no-room-there : length other < words → LeavesJoin (join into other) joins.NoRoom into
+    pub join-no-room-there : length other < words → LeavesJoin (join into other) (Err NoRoom) into
     unfolding join
     join-no-room-there h =
         rw (le-ltb (length into) words long, lt-ltb (length other) words h) (record { answer = refl; into = refl })
@@ -41,13 +37,13 @@ module _ (into other : List ℕ) where
           (ap (λ (c : Bool). joined_of (refuse c Refusal.report (at 0 0 Report)) into other) (sym is ∙ e))
 
       pub join-refused : test ≡ true → (fault : Fault) → fault ≡ whole Refusal.report Report
-          → LeavesJoin (join into other) (joins.Refused fault) into
+          → LeavesJoin (join into other) (Err (Refused fault)) into
       unfolding refuse
       join-refused e fault told =
-          rw (checked true e) (record { answer = ap joins.Refused told; into = refl })
+          rw (checked true e) (record { answer = ap (λ (f : Fault). Err (Refused f)) told; into = refl })
 
       pub join-joined : test ≡ false → (now : List ℕ) → now ≡ plus into (take words other)
-          → LeavesJoin (join into other) joins.Joined now
+          → LeavesJoin (join into other) (Ok tt) now
       unfolding refuse
       join-joined e now sum = rw (checked false e) (record { answer = refl; into = sum })
 
@@ -58,7 +54,7 @@ module _ (first : List Float) (first_closed : Bool) (second : List Float) (secon
   listing = mutual_listing first first_closed second second_closed epsilon indices points
 
   pub counted-no-room : length report < words
-      → LeavesCounted (mutual_counted first first_closed second second_closed epsilon indices points report) NoRoom indices points report
+      → LeavesCounted (mutual_counted first first_closed second second_closed epsilon indices points report) (Err NoRoom) indices points report
   unfolding mutual_counted
   counted-no-room h =
       rw (lt-ltb (length report) words h)
@@ -78,12 +74,12 @@ module _ (first : List Float) (first_closed : Bool) (second : List Float) (secon
 
     pub counted-full : test ≡ true → (fault : Fault) → fault ≡ whole Refusal.report Report
         → LeavesCounted (mutual_counted first first_closed second second_closed epsilon indices points report)
-        (Answered (Refused fault)) indices points report
+        (Answered (Err fault)) indices points report
     unfolding refuse
     counted-full e fault told =
         rw (checked-report true e)
         (record {
-          listing = record { answer = ap (λ (f : Fault). Answered (Refused f)) told; indices = refl; points = refl };
+          listing = record { answer = ap (λ (f : Fault). Answered (Err f)) told; indices = refl; points = refl };
           report = refl;
         })
 

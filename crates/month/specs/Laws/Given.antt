@@ -1,5 +1,6 @@
 -- A mutual listing refuses with no other number than those of Given.antt: check by check.
-use Rattle.std.specs.Prelude.{◌≡◌, Bool, cond, ◌||◌, List, [], ◌∷◌, ◌++◌, ℕ, zero, suc, ◌+◌, ◌<◌, eqb, Float}
+use Rattle.checks.specs.Checked.{Checked}
+use Rattle.std.specs.Prelude.{◌≡◌, Bool, cond, ◌||◌, List, [], ◌∷◌, ◌++◌, ℕ, zero, suc, ◌+◌, ◌<◌, eqb, Float, Err, Ok}
 use Rattle.std.proofs.Math.Path.{refl}
 use Rattle.std.proofs.Common.{sym, ap, subst, ◌∙◌, true≢false, arith, eqb-true}
 use Rattle.std.proofs.Math.Bool.{true, false}
@@ -7,8 +8,6 @@ use Rattle.plane.specs.PlineVertex.{bulge_is_zero}
 use Rattle.plane.specs.declared.pline_vertex.PlineVertex.{PlineVertex}
 use Rattle.checks.specs.declared.fault.Place.{Place}
 use Rattle.checks.specs.declared.fault.Fault.{Fault}
-use Rattle.checks.specs.declared.fault.Checked.{Checked}
-use Rattle.checks.specs.declared.fault.Checked.TheVariants.{Fine, Bad}
 use Rattle.checks.specs.Fault.{refuse, later}
 use Rattle.checks.specs.Arc.{arc_chord}
 use Rattle.checks.specs.Each
@@ -27,30 +26,30 @@ use Rattle.month.specs.Given.{among, given}
 
 -- a check that is fine, or whose fault has one of the numbers
 pub record Known (c : Checked) : Type 0 where
-  pub known : (f : Fault) → c ≡ Bad f → among f.number given ≡ true
+  pub known : (f : Fault) → c ≡ Err f → among f.number given ≡ true
 
-pub fine : Known Fine
+pub fine : Known (Ok tt)
 fine = record { known = λ f e. absurd (never e) }
   where
     is-bad : Checked → Bool
-    is-bad Fine = false
-    is-bad (Bad g) = true
+    is-bad (Ok _) = false
+    is-bad (Err g) = true
 
-    never : {f : Fault} → Fine ≡ Bad f → ⊥
+    never : {f : Fault} → ◌≡◌ {A = Checked} (Ok tt) (Err f) → ⊥
     never {f} e = true≢false (sym (ap is-bad e))
 
 pub refused : (test : Bool) (n : ℕ) (p : Place) → among n given ≡ true → Known (refuse test n p)
 unfolding refuse
 refused true n p h = record { known = λ f e. ap (λ (m : ℕ). among m given) (same e) ∙ h }
   where
-    same : {n : ℕ} {p : Place} {f : Fault} → Bad (record { number = n; place = p }) ≡ Bad f → f.number ≡ n
+    same : {n : ℕ} {p : Place} {f : Fault} → ◌≡◌ {A = Checked} (Err (record { number = n; place = p })) (Err f) → f.number ≡ n
     same e = cc
 refused false n p h = fine
 
 both : (a b : Checked) → Known a → Known b → Known (later a b)
 unfolding later
-both Fine b ha hb = hb
-both (Bad f) b ha hb = ha
+both (Ok _) b ha hb = hb
+both (Err f) b ha hb = ha
 
 pub and : {a b : Checked} → Known a → Known b → Known (later a b)
 and {a} {b} = both a b
@@ -80,7 +79,7 @@ module _ (x : Float) (p : Place) where
   unfolding Each.trace Each.finite_then
   trace = and finite (refused _ Refusal.trace p refl)
 
-  chord : (is-line : Bool) → Known (cond is-line Fine (Each.chord x p))
+  chord : (is-line : Bool) → Known (cond is-line (Ok tt) (Each.chord x p))
   unfolding Each.chord
   chord true = fine
   chord false = refused _ Refusal.chord p refl

@@ -1,5 +1,5 @@
 -- What a join tells that was not refused, and the first layouts of two lists.
-use Rattle.std.specs.Prelude.{◌≡◌, Bool, cond, ◌||◌, List, [], ◌∷◌, ◌++◌, ℕ, zero, suc, ◌+◌, ◌≤◌, ◌<◌, ltb, length, take}
+use Rattle.std.specs.Prelude.{◌≡◌, Bool, cond, ◌||◌, List, [], ◌∷◌, ◌++◌, ℕ, zero, suc, ◌+◌, ◌≤◌, ◌<◌, ltb, length, take, Err, Ok}
 use Rattle.std.proofs.Math.Path.{refl}
 use Rattle.std.proofs.Common.{sym, ap, ◌∙◌, arith}
 use Rattle.std.proofs.Math.Bool.{true, false}
@@ -8,26 +8,25 @@ use Rattle.checks.specs.declared.fault.Item.TheVariants.{Report}
 use Rattle.checks.specs.declared.fault.Fault.{Fault}
 use Rattle.checks.specs.Fault.{whole, refuse}
 use Rattle.checks.specs.Refusal
-use Rattle.month.specs.declared.join.JoinAnswer.{JoinAnswer}
-use Rattle.month.specs.declared.join.JoinAnswer.TheVariants.{NoRoom, Refused, Joined}
 use Rattle.month.specs.Report.{words, layouts, most_layouts, largest, word, some_above, plus}
-use Rattle.month.specs.Join.{JoinOutcome, too_much, join_check, joined_of, join}
+use Rattle.month.specs.Join.{JoinOutcome, too_much, join_check, joined_of, join, JoinAnswer}
+use Rattle.checks.specs.declared.call.CallError.TheVariants.{NoRoom, Refused}
 
 -- ---- the three cases
 module _ (into other : List ℕ) where
   pub short-is : (ltb (length into) words || ltb (length other) words) ≡ true
-      → join into other ≡ record { answer = NoRoom; into = into }
+      → join into other ≡ record { answer = Err NoRoom; into = into }
   unfolding join
   short-is e = rw e refl
 
   module _ (long : (ltb (length into) words || ltb (length other) words) ≡ false) where
     pub much-is : too_much into other ≡ true
-        → join into other ≡ record { answer = Refused (whole Refusal.report Report); into = into }
+        → join into other ≡ record { answer = Err (Refused (whole Refusal.report Report)); into = into }
     unfolding join join_check refuse
     much-is e = rw (long, e) refl
 
     pub joined_is : too_much into other ≡ false
-        → join into other ≡ record { answer = Joined; into = plus into (take words other) }
+        → join into other ≡ record { answer = Ok tt; into = plus into (take words other) }
     unfolding join join_check refuse
     joined_is e = rw (long, e) refl
 
@@ -35,10 +34,10 @@ module _ (into other : List ℕ) where
     pub few : word into layouts + word other layouts ≤ most_layouts
     pub sum : (join into other).into ≡ plus into (take words other)
 
-  room-or : NoRoom ≡ Joined → ⊥
+  room-or : ◌≡◌ {A = JoinAnswer} (Err NoRoom) (Ok tt) → ⊥
   room-or e = let z : ◌≡◌ {A = ℕ} 0 1 = cc in omega (arith, z)
 
-  refused-or : {f : Fault} → Refused f ≡ Joined → ⊥
+  refused-or : {f : Fault} → ◌≡◌ {A = JoinAnswer} (Err (Refused f)) (Ok tt) → ⊥
   refused-or e = let z : ◌≡◌ {A = ℕ} 0 1 = cc in omega (arith, z)
 
   few-layouts : too_much into other ≡ false → word into layouts + word other layouts ≤ most_layouts
@@ -52,7 +51,7 @@ module _ (into other : List ℕ) where
       first-no true b e = e
       first-no false b e = refl
 
-  pub joined-told : (join into other).answer ≡ Joined → Told
+  pub joined-told : (join into other).answer ≡ Ok tt → Told
   joined-told e = go (ltb (length into) words || ltb (length other) words) refl (too_much into other) refl
     where
       go : (s : Bool) → (ltb (length into) words || ltb (length other) words) ≡ s

@@ -1,14 +1,13 @@
 -- What a mutual listing adds to a report: few enough that no sum passes 64 bits, and the same whether it is read from the rows
 -- that were written or from the definition's rows.
+use Rattle.checks.specs.Checked.{Checked}
 use Rattle.std.proofs.Math.Path.{◌≡◌, sym}
-use Rattle.std.specs.Prelude.{refl, Bool, true, false, ◌||◌, List, [], ◌∷◌, ◌++◌, ℕ, zero, suc, ◌+◌, ◌-◌, ◌*◌, ◌≤◌, ◌<◌, eqb, leb, Float, get_or, take, drop, set, replicate}
+use Rattle.std.specs.Prelude.{refl, Bool, true, false, ◌||◌, List, [], ◌∷◌, ◌++◌, ℕ, zero, suc, ◌+◌, ◌-◌, ◌*◌, ◌≤◌, ◌<◌, eqb, leb, Float, get_or, take, drop, set, replicate, Err, Ok}
 use Rattle.std.proofs.Common.{ap, subst, ◌∙◌, zero-le, mul-le-mul, arith, leb-false, length-set, take_all, get_or-take, get_or-drop}
 use Rattle.std.proofs.Math.ListN.{length}
 use Rattle.std.proofs.lemmas.List.Edits.{sets}
 use Rattle.std.proofs.Math.Seq.{length-sets, slice, length-slice}
 use Rattle.checks.specs.declared.fault.Fault.{Fault}
-use Rattle.checks.specs.declared.fault.Checked.{Checked}
-use Rattle.checks.specs.declared.fault.Checked.TheVariants.{Fine, Bad}
 use Rattle.checks.specs.First.{first as first_fault}
 use Rattle.paths.specs.Path.{most_vertices}
 use Rattle.paths.specs.Segments.{segment_count}
@@ -22,9 +21,9 @@ use Rattle.listing_pairs.specs.Rows.{onto, count, rows_of, looked_at}
 use Rattle.listing_pairs.specs.Look.{traced_look}
 use Rattle.listing_pairs.specs.Laws.Order.{few-pairs}
 use Rattle.listing_loop.specs.Laws.Pages.{few-looked}
-use Rattle.listing_outcomes.specs.declared.answer.ListingAnswer.{ListingAnswer}
-use Rattle.listing_outcomes.specs.declared.answer.ListingAnswer.TheVariants.{Refused, Listed}
+use Rattle.listing_outcomes.specs.Answer.{Listed, ListingAnswer}
 use Rattle.listing_outcomes.specs.Outcome.{Outcome, Leaves, room, room_check, listed_of, outcome}
+use Rattle.listing_outcomes.specs.Laws.Counts.{same-rows, same-pairs}
 use Rattle.listing_calls.specs.Listing.{mutual_checks, mutual_listing}
 use Rattle.listing_calls.specs.Laws.Counts.{mutual-fits}
 use Rattle.month.specs.Report.{
@@ -168,7 +167,7 @@ rows-looked f (p ∷ ps) = go (f p.i p.j) (rows-looked f ps)
     go Nothing h = omega (arith, h)
     go (Made r) h = omega (arith, h)
 
-never : {f : Fault} {k m : ℕ} → Refused f ≡ Listed k m → ⊥
+never : {f : Fault} {k m : ℕ} → Err f ≡ Listed k m → ⊥
 never e = let z : ◌≡◌ {A = ℕ} 0 1 = cc in omega (arith, z)
 
 -- ---- what is read from the rows that were written is what the definition adds
@@ -176,8 +175,8 @@ pub same-adds : (c : Checked) (rows : List Row) (looked : ℕ) (i : List ℕ) (p
     → adds_by (listed_of c rows looked i p).answer (listed_of c rows looked i p).indices
     ≡ adds (listed_of c rows looked i p).answer rows
 unfolding listed_adds accepted_adds
-same-adds (Bad fault) rows looked i p = refl
-same-adds Fine rows looked i p =
+same-adds (Err fault) rows looked i p = refl
+same-adds (Ok _) rows looked i p =
     let rest = drop (length (numbers_of_rows indices_of rows)) i in
     rw (
       written-class 1 rows rest,
@@ -218,22 +217,22 @@ module _ (first : List Float) (first_closed : Bool) (second : List Float) (secon
 
   -- its number is one of those that are given
   pub mutual-given : (fault : Fault)
-      → (mutual_listing first first_closed second second_closed epsilon i₀ p₀).answer ≡ Refused fault
+      → (mutual_listing first first_closed second second_closed epsilon i₀ p₀).answer ≡ Err fault
       → among fault.number given ≡ true
   unfolding mutual_listing outcome
   mutual-given fault =
       go found (mutual-known first first_closed second second_closed epsilon (rows_of f ps) i₀ p₀) fault
     where
-      other : {f : Fault} {k m : ℕ} → Listed k m ≡ Refused f → ⊥
+      other : {f : Fault} {k m : ℕ} → Listed k m ≡ Err f → ⊥
       other e = let z : ◌≡◌ {A = ℕ} 0 1 = sym cc in omega (arith, z)
 
-      same : {f g : Fault} → Refused f ≡ Refused g → f ≡ g
+      same : {f g : Fault} → ◌≡◌ {A = ListingAnswer} (Err f) (Err g) → f ≡ g
       same e = cc
 
       go : (c : Checked) → Known c → (fault : Fault)
-          → (listed_of c (rows_of f ps) (looked_at f ps) i₀ p₀).answer ≡ Refused fault → among fault.number given ≡ true
-      go Fine k fault e = absurd (other e)
-      go (Bad g) k fault e = k.known fault (ap Bad (same e))
+          → (listed_of c (rows_of f ps) (looked_at f ps) i₀ p₀).answer ≡ Err fault → among fault.number given ≡ true
+      go (Ok _) k fault e = absurd (other e)
+      go (Err g) k fault e = k.known fault (ap Err (same e))
 
   pub mutual-counts : (rows looked : ℕ)
       → (mutual_listing first first_closed second second_closed epsilon i₀ p₀).answer ≡ Listed rows looked
@@ -243,8 +242,8 @@ module _ (first : List Float) (first_closed : Bool) (second : List Float) (secon
     where
       go : (c : Checked) → (listed_of c (rows_of f ps) (looked_at f ps) i₀ p₀).answer ≡ Listed rows looked
           → (rows ≡ length (rows_of f ps)) × (looked ≡ looked_at f ps)
-      go Fine e = (cc, cc)
-      go (Bad g) e = absurd (never e)
+      go (Ok _) e = (sym (same-rows e), sym (same-pairs e))
+      go (Err g) e = absurd (never e)
 
   pub mutual-countable : (report : List ℕ) → words ≤ length report → full report ≡ false
       → (a : ListingAnswer) (i : List ℕ) (p : List Float)

@@ -1,6 +1,6 @@
 -- The words of what a run adds: the classes, and the refusals. First for layouts of any kind; then that the layouts of the old
 -- mode are such a kind.
-use Rattle.std.specs.Prelude.{◌≡◌, Bool, true, false, cond, ◌⊎◌, List, [], ◌∷◌, eqb, Float, length, drop, replicate, set}
+use Rattle.std.specs.Prelude.{◌≡◌, Bool, true, false, cond, ◌⊎◌, List, [], ◌∷◌, eqb, Float, length, drop, replicate, set, Err, Ok}
 use Rattle.std.proofs.Math.Path.{refl}
 use Rattle.std.proofs.Common.{sym, ap, ◌∙◌, true≢false, inl, inr, arith, eqb-true, length-drop}
 use Prim.Native.Nat.{ℕ, zero, suc, ◌+◌, ◌-◌, ◌≤◌, ◌<◌}
@@ -14,8 +14,7 @@ use Rattle.listing_pairs.specs.Rows.{rows_of, looked_at}
 use Rattle.listing_pairs.specs.Look.{traced_look}
 use Rattle.listing_pairs.specs.Traces.{one_trace, traced_pairs}
 use Rattle.listing_pairs.specs.Laws.Order.{lt-or-le}
-use Rattle.listing_outcomes.specs.declared.answer.ListingAnswer.{ListingAnswer}
-use Rattle.listing_outcomes.specs.declared.answer.ListingAnswer.TheVariants.{Refused, Listed}
+use Rattle.listing_outcomes.specs.Answer.{Listed, ListingAnswer}
 use Rattle.listing_outcomes.specs.Outcome.{Outcome}
 use Rattle.listing_calls.specs.Listing.{mutual_listing}
 use Rattle.month.specs.Report.{words, layouts, pairs, classes, refusals, refusal_numbers, fresh, word, plus}
@@ -38,7 +37,7 @@ module _ {L : Type 0} {after : List ℕ → L → List ℕ} {answer : L → List
   its-six = go (answer l) refl
     where
       go : (a : ListingAnswer) → answer l ≡ a → six_classes (adds a (rows l)) ≡ if_accepted a (pairs_of l)
-      go (Refused f) e =
+      go (Err f) e =
           let none : (k : ℕ) → (k ≡ layouts → ⊥) → k < refusals → word (refused_adds f.number) k ≡ 0 =
           λ k p q. refused-else f.number k p (λ x. omega (arith, x, q)) in
           omega (
@@ -50,20 +49,20 @@ module _ {L : Type 0} {after : List ℕ → L → List ℕ} {answer : L → List
             none 6 (λ x. omega (arith, x)) (omega arith),
             none 7 (λ x. omega (arith, x)) (omega arith),
           )
-      go (Listed count looked) e = kind.six l count looked e
+      go (Ok counts) e = kind.six l counts.rows counts.pairs e
 
   pub its-pairs : word (adds (answer l) (rows l)) pairs ≡ if_accepted (answer l) (pairs_of l)
   its-pairs = go (answer l) refl
     where
       go : (a : ListingAnswer) → answer l ≡ a → word (adds a (rows l)) pairs ≡ if_accepted a (pairs_of l)
-      go (Refused f) e = refused-else f.number pairs (λ x. omega (arith, x)) (λ x. omega (arith, x))
-      go (Listed count looked) e = kind.all l count looked e
+      go (Err f) e = refused-else f.number pairs (λ x. omega (arith, x)) (λ x. omega (arith, x))
+      go (Ok counts) e = kind.all l counts.rows counts.pairs e
 
   pub its-refusal : (k : ℕ) → k < refusal_numbers → word (adds (answer l) (rows l)) (refusals + k) ≡ refused_with k (answer l)
   its-refusal k h = go (answer l) refl
     where
       go : (a : ListingAnswer) → answer l ≡ a → word (adds a (rows l)) (refusals + k) ≡ refused_with k a
-      go (Refused f) e = by (eqb f.number k) (eqb-true f.number k) (eqb-false f.number k)
+      go (Err f) e = by (eqb f.number k) (eqb-true f.number k) (eqb-false f.number k)
         where
           by : (b : Bool) → (b ≡ true → f.number ≡ k) → (b ≡ false → f.number ≡ k → ⊥)
               → word (refused_adds f.number) (refusals + k) ≡ cond b 1 0
@@ -75,7 +74,7 @@ module _ {L : Type 0} {after : List ℕ → L → List ℕ} {answer : L → List
             where
               same : (n : ℕ) → refusals + k ≡ refusals + n → n ≡ k
               same n x = omega (arith, x)
-      go (Listed count looked) e = accepted-else (rows l) looked (refusals + k) (omega arith)
+      go (Ok counts) e = accepted-else (rows l) counts.pairs (refusals + k) (omega arith)
 
   pub its-refusals : sum_words (drop refusals (adds (answer l) (rows l))) ≡ refused (answer l)
   unfolding refused_adds accepted_adds
@@ -94,20 +93,20 @@ module _ {L : Type 0} {after : List ℕ → L → List ℕ} {answer : L → List
       of-refused n h = ap sum_words (drop-set-add refusals (set fresh layouts 1) n 1) ∙ marked refusal_numbers n h
 
       go : (a : ListingAnswer) → answer l ≡ a → sum_words (drop refusals (adds a (rows l))) ≡ refused a
-      go (Refused f) e = of-refused f.number (given_below f.number (kind.known l f e))
-      go (Listed count looked) e = refl
+      go (Err f) e = of-refused f.number (given_below f.number (kind.known l f e))
+      go (Ok counts) e = refl
 
   pub not-given : (k : ℕ) → among k given ≡ false → refused_with k (answer l) ≡ 0
   not-given k h = go (answer l) refl
     where
       go : (a : ListingAnswer) → answer l ≡ a → refused_with k a ≡ 0
-      go (Refused f) e = by (eqb f.number k) (eqb-true f.number k) (kind.known l f e)
+      go (Err f) e = by (eqb f.number k) (eqb-true f.number k) (kind.known l f e)
         where
           by : (b : Bool) → (b ≡ true → f.number ≡ k) → among f.number given ≡ true → one_if b ≡ 0
           by true is known =
               absurd (true≢false (sym known ∙ ap (λ (x : ℕ). among x given) (is refl) ∙ h))
           by false is known = refl
-      go (Listed count looked) e = refl
+      go (Ok counts) e = refl
 
 -- ---- all of them
 sum-plus : (a b : List ℕ) → length a ≡ length b → sum_words (plus a b) ≡ sum_words a + sum_words b
@@ -131,8 +130,8 @@ two-sums answer [] = refl
 two-sums answer (l ∷ ls) = omega (arith, one_of_two (answer l), two-sums answer ls)
   where
     one_of_two : (a : ListingAnswer) → accepted a + refused a ≡ 1
-    one_of_two (Refused f) = refl
-    one_of_two (Listed count looked) = refl
+    one_of_two (Err f) = refl
+    one_of_two (Ok counts) = refl
 
 module _ {L : Type 0} {after : List ℕ → L → List ℕ} {answer : L → ListingAnswer} {rows : L → List Row} {pairs_of : L → ℕ}
     (kind : Kind after answer rows pairs_of) where

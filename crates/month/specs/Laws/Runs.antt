@@ -1,6 +1,6 @@
 -- A run from zeros is the sum of what its first 10,000 layouts add, each report on the way being small. This holds for layouts of
 -- any kind of which little is known (`Kind`).
-use Rattle.std.specs.Prelude.{◌≡◌, Bool, ◌||◌, List, [], ◌∷◌, ◌++◌, ℕ, zero, suc, ◌+◌, ◌-◌, ◌*◌, ◌≤◌, ◌<◌, ltb, length, take, drop, replicate}
+use Rattle.std.specs.Prelude.{◌≡◌, Bool, ◌||◌, List, [], ◌∷◌, ◌++◌, ℕ, zero, suc, ◌+◌, ◌-◌, ◌*◌, ◌≤◌, ◌<◌, ltb, length, take, drop, replicate, Err}
 use Rattle.std.proofs.Math.Path.{refl, ap}
 use Rattle.std.proofs.Common.{sym, ◌∙◌, suc-mul, mul-le-mul_right, arith, le-ltb, le-leb, get_or-drop, take_all}
 use Rattle.std.proofs.Math.Bool.{true, false}
@@ -9,8 +9,6 @@ use Rattle.std.proofs.Math.Dec.{leb}
 use Rattle.std.proofs.Math.Seq.{slice}
 use Rattle.checks.specs.declared.fault.Fault.{Fault}
 use Rattle.listing_pairs.specs.declared.row.Row.{Row}
-use Rattle.listing_outcomes.specs.declared.answer.ListingAnswer.{ListingAnswer}
-use Rattle.listing_outcomes.specs.declared.answer.ListingAnswer.TheVariants.{Refused, Listed}
 use Rattle.month.specs.Report.{words, layouts, pairs, most_layouts, most_added, most_held, fresh, word, some_above, full, plus}
 use Rattle.month.specs.Counted.{accepted_adds, adds}
 use Rattle.month.specs.Given.{among, given}
@@ -18,6 +16,7 @@ use Rattle.month.specs.Run.{run_of, six_classes, sum_of}
 use Rattle.month.specs.Laws.Words.{plus_none, length-plus, word-plus, zeros}
 use Rattle.month.specs.Laws.Listings.{Adds}
 use Rattle.month.specs.Laws.Added.{adds-one-layout}
+use Rattle.listing_outcomes.specs.Answer.{Listed, ListingAnswer}
 
 -- ---- sums of reports
 pub plus-zeros : (n : ℕ) (a : List ℕ) → plus a (replicate n 0) ≡ a
@@ -51,7 +50,7 @@ pub record Kind {L : Type 0} (after : List ℕ → L → List ℕ) (answer : L �
   pub if-full : (r : List ℕ) (l : L) → words ≤ length r → full r ≡ true → after r l ≡ r
   pub if-not : (r : List ℕ) (l : L) → words ≤ length r → full r ≡ false → after r l ≡ plus r (adds (answer l) (rows l))
   pub small : (l : L) → Adds (adds (answer l) (rows l))
-  pub known : (l : L) (f : Fault) → answer l ≡ Refused f → among f.number given ≡ true
+  pub known : (l : L) (f : Fault) → answer l ≡ Err f → among f.number given ≡ true
   pub six : (l : L) (n k : ℕ) → answer l ≡ Listed n k → six_classes (accepted_adds (rows l) k) ≡ pairs_of l
   pub all : (l : L) (n k : ℕ) → answer l ≡ Listed n k → word (accepted_adds (rows l) k) pairs ≡ pairs_of l
 

@@ -1,5 +1,6 @@
 -- When a counted listing and a join answer what: the arguments.
-use Rattle.std.specs.Prelude.{◌≡◌, Bool, ◌||◌, ◌↔◌, ◌⊎◌, List, [], ◌∷◌, ℕ, suc, ◌+◌, ◌≤◌, ◌<◌, leb, ltb, Float, length, take}
+use Rattle.checks.specs.Checked.{Checked}
+use Rattle.std.specs.Prelude.{◌≡◌, Bool, ◌||◌, ◌↔◌, ◌⊎◌, List, [], ◌∷◌, ℕ, suc, ◌+◌, ◌≤◌, ◌<◌, leb, ltb, Float, length, take, Err, Ok}
 use Rattle.std.proofs.Math.Path.{refl, ap}
 use Rattle.std.proofs.Common.{sym, ◌∙◌, true≢false, arith, ltb-true, ltb-false, lt-ltb, le-ltb, leb-true}
 use Rattle.std.proofs.Math.Bool.{true, false}
@@ -7,25 +8,19 @@ use Rattle.std.proofs.Math.Logic.{inl, inr}
 use Rattle.std.proofs.Math.Seq.{slice, length-slice, get_or-drop, get_or-take}
 use Rattle.checks.specs.declared.fault.Item.TheVariants.{Report}
 use Rattle.checks.specs.declared.fault.Fault.{Fault}
-use Rattle.checks.specs.declared.fault.Checked.{Checked}
-use Rattle.checks.specs.declared.fault.Checked.TheVariants.{Fine, Bad}
 use Rattle.checks.specs.Fault.{at, whole, refuse, later}
 use Rattle.checks.specs.Refusal
 use Rattle.checks.specs.First.{first as first_fault}
 use Rattle.checks.specs.Answered.{answered}
 use Rattle.checks.specs.ExactlyWhen.{ExactlyWhen, Distinct, exactly-when}
 use Rattle.listing_pairs.specs.declared.row.Row.{Row}
-use Rattle.listing_outcomes.specs.declared.answer.ListingAnswer.{ListingAnswer}
-use Rattle.listing_outcomes.specs.declared.answer.ListingAnswer.TheVariants.{Refused}
+use Rattle.listing_outcomes.specs.Answer.{ListingAnswer}
 use Rattle.listing_outcomes.specs.Outcome.{Outcome}
+use Rattle.checks.specs.declared.call.CallError.TheVariants.{NoRoom, Refused}
 use Rattle.listing_calls.specs.Refusals as listings
-use Rattle.month.specs.declared.join.JoinAnswer.{JoinAnswer}
-use Rattle.month.specs.declared.join.JoinAnswer.TheVariants as joins
-use Rattle.month.specs.declared.mutual_counted.CountedAnswer.{CountedAnswer}
-use Rattle.month.specs.declared.mutual_counted.CountedAnswer.TheVariants.{NoRoom, Answered}
 use Rattle.month.specs.Report.{words, layouts, pairs, most_layouts, largest, most_held, word, some_above, full}
-use Rattle.month.specs.Counted.{CountedOutcome, counted_of, report_check, counted_listing}
-use Rattle.month.specs.Join.{JoinOutcome, too_much, join}
+use Rattle.month.specs.Counted.{CountedOutcome, counted_of, report_check, counted_listing, CountedAnswer, Answered}
+use Rattle.month.specs.Join.{JoinOutcome, too_much, join, JoinAnswer}
 use Rattle.month.specs.Given.{among, given}
 use Rattle.month.specs.Laws.Words.{sums, length-sums, word-sums, much-fits, full-by-layouts}
 use Rattle.month.specs.Laws.Listings.{words-held}
@@ -88,44 +83,44 @@ module _ (listing : Outcome ListingAnswer) (rows : List Row) (indices : List ℕ
   abbrev told : CountedOutcome → CountedAnswer
   told x = x.listing.answer
 
-  pub no-room-when : ((counted_listing listing rows indices points report).listing.answer ≡ NoRoom) ↔ (length report < words)
+  pub no-room-when : ((counted_listing listing rows indices points report).listing.answer ≡ Err NoRoom) ↔ (length report < words)
   no-room-when = (
     λ e. go (ltb (length report) words) (ltb-true (length report) words) (ltb-false (length report) words) (full report) refl e,
     λ h. ap told (no-room-is listing rows indices points report h),
   )
     where
       go : (t : Bool) → (t ≡ true → length report < words) → (t ≡ false → words ≤ length report)
-          → (b : Bool) → full report ≡ b → o.listing.answer ≡ NoRoom → length report < words
+          → (b : Bool) → full report ≡ b → o.listing.answer ≡ Err NoRoom → length report < words
       go true short long b f e = short refl
       go false short long true f e =
-          absurd (room-told (sym e ∙ ap told (full_is listing rows indices points report (long refl) f)))
+          absurd (room-told (Err (whole Refusal.report Report)) (sym e ∙ ap told (full_is listing rows indices points report (long refl) f)))
       go false short long false f e =
-          absurd (room-told (sym e ∙ ap told (counted_is listing rows indices points report (long refl) f)))
+          absurd (room-told listing.answer (sym e ∙ ap told (counted_is listing rows indices points report (long refl) f)))
 
   -- if the listing gives only refusals of the others, 19 tells that the report is full
-  pub nineteen : ((f : Fault) → listing.answer ≡ Refused f → among f.number given ≡ true)
+  pub nineteen : ((f : Fault) → listing.answer ≡ Err f → among f.number given ≡ true)
       → words ≤ length report → (f : Fault) → f.number ≡ Refusal.report
-      → (counted_listing listing rows indices points report).listing.answer ≡ Answered (Refused f)
+      → (counted_listing listing rows indices points report).listing.answer ≡ Answered (Err f)
       → full report ≡ true
   nineteen known long f is e = go (full report) refl
     where
       go : (b : Bool) → full report ≡ b → full report ≡ true
       go true x = x
       go false x =
-          let its : listing.answer ≡ Refused f =
+          let its : listing.answer ≡ Err f =
           same_answer (sym (ap told (counted_is listing rows indices points report long x)) ∙ e) in
           absurd (true≢false (sym (known f its) ∙ ap (λ (n : ℕ). among n given) is))
 
   pub refused-by : (f : Fault)
-      → (counted_listing listing rows indices points report).listing.answer ≡ Answered (Refused f)
-      → (f ≡ whole Refusal.report Report) ⊎ (listing.answer ≡ Refused f)
+      → (counted_listing listing rows indices points report).listing.answer ≡ Answered (Err f)
+      → (f ≡ whole Refusal.report Report) ⊎ (listing.answer ≡ Err f)
   refused-by f e =
       go (ltb (length report) words) (ltb-true (length report) words) (ltb-false (length report) words) (full report) refl
     where
       go : (t : Bool) → (t ≡ true → length report < words) → (t ≡ false → words ≤ length report)
-          → (b : Bool) → full report ≡ b → (f ≡ whole Refusal.report Report) ⊎ (listing.answer ≡ Refused f)
+          → (b : Bool) → full report ≡ b → (f ≡ whole Refusal.report Report) ⊎ (listing.answer ≡ Err f)
       go true short long b x =
-          absurd (room-told (sym (ap told (no-room-is listing rows indices points report (short refl))) ∙ e))
+          absurd (room-told (Err f) (sym (ap told (no-room-is listing rows indices points report (short refl))) ∙ e))
       go false short long true x =
           inl (sym (same-fault (same_answer
           (sym (ap told (full_is listing rows indices points report (long refl) x)) ∙ e))))
@@ -134,7 +129,7 @@ module _ (listing : Outcome ListingAnswer) (rows : List Row) (indices : List ℕ
 
   -- ---- all refusals, if the listing answers by the first fault of these checks
   abbrev refusal : Fault → CountedAnswer
-  refusal f = Answered (Refused f)
+  refusal f = Answered (Err f)
 
   abbrev listed : listings.Counts → CountedAnswer
   listed c = Answered (listings.counted c)
@@ -143,11 +138,11 @@ module _ (listing : Outcome ListingAnswer) (rows : List Row) (indices : List ℕ
   distinct = record { faults = λ f g e. same-fault (same_answer e); kinds = λ f i e. (listings.distinct).kinds f i (same_answer e) }
 
   lifted : (c : Checked) (counts : listings.Counts)
-      → Answered (answered Refused listings.counted c counts) ≡ answered refusal listed c counts
-  lifted Fine counts = refl
-  lifted (Bad g) counts = refl
+      → Answered (answered Err listings.counted c counts) ≡ answered refusal listed c counts
+  lifted (Ok _) counts = refl
+  lifted (Err g) counts = refl
 
-  same : (b : Bool) (c : Checked) (counts : listings.Counts) → listing.answer ≡ answered Refused listings.counted c counts
+  same : (b : Bool) (c : Checked) (counts : listings.Counts) → listing.answer ≡ answered Err listings.counted c counts
       → (counted_of (refuse b Refusal.report (at 0 0 Report)) listing rows indices points report).listing.answer
       ≡ answered refusal listed (later (refuse b Refusal.report (at 0 0 Report)) c) counts
   unfolding refuse later
@@ -155,9 +150,9 @@ module _ (listing : Outcome ListingAnswer) (rows : List Row) (indices : List ℕ
   same false c counts is = ap Answered is ∙ lifted c counts
 
   pub counted-when : (all : List Checked) (counts : listings.Counts)
-      → listing.answer ≡ answered Refused listings.counted (first_fault all) counts
+      → listing.answer ≡ answered Err listings.counted (first_fault all) counts
       → words ≤ length report
-      → ExactlyWhen (λ f. Answered (Refused f)) (λ c. Answered (listings.counted c))
+      → ExactlyWhen (λ f. Answered (Err f)) (λ c. Answered (listings.counted c))
       (counted_listing listing rows indices points report).listing.answer (report_check report ∷ all) counts
   unfolding report_check
   counted-when all counts is long =
@@ -166,7 +161,7 @@ module _ (listing : Outcome ListingAnswer) (rows : List Row) (indices : List ℕ
 
   -- a refusal leaves the rows' slices unchanged, if the listing's own does
   pub refused-leaves : listings.Untouched listing indices points → (f : Fault)
-      → (counted_listing listing rows indices points report).listing.answer ≡ Answered (Refused f)
+      → (counted_listing listing rows indices points report).listing.answer ≡ Answered (Err f)
       → ((counted_listing listing rows indices points report).listing.indices ≡ indices)
       × ((counted_listing listing rows indices points report).listing.points ≡ points)
   refused-leaves kept f e =
@@ -205,26 +200,26 @@ module _ (into other : List ℕ) where
   or-false true b x y = x
   or-false false b x y = y
 
-  room-or-joined : joins.Joined ≡ joins.NoRoom → ⊥
+  room-or-joined : ◌≡◌ {A = JoinAnswer} (Ok tt) (Err NoRoom) → ⊥
   room-or-joined e = let z : ◌≡◌ {A = ℕ} 0 1 = sym cc in omega (arith, z)
 
-  room-or-refused : {f : Fault} → joins.Refused f ≡ joins.NoRoom → ⊥
+  room-or-refused : {f : Fault} → ◌≡◌ {A = JoinAnswer} (Err (Refused f)) (Err NoRoom) → ⊥
   room-or-refused e = let z : ◌≡◌ {A = ℕ} 0 1 = sym cc in omega (arith, z)
 
-  refused-or-joined : {f : Fault} → joins.Joined ≡ joins.Refused f → ⊥
+  refused-or-joined : {f : Fault} → ◌≡◌ {A = JoinAnswer} (Ok tt) (Err (Refused f)) → ⊥
   refused-or-joined e = let z : ◌≡◌ {A = ℕ} 0 1 = sym cc in omega (arith, z)
 
-  join-same : {f g : Fault} → joins.Refused f ≡ joins.Refused g → f ≡ g
+  join-same : {f g : Fault} → ◌≡◌ {A = JoinAnswer} (Err (Refused f)) (Err (Refused g)) → f ≡ g
   join-same e = cc
 
-  pub join-no-room-when : ((join into other).answer ≡ joins.NoRoom) ↔ ((length into < words) ⊎ (length other < words))
+  pub join-no-room-when : ((join into other).answer ≡ Err NoRoom) ↔ ((length into < words) ⊎ (length other < words))
   join-no-room-when = (
     λ e. to (ltb (length into) words || ltb (length other) words) refl (too_much into other) refl e,
     λ h. ap its (short-is into other (from h)),
   )
     where
       to : (s : Bool) → (ltb (length into) words || ltb (length other) words) ≡ s
-          → (t : Bool) → too_much into other ≡ t → (join into other).answer ≡ joins.NoRoom
+          → (t : Bool) → too_much into other ≡ t → (join into other).answer ≡ Err NoRoom
           → (length into < words) ⊎ (length other < words)
       to true s t u e =
           elim (or-true (ltb (length into) words) (ltb (length other) words) s) [
@@ -243,7 +238,7 @@ module _ (into other : List ℕ) where
       from (inr b) =
           ap (λ (c : Bool). ltb (length into) words || c) (lt-ltb (length other) words b) ∙ right (ltb (length into) words)
 
-  pub join-fault : (f : Fault) → (join into other).answer ≡ joins.Refused f → f ≡ whole Refusal.report Report
+  pub join-fault : (f : Fault) → (join into other).answer ≡ Err (Refused f) → f ≡ whole Refusal.report Report
   join-fault f e = go (ltb (length into) words || ltb (length other) words) refl (too_much into other) refl
     where
       go : (s : Bool) → (ltb (length into) words || ltb (length other) words) ≡ s
@@ -252,7 +247,7 @@ module _ (into other : List ℕ) where
       go false s true u = join-same (sym e ∙ ap its (much-is into other s u))
       go false s false u = absurd (refused-or-joined (sym (ap its (joined_is into other s u)) ∙ e))
 
-  pub join-leaves : ((join into other).answer ≡ joins.Joined → ⊥) → (join into other).into ≡ into
+  pub join-leaves : ((join into other).answer ≡ Ok tt → ⊥) → (join into other).into ≡ into
   join-leaves h = go (ltb (length into) words || ltb (length other) words) refl (too_much into other) refl
     where
       go : (s : Bool) → (ltb (length into) words || ltb (length other) words) ≡ s
@@ -271,10 +266,10 @@ module _ (into other : List ℕ) where
         or-false (ltb (length into) words) (ltb (length other) words) (le-ltb (length into) words long)
         (le-ltb (length other) words long-other)
 
-    pub join-much : too_much into other ≡ true → (join into other).answer ≡ joins.Refused (whole Refusal.report Report)
+    pub join-much : too_much into other ≡ true → (join into other).answer ≡ Err (Refused (whole Refusal.report Report))
     join-much e = ap its (much-is into other both_long e)
 
-    pub join-refused : (f : Fault) → (join into other).answer ≡ joins.Refused f → too_much into other ≡ true
+    pub join-refused : (f : Fault) → (join into other).answer ≡ Err (Refused f) → too_much into other ≡ true
     join-refused f e = go (too_much into other) refl
       where
         go : (t : Bool) → too_much into other ≡ t → too_much into other ≡ true

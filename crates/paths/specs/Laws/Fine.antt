@@ -1,6 +1,7 @@
 -- What the check of a path says if it finds no fault, and that it finds no fault only in such paths. The proofs of callers use
 -- these facts.
-use Rattle.std.specs.Prelude.{◌≡◌, ◌↔◌, Bool, false, List, ℕ, ◌<◌, T, Float}
+use Rattle.checks.specs.Checked.{Checked}
+use Rattle.std.specs.Prelude.{◌≡◌, ◌↔◌, Bool, false, List, ℕ, ◌<◌, T, Float, Ok}
 use Rattle.std.proofs.Math.Logic.Iff
 use Rattle.std.proofs.Common.{arith}
 use Rattle.std.specs.Float.Ieee.{is_nan}
@@ -9,8 +10,6 @@ use Rattle.plane.specs.declared.pline_vertex.PlineVertex.{PlineVertex}
 use Rattle.plane.specs.PlineVertex.{pos, bulge_is_zero}
 use Rattle.plane.specs.Vector2 as vector2
 use Rattle.checks.specs.declared.fault.Item.TheVariants.{Chord}
-use Rattle.checks.specs.declared.fault.Checked.{Checked}
-use Rattle.checks.specs.declared.fault.Checked.TheVariants.{Fine}
 use Rattle.checks.specs.Fault.{at}
 use Rattle.checks.specs.Limit
 use Rattle.checks.specs.First.{first}
@@ -46,7 +45,7 @@ pub record PathFine (path : List Float) (closed : Bool) : Type 0 where
   pub arcs : (i : ℕ) → i < segment_count path closed → ArcFine (segment_from path i).v1 (segment_from path i).v2
 
 -- ---- exactly these pass
-pub arc-fine : (a b : PlineVertex) (owner index : ℕ) → (arc_chord a b owner index ≡ Fine) ↔ ArcFine a b
+pub arc-fine : (a b : PlineVertex) (owner index : ℕ) → (arc_chord a b owner index ≡ Ok tt) ↔ ArcFine a b
 unfolding arc_chord
 arc-fine a b owner index =
     let p = at owner index Chord in
@@ -58,16 +57,16 @@ module _ (path : List Float) (owner i : ℕ) where
   abbrev pub Traced : Type 0
   Traced = let v = vertex path i in chains.TracedFine v.x v.y v.bulge (trace path i)
 
-  pub vertex-fine : (first (of_vertex path owner i) ≡ Fine) ↔ Traced
+  pub vertex-fine : (first (of_vertex path owner i) ≡ Ok tt) ↔ Traced
   unfolding of_vertex
   vertex-fine = let v = vertex path i in chains.traced-listed v.x v.y owner v.bulge (trace path i) i
 
-  segment-arc-fine : (first (of_segment path owner i) ≡ Fine) ↔ ArcFine (segment_from path i).v1 (segment_from path i).v2
+  segment-arc-fine : (first (of_segment path owner i) ≡ Ok tt) ↔ ArcFine (segment_from path i).v1 (segment_from path i).v2
   unfolding of_segment
   segment-arc-fine = let s = segment_from path i in alone-fine (arc-fine s.v1 s.v2 owner i)
 
 pub path-fine : (f : Checked) (path : List Float) (closed : Bool) (owner : ℕ)
-    → (check_path f path closed owner ≡ Fine) ↔ ((f ≡ Fine) × PathFine path closed)
+    → (check_path f path closed owner ≡ Ok tt) ↔ ((f ≡ Ok tt) × PathFine path closed)
 unfolding check_path
 path-fine f path closed owner =
     let vertices = along-fine (of_vertex path owner) (vertex_count path) (vertex-fine path owner) in

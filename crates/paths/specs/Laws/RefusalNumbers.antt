@@ -1,10 +1,9 @@
 -- A fault that a path's checks find fits into a word: the path's owner is small, and so is each index, since a path with more
 -- vertices is refused before its vertices are checked.
-use Rattle.std.specs.Prelude.{◌≡◌, Bool, List, ℕ, zero, suc, ◌+◌, ◌≤◌, ◌<◌, Float}
+use Rattle.checks.specs.Checked.{Checked}
+use Rattle.std.specs.Prelude.{◌≡◌, Bool, List, ℕ, zero, suc, ◌+◌, ◌≤◌, ◌<◌, Float, Ok}
 use Rattle.std.proofs.Common.{arith, ltb-false}
 use Rattle.checks.specs.declared.fault.Item.TheVariants.{X, Y, Bulge, Chord, Length, Trace}
-use Rattle.checks.specs.declared.fault.Checked.{Checked}
-use Rattle.checks.specs.declared.fault.Checked.TheVariants.{Fine}
 use Rattle.checks.specs.First.{first as first_fault}
 use Rattle.checks.specs.Refusal
 use Rattle.checks.specs.Word.{owners, indices}
@@ -24,7 +23,7 @@ shape-small path owner h =
     and (refused _ Refusal.path_length _ (omega arith) (omega arith) l)
     (refused _ Refusal.vertices _ (omega arith) (omega arith) l)
 
-pub shape-few : (path : List Float) (owner : ℕ) → shape path owner ≡ Fine → vertex_count path ≤ most_vertices
+pub shape-few : (path : List Float) (owner : ℕ) → shape path owner ≡ Ok tt → vertex_count path ≤ most_vertices
 shape-few path owner e = ltb-false most_vertices (vertex_count path) ((table.shape path owner).fine.0 e).1.0
 
 -- ---- the numbers

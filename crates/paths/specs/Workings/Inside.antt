@@ -1,15 +1,12 @@
--- The quick test of a path's vertices: if all are inside their limits, by comparisons alone, the check finds no fault in them, so
--- the result before stays.
-use Rattle.std.specs.Prelude.{◌≡◌, ◌⊎◌, Bool, false, not, List, ℕ, ◌+◌, ◌≤◌, ◌<◌, T, Float}
-use Rattle.std.proofs.Common.{sym, ap, ◌∙◌, subst, inl, inr, eq-or-lt_of_le, arith}
+-- The quick test of a path's vertices: if all are inside their limits, by comparisons alone, the check finds no fault in them.
+use Rattle.std.specs.Prelude.{◌≡◌, ◌⊎◌, Bool, false, not, List, ℕ, ◌+◌, ◌≤◌, ◌<◌, T, Float, Ok}
+use Rattle.std.proofs.Common.{sym, subst, inl, inr, eq-or-lt_of_le, arith}
 use Rattle.plane.specs.declared.pline_vertex.PlineVertex.{PlineVertex}
-use Rattle.checks.specs.declared.fault.Checked.{Checked}
-use Rattle.checks.specs.Fault.{later}
+use Rattle.checks.specs.First.{first}
 use Rattle.checks.specs.Laws.Fine.{not-denied}
 use Rattle.checks.specs.Workings.Inside.{traced_inside, all-passed}
-use Rattle.checks.specs.Laws.Later.{fine-right}
 use Rattle.paths.specs.Path.{vertex_count, vertex, trace}
-use Rattle.paths.specs.Check.{of_vertex, check_vertices}
+use Rattle.paths.specs.Check.{of_vertex, vertex_checks}
 use Rattle.paths.specs.Laws.Along.{fine-all}
 
 abbrev pub Inside : PlineVertex → Float → Type 0
@@ -42,10 +39,8 @@ one_more path i v t b is read with h below j l = go (eq-or-lt_of_le (close j i l
     go (inl e) = subst (λ (k : ℕ). Inside (vertex path k) (trace path k)) (sym e) here
     go (inr less) = below j less
 
-pub inside-fine : (f : Checked) (path : List Float) (owner : ℕ) → InsideBelow path (vertex_count path)
-    → f ≡ check_vertices f path owner
-unfolding check_vertices of_vertex
-inside-fine f path owner all =
-    sym (fine-right f)
-    ∙ ap (later f) (sym (fine-all (of_vertex path owner) (vertex_count path)
-    (λ i l. let v = vertex path i in all-passed v.x v.y v.bulge (trace path i) owner i (all i l))))
+pub inside-fine : (path : List Float) (owner : ℕ) → InsideBelow path (vertex_count path) → Ok tt ≡ first (vertex_checks path owner)
+unfolding of_vertex
+inside-fine path owner all =
+    sym (fine-all (of_vertex path owner) (vertex_count path)
+    (λ i l. let v = vertex path i in all-passed v.x v.y v.bulge (trace path i) owner i (all i l)))

@@ -1,10 +1,9 @@
 -- What the checks of the calls say if they find no fault.
-use Rattle.std.specs.Prelude.{◌≡◌, List, [], ◌∷◌, ◌++◌, Float}
+use Rattle.checks.specs.Checked.{Checked}
+use Rattle.std.specs.Prelude.{◌≡◌, List, [], ◌∷◌, ◌++◌, Float, Ok}
 use Rattle.std.proofs.Math.Logic.Iff
 use Rattle.plane.specs.declared.vector2.Vector2.{Vector2}
 use Rattle.plane.specs.declared.pline_vertex.PlineVertex.{PlineVertex}
-use Rattle.checks.specs.declared.fault.Checked.{Checked}
-use Rattle.checks.specs.declared.fault.Checked.TheVariants.{Fine}
 use Rattle.checks.specs.Each
 use Rattle.checks.specs.Arc.{arc_chord}
 use Rattle.checks.specs.First.{first}
@@ -22,7 +21,7 @@ pub record LinesFine (v1 v2 u1 u2 : Vector2) (eps : Float) : Type 0 where
   pub at-u1 : PointFine u1.x u1.y
   pub at-u2 : PointFine u2.x u2.y
 
-pub lines-fine : (v1 v2 u1 u2 : Vector2) (eps : Float) → check_line_line v1 v2 u1 u2 eps ≡ Fine → LinesFine v1 v2 u1 u2 eps
+pub lines-fine : (v1 v2 u1 u2 : Vector2) (eps : Float) → check_line_line v1 v2 u1 u2 eps ≡ Ok tt → LinesFine v1 v2 u1 u2 eps
 unfolding check_line_line
 lines-fine v1 v2 u1 u2 eps h =
     let c0 : List Checked = Each.epsilon eps ∷ [] in
@@ -44,7 +43,7 @@ pub record LineCircleFine (p0 p1 : Vector2) (radius : Float) (center : Vector2) 
   pub circle : CircleFine radius center.x center.y
 
 pub line-circle-fine : (p0 p1 : Vector2) (radius : Float) (center : Vector2) (eps : Float)
-    → check_line_circle p0 p1 radius center eps ≡ Fine → LineCircleFine p0 p1 radius center eps
+    → check_line_circle p0 p1 radius center eps ≡ Ok tt → LineCircleFine p0 p1 radius center eps
 unfolding check_line_circle
 line-circle-fine p0 p1 radius center eps h =
     let c0 : List Checked = Each.epsilon eps ∷ [] in
@@ -63,7 +62,7 @@ pub record CirclesFine (radius1 : Float) (center1 : Vector2) (radius2 : Float) (
   pub second : CircleFine radius2 center2.x center2.y
 
 pub circles-fine : (radius1 : Float) (center1 : Vector2) (radius2 : Float) (center2 : Vector2) (eps : Float)
-    → check_circle_circle radius1 center1 radius2 center2 eps ≡ Fine → CirclesFine radius1 center1 radius2 center2 eps
+    → check_circle_circle radius1 center1 radius2 center2 eps ≡ Ok tt → CirclesFine radius1 center1 radius2 center2 eps
 unfolding check_circle_circle
 circles-fine radius1 center1 radius2 center2 eps h =
     let c0 : List Checked = Each.epsilon eps ∷ [] in
@@ -81,7 +80,7 @@ pub record PairFine (v1 v2 u1 u2 : PlineVertex) (eps : Float) : Type 0 where
   pub at-u1 : VertexFine u1.x u1.y u1.bulge
   pub at-u2 : PointFine u2.x u2.y
 
-pub pair-fine : (v1 v2 u1 u2 : PlineVertex) (eps : Float) → check_pline_seg v1 v2 u1 u2 eps ≡ Fine → PairFine v1 v2 u1 u2 eps
+pub pair-fine : (v1 v2 u1 u2 : PlineVertex) (eps : Float) → check_pline_seg v1 v2 u1 u2 eps ≡ Ok tt → PairFine v1 v2 u1 u2 eps
 unfolding check_pline_seg
 pair-fine v1 v2 u1 u2 eps h =
     let c0 : List Checked = Each.epsilon eps ∷ [] in

@@ -1,12 +1,11 @@
 -- What holds of each row of every page of a chain holds of each row that is joined.
-use Rattle.std.specs.Prelude.{◌≡◌, refl, List, [], ◌∷◌, ◌++◌, ℕ, ◌+◌, ◌*◌, Float, length, take}
+use Rattle.std.specs.Prelude.{◌≡◌, refl, List, [], ◌∷◌, ◌++◌, ℕ, ◌+◌, ◌*◌, Float, length, take, Err, Ok}
 use Rattle.std.proofs.Common.{sym, ap, ◌∙◌, subst, length-append}
 use Rattle.float_laws.specs.Flat.{flat}
 use Rattle.float_laws.specs.Stores.{flat_append, flat-length}
 use Rattle.listing_pairs.specs.declared.row.Row.{Row}
 use Rattle.listing_pairs.specs.Row.{indices_a_row, points_a_row, indices_of, points_of}
-use Rattle.listing_outcomes.specs.declared.answer.PageAnswer.{PageAnswer}
-use Rattle.listing_outcomes.specs.declared.answer.PageAnswer.TheVariants.{Refused, Paged}
+use Rattle.listing_outcomes.specs.Answer.{PageAnswer}
 use Rattle.listing_outcomes.specs.Outcome.{Outcome}
 use Rattle.listing_calls.specs.Chain.{Lent, Joined, joined, chain}
 use Rattle.large_outcomes.specs.LargeRow.{large_indices_a_row}
@@ -55,9 +54,9 @@ module _ (P : Row → Type 0) (call : ℕ → Lent → Outcome PageAnswer)
     (good : (position : ℕ) (l : Lent) → Wrote paged P indices_of (call position l)) where
   one : (a : PageAnswer) (i : List ℕ) (p : List Float) (rest : ℕ → Joined) → Written P indices_of points_of (paged a) i p
       → ((next : ℕ) → Joins P indices_of (rest next)) → Joins P indices_of (joined a i p rest)
-  one (Refused fault) i p rest h more = none_written P indices_of points_of [] []
-  one (Paged rows pairs next all) i p rest h more =
-      step P indices_of indices_a_row (λ r. refl) rows (rest next).rows i (rest next).indices p (rest next).points h (more next)
+  one (Err fault) i p rest h more = none_written P indices_of points_of [] []
+  one (Ok counts) i p rest h more =
+      step P indices_of indices_a_row (λ r. refl) counts.rows (rest counts.next).rows i (rest counts.next).indices p (rest counts.next).points h (more counts.next)
 
   pub joins : (position : ℕ) (lents : List Lent) → Joins P indices_of (chain call position lents)
   joins position [] = none_written P indices_of points_of [] []
@@ -69,9 +68,9 @@ module _ (P : Row → Type 0) (words : Row → List ℕ) (wide : (r : Row) → l
     (call : ℕ → Lent → Outcome PageAnswer) (good : (position : ℕ) (l : Lent) → Wrote paged P words (call position l)) where
   one-large : (a : PageAnswer) (i : List ℕ) (p : List Float) (rest : ℕ → Joined) → Written P words points_of (paged a) i p
       → ((next : ℕ) → Joins P words (rest next)) → Joins P words (large_joined a i p rest)
-  one-large (Refused fault) i p rest h more = none_written P words points_of [] []
-  one-large (Paged rows pairs next all) i p rest h more =
-      step P words large_indices_a_row wide rows (rest next).rows i (rest next).indices p (rest next).points h (more next)
+  one-large (Err fault) i p rest h more = none_written P words points_of [] []
+  one-large (Ok counts) i p rest h more =
+      step P words large_indices_a_row wide counts.rows (rest counts.next).rows i (rest counts.next).indices p (rest counts.next).points h (more counts.next)
 
   pub large-joins : (position : ℕ) (lents : List Lent) → Joins P words (large_chain call position lents)
   large-joins position [] = none_written P words points_of [] []

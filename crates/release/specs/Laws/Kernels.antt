@@ -1,8 +1,7 @@
 -- The three kernels' calls: what they answer is finite; and sentence 3.
-use Rattle.std.specs.Prelude.{◌≡◌, refl, ℕ, Float}
+use Rattle.checks.specs.Checked.{Checked}
+use Rattle.std.specs.Prelude.{◌≡◌, refl, ℕ, Float, Err, Ok}
 use Rattle.plane.specs.declared.vector2.Vector2.{Vector2}
-use Rattle.checks.specs.declared.fault.Checked.{Checked}
-use Rattle.checks.specs.declared.fault.Checked.TheVariants.{Fine, Bad}
 use Rattle.checks.specs.Number.{not_finite}
 use Rattle.checks.specs.Answered.{answered}
 use Rattle.checks.specs.Calls.{check_line_line, check_line_circle, check_circle_circle}
@@ -13,13 +12,10 @@ use Rattle.crossing.specs.CircleCircle.{circle_circle}
 use Rattle.crossing.specs.LineLineIntersect as lines
 use Rattle.crossing.specs.LineCircleIntersect as line-circle
 use Rattle.crossing.specs.CircleCircleIntersect as circles
-use Rattle.crossing.specs.declared.line_line_intersect.LineLineAnswer.TheVariants as LineLineAnswer·
 use Rattle.crossing.specs.declared.line_line_intr.LineLineIntr.{LineLineIntr}
 use Rattle.crossing.specs.declared.line_line_intr.LineLineIntr.TheVariants as LineLineIntr·
-use Rattle.crossing.specs.declared.line_circle_intersect.LineCircleAnswer.TheVariants as LineCircleAnswer·
 use Rattle.crossing.specs.declared.line_circle_intr.LineCircleIntr.{LineCircleIntr}
 use Rattle.crossing.specs.declared.line_circle_intr.LineCircleIntr.TheVariants as LineCircleIntr·
-use Rattle.crossing.specs.declared.circle_circle_intersect.CircleCircleAnswer.TheVariants as CircleCircleAnswer·
 use Rattle.crossing.specs.declared.circle_circle_intr.CircleCircleIntr.{CircleCircleIntr}
 use Rattle.crossing.specs.declared.circle_circle_intr.CircleCircleIntr.TheVariants as CircleCircleIntr·
 use Rattle.float_laws.specs.Sizes.{Small, small-finite}
@@ -38,7 +34,7 @@ unfolding not_finite
 bounded {k} {x} w = of_number x (small-finite k x w)
 
 -- ---- two lines
-line-values : (r : LineLineIntr) → line-laws.Bounded r → All Finite (lines.numbers_of (LineLineAnswer·.Met r)).values
+line-values : (r : LineLineIntr) → line-laws.Bounded r → All Finite (lines.numbers_of (Ok r)).values
 line-values LineLineIntr·.NoIntersect line-laws.nothing = tt
 line-values (LineLineIntr·.TrueIntersect s t) (line-laws.met a b) = (bounded a, (bounded b, tt))
 line-values (LineLineIntr·.Overlapping s t) (line-laws.shared a b) = (bounded a, (bounded b, tt))
@@ -51,9 +47,9 @@ line-line v1 v2 u1 u2 eps = go (check_line_line v1 v2 u1 u2 eps) refl
     go : (c : Checked) → check_line_line v1 v2 u1 u2 eps ≡ c
         → All Finite
         (lines.numbers_of
-        (answered LineLineAnswer·.Refused LineLineAnswer·.Met c (kernel.line_line v1 v2 u1 u2 eps))).values
-    go (Bad fault) e = tt
-    go Fine e =
+        (answered Err Ok c (kernel.line_line v1 v2 u1 u2 eps))).values
+    go (Err fault) e = tt
+    go (Ok _) e =
         let f = lines-fine v1 v2 u1 u2 eps e in
         line-values _
         (line-laws.line-line-small v1 v2 u1 u2 eps (point-small v1 f.at-v1) (point-small v2 f.at-v2)
@@ -61,7 +57,7 @@ line-line v1 v2 u1 u2 eps = go (check_line_line v1 v2 u1 u2 eps) refl
 
 -- ---- a line and a circle
 line-circle-values : (r : LineCircleIntr) → line-circle-laws.Bounded r
-    → All Finite (line-circle.numbers_of (LineCircleAnswer·.Met r)).values
+    → All Finite (line-circle.numbers_of (Ok r)).values
 line-circle-values LineCircleIntr·.NoIntersect line-circle-laws.nothing = tt
 line-circle-values (LineCircleIntr·.TangentIntersect t) (line-circle-laws.touched a) = (bounded a, tt)
 line-circle-values (LineCircleIntr·.TwoIntersects s t) (line-circle-laws.twice a b) = (bounded a, (bounded b, tt))
@@ -74,9 +70,9 @@ line-and-circle p0 p1 radius center eps = go (check_line_circle p0 p1 radius cen
     go : (c : Checked) → check_line_circle p0 p1 radius center eps ≡ c
         → All Finite
         (line-circle.numbers_of
-        (answered LineCircleAnswer·.Refused LineCircleAnswer·.Met c (line_circle p0 p1 radius center eps))).values
-    go (Bad fault) e = tt
-    go Fine e =
+        (answered Err Ok c (line_circle p0 p1 radius center eps))).values
+    go (Err fault) e = tt
+    go (Ok _) e =
         let f = line-circle-fine p0 p1 radius center eps e in
         let C : SmallPoint 48 center =
         record { at_x = center-small center.x f.circle.at_x; at_y = center-small center.y f.circle.at_y } in
@@ -86,7 +82,7 @@ line-and-circle p0 p1 radius center eps = go (check_line_circle p0 p1 radius cen
 
 -- ---- two circles
 circle-values : (r : CircleCircleIntr) → circle-laws.Bounded r
-    → All Finite (circles.numbers_of (CircleCircleAnswer·.Met r)).values
+    → All Finite (circles.numbers_of (Ok r)).values
 circle-values CircleCircleIntr·.NoIntersect circle-laws.nothing = tt
 circle-values (CircleCircleIntr·.TangentIntersect p) (circle-laws.touched a) = (bounded a.at_x, (bounded a.at_y, tt))
 circle-values (CircleCircleIntr·.TwoIntersects p q) (circle-laws.twice a b) =
@@ -101,10 +97,10 @@ circle-and-circle radius1 center1 radius2 center2 eps = go (check_circle_circle 
     go : (c : Checked) → check_circle_circle radius1 center1 radius2 center2 eps ≡ c
         → All Finite
         (circles.numbers_of
-        (answered CircleCircleAnswer·.Refused CircleCircleAnswer·.Met c (circle_circle radius1 center1 radius2 center2 eps))
+        (answered Err Ok c (circle_circle radius1 center1 radius2 center2 eps))
         ).values
-    go (Bad fault) e = tt
-    go Fine e =
+    go (Err fault) e = tt
+    go (Ok _) e =
         let f = circles-fine radius1 center1 radius2 center2 eps e in
         let C : SmallPoint 48 center1 =
         record { at_x = center-small center1.x f.first.at_x; at_y = center-small center1.y f.first.at_y } in

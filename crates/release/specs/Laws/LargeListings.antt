@@ -1,6 +1,5 @@
 -- The listings of the mode of large arcs: they are listings of the cut paths, whose segments are accepted.
-use Rattle.std.specs.Prelude.{◌≡◌, refl, Bool, List, ℕ, Float}
-use Rattle.checks.specs.declared.fault.Checked.TheVariants.{Fine}
+use Rattle.std.specs.Prelude.{◌≡◌, refl, Bool, List, ℕ, Float, Ok}
 use Rattle.checks.specs.First.{first as first_fault}
 use Rattle.paths.specs.Shape.{shape}
 use Rattle.cuts.specs.CutPath.{cut_path, cut_count}
@@ -35,7 +34,7 @@ module _ (first : List Float) (a : Bool) (second : List Float) (b : Bool) (eps :
   abbrev words : Row → List ℕ
   words = large.mutual_numbers first a second b
 
-  pairs-good : first_fault (large.mutual_large_checks first a second b eps) ≡ Fine
+  pairs-good : first_fault (large.mutual_large_checks first a second b eps) ≡ Ok tt
       → (p : Pair) → Inside n m p → GoodLook Good? (large.mutual_large_look first a second b eps p.i p.j)
   pairs-good e =
       let f = two-fine eps (shape first 0) (shape second 1) (large_path_checks first a 0) (large_path_checks second b 1) e in
@@ -95,7 +94,7 @@ module _ (path : List Float) (closed : Bool) (eps : Float) where
   abbrev own-words : Row → List ℕ
   own-words = large.self_numbers path closed
 
-  own-good : first_fault (large.self_large_checks path closed eps) ≡ Fine
+  own-good : first_fault (large.self_large_checks path closed eps) ≡ Ok tt
       → (p : Pair) → Inside k k p → GoodLook Own (large.self_large_look path closed eps p.i p.j)
   own-good e =
       let f = one-fine eps (shape path 0) (large_path_checks path closed 0) e in

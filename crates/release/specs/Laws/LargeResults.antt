@@ -1,6 +1,7 @@
 -- The pair in the mode of large arcs: each part of an accepted segment is an accepted segment, and its ends are the segment's or
 -- its cut point. So every result is good, and the results stand at the front of the slices.
-use Rattle.std.specs.Prelude.{◌≡◌, refl, ◌⊎◌, Bool, true, false, cond, ◌||◌, List, [], ◌∷◌, ◌++◌, ℕ, ◌+◌, ◌*◌, ◌≤◌, ltb, Float, length, take, drop}
+use Rattle.checks.specs.Checked.{Checked}
+use Rattle.std.specs.Prelude.{◌≡◌, refl, ◌⊎◌, Bool, true, false, cond, ◌||◌, List, [], ◌∷◌, ◌++◌, ℕ, ◌+◌, ◌*◌, ◌≤◌, ltb, Float, length, take, drop, Err, Ok}
 use Rattle.std.proofs.Common.{sym, ap, ◌∙◌, subst, inl, inr, arith, ltb-false, take_at}
 use Rattle.std.proofs.lemmas.List.Edits.{sets, sets-eq}
 use Rattle.float_laws.specs.Flat.{flat}
@@ -9,14 +10,11 @@ use Rattle.plane.specs.PlineVertex.{pos}
 use Rattle.plane.specs.PlineVertex as vertices
 use Rattle.plane.specs.declared.vector2.Vector2.{Vector2}
 use Rattle.plane.specs.declared.pline_vertex.PlineVertex.{PlineVertex}
-use Rattle.checks.specs.declared.fault.Checked.{Checked}
-use Rattle.checks.specs.declared.fault.Checked.TheVariants.{Fine, Bad}
 use Rattle.checks.specs.First.{first}
 use Rattle.checks.specs.Laws.Chains.{PointFine, VertexFine}
 use Rattle.told.specs.Stands.{Has, IsEnd}
 use Rattle.cuts.specs.Cut.{is_large, cut_point, bent, cut_vertex}
 use Rattle.cuts.specs.Laws.Sound.{whole-sound, halves-sound}
-use Rattle.large_pair.specs.declared.LargePair.TheVariants as LargePair·
 use Rattle.large_pair.specs.LargePair.{
   Part,
   large_pair_checks,
@@ -38,6 +36,7 @@ use Rattle.release.specs.Words.{All, BeginsWith, WroteResults}
 use Rattle.release.specs.Release.{large_ends, GoodResult}
 use Rattle.release.specs.Laws.Rows.{each_append, none_written}
 use Rattle.release.specs.Laws.Pair.{pair-good}
+use Rattle.checks.specs.declared.call.CallError.TheVariants.{NoRoom}
 
 -- ---- lists
 each-flat : {A B : Type 0} (P : B → Type 0) (Q : A → Type 0) (f : A → List B) → ((a : A) → Q a → All P (f a))
@@ -142,12 +141,12 @@ large-pair-wrote v1 v2 u1 u2 eps i p =
         → (d : Checked) → first (large_pair_checks v1 v2 u1 u2 eps) ≡ d
         → WroteResults (GoodResult v1 v2 u1 u2)
         (cond (b || c)
-        (record { answer = LargePair·.NoRoom; results = i; points = p })
+        (record { answer = Err NoRoom; results = i; points = p })
         (by_checks d (results_of v1 v2 u1 u2 eps) i p))
     go true h c k d e = none_written (GoodResult v1 v2 u1 u2) words_of floats_of i p
     go false h true k d e = none_written (GoodResult v1 v2 u1 u2) words_of floats_of i p
-    go false h false k (Bad fault) e = none_written (GoodResult v1 v2 u1 u2) words_of floats_of i p
-    go false h false k Fine e =
+    go false h false k (Err fault) e = none_written (GoodResult v1 v2 u1 u2) words_of floats_of i p
+    go false h false k (Ok _) e =
         let f = (pair-listed v1 v2 u1 u2 eps).0 e in
         let found = results_of v1 v2 u1 u2 eps in
         let most = few v1 v2 u1 u2 eps in

@@ -1,8 +1,7 @@
 -- The listings of both modes: if the checks find no fault, every pair gives a good row or none, so every row that is written is
 -- good.
-use Rattle.std.specs.Prelude.{◌≡◌, Bool, true, false, cond, List, ◌++◌, ℕ, ltb, Float, length}
-use Rattle.checks.specs.declared.fault.Checked.{Checked}
-use Rattle.checks.specs.declared.fault.Checked.TheVariants.{Fine, Bad}
+use Rattle.checks.specs.Checked.{Checked}
+use Rattle.std.specs.Prelude.{◌≡◌, Bool, true, false, cond, List, ◌++◌, ℕ, ltb, Float, length, Err, Ok}
 use Rattle.checks.specs.First.{first as first_fault}
 use Rattle.paths.specs.Shape.{shape}
 use Rattle.paths.specs.Segments.{segment_count}
@@ -13,17 +12,18 @@ use Rattle.listing_pairs.specs.Row.{indices_of, points_of}
 use Rattle.listing_pairs.specs.Order.{Pair, mutual_pairs, self_pairs}
 use Rattle.listing_pairs.specs.Look.{traced_look, traced_self_look}
 use Rattle.listing_pairs.specs.Boxed.{boxes_meet, boxed_pairs}
-use Rattle.listing_outcomes.specs.declared.answer.ListingAnswer.{ListingAnswer}
+use Rattle.listing_outcomes.specs.Answer.{ListingAnswer}
 use Rattle.listing_outcomes.specs.Outcome.{Outcome}
+use Rattle.std.proofs.Common.{subst, refl}
+use Rattle.checks.specs.declared.call.CallError.TheVariants.{NoRoom}
 use Rattle.listing_calls.specs.Listing.{mutual_checks, mutual_listing, self_checks, self_listing}
 use Rattle.listing_calls.specs.Pages.{mutual_page, self_page}
 use Rattle.listing_calls.specs.Boxed.{mutual_boxed, self_boxed}
 use Rattle.listing_calls.specs.Chain.{Lent, chain}
 use Rattle.listing_calls.specs.ChainedCalls.{mutual_pages, self_pages}
-use Rattle.month.specs.declared.mutual_counted.CountedAnswer.TheVariants as CountedAnswer·
 use Rattle.month.specs.Report.{words}
-use Rattle.month.specs.Counted.{unchanged, report_check, counted_of, counted_listing, mutual_rows, mutual_counted}
-use Rattle.release.specs.Words.{Wrote, Listings, listed, paged, counted}
+use Rattle.month.specs.Counted.{unchanged, report_check, counted_of, counted_listing, mutual_rows, mutual_counted, Answered}
+use Rattle.release.specs.Words.{Wrote, Listings, listed, paged, counted, Written}
 use Rattle.release.specs.Release.{GoodOld}
 use Rattle.release.specs.Laws.Rows.{Inside, GoodLook, those-each, mutual-inside, self-inside, none_written}
 use Rattle.release.specs.Laws.Outcomes.{full-wrote, boxed-wrote, page-wrote}
@@ -31,6 +31,10 @@ use Rattle.release.specs.Laws.Chains.{joins}
 use Rattle.release.specs.Laws.Looks.{old-sound, mutual-good, self-good, two-fine, one-fine}
 
 -- ---- a counted listing has the rows of the listing
+same-count : (a : ListingAnswer) → listed a ≡ counted (Answered a)
+same-count (Err fault) = refl
+same-count (Ok counts) = refl
+
 pub counted-wrote : (P : Row → Type 0) (numbers : Row → List ℕ) (listing : Outcome ListingAnswer) (rows : List Row) (i : List ℕ)
     (p : List Float) (report : List ℕ) → Wrote listed P numbers listing
     → Wrote counted P numbers (counted_listing listing rows i p report).listing
@@ -38,10 +42,11 @@ counted-wrote P numbers listing rows i p report h = go (ltb (length report) word
   where
     go : (few : Bool) (c : Checked)
         → Wrote counted P numbers
-        (cond few (unchanged CountedAnswer·.NoRoom i p report) (counted_of c listing rows i p report)).listing
+        (cond few (unchanged (Err NoRoom) i p report) (counted_of c listing rows i p report)).listing
     go true c = none_written P numbers points_of i p
-    go false (Bad fault) = none_written P numbers points_of i p
-    go false Fine = h
+    go false (Err fault) = none_written P numbers points_of i p
+    go false (Ok _) =
+        subst (λ (n : ℕ). Written P numbers points_of n listing.indices listing.points) (same-count listing.answer) h
 
 -- ---- two paths
 module _ (first : List Float) (a : Bool) (second : List Float) (b : Bool) (eps : Float) where
@@ -54,7 +59,7 @@ module _ (first : List Float) (a : Bool) (second : List Float) (b : Bool) (eps :
   abbrev Good? : Row → Type 0
   Good? = GoodOld first a second b
 
-  pairs-good : first_fault (mutual_checks first a second b eps) ≡ Fine
+  pairs-good : first_fault (mutual_checks first a second b eps) ≡ Ok tt
       → (p : Pair) → Inside n m p → GoodLook Good? (traced_look first second eps p.i p.j)
   pairs-good e =
       let f = two-fine eps (shape first 0) (shape second 1) (path_checks first a 0) (path_checks second b 1) e in
@@ -106,7 +111,7 @@ module _ (path : List Float) (closed : Bool) (eps : Float) where
   abbrev Own : Row → Type 0
   Own = GoodOld path closed path closed
 
-  own-good : first_fault (self_checks path closed eps) ≡ Fine
+  own-good : first_fault (self_checks path closed eps) ≡ Ok tt
       → (p : Pair) → Inside k k p → GoodLook Own (traced_self_look path closed eps p.i p.j)
   own-good e =
       let f = one-fine eps (shape path 0) (path_checks path closed 0) e in

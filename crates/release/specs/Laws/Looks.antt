@@ -1,9 +1,8 @@
 -- What a pair of segments of accepted paths gives in a listing: a good row, if it makes one. A path is given with the count of
 -- its segments, so that this serves both modes: the cut path has a count of its own.
-use Rattle.std.specs.Prelude.{◌≡◌, Bool, true, false, cond, List, [], ◌∷◌, ◌++◌, ℕ, zero, suc, ◌<◌, Float}
+use Rattle.checks.specs.Checked.{Checked}
+use Rattle.std.specs.Prelude.{◌≡◌, Bool, true, false, cond, List, [], ◌∷◌, ◌++◌, ℕ, zero, suc, ◌<◌, Float, Ok}
 use Rattle.std.proofs.Math.Logic.Iff
-use Rattle.checks.specs.declared.fault.Checked.{Checked}
-use Rattle.checks.specs.declared.fault.Checked.TheVariants.{Fine}
 use Rattle.checks.specs.Each as each
 use Rattle.checks.specs.Fault.{later}
 use Rattle.checks.specs.First.{first as first_fault}
@@ -41,14 +40,14 @@ pub record Ends (s : Segment) : Type 0 where
 abbrev pub Sound : List Float → ℕ → Type 0
 Sound path n = (k : ℕ) → k < n → Ends (segment_from path k)
 
-pub old-sound : (path : List Float) (closed : Bool) (owner : ℕ) → first_fault (path_checks path closed owner) ≡ Fine
+pub old-sound : (path : List Float) (closed : Bool) (owner : ℕ) → first_fault (path_checks path closed owner) ≡ Ok tt
     → Sound path (segment_count path closed)
 unfolding check_path later
 old-sound path closed owner e k h =
-    let s = segment-fine path closed ((path-fine Fine path closed owner).0 e).1 k h in
+    let s = segment-fine path closed ((path-fine (Ok tt) path closed owner).0 e).1 k h in
     record { start = s.start; end = s.end.point }
 
-pub cut-sound : (path : List Float) (closed : Bool) (owner : ℕ) → first_fault (large_path_checks path closed owner) ≡ Fine
+pub cut-sound : (path : List Float) (closed : Bool) (owner : ℕ) → first_fault (large_path_checks path closed owner) ≡ Ok tt
     → Sound (cut_path path closed) (cut_count path closed)
 cut-sound path closed owner e k h =
     let s = (path-sound path closed ((path-listed path closed owner).0 e) k h).sound in
@@ -111,11 +110,11 @@ module _ (path : List Float) (n : ℕ) (closed : Bool) (eps : Float) (A : Sound 
 -- ---- what the checks say: epsilon, the lengths, then the paths
 pub record TwoFine (first second : List Checked) (eps : Float) : Type 0 where
   pub epsilon : Epsilon eps
-  pub one : first_fault first ≡ Fine
-  pub two : first_fault second ≡ Fine
+  pub one : first_fault first ≡ Ok tt
+  pub two : first_fault second ≡ Ok tt
 
 pub two-fine : (eps : Float) (s t : Checked) (cs ds : List Checked)
-    → first_fault ((each.epsilon eps ∷ s ∷ t ∷ []) ++ cs ++ ds) ≡ Fine → TwoFine cs ds eps
+    → first_fault ((each.epsilon eps ∷ s ∷ t ∷ []) ++ cs ++ ds) ≡ Ok tt → TwoFine cs ds eps
 two-fine eps s t cs ds e =
     let c0 : List Checked = each.epsilon eps ∷ s ∷ t ∷ [] in
     let f0 = then-fine (epsilon-fine eps) (then-fine Iff.rfl (alone-fine Iff.rfl)) in
@@ -125,9 +124,9 @@ two-fine eps s t cs ds e =
 
 pub record OneFine (path : List Checked) (eps : Float) : Type 0 where
   pub epsilon : Epsilon eps
-  pub one : first_fault path ≡ Fine
+  pub one : first_fault path ≡ Ok tt
 
-pub one-fine : (eps : Float) (s : Checked) (cs : List Checked) → first_fault ((each.epsilon eps ∷ s ∷ []) ++ cs) ≡ Fine
+pub one-fine : (eps : Float) (s : Checked) (cs : List Checked) → first_fault ((each.epsilon eps ∷ s ∷ []) ++ cs) ≡ Ok tt
     → OneFine cs eps
 one-fine eps s cs e =
     let c0 : List Checked = each.epsilon eps ∷ s ∷ [] in

@@ -1,10 +1,9 @@
 -- For any checks, look and pairs: if the checks find no fault only where every pair gives a good row or none, every row that is
 -- written is good.
-use Rattle.std.specs.Prelude.{◌≡◌, ℕ, Float, length, drop}
+use Rattle.checks.specs.Checked.{Checked}
+use Rattle.std.specs.Prelude.{◌≡◌, ℕ, Float, length, drop, Ok, Err}
 use Rattle.std.proofs.Math.Path.{refl}
 use mathlib.Core.List.{List, [], ◌∷◌, ◌++◌}
-use Rattle.checks.specs.declared.fault.Checked.{Checked}
-use Rattle.checks.specs.declared.fault.Checked.TheVariants.{Fine}
 use Rattle.checks.specs.First.{first as first_fault}
 use Rattle.listing_pairs.specs.declared.row.Row.{Row}
 use Rattle.listing_pairs.specs.declared.row.Look.{Look}
@@ -12,8 +11,7 @@ use Rattle.listing_pairs.specs.Row.{indices_of}
 use Rattle.listing_pairs.specs.Order.{Pair}
 use Rattle.listing_pairs.specs.Rows.{rows_of, looked_at}
 use Rattle.listing_pairs.specs.Page.{page}
-use Rattle.listing_outcomes.specs.declared.answer.ListingAnswer.TheVariants as ListingAnswer·
-use Rattle.listing_outcomes.specs.declared.answer.PageAnswer.TheVariants as PageAnswer·
+use Rattle.listing_outcomes.specs.Answer.{Listed}
 use Rattle.listing_outcomes.specs.Outcome.{room, room_check, outcome}
 use Rattle.listing_outcomes.specs.PageOutcome.{limits, page_outcome}
 use Rattle.listing_outcomes.specs.BoxedOutcome.{index_check, boxed_outcome}
@@ -29,14 +27,14 @@ use Rattle.release.specs.Words.{All, Wrote, listed, paged}
 use Rattle.release.specs.Laws.Rows.{GoodLook, each-drop, rows-each, page-each, wrote, large-wrote, earlier}
 
 module _ (P : Row → Type 0) (Q : Pair → Type 0) (checks : List Checked) (look : ℕ → ℕ → Look)
-    (good : first_fault checks ≡ Fine → (p : Pair) → Q p → GoodLook P (look p.i p.j))
+    (good : first_fault checks ≡ Ok tt → (p : Pair) → Q p → GoodLook P (look p.i p.j))
     (ps : List Pair) (inside : All Q ps) (i : List ℕ) (p : List Float) where
   pub full-wrote : Wrote listed P indices_of (outcome checks look ps i p)
   unfolding outcome
   full-wrote =
       let rows = rows_of look ps in
       let last : List Checked = room_check rows i p ∷ [] in
-      wrote P listed ListingAnswer·.Refused (λ f. refl) (ListingAnswer·.Listed (length rows) (looked_at look ps)) rows refl i p
+      wrote P listed Err (λ f. refl) (Listed (length rows) (looked_at look ps)) rows refl i p
       (first_fault (checks ++ last)) (λ e. rows-each P Q look (good (earlier checks last e)) ps inside)
 
   pub boxed-wrote : (idx boxes : List Float) → Wrote listed P indices_of (boxed_outcome checks look ps idx boxes i p).listing
@@ -44,7 +42,7 @@ module _ (P : Row → Type 0) (Q : Pair → Type 0) (checks : List Checked) (loo
   boxed-wrote idx boxes =
       let rows = rows_of look ps in
       let last : List Checked = index_check idx boxes ∷ room_check rows i p ∷ [] in
-      wrote P listed ListingAnswer·.Refused (λ f. refl) (ListingAnswer·.Listed (length rows) (looked_at look ps)) rows refl i p
+      wrote P listed Err (λ f. refl) (Listed (length rows) (looked_at look ps)) rows refl i p
       (first_fault (checks ++ last)) (λ e. rows-each P Q look (good (earlier checks last e)) ps inside)
 
   pub page-wrote : (position budget : ℕ) → Wrote paged P indices_of (page_outcome checks look ps position budget i p)
@@ -52,7 +50,7 @@ module _ (P : Row → Type 0) (Q : Pair → Type 0) (checks : List Checked) (loo
   page-wrote position budget =
       let q = page look (drop position ps) (room i p) budget in
       let last = limits position (length ps) budget i p in
-      wrote P paged PageAnswer·.Refused (λ f. refl) _ q.rows refl i p (first_fault (checks ++ last))
+      wrote P paged Err (λ f. refl) _ q.rows refl i p (first_fault (checks ++ last))
       (λ e.
       page-each P Q look (good (earlier checks last e)) (drop position ps) (room i p) budget
       (each-drop Q position ps inside))
@@ -64,7 +62,7 @@ module _ (P : Row → Type 0) (Q : Pair → Type 0) (checks : List Checked) (loo
     large-full-wrote =
         let rows = rows_of look ps in
         let last : List Checked = large_room_check rows i p ∷ [] in
-        large-wrote P words listed ListingAnswer·.Refused (λ f. refl) (ListingAnswer·.Listed (length rows) (looked_at look ps))
+        large-wrote P words listed Err (λ f. refl) (Listed (length rows) (looked_at look ps))
         rows refl i p (first_fault (checks ++ last)) (λ e. rows-each P Q look (good (earlier checks last e)) ps inside)
 
     pub large-boxed-wrote : (idx boxes : List Float)
@@ -73,7 +71,7 @@ module _ (P : Row → Type 0) (Q : Pair → Type 0) (checks : List Checked) (loo
     large-boxed-wrote idx boxes =
         let rows = rows_of look ps in
         let last : List Checked = index_check idx boxes ∷ large_room_check rows i p ∷ [] in
-        large-wrote P words listed ListingAnswer·.Refused (λ f. refl) (ListingAnswer·.Listed (length rows) (looked_at look ps))
+        large-wrote P words listed Err (λ f. refl) (Listed (length rows) (looked_at look ps))
         rows refl i p (first_fault (checks ++ last)) (λ e. rows-each P Q look (good (earlier checks last e)) ps inside)
 
     pub large-page-wrote : (position budget : ℕ) → Wrote paged P words (large_page_outcome words checks look ps position budget i p)
@@ -81,7 +79,7 @@ module _ (P : Row → Type 0) (Q : Pair → Type 0) (checks : List Checked) (loo
     large-page-wrote position budget =
         let q = page look (drop position ps) (large_room i p) budget in
         let last = large_limits position (length ps) budget i p in
-        large-wrote P words paged PageAnswer·.Refused (λ f. refl) _ q.rows refl i p (first_fault (checks ++ last))
+        large-wrote P words paged Err (λ f. refl) _ q.rows refl i p (first_fault (checks ++ last))
         (λ e.
         page-each P Q look (good (earlier checks last e)) (drop position ps) (large_room i p) budget
         (each-drop Q position ps inside))

@@ -1,12 +1,12 @@
 -- The pair: sentences 1 and 2 of its answer, from where its points come from and how large they are.
-use Rattle.std.specs.Prelude.{◌≡◌, refl, [], ◌∷◌, Float}
+use Rattle.checks.specs.declared.fault.Fault.{Fault}
+use Rattle.checks.specs.Checked.{Checked}
+use Rattle.std.specs.Prelude.{◌≡◌, refl, [], ◌∷◌, Float, Err, Ok, Result}
 use Rattle.std.proofs.Common.{sym, arith, inl, inr}
 use Rattle.std.proofs.Math.Path.{subst}
 use Rattle.plane.specs.PlineVertex.{pos}
 use Rattle.plane.specs.declared.vector2.Vector2.{Vector2}
 use Rattle.plane.specs.declared.pline_vertex.PlineVertex.{PlineVertex}
-use Rattle.checks.specs.declared.fault.Checked.{Checked}
-use Rattle.checks.specs.declared.fault.Checked.TheVariants.{Fine, Bad}
 use Rattle.checks.specs.Answered.{answered}
 use Rattle.checks.specs.Calls.{check_pline_seg}
 use Rattle.checks.specs.Laws.Chains.{PointFine, VertexFine}
@@ -22,8 +22,6 @@ use Rattle.arcs.specs.declared.pline_seg_intr.PlineSegIntr.TheVariants.{
 use Rattle.crossing.specs.PlineSeg.{pline_seg}
 use Rattle.crossing.specs.PlineSegIntr.{class_of, absent, point1_of, point2_of}
 use Rattle.crossing.specs.PlineSegIntersect.{pline_seg_intr}
-use Rattle.crossing.specs.declared.pline_seg_intersect.PlineSegAnswer.{PlineSegAnswer}
-use Rattle.crossing.specs.declared.pline_seg_intersect.PlineSegAnswer.TheVariants.{Refused, Met}
 use Rattle.told.specs.Stands.{IsEnd}
 use Rattle.finite.specs.Doubles.{Epsilon, zero-small}
 use Rattle.finite.specs.Vectors.{point-small, point-wider}
@@ -83,21 +81,21 @@ module _ (v1 v2 u1 u2 : PlineVertex) (eps : Float)
 abbrev GoodMet : PlineVertex → PlineVertex → PlineVertex → PlineVertex → PlineSegIntr → Type 0
 GoodMet v1 v2 u1 u2 met = Good (IsEnd v1 v2 u1 u2) (class_of met) (point1_of met) (point2_of met)
 
-abbrev Answer : PlineVertex → PlineVertex → PlineVertex → PlineVertex → PlineSegAnswer → Type 0
-Answer v1 v2 u1 u2 (Refused fault) = Unit {0}
-Answer v1 v2 u1 u2 (Met met) = GoodMet v1 v2 u1 u2 met
+abbrev Answer : PlineVertex → PlineVertex → PlineVertex → PlineVertex → Result PlineSegIntr Fault → Type 0
+Answer v1 v2 u1 u2 (Err fault) = Unit {0}
+Answer v1 v2 u1 u2 (Ok met) = GoodMet v1 v2 u1 u2 met
 
 pub call-good : (v1 v2 u1 u2 : PlineVertex) (eps : Float) → Answer v1 v2 u1 u2 (pline_seg_intr v1 v2 u1 u2 eps)
 unfolding pline_seg_intr
 call-good v1 v2 u1 u2 eps = go (check_pline_seg v1 v2 u1 u2 eps) refl
   where
     go : (c : Checked) → check_pline_seg v1 v2 u1 u2 eps ≡ c
-        → Answer v1 v2 u1 u2 (answered Refused Met c (pline_seg v1 v2 u1 u2 eps))
-    go (Bad fault) e = tt
-    go Fine e =
+        → Answer v1 v2 u1 u2 (answered Err Ok c (pline_seg v1 v2 u1 u2 eps))
+    go (Err fault) e = tt
+    go (Ok _) e =
         let f = pair-fine v1 v2 u1 u2 eps e in
         pair-good v1 v2 u1 u2 eps f.at-v1 f.at-v2 f.at-u1 f.at-u2 f.epsilon
 
-pub answer-good : (v1 v2 u1 u2 : PlineVertex) (eps : Float) (met : PlineSegIntr) → pline_seg_intr v1 v2 u1 u2 eps ≡ Met met
+pub answer-good : (v1 v2 u1 u2 : PlineVertex) (eps : Float) (met : PlineSegIntr) → pline_seg_intr v1 v2 u1 u2 eps ≡ Ok met
     → GoodMet v1 v2 u1 u2 met
 answer-good v1 v2 u1 u2 eps met e = subst (Answer v1 v2 u1 u2) e (call-good v1 v2 u1 u2 eps)

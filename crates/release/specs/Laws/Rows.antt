@@ -1,13 +1,12 @@
 -- What holds of each row that a pair makes holds of each row that a listing or a page writes.
-use Rattle.std.specs.Prelude.{◌≡◌, refl, Bool, true, false, cond, Float, length, drop}
+use Rattle.checks.specs.Checked.{Checked}
+use Rattle.std.specs.Prelude.{◌≡◌, refl, Bool, true, false, cond, Float, length, drop, Err, Ok}
 use Rattle.std.proofs.Common.{sym, subst, arith, take_at}
 use Rattle.std.proofs.Math.Logic.Iff
 use mathlib.Core.List.{List, [], ◌∷◌, ◌++◌}
 use Prim.Native.Nat.{ℕ, zero, suc, ◌+◌, ◌-◌, ◌≤◌, ◌<◌}
 use Rattle.float_laws.specs.Flat.{flat}
 use Rattle.checks.specs.declared.fault.Fault.{Fault}
-use Rattle.checks.specs.declared.fault.Checked.{Checked}
-use Rattle.checks.specs.declared.fault.Checked.TheVariants.{Fine, Bad}
 use Rattle.checks.specs.First.{first as first_fault}
 use Rattle.checks.specs.Laws.Chains.{append-fine}
 use Rattle.listing_pairs.specs.declared.row.Row.{Row}
@@ -109,10 +108,10 @@ none_written P words floats i p = record { rows = []; count = refl; indices-are 
 module _ {A : Type 0} (P : Row → Type 0) (words : Row → List ℕ) (rows_in : A → ℕ) (refused : Fault → A)
     (none : (f : Fault) → rows_in (refused f) ≡ 0) (answer : A) (rows : List Row) (count : length rows ≡ rows_in answer)
     (i : List ℕ) (p : List Float) where
-  pub large-wrote : (c : Checked) → (c ≡ Fine → All P rows) → Wrote rows_in P words (large_of words refused c answer rows i p)
-  large-wrote (Bad fault) good =
+  pub large-wrote : (c : Checked) → (c ≡ Ok tt → All P rows) → Wrote rows_in P words (large_of words refused c answer rows i p)
+  large-wrote (Err fault) good =
       subst (λ (n : ℕ). Written P words points_of n i p) (sym (none fault)) (none_written P words points_of i p)
-  large-wrote Fine good =
+  large-wrote (Ok _) good =
       record {
         rows = rows;
         count = count;
@@ -125,13 +124,13 @@ module _ {A : Type 0} (P : Row → Type 0) (rows_in : A → ℕ) (refused : Faul
     (none : (f : Fault) → rows_in (refused f) ≡ 0) (answer : A) (rows : List Row) (count : length rows ≡ rows_in answer)
     (i : List ℕ) (p : List Float) where
   same : (c : Checked) → outcome_of refused c answer rows i p ≡ large_of indices_of refused c answer rows i p
-  same (Bad fault) = refl
-  same Fine = refl
+  same (Err fault) = refl
+  same (Ok _) = refl
 
-  pub wrote : (c : Checked) → (c ≡ Fine → All P rows) → Wrote rows_in P indices_of (outcome_of refused c answer rows i p)
+  pub wrote : (c : Checked) → (c ≡ Ok tt → All P rows) → Wrote rows_in P indices_of (outcome_of refused c answer rows i p)
   wrote c good =
       subst (Wrote rows_in P indices_of) (sym (same c)) (large-wrote P indices_of rows_in refused none answer rows count i p c good)
 
 -- the first of two lists of checks
-pub earlier : (cs ds : List Checked) → first_fault (cs ++ ds) ≡ Fine → first_fault cs ≡ Fine
+pub earlier : (cs ds : List Checked) → first_fault (cs ++ ds) ≡ Ok tt → first_fault cs ≡ Ok tt
 earlier cs ds e = ((append-fine cs ds Iff.rfl Iff.rfl).0 e).0

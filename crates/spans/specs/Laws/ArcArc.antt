@@ -4,8 +4,8 @@ use Rattle.std.proofs.Math.Path.{refl, sym, ap}
 use Rattle.std.proofs.Common.{◌∙◌, subst}
 use Rattle.std.proofs.Math.Bool.{true, false, not}
 use denote.Floats.{passes}
-use Rattle.std.proofs.Math.Dec.{T, not_T}
-use Rattle.std.specs.Float.{nan, inf, fin, binary64}
+use Rattle.std.proofs.Math.Dec.{T}
+use Rattle.std.specs.Float.{binary64}
 use Rattle.std.specs.Float.Ieee.{neg, of_bits, fits, mul, le, lt}
 use Rattle.std.specs.Float.Ieee.Bits.{is_true, is_false}
 use Rattle.std.specs.Float.Ieee.Fits.{add-fits, sub-fits, mul-fits, and_l, and_r}
@@ -34,11 +34,11 @@ use Rattle.crossing.specs.declared.circle_circle_intr.CircleCircleIntr.TheVarian
 use Rattle.crossing.specs.Workings.FarLine.{moderate, tiny, huge}
 use Rattle.spans.specs.declared.span.Span.{Span}
 use Rattle.spans.specs.declared.circles.Middle.{Middle}
-use Rattle.spans.specs.Workings.Span.{less, doubled, under, ratio, square}
+use Rattle.spans.specs.Workings.Span.{doubled, ratio, square}
 use Rattle.spans.specs.Workings.Root.{holds_root}
 use Rattle.spans.specs.Workings.Circles.{middle_of, sides_miss}
 use Rattle.spans.specs.Workings.LineArc.{circle_at}
-use Rattle.spans.specs.Workings.ArcArc.{below, above, ends_clear, aside, misses_by, Misses}
+use Rattle.spans.specs.Workings.ArcArc.{ends_clear, aside, misses_by, Misses}
 use Rattle.spans.specs.Laws.Monotone.{mul-keep}
 use Rattle.spans.specs.Laws.Root.{
   Held,
@@ -53,21 +53,7 @@ use Rattle.spans.specs.Laws.Root.{
 }
 use Rattle.spans.specs.Laws.Circles.{along-sound, two-points, neither}
 use Rattle.spans.specs.Laws.Sweep.{above_zero}
-use Rattle.spans.specs.Laws.Spans.{
-  In,
-  Sound,
-  Made,
-  weak,
-  in-finite,
-  first_off,
-  less-sound,
-  under-sound,
-  ratio-sound,
-  in-less,
-  in-under,
-  in-ratio,
-  in-square,
-}
+use Rattle.spans.specs.Laws.Spans.{In, Sound, weak, in-finite, first_off, less-sound, under-sound, ratio-sound, in-less, in-under, in-ratio, in-square}
 
 -- ---- twice a moderate span
 two-finite : T (finite f2)

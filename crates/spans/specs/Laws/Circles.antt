@@ -1,8 +1,7 @@
 -- Two arcs whose circles cross: if each of the two points is off one of the arcs, by spans, and no end of an arc lies on the other,
 -- the definition finds that the two do not meet.
-use Rattle.std.specs.Prelude.{◌≡◌, List, [], ◌∷◌, Bool, not, ◌&&◌, ◌||◌, Float}
+use Rattle.std.specs.Prelude.{◌≡◌, [], ◌∷◌, Bool, ◌&&◌, ◌||◌, Float, None}
 use Rattle.std.proofs.Math.Path.{refl}
-use Rattle.std.proofs.Common.{sym, ap, ◌∙◌}
 use Rattle.std.proofs.Math.Bool.{true, false, cond}
 use Rattle.std.proofs.Math.Dec.{T}
 use Rattle.float_laws.specs.Tests.{either}
@@ -12,7 +11,6 @@ use Rattle.plane.specs.Vector2 as vector2
 use Rattle.plane.specs.declared.vector2.Vector2.{Vector2}
 use Rattle.arcs.specs.ArcGeometry.{sweeps}
 use Rattle.arcs.specs.TwoArcs.{both_sweep, two_arc_arc}
-use Rattle.arcs.specs.declared.two_arcs.Slot.TheVariants.{Empty}
 use Rattle.arcs.specs.declared.arc_geometry.ArcGeometry.{ArcGeometry}
 use Rattle.arcs.specs.declared.pline_seg_intr.PlineSegIntr.TheVariants.{NoIntersect}
 use Rattle.crossing.specs.CircleCircle.{two_sides}
@@ -197,7 +195,7 @@ module _ (center1 cv : Vector2) (A H : Span) (arc1 arc2 : ArcGeometry) (eps : Fl
         none : (a b : Bool) (x y : CircleCircleIntr) → (a && b) ≡ false → cond (a && b) x y ≡ y
         none a b x y h = rw h refl
 
-    pub neither : two_arc_arc pt1 pt2 (Empty ∷ (Empty ∷ [])) arc1 arc2 ≡ NoIntersect
+    pub neither : two_arc_arc pt1 pt2 (None ∷ (None ∷ [])) arc1 arc2 ≡ NoIntersect
     unfolding two_arc_arc vector2.new
     neither =
         rw (one-off X1 Y1 arc1 arc2 missed.first pt1 in_x1 in-y1, one-off X2 Y2 arc1 arc2 missed.second pt2 in-x2 in-y2)

@@ -1,16 +1,16 @@
 -- A line segment and an arc: if both points of the circle on the line miss, by spans, the definition finds that the two do not meet.
-use Rattle.std.specs.Prelude.{◌≡◌, ◌⊎◌, not, ◌&&◌, ◌||◌, Float}
+use Rattle.std.specs.Prelude.{◌≡◌, ◌⊎◌, not, ◌&&◌, ◌||◌, Float, None, Option}
 use Rattle.std.proofs.Math.Path.{refl}
-use Rattle.std.proofs.Common.{sym, ap, ◌∙◌, inl, inr, true≢false}
+use Rattle.std.proofs.Common.{inl, inr, true≢false}
 use Rattle.std.proofs.Math.Bool.{Bool, true, false, cond}
-use Rattle.std.proofs.Math.Dec.{T, not_T}
+use Rattle.std.proofs.Math.Dec.{T}
 use Rattle.std.specs.Float.{binary64}
-use Rattle.std.specs.Float.Ieee.{of_bits, fits, neg, le, lt}
+use Rattle.std.specs.Float.Ieee.{of_bits, fits, neg}
 use Rattle.std.specs.Float.Ieee.Fits.{and_l, and_r, div-fits}
 use Rattle.std.specs.Float.Ieee.Scale.{finite}
 use Rattle.float_laws.specs.Tests.{either, left-of, right_of}
 use Rattle.float_laws.specs.Binary64.{zero-finite}
-use Rattle.float_laws.specs.Chains.{le_trans, le_not_lt, between-finite}
+use Rattle.float_laws.specs.Chains.{le_trans, between-finite}
 use Rattle.floats.specs.Ops.{◌⊕◌, ◌⊖◌, ◌⊗◌, ◌⊘◌, ◌≺◌, ◌≼◌, ◌≻◌, ◌≽◌, f0}
 use Rattle.floats.specs.F64
 use Rattle.plane.specs.Vector2 as vector2
@@ -23,8 +23,6 @@ use Rattle.ranges.specs.Workings.OnSegment.{usual, outside, after_end, step, wit
 use Rattle.arcs.specs.ArcGeometry.{sweeps}
 use Rattle.arcs.specs.LineAndArc.{point_in_sweep, crossings_line_arc}
 use Rattle.arcs.specs.declared.arc_geometry.ArcGeometry.{ArcGeometry}
-use Rattle.arcs.specs.declared.line_and_arc.PointInSweep.{PointInSweep}
-use Rattle.arcs.specs.declared.line_and_arc.PointInSweep.TheVariants.{Nothing, At}
 use Rattle.arcs.specs.declared.pline_seg_intr.PlineSegIntr.TheVariants.{NoIntersect}
 use Rattle.crossing.specs.LineArc.{line_arc_of}
 use Rattle.crossing.specs.LineCircle.{two_points}
@@ -72,22 +70,22 @@ module _ (p0 p1 : Vector2) (arc : ArcGeometry) (eps : Float) (e-fits : T (fits b
   abbrev way : Vector2
   way = vector2.sub p1 p0
 
-  abbrev found : Float → PointInSweep
+  abbrev found : Float → Option Vector2
   found t = point_in_sweep t (vector2.length way) p0 p1 arc eps
 
-  by-range : (t : Float) → on_segment t way eps ≡ false → found t ≡ Nothing
+  by-range : (t : Float) → on_segment t way eps ≡ false → found t ≡ None
   unfolding point_in_sweep on_segment
   by-range t h = rw h
 
-  by-sweep : (t : Float) → sweeps arc (point_from_parametric p0 p1 t) ≡ false → found t ≡ Nothing
+  by-sweep : (t : Float) → sweeps arc (point_from_parametric p0 p1 t) ≡ false → found t ≡ None
   unfolding point_in_sweep
   by-sweep t h = rw h (same (not (fuzzy_in_range_eps (t ⊗ vector2.length way) f0 (vector2.length way) eps)))
     where
-      same : (b : Bool) → cond b Nothing Nothing ≡ Nothing
+      same : (b : Bool) → ◌≡◌ {A = Option Vector2} (cond b None None) None
       same true = refl
       same false = refl
 
-  point-missed : (t : Float) (S : Span) → T (fits binary64 t) → Sound S → In t S → T (point_misses S p0 p1 arc) → found t ≡ Nothing
+  point-missed : (t : Float) (S : Span) → T (fits binary64 t) → Sound S → In t S → T (point_misses S p0 p1 arc) → found t ≡ None
   unfolding point_misses point_from_parametric vector2.add vector2.scale
   point-missed t S f s i h =
       let X = plus p0.x (times way.x S) in
@@ -194,11 +192,11 @@ module _ (p0 p1 : Vector2) (arc : ArcGeometry) (eps : Float) (e-fits : T (fits b
           (record { fixed = firm.far-finite; sound = over-sound (minus G from) far firm.t2-sound })
           (in-minus from y G firm.second-made iy) firm.signs
 
-      first-missed : found ((x ⊖ from) ⊘ far) ≡ Nothing
+      first-missed : found ((x ⊖ from) ⊘ far) ≡ None
       first-missed =
           point-missed ((x ⊖ from) ⊘ far) t1 (div-fits binary64 (x ⊖ from) far) firm.t1-sound in-t1 missed.first
 
-      second-missed : found ((y ⊖ from) ⊘ far) ≡ Nothing
+      second-missed : found ((y ⊖ from) ⊘ far) ≡ None
       second-missed =
           point-missed ((y ⊖ from) ⊘ far) t2 (div-fits binary64 (y ⊖ from) far) firm.t2-sound in-t2 missed.second
 
@@ -211,7 +209,7 @@ module _ (p0 p1 : Vector2) (arc : ArcGeometry) (eps : Float) (e-fits : T (fits b
   module _ (line : Line) (x0 y0 mult : Float) (M : Span) (i : In mult M) (arc_start : Vector2) (b : Bool)
       (h : T (points_miss p0 p1 line.a line.b x0 y0 M arc eps)) where
     -- the two points do not count as one, and each misses
-    two : (near : Bool) (t s1 s2 : Float) → near ≡ false → found s1 ≡ Nothing → found s2 ≡ Nothing
+    two : (near : Bool) (t s1 s2 : Float) → near ≡ false → found s1 ≡ None → found s2 ≡ None
         → line_arc_of (cond near (TangentIntersect t) (TwoIntersects (min_max s1 s2).min (min_max s1 s2).max)) p0 p1 arc_start arc b
         eps
         ≡ NoIntersect

@@ -1,5 +1,5 @@
 -- A line segment that misses an arc, by spans: the definition finds that the two do not meet.
-use Rattle.std.specs.Prelude.{◌≡◌, Bool, not, cond, ◌&&◌, ◌||◌, Float}
+use Rattle.std.specs.Prelude.{◌≡◌, Bool, not, cond, ◌||◌, Float}
 use Rattle.std.proofs.Math.Path.{refl, ap}
 use Rattle.std.proofs.Common.{sym, ◌∙◌, subst}
 use Rattle.std.proofs.Math.Bool.{true, false}
@@ -19,11 +19,9 @@ use Rattle.plane.specs.declared.pline_vertex.PlineVertex.{PlineVertex}
 use Rattle.plane.specs.declared.pline_seg.ArcRadiusCenter.{ArcRadiusCenter}
 use Rattle.ranges.specs.Workings.OnSegment.{usual}
 use Rattle.arcs.specs.ArcGeometry.{of_segment}
-use Rattle.arcs.specs.declared.arc_geometry.ArcGeometry.{ArcGeometry}
-use Rattle.arcs.specs.declared.pline_seg_intr.PlineSegIntr.{PlineSegIntr}
 use Rattle.arcs.specs.declared.pline_seg_intr.PlineSegIntr.TheVariants.{NoIntersect}
 use Rattle.crossing.specs.LineArc.{process_line_arc_intr, line_arc_of}
-use Rattle.crossing.specs.LineCircle.{line_circle, line_through, line_meets, two_points}
+use Rattle.crossing.specs.LineCircle.{line_circle, line_through, two_points}
 use Rattle.crossing.specs.declared.line_circle.Line.{Line}
 use Rattle.crossing.specs.declared.line_circle_intr.LineCircleIntr.{LineCircleIntr}
 use Rattle.crossing.specs.Workings.ThroughLine.{line_crosses, through-line, line-through}

@@ -1,6 +1,6 @@
 -- Rounding keeps the order, so each operation with one operand fixed keeps or turns it: for finite floats, whether or not the
 -- result is finite.
-use Rattle.std.specs.Prelude.{◌≡◌, refl, ℕ, ◌+◌, ◌-◌, ◌*◌, ◌≤◌, ◌<◌, Bool, true, false, T, ℤ, Float}
+use Rattle.std.specs.Prelude.{◌≡◌, refl, ℕ, ◌+◌, ◌-◌, ◌*◌, ◌≤◌, ◌<◌, Bool, true, false, T, Float}
 use Rattle.std.proofs.Common.{sym, ap, subst, mul-pos, mul-le-mul, mul-le-mul_left, mul-le-mul_right, le_of_mul-le-mul_right, arith, lit<}
 use Rattle.std.specs.Float.{nan, inf, fin, binary64}
 use Rattle.std.specs.Float.Ieee.{of_bits, up, down, neg, round, le, lt}

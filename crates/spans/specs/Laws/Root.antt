@@ -3,7 +3,7 @@
 use Rattle.std.specs.Prelude.{◌≡◌, refl, ℕ, ◌*◌, ◌≤◌, Bool, true, false, ◌&&◌, T, Float}
 use Rattle.std.proofs.Common.{mul-le-mul_right}
 use Rattle.std.specs.Float.{binary64}
-use Rattle.std.specs.Float.Ieee.{of_bits, fits, le, lt}
+use Rattle.std.specs.Float.Ieee.{of_bits, fits, lt}
 use Rattle.std.specs.Float.Ieee.Fits.{and_i, and_l, and_r}
 use Rattle.std.specs.Float.Ieee.Scale.{finite}
 use Rattle.std.specs.Float.Ieee.Order.{le_of_values}

@@ -1,7 +1,7 @@
 -- What lies in a span lies, after an operation, in the span that the operation makes. A span whose two numbers are finite was made
 -- of finite numbers: infinities and NaNs go on through sums, differences and products.
 use Rattle.std.specs.Prelude.{◌≡◌, refl, ◌⊎◌, ℕ, ◌*◌, true, false, ◌&&◌, ◌||◌, eqb, Float}
-use Rattle.std.proofs.Common.{sym, ap, ◌∙◌, subst, mul_comm}
+use Rattle.std.proofs.Common.{ap, ◌∙◌, subst, mul_comm}
 use Rattle.std.proofs.Math.Logic.{inl, inr}
 use Rattle.std.proofs.Math.Bool.{Bool, cond}
 use Rattle.std.specs.Bool.{beq}

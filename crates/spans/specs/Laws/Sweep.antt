@@ -1,12 +1,12 @@
 -- A point in two spans that are off a sweep is in no part of it, by any rule of the definition.
 use Rattle.std.specs.Prelude.{◌≡◌, ◌⊎◌, ℕ, ◌+◌, ◌*◌, ◌≤◌, Bool, ◌&&◌, ◌||◌, T, Float}
 use Rattle.std.proofs.Math.Path.{refl}
-use Rattle.std.proofs.Common.{sym, ap, ◌∙◌, subst, inl, inr, mul-le-mul_right, arith}
+use Rattle.std.proofs.Common.{inl, inr, mul-le-mul_right, arith}
 use Rattle.std.proofs.Math.Bool.{true, false, cond}
 use Rattle.std.proofs.Math.Dec.{not_T}
 use Rattle.std.specs.Float.{nan, inf, fin, binary64}
-use Rattle.std.specs.Float.Ieee.{of_bits, fits, add, mul, le, lt, eq}
-use Rattle.std.specs.Float.Ieee.Bits.{is_false, of_bits-fits}
+use Rattle.std.specs.Float.Ieee.{of_bits, fits, add, mul, le}
+use Rattle.std.specs.Float.Ieee.Bits.{is_false}
 use Rattle.std.specs.Float.Ieee.Fits.{and_l, and_r, mul-fits}
 use Rattle.std.specs.Float.Ieee.Scale.{finite}
 use Rattle.float_laws.specs.Tests.{either}
@@ -26,7 +26,7 @@ use Rattle.crossing.specs.Workings.FarLine.{huge}
 use Rattle.spans.specs.declared.span.Span.{Span}
 use Rattle.spans.specs.Workings.Span.{minus, difference, times}
 use Rattle.spans.specs.Workings.Sweep.{bounded, clear, beside, off_sweep}
-use Rattle.spans.specs.Laws.Monotone.{add-mono, square-keep, square-turn}
+use Rattle.spans.specs.Laws.Monotone.{square-keep, square-turn}
 use Rattle.spans.specs.Laws.Spans.{
   In,
   Sound,

@@ -1,5 +1,5 @@
 -- A line and an arc: the computed points and the answer's points agree, in each branch.
-use Rattle.std.specs.Prelude.{◌≡◌, Bool, cond, not, ◌||◌, List, [], ◌∷◌, map, Float}
+use Rattle.std.specs.Prelude.{◌≡◌, Bool, cond, not, ◌||◌, List, [], ◌∷◌, map, Float, None, Option, Some}
 use Rattle.std.proofs.Math.Path.{refl}
 use Rattle.std.proofs.Common.{ap, ◌∙◌}
 use Rattle.std.proofs.Math.Bool.{true, false}
@@ -14,8 +14,6 @@ use Rattle.plane.specs.declared.pline_vertex.PlineVertex.{PlineVertex}
 use Rattle.arcs.specs.ArcGeometry.{of_segment, finding, point_lies_on_arc}
 use Rattle.arcs.specs.LineAndArc.{point_in_sweep, tangent_at, tangent_line_arc, one_line_arc, with_sticky_ends, in_order, crossings_line_arc}
 use Rattle.arcs.specs.declared.arc_geometry.ArcGeometry.{ArcGeometry}
-use Rattle.arcs.specs.declared.line_and_arc.PointInSweep.{PointInSweep}
-use Rattle.arcs.specs.declared.line_and_arc.PointInSweep.TheVariants.{Nothing, At}
 use Rattle.arcs.specs.declared.line_and_arc.TwoPoints.{TwoPoints}
 use Rattle.arcs.specs.declared.pline_seg_intr.PlineSegIntr.TheVariants.{TangentIntersect, OneIntersect, TwoIntersects}
 use Rattle.crossing.specs.LineArc.{line_arc_of, process_line_arc_intr}
@@ -55,8 +53,8 @@ abbrev pub mark : Tested → Mark
 mark e = record { point = e.point; counts = counts e.finding }
 
 -- the point that the Rust goes on with
-abbrev found : Tested → PointInSweep
-found e = cond (counts e.finding) (At e.point) Nothing
+abbrev found : Tested → Option Vector2
+found e = cond (counts e.finding) (Some e.point) None
 
 in-sweep : (t line_length : Float) (p0 p1 : Vector2) (arc : ArcGeometry) (eps : Float)
     → point_in_sweep t line_length p0 p1 arc eps ≡ found (point_tested t line_length p0 p1 arc eps)
@@ -64,10 +62,10 @@ unfolding point_in_sweep point_tested
 in-sweep t line_length p0 p1 arc eps =
     let p = point_from_parametric p0 p1 t in
     let out = not (fuzzy_in_range_eps (t ⊗ line_length) f0 line_length eps) in
-    ap (λ (b : Bool). cond out Nothing (cond b (At p) Nothing)) (sweeps-counts arc p) ∙ go p (of_sweep (finding arc p)) out
+    ap (λ (b : Bool). cond out None (cond b (Some p) None)) (sweeps-counts arc p) ∙ go p (of_sweep (finding arc p)) out
   where
     go : (p : Vector2) (f : Finding) (out : Bool)
-        → cond out Nothing (cond (counts f) (At p) Nothing) ≡ cond (counts (cond out NotTested f)) (At p) Nothing
+        → cond out None (cond (counts f) (Some p) None) ≡ cond (counts (cond out NotTested f)) (Some p) None
     go p f true = refl
     go p f false = refl
 
@@ -82,7 +80,7 @@ module _ {End : Vector2 → Type 0} (p0 p1 : Vector2) (end0 : End p0) (end1 : En
   tangent-at : (e : Tested) → Agree End (mark e ∷ []) (points_of (tangent_at (found e)))
   tangent-at e = go (counts e.finding) refl
     where
-      go : (b : Bool) → counts e.finding ≡ b → Agree End (mark e ∷ []) (points_of (tangent_at (cond b (At e.point) Nothing)))
+      go : (b : Bool) → counts e.finding ≡ b → Agree End (mark e ∷ []) (points_of (tangent_at (cond b (Some e.point) None)))
       go true is = itself (mark e) is
       go false is = left_out (mark e) is nothing
 
@@ -176,7 +174,7 @@ module _ {End : Vector2 → Type 0} (p0 p1 : Vector2) (end0 : End p0) (end1 : En
           (record { first = unless_end e1 p0 p1 arc; second = e2 }))
           (cond b2 (record { first = e1; second = unless_end e2 p0 p1 arc }) (record { first = e1; second = e2 }))))
           (points_of
-          (crossings_line_arc (cond b1 (At e1.point) Nothing) (cond b2 (At e2.point) Nothing) p0 p1 arc_start arc u_is_line))
+          (crossings_line_arc (cond b1 (Some e1.point) None) (cond b2 (Some e2.point) None) p0 p1 arc_start arc u_is_line))
       go true true is1 is2 = two e1 e2 is1 is2 arc_start u_is_line
       go true false is1 is2 = second-left-out (mark e2) is2 (one e1 is1)
       go false true is1 is2 = left_out (mark e1) is1 (one e2 is2)

@@ -1,5 +1,5 @@
 -- Two arcs: the computed points and the answer's points agree, in each branch.
-use Rattle.std.specs.Prelude.{◌≡◌, Bool, cond, ◌&&◌, List, [], ◌∷◌, map, Float, get_or}
+use Rattle.std.specs.Prelude.{◌≡◌, Bool, cond, ◌&&◌, List, [], ◌∷◌, map, Float, get_or, None, Option, Some}
 use Rattle.std.proofs.Math.Path.{refl}
 use Rattle.std.proofs.Math.Bool.{true, false}
 use Rattle.floats.specs.Ops.{◌≺◌}
@@ -22,8 +22,6 @@ use Rattle.arcs.specs.TwoArcs.{
   crossing_arcs,
 }
 use Rattle.arcs.specs.declared.arc_geometry.ArcGeometry.{ArcGeometry}
-use Rattle.arcs.specs.declared.two_arcs.Slot.{Slot}
-use Rattle.arcs.specs.declared.two_arcs.Slot.TheVariants.{Empty, Taken}
 use Rattle.arcs.specs.declared.pline_seg_intr.PlineSegIntr.TheVariants.{
   NoIntersect,
   TangentIntersect,
@@ -146,40 +144,40 @@ module _ {End : Vector2 → Type 0} where
       go false = beside (instead _ q refl is') (instead _ p refl is)
 
   -- lines 455-483
-  both : (first second : Slot) → SlotEnd End first → SlotEnd End second
+  both : (first second : Option Vector2) → SlotEnd End first → SlotEnd End second
       → (c1 c2 : Computed) → counted c1 ≡ true → counted c2 ≡ true
       → Agree End (marks (both_counted first second c1 c2)) (points_of (two_in_sweep first second c1.point c2.point))
-  both Empty Empty is is' c1 c2 is1 is2 = beside (itself (mark c1) is1) (itself (mark c2) is2)
-  both Empty (Taken p) is is' c1 c2 is1 is2 = nearer p is' c1 c2 is1 is2
-  both (Taken p) Empty is is' c1 c2 is1 is2 = nearer p is c1 c2 is1 is2
-  both (Taken p) (Taken q) is is' c1 c2 is1 is2 = for-both p q is is' c1 c2
+  both None None is is' c1 c2 is1 is2 = beside (itself (mark c1) is1) (itself (mark c2) is2)
+  both None (Some p) is is' c1 c2 is1 is2 = nearer p is' c1 c2 is1 is2
+  both (Some p) None is is' c1 c2 is1 is2 = nearer p is c1 c2 is1 is2
+  both (Some p) (Some q) is is' c1 c2 is1 is2 = for-both p q is is' c1 c2
 
   -- lines 485-501
-  only : (first second : Slot) → SlotEnd End first → SlotEnd End second → (c : Computed) → counted c ≡ true
+  only : (first second : Option Vector2) → SlotEnd End first → SlotEnd End second → (c : Computed) → counted c ≡ true
       → Agree End (mark (unless_ends first second c) ∷ []) (points_of (ends_or first second (OneIntersect c.point)))
-  only Empty Empty is is' c t = itself (mark c) t
-  only Empty (Taken p) is is' c t = instead _ p refl is'
-  only (Taken p) Empty is is' c t = instead _ p refl is
-  only (Taken p) (Taken q) is is' c t = left_out _ refl (two_ends p q is is')
+  only None None is is' c t = itself (mark c) t
+  only None (Some p) is is' c t = instead _ p refl is'
+  only (Some p) None is is' c t = instead _ p refl is
+  only (Some p) (Some q) is is' c t = left_out _ refl (two_ends p q is is')
 
   -- lines 503-510
-  neither : (first second : Slot) → SlotEnd End first → SlotEnd End second
+  neither : (first second : Option Vector2) → SlotEnd End first → SlotEnd End second
       → Agree End [] (points_of (ends_or first second NoIntersect))
-  neither Empty Empty is is' = nothing
-  neither Empty (Taken p) is is' = one_end p is'
-  neither (Taken p) Empty is is' = one_end p is
-  neither (Taken p) (Taken q) is is' = two_ends p q is is'
+  neither None None is is' = nothing
+  neither None (Some p) is is' = one_end p is'
+  neither (Some p) None is is' = one_end p is
+  neither (Some p) (Some q) is is' = two_ends p q is is'
 
   -- lines 452-511
-  two : (point1 point2 : Vector2) (slots : List Slot) → SlotsEnd End slots → (arc1 arc2 : ArcGeometry)
+  two : (point1 point2 : Vector2) (slots : List (Option Vector2)) → SlotsEnd End slots → (arc1 arc2 : ArcGeometry)
       → Agree End (marks (two_computed point1 point2 slots arc1 arc2)) (points_of (two_arc_arc point1 point2 slots arc1 arc2))
   unfolding two_computed two_arc_arc both_tested
   two point1 point2 slots is arc1 arc2 =
       simp (both-sweep arc1 arc2 point1, both-sweep arc1 arc2 point2)
-      (go (get_or slots 0 Empty) (get_or slots 1 Empty) (slot-end End slots 0 is) (slot-end End slots 1 is)
+      (go (get_or slots 0 None) (get_or slots 1 None) (slot-end End slots 0 is) (slot-end End slots 1 is)
       (both_tested arc1 arc2 point1) (both_tested arc1 arc2 point2) _ _ refl refl)
     where
-      go : (first second : Slot) → SlotEnd End first → SlotEnd End second → (c1 c2 : Computed) (b1 b2 : Bool)
+      go : (first second : Option Vector2) → SlotEnd End first → SlotEnd End second → (c1 c2 : Computed) (b1 b2 : Bool)
           → counted c1 ≡ b1 → counted c2 ≡ b2
           → Agree End
           (marks

@@ -1,6 +1,6 @@
 -- `answers::padded::of_circle_circle` meets its contract: a refusal gives a refusal, and each case that case.
+use Rattle.std.specs.Prelude.{Ok}
 use borrow.Author.Rules.{rules}
-use Rattle.crossing.specs.declared.circle_circle_intersect.CircleCircleAnswer.TheVariants.{Met}
 use Rattle.checks.specs.Word.{word}
 use Rattle.answers.specs.Padded.{of_circle_circle, refusal, case}
 use Rattle.answers.proofs.AsNumbers.{as-refused, as-met}
@@ -14,5 +14,5 @@ of_circle_circle_spec =
     (tie.spec
     (λ c. search rules) (λ c. search rules) (λ c. search rules) (λ c. search rules) (λ c. search rules) (λ c. search rules)
     (λ c. search rules) (λ c. search rules) (λ c. search rules) (λ c. search rules) (λ c. search rules)
-    (λ c. search (as-refused of_circle_circle)) (λ c. search (as-met of_circle_circle Met)) (λ c. search (as-met of_circle_circle Met))
-    (λ c. search (as-met of_circle_circle Met)) (λ c. search (as-met of_circle_circle Met)))
+    (λ c. search (as-refused of_circle_circle)) (λ c. search (as-met of_circle_circle Ok)) (λ c. search (as-met of_circle_circle Ok))
+    (λ c. search (as-met of_circle_circle Ok)) (λ c. search (as-met of_circle_circle Ok)))

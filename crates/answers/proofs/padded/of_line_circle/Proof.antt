@@ -1,6 +1,6 @@
 -- `answers::padded::of_line_circle` meets its contract: a refusal gives a refusal, and each case that case.
+use Rattle.std.specs.Prelude.{Ok}
 use borrow.Author.Rules.{rules}
-use Rattle.crossing.specs.declared.line_circle_intersect.LineCircleAnswer.TheVariants.{Met}
 use Rattle.checks.specs.Word.{word}
 use Rattle.answers.specs.Padded.{of_line_circle, refusal, case}
 use Rattle.answers.proofs.AsNumbers.{as-refused, as-met}
@@ -14,5 +14,5 @@ of_line_circle_spec =
     (tie.spec
     (λ c. search rules) (λ c. search rules) (λ c. search rules) (λ c. search rules) (λ c. search rules) (λ c. search rules)
     (λ c. search rules) (λ c. search rules) (λ c. search rules)
-    (λ c. search (as-refused of_line_circle)) (λ c. search (as-met of_line_circle Met)) (λ c. search (as-met of_line_circle Met))
-    (λ c. search (as-met of_line_circle Met)))
+    (λ c. search (as-refused of_line_circle)) (λ c. search (as-met of_line_circle Ok)) (λ c. search (as-met of_line_circle Ok))
+    (λ c. search (as-met of_line_circle Ok)))

@@ -11,13 +11,13 @@ crossings_line_arc_spec =
     (λ c. search rules) (λ c. search rules) (λ c. search rules) (λ c. search rules)
     (λ c. simp (c.in_default.is, c.in_default-t1_point.is))
     (search rules)
-    (λ c. simp (c.in_default.is, c.in-At-t1_point.is, ← c.one_line_arc.ensures))
+    (λ c. simp (c.in_default.is, c.in-Some-t1_point.is, ← c.one_line_arc.ensures))
     (λ c. search rules) (λ c. search rules) (search rules)
-    (λ c. simp (c.in-At.is, c.in_default-t1_point-2.is, ← c.one_line_arc-in_default-t1_point-2.ensures))
+    (λ c. simp (c.in-Some.is, c.in_default-t1_point-2.is, ← c.one_line_arc-in_default-t1_point-2.ensures))
     (search rules) (search rules)
     (λ c. simp (
-      c.in-At.is,
-      c.in-At-t1_point-2.is,
+      c.in-Some.is,
+      c.in-Some-t1_point-2.is,
       ← c.with_sticky_ends.ensures,
       ← c.in_order.ensures,
     )))

@@ -13,5 +13,5 @@ tangent_line_arc_spec =
     (tie.spec
     (search rules) (λ c. search branches) (search rules) (λ c. search branches depth 8)
     (search rules) (λ c. search rules) (λ c. search rules)
-    (λ c. simp (← c.point_in_sweep-t0_point.ensures, c.in-At.is) (search branches depth 8))
+    (λ c. simp (← c.point_in_sweep-t0_point.ensures, c.in-Some.is) (search branches depth 8))
     (λ c. simp (← c.point_in_sweep-t0_point.ensures, c.in_default.is) (search branches depth 8)))

@@ -8,7 +8,7 @@ ends_or_spec =
     tie.close
     (tie.spec
     (search rules) (search rules) (search rules) (search rules) (search rules) (search rules)
-    (λ c. simp (c.in-Empty.is, c.in-Empty-second.is))
-    (λ c. simp (c.in-Empty.is, c.in-Taken-second.is))
-    (λ c. simp (c.in-Taken.is, c.in-Empty-second-2.is))
-    (λ c. simp (c.in-Taken.is, c.in-Taken-second-2.is)))
+    (λ c. simp (c.in-None.is, c.in-None-second.is))
+    (λ c. simp (c.in-None.is, c.in-Some-second.is))
+    (λ c. simp (c.in-Some.is, c.in-None-second-2.is))
+    (λ c. simp (c.in-Some.is, c.in-Some-second-2.is)))

@@ -5,14 +5,14 @@ use Rattle.arcs.specs.TwoArcs.{try_add_end_point_intr}
 use Rattle.arcs.proofs.two_arcs.try_add_end_point_intr.Statement.{statement}
 use Rattle.arcs.proofs.two_arcs.try_add_end_point_intr.Tie as tie
 
-returns-4 : tie.Need-returns-in-Taken-second
+returns-4 : tie.Need-returns-in-Some-second
 unfolding try_add_end_point_intr
 returns-4 c =
     simp (
-      c.in-Taken.is,
+      c.in-Some.is,
       ← c.fuzzy_eq_eps.ensures,
       c.if-fuzzy_eq_eps.false,
-      c.in-Taken-second.is,
+      c.in-Some-second.is,
     )
 
 pub try_add_end_point_intr_spec : {M : Type 1} → statement M
@@ -21,8 +21,8 @@ try_add_end_point_intr_spec =
     tie.close
     (tie.spec
     (search rules) (search rules) (search rules) (search rules) (search rules)
-    (λ c. simp (c.in-Taken.is, ← c.fuzzy_eq_eps.ensures, c.if-fuzzy_eq_eps.true))
+    (λ c. simp (c.in-Some.is, ← c.fuzzy_eq_eps.ensures, c.if-fuzzy_eq_eps.true))
     (search rules) (search rules) (search rules) (search rules)
-    (λ c. simp c.in-Empty.is)
-    (λ c. simp (c.in-Taken.is, ← c.fuzzy_eq_eps.ensures, c.if-fuzzy_eq_eps.false, c.in-Empty-second.is))
+    (λ c. simp c.in-None.is)
+    (λ c. simp (c.in-Some.is, ← c.fuzzy_eq_eps.ensures, c.if-fuzzy_eq_eps.false, c.in-None-second.is))
     returns-4)

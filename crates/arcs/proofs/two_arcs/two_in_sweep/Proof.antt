@@ -9,7 +9,7 @@ two_in_sweep_spec =
     (tie.spec
     (search rules) (search rules) (search rules) (search rules) (search rules) (search rules)
     (search rules) (search rules) (search rules)
-    (λ c. simp (c.in-Empty.is, c.in-Empty-second.is))
-    (λ c. simp (c.in-Empty.is, c.in-Taken-second.is, ← c.end_for_nearer.ensures))
-    (λ c. simp (c.in-Taken.is, c.in-Empty-second-2.is, ← c.end_for_nearer-in-Empty-second-2.ensures))
-    (λ c. simp (c.in-Taken.is, c.in-Taken-second-2.is, ← c.ends_for_both.ensures)))
+    (λ c. simp (c.in-None.is, c.in-None-second.is))
+    (λ c. simp (c.in-None.is, c.in-Some-second.is, ← c.end_for_nearer.ensures))
+    (λ c. simp (c.in-Some.is, c.in-None-second-2.is, ← c.end_for_nearer-in-None-second-2.ensures))
+    (λ c. simp (c.in-Some.is, c.in-Some-second-2.is, ← c.ends_for_both.ensures)))

@@ -3,11 +3,11 @@ use borrow.Author.Rules.{rules}
 use Rattle.capi.proofs.dxf.hand_exported.Statement.{statement}
 use Rattle.capi.proofs.dxf.hand_exported.Tie as tie
 
-returns : tie.Need-returns-in-Refused
-returns c = (simp (c.in-Refused.is, c.word.ensures), simp c.in-Refused.is)
+returns : tie.Need-returns-in-Err
+returns c = (simp (c.in-Err.is, c.word.ensures), simp c.in-Err.is)
 
-returns-2 : tie.Need-returns-in-Bytes
-returns-2 c = (simp c.in-Bytes.is, simp c.in-Bytes.is)
+returns-2 : tie.Need-returns-in-Ok
+returns-2 c = (simp c.in-Ok.is, simp c.in-Ok.is)
 
 pub hand_exported_spec : {M : Type 1} → statement M
 hand_exported_spec =

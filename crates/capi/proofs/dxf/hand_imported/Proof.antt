@@ -3,12 +3,12 @@ use borrow.Author.Rules.{rules}
 use Rattle.capi.proofs.dxf.hand_imported.Statement.{statement}
 use Rattle.capi.proofs.dxf.hand_imported.Tie as tie
 
-returns : tie.Need-returns-in-Refused
-returns c = (simp (c.in-Refused.is, c.word.ensures), simp c.in-Refused.is)
+returns : tie.Need-returns-in-Err
+returns c = (simp (c.in-Err.is, c.word.ensures), simp c.in-Err.is)
 
-returns-2 : tie.Need-returns-in-Path
+returns-2 : tie.Need-returns-in-Ok
 returns-2 c =
-    (simp c.in-Path.is, simp (c.in-Path.is, c.closed_word.ensures))
+    (simp c.in-Ok.is, simp (c.in-Ok.is, c.closed_word.ensures))
 
 pub hand_imported_spec : {M : Type 1} → statement M
 hand_imported_spec =

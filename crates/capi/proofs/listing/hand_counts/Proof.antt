@@ -4,11 +4,11 @@ use borrow.Author.Rules.{rules}
 use Rattle.capi.proofs.listing.hand_counts.Statement.{statement}
 use Rattle.capi.proofs.listing.hand_counts.Tie as tie
 
-returns : tie.Need-returns-in-Refused
-returns c = (simp (c.in-Refused.is, c.word.ensures), simp c.in-Refused.is)
+returns : tie.Need-returns-in-Err
+returns c = (simp (c.in-Err.is, c.word.ensures), simp c.in-Err.is)
 
-returns-2 : tie.Need-returns-in-Listed
-returns-2 c = (simp c.in-Listed.is, simp c.in-Listed.is)
+returns-2 : tie.Need-returns-in-Ok
+returns-2 c = (simp c.in-Ok.is, simp c.in-Ok.is)
 
 pub hand_counts_spec : {M : Type 1} → statement M
 hand_counts_spec =

@@ -5,11 +5,11 @@ use lib.ListN.{length-set}
 use Rattle.capi.proofs.page.hand_page.Statement.{statement}
 use Rattle.capi.proofs.page.hand_page.Tie as tie
 
-returns : tie.Need-returns-in-Refused
-returns c = (simp (c.in-Refused.is, c.word.ensures), simp c.in-Refused.is)
+returns : tie.Need-returns-in-Err
+returns c = (simp (c.in-Err.is, c.word.ensures), simp c.in-Err.is)
 
-returns-2 : tie.Need-returns-in-Paged
-returns-2 c = (simp c.in-Paged.is, simp c.in-Paged.is)
+returns-2 : tie.Need-returns-in-Ok
+returns-2 c = (simp c.in-Ok.is, simp c.in-Ok.is)
 
 pub hand_page_spec : {M : Type 1} → statement M
 hand_page_spec =

@@ -11,14 +11,14 @@ returns c = no_room _ _ _ c.if-out-lt-PLACES.true
 returns-2 : tie.Need-returns-then-findings-lt-FINDINGS
 returns-2 c = no-room-to-tell _ _ _ c.if-out-lt-PLACES.false c.if-findings-lt-FINDINGS.true
 
-returns-3 : tie.Need-returns-in-Refused
+returns-3 : tie.Need-returns-in-Err
 returns-3 c =
-    refused _ _ _ c.if-out-lt-PLACES.false c.if-findings-lt-FINDINGS.false _ _ _ c.pline_seg_findings-told.ensures c.in-Refused.is
+    refused _ _ _ c.if-out-lt-PLACES.false c.if-findings-lt-FINDINGS.false _ _ _ c.pline_seg_findings-told.ensures c.in-Err.is
     c.word.ensures
 
-returns-4 : tie.Need-returns-in-Met
+returns-4 : tie.Need-returns-in-Ok
 returns-4 c =
-    met _ _ _ c.if-out-lt-PLACES.false c.if-findings-lt-FINDINGS.false _ _ _ _ _ _ c.pline_seg_findings-told.ensures c.in-Met.is
+    met _ _ _ c.if-out-lt-PLACES.false c.if-findings-lt-FINDINGS.false _ _ _ _ _ _ c.pline_seg_findings-told.ensures c.in-Ok.is
     c.of_pline_seg.ensures c.hand_over.ensures c.hand_findings.ensures
 
 pub vj_pair_findings_spec : {M : Type 1} → statement M

@@ -4,8 +4,7 @@ use mathlib.Core.Path.{◌≡◌, ap, ◌∙◌}
 use mathlib.Core.List.{List}
 use borrow.Author.Rules.{rules}
 use lib.Ieee.{Float}
-use Rattle.large_pair.specs.declared.LargePair.{LargePair}
-use Rattle.large_pair.specs.LargePair.{LargeOutcome, LeavesLarge}
+use Rattle.large_pair.specs.LargePair.{LargeOutcome, LeavesLarge, LargePair}
 use Rattle.capi_large.specs.HandedLarge.{large_code, HandedLarge}
 use Rattle.capi_large.proofs.pair_large.vj_pair_large.Statement.{statement}
 use Rattle.capi_large.proofs.pair_large.vj_pair_large.Tie as tie

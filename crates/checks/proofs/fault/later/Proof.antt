@@ -10,5 +10,5 @@ later_spec =
     tie.close
     (tie.spec
     (λ c. search rules) (λ c. search rules)
-    (λ c. simp c.in-Fine.is)
-    (λ c. simp c.in-Bad.is))
+    (λ c. simp c.in-Ok.is)
+    (λ c. simp c.in-Err.is))

@@ -7,19 +7,19 @@ use Rattle.dxf_write.proofs.put.put_number.Tie as tie
 
 put-size-requires : tie.Need-put_size-requires
 put-size-requires c κs =
-    omega (arith, zero-length c.args.negative _ c.if-n-eq0.true)
+    omega (arith, zero-length c.args.n.negative _ c.if-n-eq0.true)
 
 put-byte-requires : tie.Need-put_byte-next-requires
 put-byte-requires c κs =
-    omega (arith, minus-length _ _ c.if-negative.true c.if-n-eq0.false)
+    omega (arith, minus-length _ _ c.if-n.true c.if-n-eq0.false)
 
-put-size-requires-2 : tie.Need-put_size-requires-then-negative
+put-size-requires-2 : tie.Need-put_size-requires-then-n
 put-size-requires-2 c κs =
-    omega (arith, minus-length _ _ c.if-negative.true c.if-n-eq0.false)
+    omega (arith, minus-length _ _ c.if-n.true c.if-n-eq0.false)
 
 put-size-requires-3 : tie.Need-put_size-requires-2
 put-size-requires-3 c κs =
-    omega (arith, plain-length _ c.args.n c.if-negative.false)
+    omega (arith, plain-length _ c.args.n.millionths c.if-n.false)
 
 pub put_number_spec : {M : Type 1} → statement M
 put_number_spec =

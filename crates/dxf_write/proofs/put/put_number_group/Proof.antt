@@ -10,17 +10,17 @@ use Rattle.dxf_write.proofs.put.put_number_group.Tie as tie
 put-line-requires : tie.Need-put_line-next-requires
 put-line-requires c κs =
     let a = c.args in
-    omega (arith, group-long a.code (number_bytes (whole a.negative a.n)))
+    omega (arith, group-long a.code (number_bytes (whole a.n.negative a.n.millionths)))
 
 put-number-requires : tie.Need-put_number-end-requires
 put-number-requires c κs =
     let a = c.args in
-    omega (arith, group-long a.code (number_bytes (whole a.negative a.n)), line-long (decimal a.code))
+    omega (arith, group-long a.code (number_bytes (whole a.n.negative a.n.millionths)), line-long (decimal a.code))
 
 put-byte-requires : tie.Need-put_byte-requires
 put-byte-requires c κs =
     let a = c.args in
-    omega (arith, group-long a.code (number_bytes (whole a.negative a.n)), line-long (decimal a.code))
+    omega (arith, group-long a.code (number_bytes (whole a.n.negative a.n.millionths)), line-long (decimal a.code))
 
 pub put_number_group_spec : {M : Type 1} → statement M
 put_number_group_spec =

@@ -8,25 +8,25 @@ use Rattle.dxf_write.proofs.sizes.number_size.Statement.{statement}
 use Rattle.dxf_write.proofs.sizes.number_size.Tie as tie
 
 add-size : tie.Need-overflow_add-size
-add-size c = omega (arith, decimal-long 19 (c.args.n / million) (omega arith))
+add-size c = omega (arith, decimal-long 19 (c.args.n.millionths / million) (omega arith))
 
 add-result : tie.Need-overflow_add-result
-add-result c = omega (arith, decimal-long 19 (c.args.n / million) (omega arith))
+add-result c = omega (arith, decimal-long 19 (c.args.n.millionths / million) (omega arith))
 
 returns : tie.Need-returns-then-n-eq0
 returns c =
     let a = c.args in
-    omega (arith, size-long a.n, zero-length a.negative a.n c.if-n-eq0.true)
+    omega (arith, size-long a.n.millionths, zero-length a.n.negative a.n.millionths c.if-n-eq0.true)
 
-returns-2 : tie.Need-returns-then-negative
+returns-2 : tie.Need-returns-then-n
 returns-2 c =
     let a = c.args in
-    omega (arith, size-long a.n, minus-length a.negative a.n c.if-negative.true c.if-n-eq0.false)
+    omega (arith, size-long a.n.millionths, minus-length a.n.negative a.n.millionths c.if-n.true c.if-n-eq0.false)
 
 returns-3 : tie.Need-returns
 returns-3 c =
     let a = c.args in
-    omega (arith, size-long a.n, plain-length a.negative a.n c.if-negative.false)
+    omega (arith, size-long a.n.millionths, plain-length a.n.negative a.n.millionths c.if-n.false)
 
 pub number_size_spec : {M : Type 1} → statement M
 number_size_spec = tie.close (tie.spec (λ c. search rules) add-size returns add-result returns-2 returns-3)

@@ -7,16 +7,16 @@ use Rattle.dxf_write.proofs.sizes.vertex_size.Tie as tie
 add-result : tie.Need-overflow_add-result
 add-result c =
     let a = c.args in
-    omega (arith, number_short a.x_minus a.x (omega arith), number_short a.y_minus a.y (omega arith))
+    omega (arith, number_short a.v.x.negative a.v.x.millionths (omega arith), number_short a.v.y.negative a.v.y.millionths (omega arith))
 
 add-result-2 : tie.Need-overflow_add-result-2
 add-result-2 c =
     let a = c.args in
     omega (
       arith,
-      number_short a.x_minus a.x (omega arith),
-      number_short a.y_minus a.y (omega arith),
-      number_short a.b_minus a.b (omega arith),
+      number_short a.v.x.negative a.v.x.millionths (omega arith),
+      number_short a.v.y.negative a.v.y.millionths (omega arith),
+      number_short a.v.bulge.negative a.v.bulge.millionths (omega arith),
     )
 
 add-result-3 : tie.Need-overflow_add-result-3
@@ -24,20 +24,20 @@ add-result-3 c =
     let a = c.args in
     omega (
       arith,
-      number_short a.x_minus a.x (omega arith),
-      number_short a.y_minus a.y (omega arith),
-      number_short a.b_minus a.b (omega arith),
+      number_short a.v.x.negative a.v.x.millionths (omega arith),
+      number_short a.v.y.negative a.v.y.millionths (omega arith),
+      number_short a.v.bulge.negative a.v.bulge.millionths (omega arith),
     )
 
 returns : tie.Need-returns
 returns c =
     let a = c.args in (
-      omega (arith, vertex-size a.x_minus a.x a.y_minus a.y a.b_minus a.b),
+      omega (arith, vertex-size a.v),
       omega (
         arith,
-        number_short a.x_minus a.x (omega arith),
-        number_short a.y_minus a.y (omega arith),
-        number_short a.b_minus a.b (omega arith),
+        number_short a.v.x.negative a.v.x.millionths (omega arith),
+        number_short a.v.y.negative a.v.y.millionths (omega arith),
+        number_short a.v.bulge.negative a.v.bulge.millionths (omega arith),
       ),
     )
 

@@ -1,7 +1,6 @@
 -- `fast_pair::pair::line_pair` meets its contract: if the two are clearly apart, Laws/Pair says what `crossing` answers; else
 -- `crossing` decides, and asks for no circle.
-use mathlib.Core.Path.{◌≡◌, sym, ◌∙◌}
-use mathlib.Core.Bool.{true}
+use mathlib.Core.Path.{sym, ◌∙◌}
 use denote.Floats.{passes}
 use borrow.Author.Rules.{rules}
 use Rattle.arcs.specs.Workings.Circles.{circle-if-arc}

@@ -25,7 +25,7 @@ returns-2 c =
       ← c.on_segment.ensures,
       c.if-not-on_segment.false,
       ← c.finding.ensures,
-      ← c.of_sweep-finding.ensures,
+      ← c.from-finding.ensures,
     )
 
 pub point_tested_spec : {M : Type 1} → statement M

@@ -10,11 +10,11 @@ unfolding both_tested
 returns c =
     simp (
       ← c.finding.ensures,
-      ← c.of_sweep-v.ensures,
+      ← c.from-v.ensures,
       ← c.counts.ensures,
       c.if-counts.true,
       ← c.finding-then-counts.ensures,
-      ← c.of_sweep-u.ensures,
+      ← c.from-u.ensures,
     )
 
 returns-2 : tie.Need-returns
@@ -22,7 +22,7 @@ unfolding both_tested
 returns-2 c =
     simp (
       ← c.finding.ensures,
-      ← c.of_sweep-v.ensures,
+      ← c.from-v.ensures,
       ← c.counts.ensures,
       c.if-counts.false,
     )

@@ -4,26 +4,26 @@ use borrow.Author.Rules.{rules}
 use Rattle.findings.proofs.two_arcs.unless_ends.Statement.{statement}
 use Rattle.findings.proofs.two_arcs.unless_ends.Tie as tie
 
-returns : tie.Need-returns-in-Empty-second
-returns c = simp (c.in-Empty.is, c.in-Empty-second.is)
+returns : tie.Need-returns-in-None-second
+returns c = simp (c.in-None.is, c.in-None-second.is)
 
-returns-2 : tie.Need-returns-in-Taken-second
-returns-2 c = simp (c.in-Empty.is, c.in-Taken-second.is, ← c.replaced.ensures)
+returns-2 : tie.Need-returns-in-Some-second
+returns-2 c = simp (c.in-None.is, c.in-Some-second.is, ← c.replaced.ensures)
 
-returns-3 : tie.Need-returns-in-Empty-second-2
+returns-3 : tie.Need-returns-in-None-second-2
 returns-3 c =
     simp (
-      c.in-Taken.is,
-      c.in-Empty-second-2.is,
-      ← c.replaced-in-Empty-second-2.ensures,
+      c.in-Some.is,
+      c.in-None-second-2.is,
+      ← c.replaced-in-None-second-2.ensures,
     )
 
-returns-4 : tie.Need-returns-in-Taken-second-2
+returns-4 : tie.Need-returns-in-Some-second-2
 returns-4 c =
     simp (
-      c.in-Taken.is,
-      c.in-Taken-second-2.is,
-      ← c.replaced-in-Taken-second-2.ensures,
+      c.in-Some.is,
+      c.in-Some-second-2.is,
+      ← c.replaced-in-Some-second-2.ensures,
     )
 
 pub unless_ends_spec : {M : Type 1} → statement M

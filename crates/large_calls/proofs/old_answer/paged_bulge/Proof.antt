@@ -8,4 +8,4 @@ paged_bulge_spec =
     tie.close
     (tie.spec
     (λ c. search rules) (λ c. search rules)
-    (λ c. simp c.in-Refused.is) (λ c. simp c.in-Paged.is))
+    (λ c. simp c.in-Err.is) (λ c. simp c.in-Ok.is))

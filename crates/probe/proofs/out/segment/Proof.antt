@@ -6,12 +6,12 @@ use Rattle.probe.proofs.Written.{all}
 use Rattle.probe.proofs.out.segment.Statement.{statement}
 use Rattle.probe.proofs.out.segment.Tie as tie
 
-returns : tie.Need-returns-in-Nothing
-returns c = simp c.in-Nothing.is (all [] _ zero-le)
+returns : tie.Need-returns-in-None
+returns c = simp c.in-None.is (all [] _ zero-le)
 
-returns-2 : tie.Need-returns-in-At
+returns-2 : tie.Need-returns-in-Some
 returns-2 c =
-    simp c.in-At.is c.part.ensures
+    simp c.in-Some.is c.part.ensures
 
 pub segment_spec : {M : Type 1} → statement M
 segment_spec =

@@ -4,7 +4,6 @@ use mathlib.Core.Path.{sym}
 use lib.Dec.{T}
 use denote.Floats.{passes}
 use borrow.Author.Rules.{rules}
-use borrow.Author.Tests.{not-false}
 use Rattle.plane.specs.Vector2 as vector2
 use Rattle.ranges.specs.Workings.OnSegment.{usual, within-inside, within-outside}
 use Rattle.ranges.proofs.range.on_segment.Statement.{statement}

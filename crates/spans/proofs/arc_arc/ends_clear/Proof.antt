@@ -1,6 +1,5 @@
 -- `spans::arc_arc::ends_clear` meets its contract: its four calls are the four tests of the definition.
 use borrow.Author.Rules.{rules}
-use Rattle.spans.specs.Workings.ArcArc as arc-arc
 use Rattle.arcs.specs.Workings.Ends as ends
 use Rattle.spans.proofs.arc_arc.ends_clear.Statement.{statement}
 use Rattle.spans.proofs.arc_arc.ends_clear.Tie as tie

@@ -8,7 +8,7 @@ use mathlib.Core.Bool.{Bool, false, not}
 use borrow.Author.Rules.{rules}
 use denote.Floats.{passes}
 use lib.Dec.{T, ltb, ltb→lt, not_T}
-use lib.Ieee.{Float, binary64, is_nan, nan_bits, hid, ones, top}
+use lib.Ieee.{binary64, nan_bits, hid, ones, top}
 use lib.Ieee.Bits.{nan_bits_above, is_false}
 use Rattle.float_laws.specs.Chains.{le-numbers}
 use Rattle.spans.proofs.root.rough_root.Statement.{statement}

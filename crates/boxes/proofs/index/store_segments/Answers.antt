@@ -1,0 +1,15 @@
+-- Each turn stores the box of one segment.
+use Rattle.boxes.specs.Workings.Stored.{storing-starts, storing-turn, storing-ends, box-of-segment}
+use Rattle.boxes.proofs.index.store_segments.Goals as goal
+
+pub loop-i-init : goal.loop-i-init
+loop-i-init c = storing-starts _
+
+pub loop-i-preserved : goal.loop-i-preserved
+loop-i-preserved c =
+    rw c.put_box.ensures
+    (storing-turn c.loop-i.invariant _ c.loop-i-test.true
+    (box-of-segment _ _ _ _ _ c.segment_from-s.ensures c.box_of.ensures))
+
+pub returns : goal.returns
+returns c = storing-ends c.loop-i.invariant c.loop-i-test.false

@@ -1,0 +1,6 @@
+-- Each segment from j on and before k meets.
+use Rattle.boxes.specs.Workings.Next.{apart, Finding}
+use Rattle.boxes.proofs.next.next_apart.Given as goal
+
+abbrev pub invariant-loop-k : goal.invariant-loop-k
+invariant-loop-k l = Finding (apart l.boxes l.from l.b) l.j l.end l.k

@@ -1,0 +1,6 @@
+-- The larger of two.
+use Rattle.std.proofs.Common.{arith}
+use Rattle.listing_pairs.proofs.sizes.greater.Goals as goal
+
+pub returns : goal.returns
+returns c = omega arith

@@ -1,0 +1,13 @@
+-- Each turn stores what is kept of one segment.
+use Rattle.sieves.specs.Workings.Lines.{storing-starts, storing-turn, storing-ends}
+use Rattle.sieves.proofs.lines.keep_sides.Goals as goal
+
+pub loop-j-init : goal.loop-j-init
+loop-j-init c = storing-starts _ _ _ _
+
+pub loop-j-preserved : goal.loop-j-preserved
+loop-j-preserved c =
+    storing-turn _ _ c.loop-j.invariant c.loop-j-test.true c.segment_from-s.ensures c.side_of-side.ensures
+
+pub returns : goal.returns
+returns c = storing-ends c.loop-j.invariant c.loop-j-test.false
