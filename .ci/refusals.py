@@ -21,8 +21,13 @@ FOLLOWS = re.compile(
     re.S,
 )
 
-# It is about the shape of a proof, not about the program: how many answers a walk needs, and which, and at which place.
-SHAPE = re.compile(r"\bLts\.Closed\b|\bNeed-|differ only where one has `[^`\s]*\.Lts\.(?:Start|After|Then|Else|At|Loop)\b")
+# It is about the shape of a proof, not about the program: how many answers a walk needs, and which, and at which place. At the exit
+# of a `?` what is returned is the fault that the call answered: these two are one, and a proof without an answer for that exit
+# does not know it.
+SHAPE = re.compile(
+    r"\bLts\.Closed\b|\bNeed-|differ only where one has `[^`\s]*\.Lts\.(?:Start|After|Then|Else|At|Loop)\b"
+    r"|differ only where one has `c\.from_residual-in_err-(?P<call>[\w-]+)\.result`\s+\(expected\) and the other has `c\.(?P=call)\.result`"
+)
 
 # A search that was not ended: it says nothing, and nothing against what else is said of the function.
 BOUND = re.compile(r"was found\. It stopped (?:\d+ lemmas deep|when its count)")

@@ -6,6 +6,7 @@ use mathlib.Core.List.{List}
 use Rattle.std.specs.Prelude.{Option, None, Some, Result, Ok, Err}
 use native.Mathlib.Omega.{arith}
 use lib.ListN.{length, drop, drop_of_length-le}
+use lib.Dec.{eqb}
 use lib.Seq.{drop-cons}
 use denote.Enum.Bare.{sameb}
 use Rattle.dxf_form.specs.contracts.order.Turn.{the_type}
@@ -143,12 +144,12 @@ unfolding shown_pair after_code
 turn-shown text t due c (Err f) is same = tt
 turn-shown text t due c (Ok p) is same = go (out_of_place (turn_at due c)) refl
   where
-    go : (out : Bool) → out_of_place (turn_at due c) ≡ out → turn_of due (group_by p.turn p.negative p.number) ≡ p.turn
+    go : (out : Bool) → out_of_place (turn_at due c) ≡ out → turn_of due (group_by p.turn (eqb p.minuses 1) p.number) ≡ p.turn
     go true e =
-        let bad : reader.pair (group_by p.turn p.negative p.number) (drop p.next text) ≡ reader.fault Refusal.group 1 = rw e at is in
+        let bad : reader.pair (group_by p.turn (eqb p.minuses 1) p.number) (drop p.next text) ≡ reader.fault Refusal.group 1 = rw e at is in
         let z : ◌≡◌ {A = ℕ} 0 1 = cc in
         absurd (omega arith)
-    go false e = rw same (in-turn p.negative p.number due c e)
+    go false e = rw same (in-turn (eqb p.minuses 1) p.number due c e)
 
 module _ (text t : List ℕ) (due : Due) (w : Option Whole) (is : shown_whole text w ≡ whole_line t) where
   pub no_code : w ≡ None

@@ -24,10 +24,11 @@ pub struct Whole {
     pub next: usize,
 }
 
-// A number: whether it is negative, its millionths, and the place after its line.
+// A number: how many minus signs it has, its millionths, and the place after its line. All three are of one size: what would fill
+// up the place of a bool is moved along with it, byte by byte, and imports take a third longer.
 #[derive(Clone, Copy, PartialEq, Eq, Debug)]
 pub struct Number {
-    pub negative: bool,
+    pub minuses: u64,
     pub millionths: u64,
     pub next: usize,
 }
@@ -71,7 +72,7 @@ fn signed_end(text: &[u8], at: usize, negative: bool, n: u64) -> Option<Number>
     }
     if byte_at(text, at) == NEWLINE {
         return Some(Number {
-            negative: negative,
+            minuses: u64::from(negative),
             millionths: n,
             next: at + 1,
         });

@@ -8,11 +8,11 @@ use super::line::{Number, Whole, number_line, skip_line, whole_line};
 use dxf_form::order::{Due, Turn, turn_at};
 use dxf_form::refusal;
 
-// A group: what its code is for, the sign and the magnitude of its value, and the place after it.
+// A group: what its code is for, how many minus signs its value has, the magnitude of it, and the place after it.
 #[derive(Clone, Copy, PartialEq, Eq, Debug)]
 pub struct Pair {
     pub turn: Turn,
-    pub negative: bool,
+    pub minuses: u64,
     pub number: u64,
     pub next: usize,
 }
@@ -29,7 +29,7 @@ fn whole_pair(turn: Turn, value: Option<Whole>) -> Result<Pair, LineFault>
     };
     Ok(Pair {
         turn: turn,
-        negative: false,
+        minuses: 0,
         number: whole.number,
         next: whole.next,
     })
@@ -47,7 +47,7 @@ fn number_pair(turn: Turn, value: Option<Number>) -> Result<Pair, LineFault>
     };
     Ok(Pair {
         turn: turn,
-        negative: number.negative,
+        minuses: number.minuses,
         number: number.millionths,
         next: number.next,
     })
@@ -65,7 +65,7 @@ fn other_pair(turn: Turn, value: Option<usize>) -> Result<Pair, LineFault>
     };
     Ok(Pair {
         turn: turn,
-        negative: false,
+        minuses: 0,
         number: 0,
         next: next,
     })

@@ -26,9 +26,9 @@ pub(crate) fn step(s: State, pair: Pair, lines: u64) -> State
             vertices: s.vertices + 1,
             ..s
         },
-        Turn::Y => s,
-        Turn::Bulge => s,
-        Turn::Other => s,
-        Turn::OutOfPlace => s,
+        Turn::Y => State { ..s },
+        Turn::Bulge => State { ..s },
+        Turn::Other => State { ..s },
+        Turn::OutOfPlace => State { ..s },
     }
 }

@@ -1,6 +1,6 @@
 // The floats of the vertices, four for each, written as their groups are read. Vertices past the most that a path may have are
 // not written.
-ghost use Rattle.std.specs.Prelude.{◌≡◌, ◌≤◌, ◌<◌, length};
+ghost use Rattle.std.specs.Prelude.{◌≡◌, ◌≤◌, ◌<◌, eqb, length};
 ghost use Rattle.layouts.specs.Layout.{whole};
 ghost use Rattle.paths.specs.Path.{numbers_a_vertex};
 ghost use Rattle.dxf_form.specs.Numbers as numbers;
@@ -46,14 +46,14 @@ fn change_last(out: &mut [f64], n: usize, k: usize, v: f64)
 // Writes what a group gives after n vertices, by the sign and the millionths of its number.
 pub fn store(out: &mut [f64], n: usize, pair: Pair)
     requires { room ≤ length out.old }
-    ensures { out.new ≡ stored pair.turn (numbers.value (whole pair.negative pair.number)) n out.old }
+    ensures { out.new ≡ stored pair.turn (numbers.value (whole (eqb pair.minuses 1) pair.number)) n out.old }
 {
     match pair.turn {
         Turn::Count => {}
         Turn::Flags => {}
-        Turn::X => start_vertex(out, n, value(pair.negative, pair.number)),
-        Turn::Y => change_last(out, n, 1, value(pair.negative, pair.number)),
-        Turn::Bulge => change_last(out, n, 2, value(pair.negative, pair.number)),
+        Turn::X => start_vertex(out, n, value(pair.minuses == 1, pair.number)),
+        Turn::Y => change_last(out, n, 1, value(pair.minuses == 1, pair.number)),
+        Turn::Bulge => change_last(out, n, 2, value(pair.minuses == 1, pair.number)),
         Turn::Other => {}
         Turn::OutOfPlace => {}
     }

@@ -41,7 +41,7 @@ fn zigzagged(n: Signed) -> u64
     if n.magnitude == 0 {
         return 0;
     }
-    if n.negative {
+    if n.minuses == 1 {
         return 2 * n.magnitude - 1;
     }
     2 * n.magnitude

@@ -34,7 +34,7 @@ fn signed(n: u64) -> Signed
     ensures { signed result ≡ meant n }
 {
     Signed {
-        negative: is_negative(n),
+        minuses: u64::from(is_negative(n)),
         magnitude: size(n),
     }
 }
@@ -75,9 +75,9 @@ pub(crate) fn fill(bytes: &[u8], start: usize, n: u64, out: &mut [f64])
             return;
         };
         let to = i * NUMBERS;
-        out[to] = value::coordinate(v.corner.x.negative, v.corner.x.magnitude);
-        out[to + 1] = value::coordinate(v.corner.y.negative, v.corner.y.magnitude);
-        out[to + 2] = value::bulge(v.corner.bulge.negative, v.corner.bulge.magnitude);
+        out[to] = value::coordinate(v.corner.x.minuses == 1, v.corner.x.magnitude);
+        out[to + 1] = value::coordinate(v.corner.y.minuses == 1, v.corner.y.magnitude);
+        out[to + 2] = value::bulge(v.corner.bulge.minuses == 1, v.corner.bulge.magnitude);
         out[to + 3] = value::TRACE;
         at = v.next;
     }

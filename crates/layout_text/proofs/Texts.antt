@@ -7,6 +7,7 @@ use mathlib.Core.List.{List}
 use native.Mathlib.Omega.{arith}
 use borrow.Author.Tests.{le-ltb, lt-ltb}
 use lib.ListN.{length, drop, drop_of_length-le}
+use lib.Dec.{eqb}
 use lib.Seq.{drop-cons}
 use lib.IntN.{ℤ, pos}
 use Rattle.std.specs.Prelude.{Option, Some, None}
@@ -39,7 +40,7 @@ count-is most end known t negative n rest e =
 pub counted : (text : List ℕ) {most end : ℕ} {t : List ℕ} {r : Option Number} → end < other
     → shown_number text r ≡ count_of most end t → {n : Number} → r ≡ Some n → Count most end n.value.magnitude t (drop n.next text)
 counted text {most} {end} {t} known is {n} e =
-    count-is most end known t n.value.negative n.value.magnitude (drop n.next text) (a-number text is e)
+    count-is most end known t (eqb n.value.minuses 1) n.value.magnitude (drop n.next text) (a-number text is e)
 
 -- ---- places
 

@@ -26,7 +26,7 @@ fn digits(text: &[u8], start: usize, negative: bool, most: u64, end: u64) -> Opt
         if k > 9 {
             if k == end {
                 let value = Signed {
-                    negative,
+                    minuses: u64::from(negative),
                     magnitude: n,
                 };
                 return Some(Number { value, next: i + 1 });
@@ -63,7 +63,7 @@ fn zero(text: &[u8], start: usize, end: u64) -> Option<Number>
 {
     if bytes::kind_at(text, start) == end {
         let value = Signed {
-            negative: false,
+            minuses: 0,
             magnitude: 0,
         };
         return Some(Number {

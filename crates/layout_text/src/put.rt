@@ -17,7 +17,7 @@ fn put_signed(out: &mut [u8], at: usize, n: Signed) -> usize
     if n.magnitude == 0 {
         return put_decimal(out, at, n.magnitude);
     }
-    if n.negative {
+    if n.minuses == 1 {
         let next = put_byte(out, at, b'-');
         return put_decimal(out, next, n.magnitude);
     }

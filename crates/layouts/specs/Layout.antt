@@ -1,5 +1,5 @@
 -- A layout of the scope's programs: two paths, whose vertices are whole numbers. It does not say how a layout is stored.
-use Rattle.std.specs.Prelude.{ℕ, suc, ◌≤◌, Bool, true, false, List, [], ◌∷◌, length, ℤ, pos, negsuc, neg_ℤ}
+use Rattle.std.specs.Prelude.{ℕ, suc, eqb, ◌≤◌, Bool, true, false, List, [], ◌∷◌, length, ℤ, pos, negsuc, neg_ℤ}
 use Rattle.layouts.specs.Limits as limit
 use Rattle.layouts.specs.declared.vertex.Signed.{Signed}
 use Rattle.layouts.specs.declared.vertex.Corner.{Corner}
@@ -28,7 +28,7 @@ whole true n = neg_ℤ (pos n)
 
 -- the whole number that the code has as its sign and its magnitude
 abbrev pub signed : Signed → ℤ
-signed n = whole n.negative n.magnitude
+signed n = whole (eqb n.minuses 1) n.magnitude
 
 -- and the vertex of three of them
 abbrev pub whole_vertex : Corner → Vertex

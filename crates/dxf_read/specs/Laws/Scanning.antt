@@ -247,7 +247,7 @@ turn-same due other = refl
 pub record PairGot (due : Due) (text : List ℕ) (p : Pair) (rest : List ℕ) : Type 0 where
   pub g : Group
   pub is : pair_of due text ≡ pair g rest
-  pub kept-is : kept_group g ≡ group_by p.turn p.negative p.number
+  pub kept-is : kept_group g ≡ group_by p.turn (eqb p.minuses 1) p.number
   pub turn_is : turn_of due g ≡ p.turn
 
 module _ (due : Due) (text t : List ℕ) where
@@ -255,11 +255,11 @@ module _ (due : Due) (text t : List ℕ) where
   unfolding shown_pair
   pair-got p is in-turn = go (pair_of due t) refl (is ∙ pair-of-lem due t)
     where
-      go : (r : reader.Pair) → pair_of due t ≡ r → pair (group_by p.turn p.negative p.number) (drop p.next text) ≡ kept_pair r
+      go : (r : reader.Pair) → pair_of due t ≡ r → pair (group_by p.turn (eqb p.minuses 1) p.number) (drop p.next text) ≡ kept_pair r
           → PairGot due t p (drop p.next text)
       go (fault n l) e k = let z : ◌≡◌ {A = ℕ} 0 1 = cc in absurd (omega arith)
       go (pair g rest) e k =
-          let one : kept_group g ≡ group_by p.turn p.negative p.number = cc in
+          let one : kept_group g ≡ group_by p.turn (eqb p.minuses 1) p.number = cc in
           let two : rest ≡ drop p.next text = cc in
           record {
             g = g;
@@ -397,23 +397,23 @@ module _ {text : List ℕ} {old : List Float} {at : ℕ} {due : Due} {lines : �
       scan-shorter = let h = got-here in pair-long due (drop at text) h.g (drop p.next text) h.is
 
       pub scan-more : Scanning text old p.next (after due p.turn) (lines + 2) (stepped s p.turn p.number lines)
-          (stored p.turn (value (whole p.negative p.number)) s.vertices out)
+          (stored p.turn (value (whole (eqb p.minuses 1) p.number)) s.vertices out)
       unfolding stepped
       scan-more =
           let h = got-here in
           record {
-            body = taken sc.body (group_by p.turn p.negative p.number);
+            body = taken sc.body (group_by p.turn (eqb p.minuses 1) p.number);
             goes_on =
                 on_step due sc.body lines s.count_line (drop at text) (drop p.next text) h.g p.turn
-                (group_by p.turn p.negative p.number) _ (some_left text at inside) h.is h.kept-is h.turn_is sc.goes_on;
-            holds = holds-step sc.body s out old p.turn p.negative p.number lines sc.holds;
+                (group_by p.turn (eqb p.minuses 1) p.number) _ (some_left text at inside) h.is h.kept-is h.turn_is sc.goes_on;
+            holds = holds-step sc.body s out old p.turn (eqb p.minuses 1) p.number lines sc.holds;
             few-lines = omega (arith, scan-shorter, sc.few-lines);
             few-vertices = omega (arith, one_more p.turn s.vertices, sc.few-vertices);
-            long = stored-length p.turn (value (whole p.negative p.number)) s.vertices out ∙ sc.long;
+            long = stored-length p.turn (value (whole (eqb p.minuses 1) p.number)) s.vertices out ∙ sc.long;
           }
 
       pub scan-next : {due2 : Due} {s2 : State} {out2 : List Float}
-          → out2 ≡ stored p.turn (value (whole p.negative p.number)) s.vertices out → s2 ≡ stepped s p.turn p.number lines
+          → out2 ≡ stored p.turn (value (whole (eqb p.minuses 1) p.number)) s.vertices out → s2 ≡ stepped s p.turn p.number lines
           → due2 ≡ after due p.turn → Scanning text old p.next due2 (lines + 2) s2 out2
       scan-next a b c = rw (a, b, c) scan-more
 

@@ -1,5 +1,5 @@
 -- What the code's answer of a group stands for.
-use Rattle.std.specs.Prelude.{ℕ, ◌≡◌, Bool, false, List, drop, Option, None, Some, Result, Ok, Err}
+use Rattle.std.specs.Prelude.{ℕ, eqb, ◌≡◌, Bool, List, drop, Option, None, Some, Result, Ok, Err}
 use Rattle.layouts.specs.Layout.{whole}
 use Rattle.dxf_form.specs.Form.{Group, count, flags, x, y, bulge, other}
 use Rattle.dxf_form.specs.Order.{turn_of}
@@ -27,12 +27,12 @@ group_by Turn·.OutOfPlace negative n = other
 abbrev pub faulty : ℕ → ℕ → Result Pair LineFault
 faulty number line = Err (record { number = number; line = line })
 
-abbrev pub read : Turn → Bool → ℕ → ℕ → Result Pair LineFault
-read turn negative number next = Ok (record { turn = turn; negative = negative; number = number; next = next })
+abbrev pub read : Turn → ℕ → ℕ → ℕ → Result Pair LineFault
+read turn minuses number next = Ok (record { turn = turn; minuses = minuses; number = number; next = next })
 
 unfoldable pub shown_pair : List ℕ → Result Pair LineFault → reader.Pair
 shown_pair text (Err fault) = reader.fault fault.number fault.line
-shown_pair text (Ok pair) = reader.pair (group_by pair.turn pair.negative pair.number) (drop pair.next text)
+shown_pair text (Ok pair) = reader.pair (group_by pair.turn (eqb pair.minuses 1) pair.number) (drop pair.next text)
 
 -- the turn that is told is this one; and it is the turn of the group where `due` is due
 abbrev pub SameTurn : Turn → Result Pair LineFault → Type 0
@@ -41,18 +41,18 @@ SameTurn turn (Ok pair) = pair.turn ≡ turn
 
 abbrev pub InTurn : Due → Result Pair LineFault → Type 0
 InTurn due (Err fault) = Unit {0}
-InTurn due (Ok pair) = turn_of due (group_by pair.turn pair.negative pair.number) ≡ pair.turn
+InTurn due (Ok pair) = turn_of due (group_by pair.turn (eqb pair.minuses 1) pair.number) ≡ pair.turn
 
 -- ---- the group of a value that was read
 
 unfoldable pub whole_pair : Turn → Option Whole → Result Pair LineFault
 whole_pair turn None = faulty Refusal.number 2
-whole_pair turn (Some whole) = read turn false whole.number whole.next
+whole_pair turn (Some whole) = read turn 0 whole.number whole.next
 
 unfoldable pub number_pair : Turn → Option Number → Result Pair LineFault
 number_pair turn None = faulty Refusal.number 2
-number_pair turn (Some number) = read turn number.negative number.millionths number.next
+number_pair turn (Some number) = read turn number.minuses number.millionths number.next
 
 unfoldable pub other_pair : Turn → Option ℕ → Result Pair LineFault
 other_pair turn None = faulty Refusal.group 2
-other_pair turn (Some next) = read turn false 0 next
+other_pair turn (Some next) = read turn 0 0 next

@@ -1,6 +1,6 @@
 -- What the code's answers stand for: the code answers a place in the text, and the definitions what remains of the text from
 -- there.
-use Rattle.std.specs.Prelude.{ℕ, List, drop, ℤ, Option, None, Some}
+use Rattle.std.specs.Prelude.{ℕ, eqb, List, drop, ℤ, Option, None, Some}
 use Rattle.layouts.specs.Layout.{whole}
 use Rattle.dxf_form.specs.Workings.Reader.{Got, nothing, got, Passed, cut, over}
 use Rattle.dxf_form.specs.Workings.Reader as reader
@@ -17,7 +17,7 @@ shown_whole text (Some w) = got w.number (drop w.next text)
 
 unfoldable pub shown_number : List ℕ → Option Number → Got ℤ
 shown_number text None = nothing
-shown_number text (Some n) = got (whole n.negative n.millionths) (drop n.next text)
+shown_number text (Some n) = got (whole (eqb n.minuses 1) n.millionths) (drop n.next text)
 
 unfoldable pub shown_place : List ℕ → Option ℕ → Passed
 shown_place text None = cut

@@ -1,5 +1,5 @@
 -- How many bytes a number has, by its range.
-use Rattle.std.specs.Prelude.{ℕ, ◌≤◌, length, ℤ}
+use Rattle.std.specs.Prelude.{ℕ, eqb, ◌≤◌, length, ℤ}
 use Rattle.std.proofs.Common.{arith}
 use Rattle.layouts.specs.Limits as limit
 use Rattle.layouts.specs.Layout.{magnitude, signed, whole_vertex, VertexWithin}
@@ -38,9 +38,9 @@ pub record Sizes (v : Corner) : Type 0 where
 pub sizes-of : (v : Corner) → VertexWithin (whole_vertex v) → Sizes v
 sizes-of v w =
     record {
-      x-most = omega (arith, size-whole v.x.negative v.x.magnitude, w.x-within);
-      y-most = omega (arith, size-whole v.y.negative v.y.magnitude, w.y-within);
-      b-most = omega (arith, size-whole v.bulge.negative v.bulge.magnitude, w.bulge-within);
+      x-most = omega (arith, size-whole (eqb v.x.minuses 1) v.x.magnitude, w.x-within);
+      y-most = omega (arith, size-whole (eqb v.y.minuses 1) v.y.magnitude, w.y-within);
+      b-most = omega (arith, size-whole (eqb v.bulge.minuses 1) v.bulge.magnitude, w.bulge-within);
       x-bytes = coordinate-short (signed v.x) w.x-within;
       y-bytes = coordinate-short (signed v.y) w.y-within;
       b-bytes = bulge-short (signed v.bulge) w.bulge-within;

@@ -30,4 +30,5 @@ pub returns : goal.returns
 unfolding shown_vertex
 returns c =
     all_three _ _ _ _ c.number_at.ensures _ c.in_ok-x.ensures.ok_part _ c.number_at-2.ensures _ c.in_ok-y.ensures.ok_part
-    _ c.number_at-3.ensures _ c.in_ok-b.ensures.ok_part _ _ _ c.signed.ensures c.signed-2.ensures c.signed-3.ensures
+    _ c.number_at-3.ensures _ c.in_ok-b.ensures.ok_part c.signed.result c.signed-2.result
+    c.signed-3.result c.signed.ensures c.signed-2.ensures c.signed-3.ensures
