@@ -90,8 +90,30 @@ take_program() {
     tools/make sum > "target/made/$1"
 }
 
+# Runs a command beside the rest. What it prints goes to a file of this name, and a second file says that it has passed. Its status
+# alone won't do: bash forgets that of a process which has ended as soon as another has the same number, and while the gate runs
+# all numbers are given out more than once.
+begin_beside() {
+    local name=$1 run=
+    shift
+    rm -f "$scratch/$name.passed"
+    (
+        # shellcheck disable=SC2086
+        trap 'kill $run 2> /dev/null; wait $run; exit 1' TERM
+        "$@" > "$scratch/$name" 2>&1 &
+        run=$!
+        wait "$run" && : > "$scratch/$name.passed"
+    ) &
+}
+
+# Waits for the process that was begun beside the rest under this name, and tells whether it has passed.
+passed_beside() {
+    wait "$2" 2> /dev/null || true
+    [ -e "$scratch/$1.passed" ]
+}
+
 begin_trials() {
-    .ci/trials "$@" > "$scratch/trials" 2>&1 &
+    begin_beside trials .ci/trials "$@"
     trials=$!
 }
 
@@ -130,7 +152,7 @@ try_functions() {
 }
 
 wait_for_trials() {
-    wait "$trials" || fail "a wrong function was not rejected as it should be: $(cat "$scratch/trials")"
+    passed_beside trials "$trials" || fail "a wrong function was not rejected as it should be: $(cat "$scratch/trials")"
     trials=
 }
 
@@ -395,7 +417,7 @@ make_libraries() {
 begin_comparison() {
     local inputs=10485760
     [ -z "$quick" ] || inputs=$((inputs / 10))
-    "$1" check "$inputs" > "$scratch/check" 2>&1 &
+    begin_beside check "$1" check "$inputs"
     check=$!
 }
 
@@ -412,7 +434,7 @@ run_comparison() {
     check_list "$scratch/list" crates/replay/stdin
     compare_movers "$compare" "$movers"
     compare_listed "$compare" "$texts" "$calls"
-    wait "$check" || {
+    passed_beside check "$check" || {
         cat "$scratch/check"
         fail "the library and Rust differ"
     }

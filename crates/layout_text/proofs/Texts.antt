@@ -38,9 +38,9 @@ count-is most end known t negative n rest e =
     record { is = e ∙ ap (λ (z : ℤ). got z rest) plain; within = subst (λ (k : ℕ). k ≤ most) sized s.1 }
 
 pub counted : (text : List ℕ) {most end : ℕ} {t : List ℕ} {r : Option Number} → end < other
-    → shown_number text r ≡ count_of most end t → {n : Number} → r ≡ Some n → Count most end n.value.magnitude t (drop n.next text)
+    → shown_number text r ≡ count_of most end t → {n : Number} → r ≡ Some n → Count most end n.magnitude t (drop n.next text)
 counted text {most} {end} {t} known is {n} e =
-    count-is most end known t (eqb n.value.minuses 1) n.value.magnitude (drop n.next text) (a-number text is e)
+    count-is most end known t (eqb n.minuses 1) n.magnitude (drop n.next text) (a-number text is e)
 
 -- ---- places
 
@@ -88,7 +88,7 @@ module _ (text : List ℕ) where
   pub counts-of : length text ≤ bytes → {r s : Option Number} {n m : Number}
       → shown_number text r ≡ count_of limit.vertices space text → r ≡ Some n
       → shown_number text s ≡ count_of limit.vertices newline (drop n.next text) → s ≡ Some m
-      → Counts n.value.magnitude m.value.magnitude m.next
+      → Counts n.magnitude m.magnitude m.next
   counts-of h {n = n} n-is n-read m-is m-read =
       record {
         after-n = n.next;

@@ -4,8 +4,8 @@ use mathlib.Core.Path.{◌≡◌, refl, ◌∙◌}
 use mathlib.Core.List.{List, ◌∷◌}
 use lib.ListN.{drop}
 use Rattle.layouts.specs.Limits as limit
-use Rattle.std.specs.Prelude.{Option, Some, None}
-use Rattle.layouts.specs.Layout.{Vertex, signed, whole_vertex}
+use Rattle.std.specs.Prelude.{eqb, Option, Some, None}
+use Rattle.layouts.specs.Layout.{Vertex, whole, whole_vertex}
 use Rattle.layout_text.specs.Workings.Reader.{
   Got,
   nothing,
@@ -44,7 +44,14 @@ module _ (text t : List ℕ) (x : Option Number) (x-is : shown_number text x ≡
       no-b e = simp (a-number text x-is x-whole, a-number text y-is y-whole, no_number text b-is e)
 
       pub all_three : (b-n : Number) → b ≡ Some b-n
-          → got (record { x = signed x-n.value; y = signed y-n.value; bulge = signed b-n.value }) (drop b-n.next text) ≡ vertex_of t
+          → got
+          (record {
+            x = whole (eqb x-n.minuses 1) x-n.magnitude;
+            y = whole (eqb y-n.minuses 1) y-n.magnitude;
+            bulge = whole (eqb b-n.minuses 1) b-n.magnitude;
+          })
+          (drop b-n.next text)
+          ≡ vertex_of t
       unfolding vertex_of
       all_three b-n e =
           simp (a-number text x-is x-whole, a-number text y-is y-whole, a-number text b-is e)

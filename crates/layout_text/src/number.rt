@@ -6,12 +6,13 @@ ghost use Rattle.layout_text.specs.Workings.Reader.{digits_of, positive_of, zero
 ghost use Rattle.layout_text.specs.Workings.Shown.{shown_number};
 
 use super::bytes;
-use layouts::vertex::Signed;
 
-// A whole number, and the place after it.
+// A whole number, by how many minus signs it has, 0 or 1, and its magnitude; and the place after it. These are three words and not a
+// `Signed` and a place: a struct within one is moved as a block, stored in parts and loaded whole.
 #[derive(Clone, Copy)]
 pub struct Number {
-    pub value: Signed,
+    pub minuses: u64,
+    pub magnitude: u64,
     pub next: usize,
 }
 
@@ -25,11 +26,11 @@ fn digits(text: &[u8], start: usize, negative: bool, most: u64, end: u64) -> Opt
         let k = bytes::kind(text[i]);
         if k > 9 {
             if k == end {
-                let value = Signed {
+                return Some(Number {
                     minuses: u64::from(negative),
                     magnitude: n,
-                };
-                return Some(Number { value, next: i + 1 });
+                    next: i + 1,
+                });
             }
             return None;
         }
@@ -62,12 +63,9 @@ fn zero(text: &[u8], start: usize, end: u64) -> Option<Number>
     ensures { shown_number text.now result ≡ zero_of end (drop start text.now) }
 {
     if bytes::kind_at(text, start) == end {
-        let value = Signed {
+        return Some(Number {
             minuses: 0,
             magnitude: 0,
-        };
-        return Some(Number {
-            value,
             next: start + 1,
         });
     }

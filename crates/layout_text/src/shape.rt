@@ -14,14 +14,14 @@ pub fn shape_of(text: &[u8]) -> Option<Shape>
     }
     let n = number::count(text, 0, limits::VERTICES, bytes::SPACE)?;
     let m = number::count(text, n.next, limits::VERTICES, bytes::NEWLINE)?;
-    let second = vertex::skip(text, m.next, n.value.magnitude)?;
-    let end = vertex::skip(text, second, m.value.magnitude)?;
+    let second = vertex::skip(text, m.next, n.magnitude)?;
+    let end = vertex::skip(text, second, m.magnitude)?;
     if end < text.len() {
         return None;
     }
     Some(Shape {
-        n: n.value.magnitude,
-        m: m.value.magnitude,
+        n: n.magnitude,
+        m: m.magnitude,
         first: m.next,
         second,
     })

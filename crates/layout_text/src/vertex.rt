@@ -5,19 +5,35 @@ ghost use Rattle.layout_text.specs.Workings.Shown.{shown_vertex, shown_place};
 
 use super::{bytes, number};
 use layouts::limits;
-use layouts::vertex::{Corner, Reading};
+use layouts::vertex::{Corner, Reading, Signed};
 
-// The vertex whose text line starts at `start`. None if there is no such line.
+// The vertex whose text line starts at `start`. None if there is no such line. With `?` in the place of `let .. else` the loop over the
+// digits readies at each byte what goes with a None, and packing a text takes a third longer.
 pub fn vertex(text: &[u8], start: usize) -> Option<Reading>
     ensures { shown_vertex text.now result ≡ vertex_of (drop start text.now) }
 {
-    let x = number::whole(text, start, limits::COORDINATE, bytes::SPACE)?;
-    let y = number::whole(text, x.next, limits::COORDINATE, bytes::SPACE)?;
-    let b = number::whole(text, y.next, limits::BULGE, bytes::NEWLINE)?;
+    let Some(x) = number::whole(text, start, limits::COORDINATE, bytes::SPACE) else {
+        return None;
+    };
+    let Some(y) = number::whole(text, x.next, limits::COORDINATE, bytes::SPACE) else {
+        return None;
+    };
+    let Some(b) = number::whole(text, y.next, limits::BULGE, bytes::NEWLINE) else {
+        return None;
+    };
     let corner = Corner {
-        x: x.value,
-        y: y.value,
-        bulge: b.value,
+        x: Signed {
+            minuses: x.minuses,
+            magnitude: x.magnitude,
+        },
+        y: Signed {
+            minuses: y.minuses,
+            magnitude: y.magnitude,
+        },
+        bulge: Signed {
+            minuses: b.minuses,
+            magnitude: b.magnitude,
+        },
     };
     Some(Reading {
         corner,

@@ -1,9 +1,9 @@
 -- What each case of the code's answers says of what the definition has read; and the text lines that are left, one by one. The
 -- functions here that go over vertices use it, and so can those above.
-use Rattle.std.specs.Prelude.{ℕ, suc, ◌+◌, ◌-◌, ◌≤◌, ◌<◌, ◌≡◌, List, [], ◌∷◌, drop, ℤ, Option, Some, None}
+use Rattle.std.specs.Prelude.{ℕ, suc, eqb, ◌+◌, ◌-◌, ◌≤◌, ◌<◌, ◌≡◌, List, [], ◌∷◌, drop, ℤ, Option, Some, None}
 use Rattle.std.proofs.Math.Path.{sym, ap}
 use Rattle.std.proofs.Common.{◌∙◌, arith}
-use Rattle.layouts.specs.Layout.{Vertex, signed, whole_vertex}
+use Rattle.layouts.specs.Layout.{Vertex, whole, whole_vertex}
 use Rattle.layout_text.specs.Workings.Reader.{Got, nothing, got, and_then, vertex_of, vertices_of}
 use Rattle.layout_text.specs.Workings.Shown.{shown_number, shown_vertex, Fitting, Shaped}
 use Rattle.layout_text.specs.declared.number.Number.{Number}
@@ -17,7 +17,7 @@ module _ (text : List ℕ) {g : Got ℤ} {r : Option Number} (is : shown_number 
   unfolding shown_number
   no_number e = sym is ∙ ap (shown_number text) e
 
-  pub a-number : {n : Number} → r ≡ Some n → g ≡ got (signed n.value) (drop n.next text)
+  pub a-number : {n : Number} → r ≡ Some n → g ≡ got (whole (eqb n.minuses 1) n.magnitude) (drop n.next text)
   unfolding shown_number
   a-number e = sym is ∙ ap (shown_number text) e
 

@@ -1,7 +1,7 @@
 -- What the code's answers stand for: the code answers a place in the text, and the definitions what remains of the text from
 -- there.
-use Rattle.std.specs.Prelude.{◌≡◌, List, [], ℕ, ◌≤◌, drop, ℤ, Option, Some, None}
-use Rattle.layouts.specs.Layout.{Vertex, signed, whole_vertex}
+use Rattle.std.specs.Prelude.{◌≡◌, List, [], ℕ, eqb, ◌≤◌, drop, ℤ, Option, Some, None}
+use Rattle.layouts.specs.Layout.{Vertex, whole, whole_vertex}
 use Rattle.layout_text.specs.Workings.Reader.{
   Got,
   nothing,
@@ -21,7 +21,7 @@ use Rattle.layouts.specs.Limits as limit
 
 unfoldable pub shown_number : List ℕ → Option Number → Got ℤ
 shown_number text None = nothing
-shown_number text (Some n) = got (signed n.value) (drop n.next text)
+shown_number text (Some n) = got (whole (eqb n.minuses 1) n.magnitude) (drop n.next text)
 
 unfoldable pub shown_vertex : List ℕ → Option Reading → Got Vertex
 shown_vertex text None = nothing
